@@ -1,0 +1,12 @@
+//! Version texts and range texts as plain data: tokens, a `Version` that prints again, and a `RangeSet` of plain comparators.
+#![tactic(auto)]
+
+pub mod laws;
+pub mod lexer;
+pub mod parser;
+mod range;
+mod range_set;
+pub mod version;
+
+pub use range::{Comparator, Identifier, Op, Range};
+pub use range_set::{Compat, RangeError, RangeSet};
