@@ -20,3 +20,4 @@ pub mod TokenLists
 pub mod Vectors
 pub mod VersionExamples
 pub mod VersionSteps
+pub mod Writes

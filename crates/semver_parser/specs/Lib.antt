@@ -21,3 +21,4 @@ pub mod Examples
 pub mod RangeViews
 pub mod Reader
 pub mod Answers
+pub mod Writing
