@@ -1,5 +1,5 @@
 -- The shape of an identifier, token by token, and that each identifier that is read has a value.
-use Rattle.std.proofs.Common.{◌≡◌, ℕ, ◌^◌, ◌<◌, Bool, true, false, List, [], ◌∷◌, ◌++◌, length, map, Some, None, Option, Result, Ok, Err, sym, refl, ap, ◌∙◌, subst, ◌⊎◌, inl, inr, arith, append_assoc, append-nil, cond, decimal, ◌&&◌}
+use Rattle.std.proofs.Common.{◌≡◌, ℕ, ◌^◌, ◌<◌, ◌≤◌, Bool, true, false, List, [], ◌∷◌, ◌++◌, length, map, Some, None, Option, Result, Ok, Err, sym, refl, ap, ◌∙◌, subst, ◌⊎◌, inl, inr, arith, append_assoc, append-nil, cond, decimal, ◌&&◌, length-append}
 use Rattle.std.specs.Prelude.{option_and_then, IsTrue, flat_map, codes, slice_get}
 use Rattle.std.specs.List.{AllByRecursion, join_by}
 use Rattle.std.specs.Str.{all_ascii_digits}
@@ -11,8 +11,8 @@ use Rattle.semver_parser.specs.VersionGrammar.{SpellsIdentifier, IsIdentifierTex
 use Rattle.semver_parser.specs.Versions.{IdentifierValue}
 use Rattle.semver_parser.specs.ParserState as fault
 use Rattle.semver_parser.specs.ParserState.{ParserState, Fault, Step, pop, pop_of, look, and_then}
-use Rattle.semver_parser.specs.Taking.{PassesIdentifier, expect_run, as_run}
-use Rattle.semver_parser.specs.VersionReading.{IsIdentifierShape, inner_text, inner_texts}
+use Rattle.semver_parser.specs.Taking.{PassesIdentifier, TakesIdentifier, expect_run, as_run, number_of, lone_number}
+use Rattle.semver_parser.specs.VersionReading.{Reads, IsIdentifierShape, inner_text, inner_texts}
 use Rattle.semver_parser.proofs.Numbers.{canonical_from_IsNumber}
 use Rattle.semver_parser.proofs.TokenLists.{decimal_is_run}
 use Rattle.semver_parser.proofs.ReadingSteps.{run, run-append, IsReadBy, reads_value, reads_unexpected, reads_end, reads_pending, reads_nothing, Stops}
@@ -129,10 +129,7 @@ pub record IsTaken (s : ParserState) (after : Bool) (t : ParserState) : Type 0 w
   -- the last token before a pending character wasn't given
   pub known : (front ≡ []) ⊎ ((0 < length t.remaining) ⊎ (t.pending ≡ None))
 
-abbrev Passes : ParserState → Result (Unit {0}) Fault → ParserState → Type 0
-Passes = PassesIdentifier
-
-pub none_taken : (s : ParserState) → IsTaken s false s
+abbrev pub none_taken : (s : ParserState) → IsTaken s false s
 none_taken s = record { front = []; split = refl; leads = refl; pending = refl; known = inl refl }
 
 err_ok : {A G : Type 0} (x : Fault) (y : A) (s u : ParserState) → ◌≡◌ {A = Step A} (Err x, s) (Ok y, u) → G
@@ -174,15 +171,15 @@ pop_fails (t ∷ []) (Some c) x u e = let q = err_parts (fault.Lexer c) x _ u e 
 pop_fails (t ∷ y ∷ ts) pending x u e = err_ok x t u _ (sym e)
 
 -- a run that is expected: the pop, and what it gave
-pub data RunStep (t : ParserState) : Result (Unit {0}) Fault → ParserState → Type 0 where
-  run_given : (x : TokenValue) (u : ParserState) → pop t ≡ (Ok x, u) → IsTrue (is_component x) → RunStep t (Ok tt) u
+pub data RunStep (t : ParserState) : Result (Option ℕ) Fault → ParserState → Type 0 where
+  run_given : (x : TokenValue) (u : ParserState) → pop t ≡ (Ok x, u) → IsTrue (is_component x) → RunStep t (Ok (number_of x)) u
   other_given : (x : TokenValue) (u : ParserState) → pop t ≡ (Ok x, u) → is_component x ≡ false → RunStep t (Err (fault.UnexpectedToken x)) u
   none_given : (e : Fault) (u : ParserState) → pop t ≡ (Err e, u) → RunStep t (Err e) u
 
 pub run_step : (t : ParserState) → RunStep t (expect_run t).0 (expect_run t).1
 run_step t = at_pop (pop t) refl
   where
-    at_kind : (b : Bool) (x : TokenValue) (u : ParserState) → is_component x ≡ b → pop t ≡ (Ok x, u) → RunStep t (cond {A = Step (Unit {0})} b (Ok tt, u) (Err (fault.UnexpectedToken x), u)).0 (cond {A = Step (Unit {0})} b (Ok tt, u) (Err (fault.UnexpectedToken x), u)).1
+    at_kind : (b : Bool) (x : TokenValue) (u : ParserState) → is_component x ≡ b → pop t ≡ (Ok x, u) → RunStep t (cond {A = Step (Option ℕ)} b (Ok (number_of x), u) (Err (fault.UnexpectedToken x), u)).0 (cond {A = Step (Option ℕ)} b (Ok (number_of x), u) (Err (fault.UnexpectedToken x), u)).1
     at_kind true x u k e = run_given x u e k
     at_kind false x u k e = other_given x u e k
 
@@ -221,7 +218,7 @@ refused after ts front _ _ _ split leads known (inr hyphen) (at_last t c) = read
     head_is : {t : TokenValue} {rest : List TokenValue} → t ∷ [] ≡ Hyphen ∷ rest → t ≡ Hyphen
     head_is e = cc
 
-at_state : (s t : ParserState) (r : Result (Unit {0}) Fault) (u : ParserState) → t.pending ≡ s.pending → PassesIdentifier (record { remaining = s.remaining; pending = t.pending }) r u → PassesIdentifier s r u
+at_state : (s t : ParserState) (r : Result (Option ℕ) Fault) (u : ParserState) → t.pending ≡ s.pending → PassesIdentifier (record { remaining = s.remaining; pending = t.pending }) r u → PassesIdentifier s r u
 at_state s t r u same p = subst (λ (q : Option ℕ). PassesIdentifier (record { remaining = s.remaining; pending = q }) r u) same p
 
 -- the pop of a hyphen is refused
@@ -235,8 +232,8 @@ passes_refused_hyphen s t u e rest k here p =
 pub passes_refused_run : (s t u : ParserState) (e : Fault) → IsTaken s false t → expect_run t ≡ (Err e, u) → PassesIdentifier s (Err e) u
 passes_refused_run s t u e k p = go (expect_run t).0 (expect_run t).1 (run_step t) p
   where
-    go : (r : Result (Unit {0}) Fault) (v : ParserState) → RunStep t r v → ◌≡◌ {A = Step (Unit {0})} (r, v) (Err e, u) → PassesIdentifier s (Err e) u
-    go _ _ (run_given x v q h) d = err_ok e tt u v (sym d)
+    go : (r : Result (Option ℕ) Fault) (v : ParserState) → RunStep t r v → ◌≡◌ {A = Step (Option ℕ)} (r, v) (Err e, u) → PassesIdentifier s (Err e) u
+    go _ _ (run_given x v q h) d = err_ok e (number_of x) u v (sym d)
     go _ _ (other_given x v q h) d =
         let parts = err_parts (fault.UnexpectedToken x) e v u d in
         let pops = pop_gives t.remaining t.pending x v q in
@@ -258,32 +255,52 @@ passes_refused_run s t u e k p = go (expect_run t).0 (expect_run t).1 (run_step 
         (subst (λ (z : ParserState). PassesIdentifier (record { remaining = s.remaining; pending = t.pending }) (Err x) z) (sym f.1 ∙ parts.1)
         (refused false s.remaining k.front t.remaining t.pending x k.split k.leads k.known (inl refl) f.0)))
 
--- the run and the hyphen that are there
-pub taken_run : (s t u : ParserState) → IsTaken s false t → expect_run t ≡ (Ok tt, u) → IsTaken s true u × (length u.remaining < length t.remaining)
-taken_run s t u k p = go (expect_run t).0 (expect_run t).1 (run_step t) p
-  where
-    go : (r : Result (Unit {0}) Fault) (v : ParserState) → RunStep t r v → ◌≡◌ {A = Step (Unit {0})} (r, v) (Ok tt, u) → IsTaken s true u × (length u.remaining < length t.remaining)
-    go _ _ (run_given x v q h) d =
-        let same = (ok_parts tt tt v u d).1 in
-        let pops = pop_gives t.remaining t.pending x v q in
-        subst (λ (z : ParserState). IsTaken s true z × (length z.remaining < length t.remaining)) same
-        (taken_more s false true t v x k pops (ap (λ (b : Bool). cond b (Some true) None) h), omega (arith, ap length pops.first))
-    go _ _ (other_given x v q h) d = err_ok (fault.UnexpectedToken x) tt v u d
-    go _ _ (none_given x v q) d = err_ok x tt v u d
+-- what was taken with one token more
+pub record TakesOne (s t : ParserState) (front : List TokenValue) (next : Bool) (x : TokenValue) (u : ParserState) : Type 0 where
+  pub taken : IsTaken s next u
+  pub shorter : length u.remaining < length t.remaining
+  pub front_is : taken.front ≡ front ++ x ∷ []
 
-pub taken_hyphen : (s t u : ParserState) (x : TokenValue) (rest : List TokenValue) → IsTaken s true t → t.remaining ≡ Hyphen ∷ rest → pop t ≡ (Ok x, u) → IsTaken s false u × (length u.remaining < length t.remaining)
+-- the run and the hyphen that are there
+pub taken_run : (s t u : ParserState) (n : Option ℕ) (k : IsTaken s false t) → expect_run t ≡ (Ok n, u) → (x : TokenValue) × TakesOne s t k.front true x u × (n ≡ number_of x)
+unfolding taken_more
+taken_run s t u n k p = go (expect_run t).0 (expect_run t).1 (run_step t) p
+  where
+    go : (r : Result (Option ℕ) Fault) (v : ParserState) → RunStep t r v → ◌≡◌ {A = Step (Option ℕ)} (r, v) (Ok n, u) → (x : TokenValue) × TakesOne s t k.front true x u × (n ≡ number_of x)
+    go _ _ (run_given x v q h) d =
+        let parts = ok_parts (number_of x) n v u d in
+        let pops = pop_gives t.remaining t.pending x v q in (
+          x,
+          subst (λ (z : ParserState). TakesOne s t k.front true x z) parts.1
+              (record { taken = taken_more s false true t v x k pops (ap (λ (b : Bool). cond b (Some true) None) h); shorter = omega (arith, ap length pops.first); front_is = refl }),
+          sym parts.0,
+        )
+    go _ _ (other_given x v q h) d = err_ok (fault.UnexpectedToken x) n v u d
+    go _ _ (none_given x v q) d = err_ok x n v u d
+
+pub taken_hyphen : (s t u : ParserState) (x : TokenValue) (rest : List TokenValue) (k : IsTaken s true t) → t.remaining ≡ Hyphen ∷ rest → pop t ≡ (Ok x, u) → TakesOne s t k.front false x u
+unfolding taken_more
 taken_hyphen s t u x rest k here p =
     let pops = pop_gives t.remaining t.pending x u p in
-    (taken_more s true false t u x k pops (ap (id_step true) (head_is (sym pops.first ∙ here))), omega (arith, ap length pops.first))
+    record { taken = taken_more s true false t u x k pops (ap (id_step true) (head_is (sym pops.first ∙ here))); shorter = omega (arith, ap length pops.first); front_is = refl }
   where
     head_is : {t : TokenValue} {us rest : List TokenValue} → t ∷ us ≡ Hyphen ∷ rest → t ≡ Hyphen
     head_is e = cc
 
+-- two tokens more are no number alone
+pub not_alone : (front : List TokenValue) (x y : TokenValue) → lone_number ((front ++ x ∷ []) ++ y ∷ []) ≡ None
+not_alone [] x y = refl
+not_alone (t ∷ []) x y = refl
+not_alone (t ∷ u ∷ front) x y = refl
+
+pub refused_takes : (s t : ParserState) (e : Fault) → PassesIdentifier s (Err e) t → TakesIdentifier s (Err e) t
+refused_takes s t e p = record { passes = p; number = tt }
+
 -- no hyphen comes next
-pub passes_end : (s t : ParserState) → IsTaken s true t → ((rest : List TokenValue) → ¬ (t.remaining ≡ Hyphen ∷ rest)) → PassesIdentifier s (Ok tt) t
-passes_end s t k other =
-    at_state s t (Ok tt) t k.pending
-    (reads_value id_step (λ b. b) false IsIdentifierShape identifier_is_read (λ v text. Unit {0}) s.remaining k.front t.remaining t.pending true k.split k.leads tt refl (stops t.remaining other) (known_behind k.front k.leads k.known) tt)
+pub passes_end : (s t : ParserState) (n : Option ℕ) (k : IsTaken s true t) → n ≡ lone_number k.front → ((rest : List TokenValue) → ¬ (t.remaining ≡ Hyphen ∷ rest)) → TakesIdentifier s (Ok n) t
+unfolding reads_value
+passes_end s t n k number other =
+    subst (λ (q : Option ℕ). TakesIdentifier (record { remaining = s.remaining; pending = q }) (Ok n) t) k.pending (record { passes = read; number = number })
   where
     stops : (rem : List TokenValue) → ((rest : List TokenValue) → ¬ (rem ≡ Hyphen ∷ rest)) → Stops id_step true rem
     stops [] other = tt
@@ -293,6 +310,13 @@ passes_end s t k other =
     known_behind : {A : Type 0} (front : List TokenValue) → run id_step false front ≡ Some true → (front ≡ []) ⊎ A → A
     known_behind front leads (inr a) = a
     known_behind front leads (inl empty) = absurd (false_true (same_Some false true (sym (ap (run id_step false) empty) ∙ leads)))
+
+    read : PassesIdentifier (record { remaining = s.remaining; pending = t.pending }) (Ok n) t
+    read = reads_value id_step (λ b. b) false IsIdentifierShape identifier_is_read (λ (v : Option ℕ) text. Unit {0}) s.remaining k.front t.remaining t.pending true k.split k.leads n refl (stops t.remaining other) (known_behind k.front k.leads k.known) tt
+
+-- nothing is put back
+pub passes_shorter : {V : Type 0} {Shape : List TokenValue → Type 0} {Spells : V → List ℕ → Type 0} (s t : ParserState) (v : V) → Reads Shape Spells s (Ok v) t → length t.remaining ≤ length s.remaining
+passes_shorter s t v w = let e = ap length w.longest.split in omega (arith, e, ap length w.answer.2, length-append w.front w.rest)
 
 -- what looking tells of the tokens
 pub look_cons : (ts : List TokenValue) (t : TokenValue) → slice_get ts 0 ≡ Some t → (rest : List TokenValue) × (ts ≡ t ∷ rest)

@@ -22,3 +22,5 @@ pub mod RangeViews
 pub mod Reader
 pub mod Answers
 pub mod Writing
+pub mod ReportLines
+pub mod Shown

@@ -6,6 +6,7 @@ pub mod lexer;
 pub mod parser;
 mod range;
 mod range_set;
+pub mod report;
 pub mod version;
 
 pub use range::{Comparator, Identifier, Op, Range};

@@ -1,0 +1,59 @@
+//! Replays a table of cases. Each line of standard input has a name, a call and a text, parted by tabs, and for the
+//! calls of a parser its steps; the line of standard output begins with the name and tells what the call answered.
+//! What is expected stands in the file beside this crate's input: it comes from the published rows and from the Rust crate.
+#![tactic(auto)]
+
+mod lexing;
+mod parsing;
+mod reporting;
+mod text;
+mod versions;
+
+use std::alloc::Global;
+use std::io;
+use std::io::{BufRead, BufReader, BufWriter, Write};
+
+fn main(rt: HostRuntime) -> io::Result<()> {
+    let input = BufReader::new(rt.alloc(), rt.reader())?;
+    let mut output = BufWriter::new(rt.alloc(), io::writer(&rt))?;
+    for line in input.lines(rt.alloc()) {
+        replay(rt.alloc(), line?.as_str(), &mut output)?;
+        output.write_all(b"\n")?;
+    }
+    output.flush()
+}
+
+/// Writes the name of a case and what its call answered.
+fn replay<W: Write>(alloc: Global, line: &str, out: &mut W) -> io::Result<()> {
+    let Some((name, rest)) = line.split_once('\t') else {
+        return write!(out, "no name");
+    };
+    let Some((call, rest)) = rest.split_once('\t') else {
+        return write!(out, "no call");
+    };
+    let (escaped, steps) = rest.split_once('\t').unwrap_or((rest, ""));
+    let Some(text) = text::expanded(alloc, escaped)? else {
+        return write!(out, "no text");
+    };
+    write!(out, "{name}: ")?;
+    answer(alloc, call, text.as_str(), steps, out)
+}
+
+/// Writes what a call answers for a text.
+fn answer<W: Write>(
+    alloc: Global,
+    call: &str,
+    text: &str,
+    steps: &str,
+    out: &mut W,
+) -> io::Result<()> {
+    match call {
+        "lex" => lexing::write_lexed(text, out),
+        "parser" => parsing::write_steps(alloc, text, steps, out),
+        "version" => versions::write_version(alloc, text, out),
+        "version-text" => versions::write_printed(alloc, text, out),
+        "version-lengths" => versions::write_lengths(alloc, text, out),
+        "report" => reporting::write_report(alloc, text, out),
+        _ => write!(out, "no such call"),
+    }
+}

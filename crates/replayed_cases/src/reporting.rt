@@ -1,0 +1,20 @@
+//! The lines of the report, and the status that follows.
+
+use semver_parser::report;
+use std::alloc::Global;
+use std::io;
+use std::io::Write;
+
+/// Writes the lines of a text, each followed by `; `, and the status.
+pub fn write_report<W: Write>(alloc: Global, text: &str, out: &mut W) -> io::Result<()> {
+    let mut bytes = Vec::new(alloc);
+    let ran = report::run(alloc, text, &mut bytes);
+    let status = report::status(&ran);
+    for byte in bytes.as_slice() {
+        match byte {
+            b'\n' => out.write_all(b"; ")?,
+            other => out.write_all(&[*other])?,
+        }
+    }
+    write!(out, "status {status}")
+}

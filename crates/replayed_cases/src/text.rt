@@ -1,0 +1,80 @@
+//! Texts of the table, where `\n`, `\r`, `\t` and `\\` stand for characters, and `\(3,a,-)` for `a-a-a`.
+
+use std::alloc::{AllocError, Global};
+
+/// The text that is meant, or none where it isn't well written.
+pub fn expanded(alloc: Global, escaped: &str) -> Result<Option<String>, AllocError> {
+    let mut text = String::new(alloc);
+    for (i, piece) in escaped.split("\\(").enumerate() {
+        let plain = if i == 0 {
+            piece
+        } else {
+            let Some((repeated, plain)) = piece.split_once(')') else {
+                return Ok(None);
+            };
+            if !push_repeated(&mut text, repeated)? {
+                return Ok(None);
+            }
+            plain
+        };
+        if !push_unescaped(&mut text, plain)? {
+            return Ok(None);
+        }
+    }
+    Ok(Some(text))
+}
+
+/// Appends what `count,unit,joiner` stands for: so many units, joined. False where it isn't well written.
+fn push_repeated(text: &mut String, repeated: &str) -> Result<bool, AllocError> {
+    let Some((count, rest)) = repeated.split_once(',') else {
+        return Ok(false);
+    };
+    let Some((unit, joiner)) = rest.split_once(',') else {
+        return Ok(false);
+    };
+    let Ok(count) = count.parse::<u32>() else {
+        return Ok(false);
+    };
+    for i in 0..count {
+        if i > 0 && !push_unescaped(text, joiner)? {
+            return Ok(false);
+        }
+        if !push_unescaped(text, unit)? {
+            return Ok(false);
+        }
+    }
+    Ok(true)
+}
+
+/// Appends a text without repetitions. False where an escape isn't known.
+fn push_unescaped(text: &mut String, escaped: &str) -> Result<bool, AllocError> {
+    let mut is_escape = false;
+    for character in escaped.chars() {
+        if !is_escape && character == '\\' {
+            is_escape = true;
+            continue;
+        }
+        let meant = if is_escape {
+            escape(character)
+        } else {
+            Some(character)
+        };
+        let Some(meant) = meant else {
+            return Ok(false);
+        };
+        text.push(meant)?;
+        is_escape = false;
+    }
+    Ok(!is_escape)
+}
+
+/// The character that an escape stands for.
+fn escape(character: char) -> Option<char> {
+    match character {
+        'n' => Some('\n'),
+        'r' => Some('\r'),
+        't' => Some('\t'),
+        '\\' => Some('\\'),
+        _ => None,
+    }
+}

@@ -1,0 +1,121 @@
+//! The lines of the program, and its status.
+ghost use Rattle.std.specs.Prelude.{◌≡◌, true, false, ◌++◌, ◌||◌, IfOk, codes};
+ghost use Rattle.semver_parser.specs.Writing.{WritesOrBegins};
+ghost use Rattle.semver_parser.specs.ReportLines.{MayShowVersion, line, WritesLines, status_of};
+ghost use Rattle.semver_parser.specs.Shown.{shown_text, is_value_of};
+
+use crate::{parser, version};
+use std::alloc::{AllocError, Global};
+use std::io::{self, ErrorKind, Write};
+
+/// What a line shows behind its label.
+#[derive(Drop)]
+enum Shown {
+    /// A printed value.
+    Value(String),
+    /// The word of a fault.
+    Fault(&'static str),
+}
+
+/// Writes the line of a text, `version: `, with the printed version or a fault word. It answers true where the line holds
+/// no fault word.
+///
+/// Of `1.2.3` it writes `version: 1.2.3` and answers true; of `1.2` it writes `version: unexpected-end` and answers false.
+/// The line ends with a line feed. Want of memory shows as `out-of-memory`.
+///
+/// `Err` only where a write failed, was interrupted, or took no byte; then nothing more is written, and `out` got a
+/// beginning of the line.
+pub fn run<W: Write>(alloc: Global, text: &str, out: &mut W) -> Result<bool, io::Error>
+    ensures { WritesLines text.now (W.contents out.old) (W.contents out.new) result }
+{
+    let version = version_shown(alloc, text);
+    write_line(out, "version: ", &version)?;
+    Ok(version.is_value())
+}
+
+/// The exit status of a run: 0 where some line holds no fault word, 1 where each holds one, 2 after a failed write.
+///
+/// Of `Ok(false)` it is 1.
+pub fn status(ran: &Result<bool, io::Error>) -> u8
+    ensures { result ≡ status_of ran.now }
+{
+    match ran {
+        Ok(true) => 0,
+        Ok(false) => 1,
+        Err(_) => 2,
+    }
+}
+
+// What the line of the version shows.
+fn version_shown(alloc: Global, text: &str) -> Shown
+    ensures { MayShowVersion (is_value_of result) (shown_text result) }
+{
+    match version::parse(alloc, text) {
+        Ok(version) => printed(version.to_string(alloc)),
+        Err(error) => Shown::Fault(version_fault_word(&error)),
+    }
+}
+
+// The printed value, or the word for want of memory.
+fn printed(text: Result<String, AllocError>) -> Shown {
+    match text {
+        Ok(text) => Shown::Value(text),
+        Err(_) => Shown::Fault("out-of-memory"),
+    }
+}
+
+// The word for a fault of a version text.
+fn version_fault_word(error: &parser::Error<'_>) -> &'static str {
+    match error {
+        parser::Error::UnexpectedEnd => "unexpected-end",
+        parser::Error::UnexpectedToken(_) => "unexpected-token",
+        parser::Error::Lexer(_) => "unexpected-char",
+        parser::Error::MoreInput(_) => "more-input",
+        parser::Error::EmptyPredicate => "empty-predicate",
+        parser::Error::EmptyRange => "empty-range",
+        parser::Error::OutOfMemory => "out-of-memory",
+    }
+}
+
+impl Shown {
+    // Whether it is a printed value.
+    fn is_value(&self) -> bool
+        ensures { result ≡ is_value_of self.now }
+    {
+        matches!(self, Shown::Value(_))
+    }
+
+    // Its text.
+    fn as_str(&self) -> &str
+        ensures { result.now ≡ shown_text self.now }
+    {
+        match self {
+            Shown::Value(text) => text.as_str(),
+            Shown::Fault(word) => word,
+        }
+    }
+}
+
+// Writes one line: the label, what is shown, and a line feed.
+fn write_line<W: Write>(out: &mut W, label: &str, shown: &Shown) -> io::Result<()>
+    ensures { WritesOrBegins (W.contents out.old) (W.contents out.new) result (line label.now (shown_text shown.now)) }
+{
+    write_whole(out, label)?;
+    write_whole(out, shown.as_str())?;
+    write_whole(out, "\n")
+}
+
+// Writes all of the text, by as many writes as it takes. It stops at the first that fails, is interrupted, or takes no byte.
+fn write_whole<W: Write>(out: &mut W, text: &str) -> io::Result<()>
+    ensures { WritesOrBegins (W.contents out.old) (W.contents out.new) result text.now }
+{
+    let mut rest = text.as_bytes();
+    while !rest.is_empty() {
+        let count = out.write(rest)?;
+        if count == 0 {
+            return Err(io::Error::from(ErrorKind::WriteZero));
+        }
+        rest = &rest[count..];
+    }
+    Ok(())
+}

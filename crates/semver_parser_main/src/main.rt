@@ -1,0 +1,51 @@
+//! The program `semver-parser [TEXT]`: arguments and exit status, nothing else.
+#![tactic(auto)]
+
+use std::env;
+use std::process::ExitCode;
+use std::rt::Env;
+use semver_parser::report;
+
+/// What the text is where no argument is given.
+const DEFAULT_TEXT: &str = "1.2.3";
+
+/// The arguments were not one text at most.
+enum Refusal {
+    /// They can't be read.
+    Unreadable,
+    /// There is more than one.
+    TooMany,
+}
+
+fn main(rt: HostRuntime) -> ExitCode {
+    let text = match only_argument(&rt) {
+        Ok(text) => text,
+        Err(Refusal::Unreadable) => return refused(&rt, "cannot read arguments"),
+        Err(Refusal::TooMany) => return refused(&rt, "usage: semver-parser [TEXT]"),
+    };
+    let text = text.as_ref().map_or(DEFAULT_TEXT, |text| text.as_str());
+    let ran = report::run(rt.alloc(), text, &mut rt.stdout());
+    if ran.is_err() {
+        return refused(&rt, "cannot write output");
+    }
+    ExitCode::from(report::status(&ran))
+}
+
+/// The one argument, or none.
+fn only_argument(rt: &(impl Env + AllocGlobal)) -> Result<Option<String>, Refusal> {
+    let Ok(mut arguments) = env::args(rt) else {
+        return Err(Refusal::Unreadable);
+    };
+    let _program = arguments.next();
+    let text = arguments.next();
+    if arguments.next().is_some() {
+        return Err(Refusal::TooMany);
+    }
+    Ok(text)
+}
+
+/// Says why on standard error, and gives status 2.
+fn refused(rt: &impl Eprint, why: &str) -> ExitCode {
+    let _ = eprintln!(rt; "{why}");
+    ExitCode::from(2)
+}
