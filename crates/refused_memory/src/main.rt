@@ -1,0 +1,105 @@
+//! Calls what takes memory, and checks that each call answers in full or for want of memory, and leaves what it promises.
+//! Standard input is the number of requests to make first. Where it is empty, every call has to answer in full;
+//! else the one request that is refused has to be met by exactly one call, which is named.
+#![tactic(auto)]
+
+mod fixed;
+mod identifiers;
+mod parsers;
+mod reports;
+mod versions;
+
+use std::alloc::Global;
+use std::io;
+use std::io::Read;
+
+/// How a call ended.
+#[derive(Clone, Copy, PartialEq, Eq)]
+enum Ending {
+    /// With the full answer.
+    Full,
+    /// For want of memory, and what it promises then holds.
+    Refused,
+    /// In any other way.
+    Wrong,
+}
+
+impl Ending {
+    /// The full answer, if it is right.
+    fn full_if(is_right: bool) -> Ending {
+        if is_right {
+            Ending::Full
+        } else {
+            Ending::Wrong
+        }
+    }
+
+    /// A refusal, if what is promised of it holds.
+    fn refused_if(is_kept: bool) -> Ending {
+        if is_kept {
+            Ending::Refused
+        } else {
+            Ending::Wrong
+        }
+    }
+}
+
+fn main(rt: HostRuntime) -> io::Result<()> {
+    spend_requests(rt.alloc(), &mut rt.stdin())?;
+    let endings = [
+        ("identifier", parsers::identifier(rt.alloc())),
+        ("tail", parsers::tail(rt.alloc())),
+        (
+            "tail_before_a_bad_character",
+            parsers::tail_before_a_bad_character(rt.alloc()),
+        ),
+        ("tail_of_nothing", parsers::tail_of_nothing(rt.alloc())),
+        (
+            "versions_without_identifiers",
+            versions::without_identifiers(rt.alloc()),
+        ),
+        (
+            "version_with_identifiers",
+            versions::with_identifiers(rt.alloc()),
+        ),
+        ("version_with_numbers", versions::with_numbers(rt.alloc())),
+        ("more_input", versions::more_input(rt.alloc())),
+        ("version_clone", versions::clone(rt.alloc())),
+        (
+            "concat_of_a_number",
+            identifiers::concat_of_a_number(rt.alloc()),
+        ),
+        (
+            "concat_of_a_text",
+            identifiers::concat_of_a_text(rt.alloc()),
+        ),
+        ("error_text", identifiers::error_text(rt.alloc())),
+        ("report", reports::report(rt.alloc())),
+    ];
+    for (call, ending) in endings {
+        match ending {
+            Ending::Full => {}
+            Ending::Refused => println!(rt; "refused: {call}")?,
+            Ending::Wrong => println!(rt; "wrong: {call}")?,
+        }
+    }
+    rt.println("done")
+}
+
+/// Makes as many requests as the input says.
+fn spend_requests(alloc: Global, input: &mut impl Read) -> io::Result<()> {
+    let mut digits = [0u8; 8];
+    let count = input.read(&mut digits)?;
+    let mut requests = 0u32;
+    for digit in &digits[..count] {
+        if digit.is_ascii_digit() {
+            requests = requests
+                .saturating_mul(10)
+                .saturating_add(u32::from(digit - b'0'));
+        }
+    }
+    for _ in 0..requests {
+        let _request = Box::new(alloc, 0u8);
+    }
+    Ok(())
+}
