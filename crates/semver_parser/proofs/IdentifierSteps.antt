@@ -1,11 +1,10 @@
 -- The shape of an identifier, token by token, and that each identifier that is read has a value.
 use Rattle.std.proofs.Common.{◌≡◌, ℕ, ◌^◌, ◌<◌, ◌≤◌, Bool, true, false, List, [], ◌∷◌, ◌++◌, length, map, Some, None, Option, Result, Ok, Err, sym, refl, ap, ◌∙◌, subst, ◌⊎◌, inl, inr, arith, append_assoc, append-nil, cond, decimal, ◌&&◌, length-append}
 use Rattle.std.specs.Prelude.{option_and_then, IsTrue, flat_map, codes, slice_get}
-use Rattle.std.specs.List.{AllByRecursion, join_by}
+use Rattle.std.specs.List.{AllByRecursion, join_by, join_with_byte}
 use Rattle.std.specs.Str.{all_ascii_digits}
 use Rattle.std.proofs.lemmas.Option.{none-some, same_Some}
 use Rattle.semver_parser.specs.Tokens.{TokenValue, Hyphen, Numeric, AlphaNumeric, is_component, IsRun, IsNumber}
-use Rattle.semver_parser.specs.VersionGrammar as grammar
 use Rattle.semver_parser.specs.Versions.{numeric, alphanumeric}
 use Rattle.semver_parser.specs.VersionGrammar.{SpellsIdentifier, IsIdentifierText}
 use Rattle.semver_parser.specs.Versions.{IdentifierValue}
@@ -87,9 +86,9 @@ run_texts : (runs : List TokenValue) → AllByRecursion (λ t. IsTrue (is_compon
 run_texts [] all well = tt
 run_texts (t ∷ runs) all well = (run_text t all.0 well.0, run_texts runs all.1 well.1)
 
-texts_joined : (runs : List TokenValue) → inner_texts (hyphened runs) ≡ flat_map (λ y. codes "-" ++ y) (map inner_text runs)
-texts_joined [] = refl
-texts_joined (t ∷ runs) = ap (λ (l : List ℕ). 45 ∷ (inner_text t ++ l)) (texts_joined runs)
+texts_joined : (t : TokenValue) (runs : List TokenValue) → inner_texts (t ∷ hyphened runs) ≡ join_with_byte 45 (map inner_text (t ∷ runs))
+texts_joined t [] = append-nil (inner_text t)
+texts_joined t (r ∷ runs) = ap (λ (l : List ℕ). inner_text t ++ 45 ∷ l) (texts_joined r runs)
 
 -- a hyphen is no digit
 hyphen_no_digits : (xs ys : List ℕ) → all_ascii_digits (xs ++ 45 ∷ ys) ≡ false
@@ -100,22 +99,31 @@ hyphen_no_digits (x ∷ xs) ys = rw (hyphen_no_digits xs ys) (and_false _)
     and_false true = refl
     and_false false = refl
 
-pub identifier_has_value : (ts : List TokenValue) (w : IsIdentifierShape ts) → AllByRecursion IsWellFormed w.runs → (v : IdentifierValue) × SpellsIdentifier v (inner_texts ts)
-identifier_has_value ts w well = subst (λ (l : List TokenValue). (v : IdentifierValue) × SpellsIdentifier v (inner_texts l)) (sym w.joined) (go w.runs w.some w.each well)
+-- what an identifier of these tokens is kept as
+abbrev pub kept_as : Option ℕ → List ℕ → IdentifierValue
+kept_as None text = alphanumeric text
+kept_as (Some n) text = numeric n
+
+runs_within : (runs : List TokenValue) → AllByRecursion IsWellFormed (hyphened runs) → AllByRecursion IsWellFormed runs
+runs_within [] well = tt
+runs_within (t ∷ runs) well = (well.1.0, runs_within runs well.1.1)
+
+pub kept_spells : (ts : List TokenValue) → IsIdentifierShape ts → AllByRecursion IsWellFormed ts → SpellsIdentifier (kept_as (lone_number ts) (inner_texts ts)) (inner_texts ts)
+kept_spells ts w well =
+    subst (λ (l : List TokenValue). SpellsIdentifier (kept_as (lone_number l) (inner_texts l)) (inner_texts l)) (sym w.joined)
+    (go w.runs w.some w.each (subst (AllByRecursion IsWellFormed) w.joined well))
   where
-    go : (runs : List TokenValue) → 0 < length runs → AllByRecursion (λ t. IsTrue (is_component t)) runs → AllByRecursion IsWellFormed runs → (v : IdentifierValue) × SpellsIdentifier v (inner_texts (join_by (λ t. t ∷ []) (Hyphen ∷ []) runs))
+    go : (runs : List TokenValue) → 0 < length runs → AllByRecursion (λ t. IsTrue (is_component t)) runs → AllByRecursion IsWellFormed (join_by (λ t. t ∷ []) (Hyphen ∷ []) runs)
+        → SpellsIdentifier (kept_as (lone_number (join_by (λ t. t ∷ []) (Hyphen ∷ []) runs)) (inner_texts (join_by (λ t. t ∷ []) (Hyphen ∷ []) runs))) (inner_texts (join_by (λ t. t ∷ []) (Hyphen ∷ []) runs))
     go [] some all well = absurd (omega (arith, some))
-    go ((Numeric n) ∷ []) some all well = (numeric n, (well.0, append-nil (decimal n)))
-    go ((AlphaNumeric s) ∷ []) some all well = (alphanumeric s, (append-nil s, record { runs = s ∷ []; some = omega arith; each = (well.0.0, tt); joined = sym (append-nil s) }, well.0.1))
+    go ((Numeric n) ∷ []) some all well = (well.0, append-nil (decimal n))
+    go ((AlphaNumeric s) ∷ []) some all well = (refl, record { runs = s ∷ []; some = omega arith; each = (well.0.0, tt); joined = append-nil s }, λ number. well.0.1 (subst IsNumber (append-nil s) number))
     go (t ∷ []) some all well = absurd (false_true all.0)
     go (t ∷ r ∷ runs) some all well =
         let text : List ℕ = inner_texts (t ∷ hyphened (r ∷ runs)) in (
-          alphanumeric text,
-          (
-            refl,
-            record { runs = map inner_text (t ∷ r ∷ runs); some = omega arith; each = run_texts (t ∷ r ∷ runs) all well; joined = ap (λ (l : List ℕ). inner_text t ++ l) (texts_joined (r ∷ runs)) },
-            λ number. false_true (sym (hyphen_no_digits (inner_text t) _) ∙ (canonical_from_IsNumber text number).digits),
-          ),
+          refl,
+          record { runs = map inner_text (t ∷ r ∷ runs); some = omega arith; each = run_texts (t ∷ r ∷ runs) all (well.0, runs_within (r ∷ runs) well.1); joined = texts_joined t (r ∷ runs) },
+          λ number. false_true (sym (hyphen_no_digits (inner_text t) _) ∙ (canonical_from_IsNumber text number).digits),
         )
 
 -- ---- taking an identifier from a parser

@@ -3,6 +3,7 @@ pub mod AnsweredLaws
 pub mod Cuts
 pub mod FirstToken
 pub mod IdentifierSteps
+pub mod IdentifierTexts
 pub mod LexerSteps
 pub mod Meanings
 pub mod Numbers

@@ -1,6 +1,6 @@
 -- Rows that show what the definitions say.
 use Rattle.std.proofs.Common.{◌≡◌, ℕ, ◌<◌, List, [], ◌∷◌, ◌++◌, length, Some, None, Ok, Err, true, false, refl, sym, subst, ap, arith, inl, inr, append-nil, length-append}
-use Rattle.std.specs.Prelude.{flat_map, IsTrue, Bool, ◌&&◌}
+use Rattle.std.specs.Prelude.{IsTrue, Bool, ◌&&◌}
 use Rattle.std.specs.Prelude.{codes}
 use Rattle.std.specs.Str.{chars}
 use Rattle.std.proofs.lemmas.Fmt.{decimal_digit}
@@ -15,7 +15,7 @@ use Rattle.semver_parser.specs.Versions.{numeric, alphanumeric}
 use Rattle.semver_parser.specs.Versions.{VersionValue}
 use Rattle.semver_parser.specs.VersionReading.{IsVersionShape, IsOutcomeOf}
 use Rattle.std.specs.Fmt.{digits}
-use Rattle.std.specs.List.{AllByRecursion, list_all}
+use Rattle.std.specs.List.{AllByRecursion, list_all, join_with_byte}
 use Rattle.std.specs.Char.{is_ascii_alphanumeric}
 use Rattle.semver_parser.proofs.Numbers.{is_number_true, canonical_from_IsNumber}
 use Rattle.semver_parser.proofs.FirstToken.{never}
@@ -97,7 +97,7 @@ is_run text some passes = (some, each text passes)
 
 -- a run that isn't a number is kept as its text
 kept_word : (text : List ℕ) → IsRun text → is_number text ≡ false → grammar.SpellsIdentifier (alphanumeric text) text
-kept_word text run other = (refl, record { runs = text ∷ []; some = omega arith; each = (run, tt); joined = sym (append-nil text) }, λ number. never (is_number_true text (canonical_from_IsNumber text number)) other)
+kept_word text run other = (refl, record { runs = text ∷ []; some = omega arith; each = (run, tt); joined = refl }, λ number. never (is_number_true text (canonical_from_IsNumber text number)) other)
 
 -- `alpha1` and `01` are texts, and `7` is a number
 alpha1_is_kept : grammar.SpellsIdentifier (alphanumeric (codes "alpha1")) (codes "alpha1")
@@ -120,9 +120,10 @@ one_two_is_kept = (refl, record { runs = codes "1" ∷ codes "2" ∷ []; some = 
 empty_is_no_identifier : ¬ (grammar.IsIdentifierText [])
 empty_is_no_identifier h = at_runs h.runs h.some h.each h.joined
   where
-    at_runs : (runs : List (List ℕ)) → 0 < length runs → AllByRecursion IsRun runs → [] ≡ grammar.join (codes "-") runs → ⊥
+    at_runs : (runs : List (List ℕ)) → 0 < length runs → AllByRecursion IsRun runs → [] ≡ join_with_byte 45 runs → ⊥
     at_runs [] some each e = omega (arith, some)
-    at_runs (run ∷ runs) some each e = omega (arith, each.0.0, ap length e, length-append run (flat_map (λ y. codes "-" ++ y) runs))
+    at_runs (run ∷ []) some each e = omega (arith, each.0.0, ap length e)
+    at_runs (run ∷ next ∷ runs) some each e = omega (arith, each.0.0, ap length e, length-append run (45 ∷ join_with_byte 45 (next ∷ runs)))
 
 -- ` 1.2.3-alpha1+7` spells 1, 2, 3, `alpha1` and 7, and the version prints without the space
 with_both_parts : VersionValue
@@ -138,8 +139,8 @@ spells_both_parts = record {
   major = omega arith;
   minor = omega arith;
   patch = omega arith;
-  pre = record { texts = codes "alpha1" ∷ []; each = (alpha1_is_kept, tt); parted = inr (omega arith, refl) };
-  build = record { texts = codes "7" ∷ []; each = (seven_is_a_number, tt); parted = inr (omega arith, refl) };
+  pre = record { texts = codes "alpha1" ∷ []; each = (alpha1_is_kept, tt); joined = refl };
+  build = record { texts = codes "7" ∷ []; each = (seven_is_a_number, tt); joined = refl };
   spaces_before = (refl, tt);
   spaces_after = tt;
   spelled = refl;
@@ -218,8 +219,8 @@ more_input = record {
     major = omega arith;
     minor = omega arith;
     patch = omega arith;
-    pre = record { texts = []; each = tt; parted = inl (refl, refl) };
-    build = record { texts = []; each = tt; parted = inl (refl, refl) };
+    pre = record { texts = []; each = tt; joined = refl };
+    build = record { texts = []; each = tt; joined = refl };
     spaces_before = tt;
     spaces_after = tt;
     spelled = refl;

@@ -8,6 +8,7 @@ pub mod ParserViews
 pub mod PrintedText
 pub mod VersionGrammar
 pub mod VersionReading
+pub mod VersionViews
 pub mod Taking
 pub mod RangeTree
 pub mod Partials

@@ -1,38 +1,35 @@
 -- The grammar of versions: which version a text spells (SemVer 2.0.0, section 2 and sections 9 and 10 in this crate's wider form).
-use Rattle.std.specs.Prelude.{◌≡◌, ℕ, ◌^◌, ◌<◌, ◌⊎◌, List, [], ◌∷◌, ◌++◌, length, IsTrue, codes, decimal}
-use Rattle.std.specs.List.{AllByRecursion, AllZip, join_by}
+use Rattle.std.specs.Prelude.{◌≡◌, ◌^◌, ◌<◌, List, ◌++◌, length, map, IsTrue, codes, decimal}
+use Rattle.std.specs.List.{AllByRecursion, AllZip, join_with_byte}
+use Rattle.semver_parser.specs.Texts.{Text, marked}
 use Rattle.semver_parser.specs.Tokens.{IsRun, IsNumber, is_space}
-use Rattle.semver_parser.specs.Versions.{IdentifierValue, numeric, alphanumeric, VersionValue}
+use Rattle.semver_parser.specs.Versions.{IdentifierValue, numeric, alphanumeric, VersionValue, numbers}
 use Rattle.semver_parser.specs.PrintedText.{identifier_text}
 
--- texts joined by a separator
-abbrev pub join : List ℕ → List (List ℕ) → List ℕ
-join separator texts = join_by (λ text. text) separator texts
-
 -- one or more runs joined by single hyphens
-pub record IsIdentifierText (text : List ℕ) : Type 0 where
-  pub runs : List (List ℕ)
+pub record IsIdentifierText (text : Text) : Type 0 where
+  pub runs : List Text
   pub some : 0 < length runs
   pub each : AllByRecursion IsRun runs
-  pub joined : text ≡ join (codes "-") runs
+  pub joined : text ≡ join_with_byte 45 runs
 
 -- the text spells the identifier: the canonical decimal of a number below 2^64 spells that number, any other text itself
-abbrev pub SpellsIdentifier : IdentifierValue → List ℕ → Type 0
+abbrev pub SpellsIdentifier : IdentifierValue → Text → Type 0
 SpellsIdentifier (numeric n) text = (n < 2 ^ 64) × (text ≡ decimal n)
 SpellsIdentifier (alphanumeric kept) text = (text ≡ kept) × IsIdentifierText kept × ¬ (IsNumber kept)
 
--- nothing, and there is no identifier; or the sign, and the identifiers parted by dots
-pub record SpellsPart (sign : List ℕ) (ids : List IdentifierValue) (text : List ℕ) : Type 0 where
-  pub texts : List (List ℕ)
+-- the mark, and the identifiers joined by dots; nothing where there is no identifier
+pub record SpellsPart (mark : Text) (ids : List IdentifierValue) (text : Text) : Type 0 where
+  pub texts : List Text
   pub each : AllZip SpellsIdentifier ids texts
-  pub parted : ((texts ≡ []) × (text ≡ [])) ⊎ ((0 < length texts) × (text ≡ sign ++ join (codes ".") texts))
+  pub joined : text ≡ marked mark texts
 
--- the text spells the version
-pub record SpellsVersion (v : VersionValue) (text : List ℕ) : Type 0 where
-  pub before : List ℕ
-  pub pre_text : List ℕ
-  pub build_text : List ℕ
-  pub after : List ℕ
+-- the text spells the version: three numbers joined by dots, the pre-release behind `-`, the build behind `+`, and white space on either side
+pub record SpellsVersion (v : VersionValue) (text : Text) : Type 0 where
+  pub before : Text
+  pub pre_text : Text
+  pub build_text : Text
+  pub after : Text
   pub major : v.plain.major < 2 ^ 64
   pub minor : v.plain.minor < 2 ^ 64
   pub patch : v.plain.patch < 2 ^ 64
@@ -40,10 +37,10 @@ pub record SpellsVersion (v : VersionValue) (text : List ℕ) : Type 0 where
   pub build : SpellsPart (codes "+") v.build build_text
   pub spaces_before : AllByRecursion (λ b. IsTrue (is_space b)) before
   pub spaces_after : AllByRecursion (λ b. IsTrue (is_space b)) after
-  pub spelled : text ≡ before ++ join (codes ".") (decimal v.plain.major ∷ decimal v.plain.minor ∷ decimal v.plain.patch ∷ []) ++ pre_text ++ build_text ++ after
+  pub spelled : text ≡ before ++ join_with_byte 46 (map decimal (numbers v.plain)) ++ pre_text ++ build_text ++ after
 
 -- some version is spelled so
-abbrev pub IsVersionText : List ℕ → Type 0
+abbrev pub IsVersionText : Text → Type 0
 IsVersionText text = (v : VersionValue) × SpellsVersion v text
 
 -- an identifier that its own printed text spells

@@ -121,6 +121,14 @@ pub record IsOutcomeOf (text : List ℕ) (r : Result VersionValue Fault) : Type 
 
 -- ---- memory
 
+-- the front of an identifier holds a run
+pub record HoldsRun (front : List TokenValue) : Type 0 where
+  pub before : List TokenValue
+  pub component : TokenValue
+  pub after : List TokenValue
+  pub split : front ≡ before ++ component ∷ after
+  pub is_run : IsTrue (is_component component)
+
 -- the front of a version holds a run of an identifier: a component behind a `-` or a `+`
 pub record HoldsIdentifierRun (front : List TokenValue) : Type 0 where
   pub before : List TokenValue
@@ -136,3 +144,17 @@ pub record IsEndPart (s t : ParserState) : Type 0 where
   pub taken : List TokenValue
   pub split : s.remaining ≡ taken ++ t.remaining
   pub pending : t.pending ≡ s.pending
+
+-- reading what has this shape from the state s may run out of memory and leave t: the longest front holds what takes memory
+pub record MayRunOut (Shape Holds : List TokenValue → Type 0) (s t : ParserState) : Type 0 where
+  pub front : List TokenValue
+  pub rest : List TokenValue
+  pub longest : IsLongestFront Shape s.remaining front rest
+  pub holds : Holds front
+  pub left : IsEndPart s t
+
+abbrev pub MayRunOutInIdentifier : ParserState → ParserState → Type 0
+MayRunOutInIdentifier s t = MayRunOut IsIdentifierShape HoldsRun s t
+
+abbrev pub MayRunOutInVersion : ParserState → ParserState → Type 0
+MayRunOutInVersion s t = MayRunOut IsVersionShape HoldsIdentifierRun s t
