@@ -22,3 +22,5 @@ pub mod Vectors
 pub mod VersionExamples
 pub mod VersionSteps
 pub mod Writes
+pub mod Joins
+pub mod ReportSteps

@@ -4,6 +4,7 @@
 pub mod laws;
 pub mod lexer;
 pub mod parser;
+mod printing;
 mod range;
 mod range_set;
 pub mod report;

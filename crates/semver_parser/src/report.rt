@@ -1,11 +1,15 @@
 //! The lines of the program, and its status.
 ghost use Rattle.std.specs.Prelude.{◌≡◌, true, false, ◌++◌, ◌||◌, IfOk, codes};
 ghost use Rattle.semver_parser.specs.Writing.{WritesOrBegins};
-ghost use Rattle.semver_parser.specs.ReportLines.{MayShowVersion, line, WritesLines, status_of};
+ghost use Rattle.semver_parser.specs.ReportLines.{MayShowVersion, version_fault_word, line, WritesLines, status_of};
+ghost use Rattle.semver_parser.specs.ParserViews.{fault_of};
+ghost use Rattle.semver_parser.specs.VersionViews.{version_value};
+ghost use Rattle.semver_parser.specs.PrintedText.{version_text};
 ghost use Rattle.semver_parser.specs.Shown.{shown_text, is_value_of};
 
-use crate::{parser, version};
-use std::alloc::{AllocError, Global};
+use crate::parser;
+use crate::version::{self, Version};
+use std::alloc::Global;
 use std::io::{self, ErrorKind, Write};
 
 /// What a line shows behind its label.
@@ -29,7 +33,15 @@ pub fn run<W: Write>(alloc: Global, text: &str, out: &mut W) -> Result<bool, io:
     ensures { WritesLines text.now (W.contents out.old) (W.contents out.new) result }
 {
     let version = version_shown(alloc, text);
-    write_line(out, "version: ", &version)?;
+    write_lines(out, &version)
+}
+
+// Writes the lines, and tells whether some line holds no fault word.
+fn write_lines<W: Write>(out: &mut W, version: &Shown) -> io::Result<bool>
+    ensures writes { WritesOrBegins (W.contents out.old) (W.contents out.new) result (line (codes "version: ") (shown_text version.now)) }
+    ensures good { IfOk result (λ good. good ≡ is_value_of version.now) }
+{
+    write_line(out, "version: ", version)?;
     Ok(version.is_value())
 }
 
@@ -51,21 +63,26 @@ fn version_shown(alloc: Global, text: &str) -> Shown
     ensures { MayShowVersion (is_value_of result) (shown_text result) }
 {
     match version::parse(alloc, text) {
-        Ok(version) => printed(version.to_string(alloc)),
+        Ok(version) => printed_version(alloc, &version),
         Err(error) => Shown::Fault(version_fault_word(&error)),
     }
 }
 
-// The printed value, or the word for want of memory.
-fn printed(text: Result<String, AllocError>) -> Shown {
-    match text {
+// The printed version, or the word for want of memory.
+fn printed_version(alloc: Global, version: &Version) -> Shown
+    ensures value { is_value_of result ≡ true → shown_text result ≡ version_text (version_value version.now) }
+    ensures fault { is_value_of result ≡ false → shown_text result ≡ codes "out-of-memory" }
+{
+    match version.to_string(alloc) {
         Ok(text) => Shown::Value(text),
         Err(_) => Shown::Fault("out-of-memory"),
     }
 }
 
 // The word for a fault of a version text.
-fn version_fault_word(error: &parser::Error<'_>) -> &'static str {
+fn version_fault_word(error: &parser::Error<'_>) -> &'static str
+    ensures { result.now ≡ version_fault_word (fault_of error.now) }
+{
     match error {
         parser::Error::UnexpectedEnd => "unexpected-end",
         parser::Error::UnexpectedToken(_) => "unexpected-token",

@@ -1,8 +1,12 @@
 //! Versions.
-ghost use Rattle.std.specs.Prelude.{◌≡◌, Some, List, ℕ};
-ghost use Rattle.std.specs.Fmt.{WritesOnOk};
+ghost use Rattle.std.specs.Prelude.{◌≡◌, ◌++◌, Some, IfOk, IfErr, string_bytes};
+ghost use Rattle.std.specs.Fmt.{decimal};
+ghost use Rattle.semver_parser.specs.Versions.{alphanumeric};
+ghost use Rattle.semver_parser.specs.PrintedText.{identifier_text};
+ghost use Rattle.semver_parser.specs.VersionViews.{identifier_value};
 
 use crate::parser::{self, Parser};
+use crate::printing::write_part;
 use std::alloc::{AllocError, Global};
 use std::fmt;
 
@@ -31,8 +35,14 @@ pub enum Identifier {
 }
 
 impl Identifier {
-    /// Concat.
-    pub fn concat(self, alloc: Global, add_str: &str) -> Result<Identifier, Identifier> {
+    /// The printed identifier followed by `add_str`, kept as a text: `Numeric(5)` and `x` give `AlphaNumeric("5x")`.
+    ///
+    /// `Err` is want of memory, and gives the unchanged identifier back. It asks for memory once, for exactly the text's length.
+    /// Whether the text is one that a version's text can hold isn't asked.
+    pub fn concat(self, alloc: Global, add_str: &str) -> Result<Identifier, Identifier>
+        ensures joined { IfOk result (λ joined. identifier_value joined ≡ alphanumeric (identifier_text (identifier_value self) ++ add_str.now)) }
+        ensures given_back { IfErr result (λ unchanged. identifier_value unchanged ≡ identifier_value self) }
+    {
         match self {
             Identifier::Numeric(number) => match number_and(alloc, number, add_str) {
                 Ok(text) => Ok(Identifier::AlphaNumeric(text)),
@@ -49,7 +59,9 @@ impl Identifier {
 }
 
 // The number's decimal and then the text, in one growth.
-fn number_and(alloc: Global, number: u64, text: &str) -> Result<String, AllocError> {
+fn number_and(alloc: Global, number: u64, text: &str) -> Result<String, AllocError>
+    ensures { IfOk result (λ whole. string_bytes whole ≡ decimal number ++ text.now) }
+{
     let digits = number.checked_ilog10().map_or(1, |log| log as usize + 1);
     let mut whole = String::with_capacity(alloc, digits.saturating_add(text.len()))?;
     write!(whole, "{number}{text}")?;
@@ -57,6 +69,11 @@ fn number_and(alloc: Global, number: u64, text: &str) -> Result<String, AllocErr
 }
 
 impl fmt::Display for Identifier {
+    ghost output = { λ identifier. Some (identifier_text (identifier_value identifier)) };
+
+    /// Writes the decimal, or the text itself. It takes no memory, and its only fault is the writer's.
+    ///
+    /// `Numeric(7)` is written as `7`, `AlphaNumeric("alpha1")` as `alpha1`.
     fn fmt<W: fmt::Write>(&self, f: &mut fmt::Formatter<W>) -> fmt::Result {
         match self {
             Identifier::Numeric(number) => write!(f, "{number}"),
@@ -66,28 +83,21 @@ impl fmt::Display for Identifier {
 }
 
 impl fmt::Display for Version {
+    ghost use Rattle.semver_parser.specs.PrintedText.{version_text};
+    ghost use Rattle.semver_parser.specs.VersionViews.{version_value};
+
+    ghost output = { λ version. Some (version_text (version_value version)) };
+
+    /// Writes `major.minor.patch`; then, where there is a pre-release, `-` and its identifiers joined by dots; then, where
+    /// there is a build, `+` and its identifiers joined by dots. It takes no memory, and its only fault is the writer's.
+    ///
+    /// The version read from ` 1.2.3-alpha1.9+build5 ` is written as `1.2.3-alpha1.9+build5`.
     fn fmt<W: fmt::Write>(&self, f: &mut fmt::Formatter<W>) -> fmt::Result {
         let (major, minor, patch) = (self.major, self.minor, self.patch);
         write!(f, "{major}.{minor}.{patch}")?;
         write_part(f, "-", &self.pre)?;
         write_part(f, "+", &self.build)
     }
-}
-
-// Writes the mark and then the identifiers joined by dots; nothing where there are none.
-fn write_part<W: fmt::Write>(
-    f: &mut fmt::Formatter<W>,
-    mark: &str,
-    identifiers: &[Identifier],
-) -> fmt::Result {
-    let Some((first, others)) = identifiers.split_first() else {
-        return Ok(());
-    };
-    write!(f, "{mark}{first}")?;
-    for identifier in others {
-        write!(f, ".{identifier}")?;
-    }
-    Ok(())
 }
 
 /// Parse.
