@@ -1,10 +1,10 @@
 //! The program `semver-parser [TEXT]`: arguments and exit status, nothing else.
 #![tactic(auto)]
 
+use semver_parser::report;
 use std::env;
 use std::process::ExitCode;
 use std::rt::Env;
-use semver_parser::report;
 
 /// What the text is where no argument is given.
 const DEFAULT_TEXT: &str = "1.2.3";
