@@ -21,3 +21,4 @@ pub mod TokenLists
 pub mod Vectors
 pub mod VersionExamples
 pub mod VersionSteps
+pub mod VersionTaking
