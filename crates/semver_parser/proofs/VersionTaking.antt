@@ -262,8 +262,7 @@ module _ (inside behind : Place) (places : AreRunPlaces inside behind) (s t : Pa
       let whole = identifier_is_read.read w.front w.answer.0.0 in
       let leads : run id_step false w.front ≡ Some true = whole.1 ∙ ap (λ (b : Bool). Some b) whole.2 in
       let stop = longest_stops id_step (λ b. b) false IsIdentifierShape identifier_is_read t.remaining w.front w.rest w.longest in
-      let stops : Stops id_step true w.rest = subst (λ (b : Bool). Stops id_step b w.rest) (same_Some stop.0 true (sym stop.1 ∙ leads)) stop.2 in
-      (
+      let stops : Stops id_step true w.rest = subst (λ (b : Bool). Stops id_step b w.rest) (same_Some stop.0 true (sym stop.1 ∙ leads)) stop.2 in (
         inner_texts w.front,
         w.answer.1,
         record {
@@ -611,3 +610,315 @@ part_ends true more t u ids k off = λ s inside behind text places at. go more u
     go : {s : ParserState} {inside behind : Place} {text : List ℕ} (more : Bool) (u : ParserState) → more ≡ false → IsBetween s inside behind text ids more u → ArePassed s behind text ids u
     go _ _ off (at_next t texts each at) = clash (sym off)
     go _ _ off (at_last_one t passed) = passed
+
+-- ---- white space
+
+data SkipStep (t : ParserState) : Result (Unit {0}) Fault → ParserState → Type 0 where
+  skipped : (a b : ℕ) (u : ParserState) → look t ≡ Some (Whitespace a b) → pop t ≡ (Ok (Whitespace a b), u) → SkipStep t (Ok tt) u
+  skip_refused : (a b : ℕ) (e : Fault) (u : ParserState) → look t ≡ Some (Whitespace a b) → pop t ≡ (Err e, u) → SkipStep t (Err e) u
+  not_there : ((a b : ℕ) → ¬ (look t ≡ Some (Whitespace a b))) → SkipStep t (Ok tt) t
+
+skip_step : (t : ParserState) → SkipStep t (skip_whitespace t).0 (skip_whitespace t).1
+skip_step t = at_look (look t) refl
+  where
+    same : (x : TokenValue) (a b : ℕ) (u : ParserState) → look t ≡ Some (Whitespace a b) → pop t ≡ (Ok x, u) → x ≡ Whitespace a b
+    same x a b u looked popped = same_Some x (Whitespace a b) (sym (look_popped (pop_gives t.remaining t.pending x u popped).first) ∙ looked)
+
+    at_pop : (a b : ℕ) → look t ≡ Some (Whitespace a b) → (p : Step TokenValue) → pop t ≡ p → SkipStep t (and_then {B = Unit {0}} p (λ x u. (Ok tt, u))).0 (and_then {B = Unit {0}} p (λ x u. (Ok tt, u))).1
+    at_pop a b looked (Ok x, u) popped = skipped a b u looked (popped ∙ ap (λ (y : TokenValue). (Ok y, u)) (same x a b u looked popped))
+    at_pop a b looked (Err e, u) popped = skip_refused a b e u looked popped
+
+    at_look : (o : Option TokenValue) → look t ≡ o → SkipStep t (skip_at o t).0 (skip_at o t).1
+    at_look (Some (Whitespace a b)) looked = at_pop a b looked (pop t) refl
+    at_look None looked = not_there (λ a b d. none-some (Whitespace a b) (sym looked ∙ d))
+    at_look (Some x) looked = not_there (λ a b d. cc (same_Some x (Whitespace a b) (sym looked ∙ d)))
+
+-- before the first number
+pub record IsBegun (s t : ParserState) : Type 0 where
+  pub place : Place
+  pub taken : IsTakenTo s place [] t
+  pub wants : WantsNumber place after_major t
+
+pub begun : (s u : ParserState) → skip_whitespace s ≡ (Ok tt, u) → IsBegun s u
+begun s u e = go (skip_whitespace s).0 (skip_whitespace s).1 (skip_step s) e
+  where
+    no_number : (x : TokenValue) → ((n : ℕ) → ¬ (x ≡ Numeric n)) → step major x ≡ None
+    no_number (Numeric n) other = absurd (other n refl)
+    no_number _ other = refl
+
+    nothing_leads : (x : TokenValue) → ((n : ℕ) → ¬ (x ≡ Numeric n)) → ((a b : ℕ) → ¬ (x ≡ Whitespace a b)) → step start x ≡ None
+    nothing_leads (Numeric n) other none = absurd (other n refl)
+    nothing_leads (Whitespace a b) other none = absurd (none a b refl)
+    nothing_leads _ other none = refl
+
+    go : (r : Result (Unit {0}) Fault) (v : ParserState) → SkipStep s r v → ◌≡◌ {A = Step (Unit {0})} (r, v) (Ok tt, u) → IsBegun s u
+    go _ _ (skipped a b v looked popped) d =
+        subst (IsBegun s) (ok_parts tt tt v u d).1 (record {
+          place = major;
+          taken = taken_more s s v start major [] (Whitespace a b) (none_taken s) (pop_gives s.remaining s.pending (Whitespace a b) v popped) refl;
+          wants = record { no_end = refl; number = λ n. refl; other = λ x looked other. no_number x other };
+        })
+    go _ _ (skip_refused a b x v looked popped) d = err_ok x tt v u d
+    go _ _ (not_there none) d =
+        subst (IsBegun s) (ok_parts tt tt s u d).1 (record {
+          place = start;
+          taken = none_taken s;
+          wants = record { no_end = refl; number = λ n. refl; other = λ x looked other. nothing_leads x other (λ a b same. none a b (looked ∙ ap (λ (y : TokenValue). Some y) same)) };
+        })
+
+pub begin_refused : (s u : ParserState) (e : Fault) → skip_whitespace s ≡ (Err e, u) → ReadsVersion s (Err e) u
+begin_refused s u e d = go (skip_whitespace s).0 (skip_whitespace s).1 (skip_step s) d
+  where
+    go : (r : Result (Unit {0}) Fault) (v : ParserState) → SkipStep s r v → ◌≡◌ {A = Step (Unit {0})} (r, v) (Err e, u) → ReadsVersion s (Err e) u
+    go _ _ (skipped a b v looked popped) d = err_ok e tt u v (sym d)
+    go _ _ (skip_refused a b x v looked popped) d =
+        let parts = err_parts x e v u d in
+        subst (λ (z : Fault). ReadsVersion s (Err z) u) parts.0 (subst (λ (z : ParserState). ReadsVersion s (Err x) z) parts.1 (refused_pop s s v start [] x (none_taken s) popped (inl refl)))
+    go _ _ (not_there none) d = err_ok e tt u s (sym d)
+
+-- ---- the parts of a version
+
+-- behind the numbers and the parts so far: the version may end here, and what comes next leads on only where it is white space or one of these
+pub record IsBehind (s : ParserState) (text : List ℕ) (t : ParserState) (May : TokenValue → Type 0) : Type 0 where
+  pub place : Place
+  pub taken : IsTakenTo s place text t
+  pub may_end : accepts place ≡ true
+  pub space : (a b : ℕ) → step place (Whitespace a b) ≡ Some end
+  pub may : (x : TokenValue) → May x → step place x ≡ Some in_build
+  pub other : (x : TokenValue) → look t ≡ Some x → ¬ (May x) → is_whitespace x ≡ false → step place x ≡ None
+
+abbrev pub MayBePlus : TokenValue → Type 0
+MayBePlus x = x ≡ Plus
+
+abbrev pub MayBeNothing : TokenValue → Type 0
+MayBeNothing x = ⊥
+
+marked_some : (mark : List ℕ) (texts : List (List ℕ)) → 0 < length texts → mark ++ join_with_byte 46 texts ≡ marked mark texts
+marked_some mark [] some = absurd (omega (arith, some))
+marked_some mark (x ∷ texts) some = refl
+
+-- the part that was taken, with its text
+pub record IsPart (s : ParserState) (mark : List ℕ) (text : List ℕ) (ids : List IdentifierValue) (t : ParserState) (May : TokenValue → Type 0) : Type 0 where
+  pub part : List ℕ
+  pub spells : SpellsPart mark ids part
+  pub behind : IsBehind s (text ++ part) t May
+
+none_parts : (ids : List IdentifierValue) (u t : ParserState) → (◌≡◌ {A = Result (List IdentifierValue) Fault} (Ok ids) (Ok [])) × (u ≡ t) → (ids ≡ []) × (u ≡ t)
+none_parts ids u t e = let f = e.0 in (cc, e.1)
+
+passed_text : (text mark : List ℕ) (texts : List (List ℕ)) → 0 < length texts → (text ++ mark) ++ join_with_byte 46 texts ≡ text ++ marked mark texts
+passed_text text mark texts some = append_assoc text mark (join_with_byte 46 texts) ∙ ap (λ (l : List ℕ). text ++ l) (marked_some mark texts some)
+
+no_part_spells : (mark : List ℕ) (ids : List IdentifierValue) → ids ≡ [] → SpellsPart mark ids []
+no_part_spells mark ids e = subst (λ (l : List IdentifierValue). SpellsPart mark l []) (sym e) (record { texts = []; each = tt; joined = refl })
+
+module _ (s t : ParserState) (text : List ℕ) where
+  pre_mark : IsTakenTo s after_patch text t → look t ≡ Some Hyphen → IsAtMark s in_pre (text ++ codes "-") t
+  pre_mark k here = record { from = after_patch; mark = Hyphen; before = text; taken = k; next = here; leads = refl; text_is = refl }
+
+  build_mark : IsBehind s text t MayBePlus → look t ≡ Some Plus → IsAtMark s in_build (text ++ codes "+") t
+  build_mark b here = record { from = b.place; mark = Plus; before = text; taken = b.taken; next = here; leads = b.may Plus refl; text_is = refl }
+
+  -- the pre-release, if it is there
+  pub pre_taken : (there : Bool) (ids : List IdentifierValue) (u : ParserState) → IsTakenTo s after_patch text t → MatchBool there (look t ≡ Some Hyphen) (¬ (look t ≡ Some Hyphen)) → TakesPart there t (Ok ids) u → IsPart s (codes "-") text ids u MayBePlus
+  pre_taken true ids u k here part =
+      let passed = part s in_pre after_pre (text ++ codes "-") in_pre_release (pre_mark k here) in
+      record {
+        part = marked (codes "-") passed.texts;
+        spells = record { texts = passed.texts; each = passed.each; joined = refl };
+        behind = record {
+          place = after_pre;
+          taken = subst (λ (l : List ℕ). IsTakenTo s after_pre l u) (passed_text text (codes "-") passed.texts passed.some) passed.taken;
+          may_end = refl;
+          space = λ a b. refl;
+          may = λ x plus. ap (step after_pre) plus;
+          other = λ x looked not_plus not_space. others x (λ h. passed.no_hyphen (looked ∙ ap (λ (y : TokenValue). Some y) h)) (λ d. passed.no_dot (looked ∙ ap (λ (y : TokenValue). Some y) d)) not_plus not_space;
+        };
+      }
+    where
+      others : (x : TokenValue) → ¬ (x ≡ Hyphen) → ¬ (x ≡ Dot) → ¬ (x ≡ Plus) → is_whitespace x ≡ false → step after_pre x ≡ None
+      others Hyphen hyphen dot plus space = absurd (hyphen refl)
+      others Dot hyphen dot plus space = absurd (dot refl)
+      others Plus hyphen dot plus space = absurd (plus refl)
+      others (Whitespace a b) hyphen dot plus space = clash (sym space)
+      others _ hyphen dot plus space = refl
+  pre_taken false ids u k here part =
+      let none = none_parts ids u t part in
+      record {
+        part = [];
+        spells = no_part_spells (codes "-") ids none.0;
+        behind = record {
+          place = after_patch;
+          taken = subst (λ (l : List ℕ). IsTakenTo s after_patch l u) (sym (append-nil text)) (subst (IsTakenTo s after_patch text) (sym none.1) k);
+          may_end = refl;
+          space = λ a b. refl;
+          may = λ x plus. ap (step after_patch) plus;
+          other = λ x looked not_plus not_space. others x (λ h. here (ap look (sym none.1) ∙ looked ∙ ap (λ (y : TokenValue). Some y) h)) not_plus not_space;
+        };
+      }
+    where
+      others : (x : TokenValue) → ¬ (x ≡ Hyphen) → ¬ (x ≡ Plus) → is_whitespace x ≡ false → step after_patch x ≡ None
+      others Hyphen hyphen plus space = absurd (hyphen refl)
+      others Plus hyphen plus space = absurd (plus refl)
+      others (Whitespace a b) hyphen plus space = clash (sym space)
+      others _ hyphen plus space = refl
+
+  pub pre_refused : (there : Bool) (e : Fault) (u : ParserState) → IsTakenTo s after_patch text t → MatchBool there (look t ≡ Some Hyphen) (¬ (look t ≡ Some Hyphen)) → TakesPart there t (Err e) u → ReadsVersion s (Err e) u
+  pre_refused true e u k here part = part s in_pre after_pre (text ++ codes "-") in_pre_release (pre_mark k here)
+  pre_refused false e u k here part = let f = part.0 in cc
+
+  pub pre_runs_out : (there : Bool) (u : ParserState) → IsTakenTo s after_patch text t → MatchBool there (look t ≡ Some Hyphen) (¬ (look t ≡ Some Hyphen)) → PartMayRunOut there t u → MayRunOutInVersion s u
+  pre_runs_out true u k here out = out s in_pre after_pre (text ++ codes "-") in_pre_release (pre_mark k here)
+  pre_runs_out false u k here out = absurd out
+
+  -- the build, if it is there
+  pub build_taken : (there : Bool) (ids : List IdentifierValue) (u : ParserState) → IsBehind s text t MayBePlus → MatchBool there (look t ≡ Some Plus) (¬ (look t ≡ Some Plus)) → TakesPart there t (Ok ids) u → IsPart s (codes "+") text ids u MayBeNothing
+  build_taken true ids u b here part =
+      let passed = part s in_build after_build (text ++ codes "+") in_the_build (build_mark b here) in
+      record {
+        part = marked (codes "+") passed.texts;
+        spells = record { texts = passed.texts; each = passed.each; joined = refl };
+        behind = record {
+          place = after_build;
+          taken = subst (λ (l : List ℕ). IsTakenTo s after_build l u) (passed_text text (codes "+") passed.texts passed.some) passed.taken;
+          may_end = refl;
+          space = λ a b. refl;
+          may = λ x nothing. absurd nothing;
+          other = λ x looked nothing not_space. others x (λ h. passed.no_hyphen (looked ∙ ap (λ (y : TokenValue). Some y) h)) (λ d. passed.no_dot (looked ∙ ap (λ (y : TokenValue). Some y) d)) not_space;
+        };
+      }
+    where
+      others : (x : TokenValue) → ¬ (x ≡ Hyphen) → ¬ (x ≡ Dot) → is_whitespace x ≡ false → step after_build x ≡ None
+      others Hyphen hyphen dot space = absurd (hyphen refl)
+      others Dot hyphen dot space = absurd (dot refl)
+      others (Whitespace a b) hyphen dot space = clash (sym space)
+      others _ hyphen dot space = refl
+  build_taken false ids u b here part =
+      let none = none_parts ids u t part in
+      record {
+        part = [];
+        spells = no_part_spells (codes "+") ids none.0;
+        behind = record {
+          place = b.place;
+          taken = subst (λ (l : List ℕ). IsTakenTo s b.place l u) (sym (append-nil text)) (subst (IsTakenTo s b.place text) (sym none.1) b.taken);
+          may_end = b.may_end;
+          space = b.space;
+          may = λ x nothing. absurd nothing;
+          other = λ x looked nothing not_space. b.other x (ap look (sym none.1) ∙ looked) (λ plus. here (ap look (sym none.1) ∙ looked ∙ ap (λ (y : TokenValue). Some y) plus)) not_space;
+        };
+      }
+
+  pub build_refused : (there : Bool) (e : Fault) (u : ParserState) → IsBehind s text t MayBePlus → MatchBool there (look t ≡ Some Plus) (¬ (look t ≡ Some Plus)) → TakesPart there t (Err e) u → ReadsVersion s (Err e) u
+  build_refused true e u b here part = part s in_build after_build (text ++ codes "+") in_the_build (build_mark b here)
+  build_refused false e u b here part = let f = part.0 in cc
+
+  pub build_runs_out : (there : Bool) (u : ParserState) → IsBehind s text t MayBePlus → MatchBool there (look t ≡ Some Plus) (¬ (look t ≡ Some Plus)) → PartMayRunOut there t u → MayRunOutInVersion s u
+  build_runs_out true u b here out = out s in_build after_build (text ++ codes "+") in_the_build (build_mark b here)
+  build_runs_out false u b here out = absurd out
+
+  -- ---- the end
+
+  pub end_refused : (e : Fault) (u : ParserState) → IsBehind s text t MayBeNothing → skip_whitespace t ≡ (Err e, u) → ReadsVersion s (Err e) u
+  end_refused e u b d = go (skip_whitespace t).0 (skip_whitespace t).1 (skip_step t) d
+    where
+      go : (r : Result (Unit {0}) Fault) (v : ParserState) → SkipStep t r v → ◌≡◌ {A = Step (Unit {0})} (r, v) (Err e, u) → ReadsVersion s (Err e) u
+      go _ _ (skipped x y v looked popped) d = err_ok e tt u v (sym d)
+      go _ _ (skip_refused x y f v looked popped) d =
+          let parts = err_parts f e v u d in
+          subst (λ (z : Fault). ReadsVersion s (Err z) u) parts.0
+          (subst (λ (z : ParserState). ReadsVersion s (Err f) z) parts.1 (refused_pop s t v b.place text f b.taken popped (inr (Whitespace x y, end, looked, b.space x y))))
+      go _ _ (not_there none) d = err_ok e tt u t (sym d)
+
+  -- all is taken that leads on
+  record IsEnded (u : ParserState) : Type 0 where
+    place : Place
+    taken : IsTakenTo s place text u
+    may_end : accepts place ≡ true
+    stops : Stops step place u.remaining
+
+  ended : (u : ParserState) → IsBehind s text t MayBeNothing → skip_whitespace t ≡ (Ok tt, u) → IsEnded u
+  ended u b d = go (skip_whitespace t).0 (skip_whitespace t).1 (skip_step t) d
+    where
+      stops_at_end : (ts : List TokenValue) → Stops step end ts
+      stops_at_end [] = tt
+      stops_at_end (x ∷ ts) = refl
+
+      stops_here : (ts : List TokenValue) → ((a b : ℕ) → ¬ (slice_get ts 0 ≡ Some (Whitespace a b))) → ((x : TokenValue) → slice_get ts 0 ≡ Some x → is_whitespace x ≡ false → step b.place x ≡ None) → Stops step b.place ts
+      stops_here [] none other = tt
+      stops_here ((Whitespace x y) ∷ ts) none other = absurd (none x y refl)
+      stops_here (x ∷ ts) none other = other x refl refl
+
+      go : (r : Result (Unit {0}) Fault) (v : ParserState) → SkipStep t r v → ◌≡◌ {A = Step (Unit {0})} (r, v) (Ok tt, u) → IsEnded u
+      go _ _ (skipped x y v looked popped) d =
+          subst IsEnded (ok_parts tt tt v u d).1 (record {
+            place = end;
+            taken = subst (λ (l : List ℕ). IsTakenTo s end l v) (append-nil text) (taken_more s t v b.place end text (Whitespace x y) b.taken (pop_gives t.remaining t.pending (Whitespace x y) v popped) (b.space x y));
+            may_end = refl;
+            stops = stops_at_end v.remaining;
+          })
+      go _ _ (skip_refused x y f v looked popped) d = err_ok f tt v u d
+      go _ _ (not_there none) d =
+          subst IsEnded (ok_parts tt tt t u d).1 (record { place = b.place; taken = b.taken; may_end = b.may_end; stops = stops_here t.remaining none (λ x looked not_space. b.other x looked (λ nothing. nothing) not_space) })
+
+  pub version_ends : (u : ParserState) (v : VersionValue) → IsBehind s text t MayBeNothing → skip_whitespace t ≡ (Ok tt, u) → SpellsVersion v text → ReadsVersion s (Ok v) u
+  version_ends u v b d spells =
+      let e = ended u b d in
+      let k = e.taken in
+      subst (λ (q : Option ℕ). ReadsVersion (record { remaining = s.remaining; pending = q }) (Ok v) u) k.pending
+      (reads_value step accepts start IsVersionShape version_is_read SpellsVersion s.remaining k.front u.remaining u.pending e.place k.split k.leads v e.may_end e.stops
+      (known_at k.front e.place k.leads e.may_end k.known) (subst (SpellsVersion v) (sym k.text_is) spells))
+    where
+      known_at : {A : Type 0} (front : List TokenValue) (p : Place) → run step start front ≡ Some p → accepts p ≡ true → (front ≡ []) ⊎ A → A
+      known_at front p leads may_end (inr a) = a
+      known_at front p leads may_end (inl empty) = clash (ap accepts (same_Some start p (sym (ap (run step start) empty) ∙ leads)) ∙ may_end)
+
+-- ---- the three numbers
+
+-- their text
+abbrev pub two_numbers : ℕ → ℕ → List ℕ
+two_numbers a b = (([] ++ decimal a) ++ codes ".") ++ decimal b
+
+abbrev pub three_numbers : ℕ → ℕ → ℕ → List ℕ
+three_numbers a b c = (two_numbers a b ++ codes ".") ++ decimal c
+
+module _ (s t u : ParserState) (begins : skip_whitespace s ≡ (Ok tt, t)) where
+  pub major_refused : (e : Fault) → numeric t ≡ (Err e, u) → ReadsVersion s (Err e) u
+  major_refused e d = let b = begun s t begins in number_refused s t u b.place after_major [] b.taken b.wants e d
+
+  module _ (a : ℕ) (major_is : numeric t ≡ (Ok a, u)) where
+    major_taken : IsTakenTo s after_major ([] ++ decimal a) u
+    major_taken = let b = begun s t begins in number_taken s t u b.place after_major [] b.taken b.wants a major_is
+
+    pub minor_refused : (v : ParserState) (e : Fault) → dot_numeric u ≡ (Err e, v) → ReadsVersion s (Err e) v
+    minor_refused v e d = dot_number_refused s u v after_major minor after_minor ([] ++ decimal a) major_taken behind_major e d
+
+    module _ (v : ParserState) (b : ℕ) (minor_is : dot_numeric u ≡ (Ok b, v)) where
+      minor_taken : IsTakenTo s after_minor (two_numbers a b) v
+      minor_taken = dot_number_taken s u v after_major minor after_minor ([] ++ decimal a) major_taken behind_major b minor_is
+
+      pub patch_refused : (w : ParserState) (e : Fault) → dot_numeric v ≡ (Err e, w) → ReadsVersion s (Err e) w
+      patch_refused w e d = dot_number_refused s v w after_minor patch after_patch (two_numbers a b) minor_taken behind_minor e d
+
+      pub patch_taken : (w : ParserState) (c : ℕ) → dot_numeric v ≡ (Ok c, w) → IsTakenTo s after_patch (three_numbers a b c) w
+      patch_taken w c patch_is = dot_number_taken s v w after_minor patch after_patch (two_numbers a b) minor_taken behind_minor c patch_is
+
+-- three numbers and the two parts spell a version
+pub spells_whole : (v : VersionValue) (pre build : List ℕ) → v.plain.major < 2 ^ 64 → v.plain.minor < 2 ^ 64 → v.plain.patch < 2 ^ 64 → SpellsPart (codes "-") v.plain.pre pre → SpellsPart (codes "+") v.build build
+    → SpellsVersion v ((three_numbers v.plain.major v.plain.minor v.plain.patch ++ pre) ++ build)
+spells_whole v pre build a b c pre_part build_part = record {
+  before = [];
+  pre_text = pre;
+  build_text = build;
+  after = [];
+  major = a;
+  minor = b;
+  patch = c;
+  pre = pre_part;
+  build = build_part;
+  spaces_before = tt;
+  spaces_after = tt;
+  spelled = grouped (decimal v.plain.major) (decimal v.plain.minor) (decimal v.plain.patch);
+}
+  where
+    grouped : (a b c : List ℕ) → (((([] ++ a) ++ codes ".") ++ b ++ codes ".") ++ c ++ pre) ++ build ≡ [] ++ join_with_byte 46 (a ∷ b ∷ c ∷ []) ++ pre ++ build ++ []
+    grouped a b c = simp (append_assoc, append-nil)
