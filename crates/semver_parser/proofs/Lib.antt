@@ -4,6 +4,7 @@ pub mod Cuts
 pub mod FirstToken
 pub mod IdentifierSteps
 pub mod IdentifierTexts
+pub mod Joins
 pub mod LexerSteps
 pub mod Meanings
 pub mod Numbers

@@ -1,6 +1,7 @@
 //! Versions.
-ghost use Rattle.std.specs.Prelude.{◌≡◌, Some, List, ℕ};
+ghost use Rattle.std.specs.Prelude.{◌≡◌, ◌++◌, Some, map, IfOk, IfErr};
 ghost use Rattle.std.specs.Fmt.{WritesOnOk};
+ghost use Rattle.semver_parser.specs.Texts.{Text, joined, marked};
 
 use crate::parser::{self, Parser};
 use std::alloc::{AllocError, Global};
@@ -57,6 +58,11 @@ fn number_and(alloc: Global, number: u64, text: &str) -> Result<String, AllocErr
 }
 
 impl fmt::Display for Identifier {
+    ghost use Rattle.semver_parser.specs.PrintedText.{identifier_text};
+    ghost use Rattle.semver_parser.specs.VersionViews.{identifier_value};
+
+    ghost output = { λ i. Some (identifier_text (identifier_value i)) };
+
     fn fmt<W: fmt::Write>(&self, f: &mut fmt::Formatter<W>) -> fmt::Result {
         match self {
             Identifier::Numeric(number) => write!(f, "{number}"),
@@ -66,6 +72,11 @@ impl fmt::Display for Identifier {
 }
 
 impl fmt::Display for Version {
+    ghost use Rattle.semver_parser.specs.PrintedText.{version_text};
+    ghost use Rattle.semver_parser.specs.VersionViews.{version_value};
+
+    ghost output = { λ v. Some (version_text (version_value v)) };
+
     fn fmt<W: fmt::Write>(&self, f: &mut fmt::Formatter<W>) -> fmt::Result {
         let (major, minor, patch) = (self.major, self.minor, self.patch);
         write!(f, "{major}.{minor}.{patch}")?;
@@ -74,18 +85,37 @@ impl fmt::Display for Version {
     }
 }
 
-// Writes the mark and then the identifiers joined by dots; nothing where there are none.
-fn write_part<W: fmt::Write>(
+// Writes the mark and then the items joined by dots; nothing where there are none.
+pub(crate) fn write_part<W: fmt::Write, T: fmt::Display>(
     f: &mut fmt::Formatter<W>,
     mark: &str,
-    identifiers: &[Identifier],
-) -> fmt::Result {
-    let Some((first, others)) = identifiers.split_first() else {
+    items: &[T],
+) -> fmt::Result
+    ensures { (text : T → Text) → ((x : T) → T.output x ≡ Some (text x)) →
+        WritesOnOk W.write_str_gives f.old result (marked mark.now (map text items.now)) f.new }
+{
+    if items.is_empty() {
+        return Ok(());
+    }
+    f.write_str(mark)?;
+    write_joined(f, ".", items)
+}
+
+// Writes the items with the separator between each two.
+pub(crate) fn write_joined<W: fmt::Write, T: fmt::Display>(
+    f: &mut fmt::Formatter<W>,
+    separator: &str,
+    items: &[T],
+) -> fmt::Result
+    ensures { (text : T → Text) → ((x : T) → T.output x ≡ Some (text x)) →
+        WritesOnOk W.write_str_gives f.old result (joined separator.now (map text items.now)) f.new }
+{
+    let Some((first, rest)) = items.split_first() else {
         return Ok(());
     };
-    write!(f, "{mark}{first}")?;
-    for identifier in others {
-        write!(f, ".{identifier}")?;
+    write!(f, "{first}")?;
+    for item in rest {
+        write!(f, "{separator}{item}")?;
     }
     Ok(())
 }
