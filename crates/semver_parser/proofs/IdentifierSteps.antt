@@ -10,11 +10,11 @@ use Rattle.semver_parser.specs.VersionGrammar.{SpellsIdentifier, IsIdentifierTex
 use Rattle.semver_parser.specs.Versions.{IdentifierValue}
 use Rattle.semver_parser.specs.ParserState as fault
 use Rattle.semver_parser.specs.ParserState.{ParserState, Fault, Step, pop, pop_of, look, and_then}
-use Rattle.semver_parser.specs.Taking.{PassesIdentifier, TakesIdentifier, expect_run, as_run, number_of, lone_number}
+use Rattle.semver_parser.specs.Taking.{run, PassesIdentifier, TakesIdentifier, expect_run, as_run, number_of, lone_number}
 use Rattle.semver_parser.specs.VersionReading.{Reads, IsIdentifierShape, inner_text, inner_texts}
 use Rattle.semver_parser.proofs.Numbers.{canonical_from_IsNumber}
 use Rattle.semver_parser.proofs.TokenLists.{decimal_is_run}
-use Rattle.semver_parser.proofs.ReadingSteps.{run, run-append, IsReadBy, reads_value, reads_unexpected, reads_end, reads_pending, reads_nothing, Stops}
+use Rattle.semver_parser.proofs.ReadingSteps.{run-append, IsReadBy, reads_value, reads_unexpected, reads_end, reads_pending, reads_nothing, Stops}
 
 -- at false a run is wanted; at true one has been read
 abbrev pub id_step : Bool → TokenValue → Option Bool
@@ -140,13 +140,13 @@ pub record IsTaken (s : ParserState) (after : Bool) (t : ParserState) : Type 0 w
 abbrev pub none_taken : (s : ParserState) → IsTaken s false s
 none_taken s = record { front = []; split = refl; leads = refl; pending = refl; known = inl refl }
 
-err_ok : {A G : Type 0} (x : Fault) (y : A) (s u : ParserState) → ◌≡◌ {A = Step A} (Err x, s) (Ok y, u) → G
+pub err_ok : {A G : Type 0} (x : Fault) (y : A) (s u : ParserState) → ◌≡◌ {A = Step A} (Err x, s) (Ok y, u) → G
 err_ok {A} x y s u e = let f : ◌≡◌ {A = Result A Fault} (Err x) (Ok y) = ap (λ (p : Step A). p.0) e in cc
 
-ok_parts : {A : Type 0} (x y : A) (s u : ParserState) → ◌≡◌ {A = Step A} (Ok x, s) (Ok y, u) → (x ≡ y) × (s ≡ u)
+pub ok_parts : {A : Type 0} (x y : A) (s u : ParserState) → ◌≡◌ {A = Step A} (Ok x, s) (Ok y, u) → (x ≡ y) × (s ≡ u)
 ok_parts {A} x y s u e = let f : ◌≡◌ {A = Result A Fault} (Ok x) (Ok y) = ap (λ (p : Step A). p.0) e in (cc, ap (λ (p : Step A). p.1) e)
 
-err_parts : {A : Type 0} (x y : Fault) (s u : ParserState) → ◌≡◌ {A = Step A} (Err x, s) (Err y, u) → (x ≡ y) × (s ≡ u)
+pub err_parts : {A : Type 0} (x y : Fault) (s u : ParserState) → ◌≡◌ {A = Step A} (Err x, s) (Err y, u) → (x ≡ y) × (s ≡ u)
 err_parts {A} x y s u e = let f : ◌≡◌ {A = Result A Fault} (Err x) (Err y) = ap (λ (p : Step A). p.0) e in (cc, ap (λ (p : Step A). p.1) e)
 
 -- what a pop that gives a token takes

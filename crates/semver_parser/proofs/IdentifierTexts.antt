@@ -12,13 +12,13 @@ use Rattle.semver_parser.specs.Tokens.{TokenValue, Eq, Gt, Lt, LtEq, GtEq, Caret
 use Rattle.semver_parser.specs.ParserState.{ParserState, IsStateFrom}
 use Rattle.semver_parser.specs.VersionGrammar.{SpellsIdentifier}
 use Rattle.semver_parser.specs.VersionReading.{Reads, IsIdentifierShape, inner_text, inner_texts, HoldsRun, MayRunOutInIdentifier}
-use Rattle.semver_parser.specs.Taking.{PassesIdentifier, lone_number}
+use Rattle.semver_parser.specs.Taking.{run, PassesIdentifier, lone_number}
 use Rattle.semver_parser.specs.ParserViews.{fault_of, UnlessOutOfMemory, IfOutOfMemory}
 use Rattle.semver_parser.specs.declared.parser.Error.{Error}
 use Rattle.semver_parser.specs.declared.parser.Error.TheVariants as error
 use Rattle.semver_parser.proofs.FirstToken.{run_is_no_space}
 use Rattle.semver_parser.proofs.TokenLists.{prefix_is, shows_kind, decimal_is_run, false_from_not, opens_nothing}
-use Rattle.semver_parser.proofs.ReadingSteps.{run, Stops, IsReadBy, longest_stops, refuses_otherwise}
+use Rattle.semver_parser.proofs.ReadingSteps.{Stops, IsReadBy, longest_stops, refuses_otherwise}
 use Rattle.semver_parser.proofs.IdentifierSteps.{id_step, identifier_is_read, IsWellFormed, kept_as, kept_spells}
 
 -- a token of an identifier
@@ -192,6 +192,15 @@ front_holds_run front w = go front w.runs w.some w.each w.joined
 pub unless_out_of_memory : {T P : Type 0} (r : Result T Error) → P → UnlessOutOfMemory r P
 unless_out_of_memory (Err error.OutOfMemory) p = tt
 unless_out_of_memory _ p = p
+
+-- what follows from what a call says of its error
+pub unless_err : {P Q : Type 0} (e : Error) → (P → Q) → UnlessOutOfMemory {T = Unit {0}} (Err e) P → UnlessOutOfMemory {T = Unit {0}} (Err e) Q
+unless_err error.OutOfMemory f p = tt
+unless_err _ f p = f p
+
+pub if_err : {P Q : Type 0} (e : Error) → (P → Q) → IfOutOfMemory {T = Unit {0}} (Err e) P → IfOutOfMemory {T = Unit {0}} (Err e) Q
+if_err error.OutOfMemory f p = f p
+if_err _ f p = tt
 
 pub if_out_of_memory : (T P : Type 0) {V : Type 0} {Shape : List TokenValue → Type 0} {Spells : V → List ℕ → Type 0} (s t : ParserState) (e : Error) → Reads Shape Spells s (Err (fault_of e)) t → IfOutOfMemory {T = T} (Err e) P
 if_out_of_memory T P s t error.OutOfMemory w = absurd (refuses_otherwise s.remaining s.pending w.rest t.remaining w.answer.1)

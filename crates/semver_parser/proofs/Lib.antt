@@ -4,6 +4,7 @@ pub mod Cuts
 pub mod FirstToken
 pub mod IdentifierSteps
 pub mod IdentifierTexts
+pub mod Joins
 pub mod LexerSteps
 pub mod Meanings
 pub mod Numbers
@@ -22,5 +23,5 @@ pub mod Vectors
 pub mod VersionExamples
 pub mod VersionSteps
 pub mod Writes
-pub mod Joins
 pub mod ReportSteps
+pub mod VersionTaking

@@ -21,7 +21,8 @@ use Rattle.semver_parser.proofs.Numbers.{is_number_true, canonical_from_IsNumber
 use Rattle.semver_parser.proofs.FirstToken.{never}
 use Rattle.semver_parser.proofs.TokenLists.{scan_finds}
 use Rattle.semver_parser.proofs.ReadingSteps.{reads_value, reads_unexpected, reads_end, reads_pending}
-use Rattle.semver_parser.proofs.VersionSteps.{step, accepts, start, in_pre, end, version_is_read}
+use Rattle.semver_parser.specs.Taking.{step, accepts, start, in_pre, end}
+use Rattle.semver_parser.proofs.VersionSteps.{version_is_read}
 
 -- tokens that are found are the tokens
 tokens_found : (text : List ℕ) (ts : List TokenValue) (rest : List ℕ) → scan (length text) text 0 ≡ (ts, rest) → AreTokensOf text ts rest
