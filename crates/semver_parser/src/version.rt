@@ -1,7 +1,10 @@
 //! Versions.
-ghost use Rattle.std.specs.Prelude.{◌≡◌, ◌++◌, Some, map, IfOk, IfErr};
+ghost use Rattle.std.specs.Prelude.{◌≡◌, ◌++◌, Some, map, IfOk, IfErr, decimal, string_bytes};
 ghost use Rattle.std.specs.Fmt.{WritesOnOk};
 ghost use Rattle.semver_parser.specs.Texts.{Text, joined, marked};
+ghost use Rattle.semver_parser.specs.Versions.{alphanumeric};
+ghost use Rattle.semver_parser.specs.PrintedText.{identifier_text};
+ghost use Rattle.semver_parser.specs.VersionViews.{identifier_value};
 
 use crate::parser::{self, Parser};
 use std::alloc::{AllocError, Global};
@@ -33,7 +36,10 @@ pub enum Identifier {
 
 impl Identifier {
     /// Concat.
-    pub fn concat(self, alloc: Global, add_str: &str) -> Result<Identifier, Identifier> {
+    pub fn concat(self, alloc: Global, add_str: &str) -> Result<Identifier, Identifier>
+        ensures joined { IfOk result (λ id. identifier_value id ≡ alphanumeric (identifier_text (identifier_value self) ++ add_str.now)) }
+        ensures unchanged { IfErr result (λ id. identifier_value id ≡ identifier_value self) }
+    {
         match self {
             Identifier::Numeric(number) => match number_and(alloc, number, add_str) {
                 Ok(text) => Ok(Identifier::AlphaNumeric(text)),
@@ -50,7 +56,9 @@ impl Identifier {
 }
 
 // The number's decimal and then the text, in one growth.
-fn number_and(alloc: Global, number: u64, text: &str) -> Result<String, AllocError> {
+fn number_and(alloc: Global, number: u64, text: &str) -> Result<String, AllocError>
+    ensures { IfOk result (λ whole. string_bytes whole ≡ decimal number ++ text.now) }
+{
     let digits = number.checked_ilog10().map_or(1, |log| log as usize + 1);
     let mut whole = String::with_capacity(alloc, digits.saturating_add(text.len()))?;
     write!(whole, "{number}{text}")?;
