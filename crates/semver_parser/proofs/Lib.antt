@@ -8,6 +8,7 @@ pub mod Joins
 pub mod LexerSteps
 pub mod Meanings
 pub mod Numbers
+pub mod OneVersion
 pub mod ParserSteps
 pub mod PrecedenceLaws
 pub mod PrintedLaws

@@ -7,7 +7,8 @@ ghost use Rattle.semver_parser.specs.declared.range_set.Compat.TheVariants.{Carg
 ghost use Rattle.semver_parser.specs.Texts.{Text};
 ghost use Rattle.semver_parser.specs.Tokens.{TokenValue, AreTokensOf};
 ghost use Rattle.semver_parser.specs.RangeTree.{SetTree, Spells};
-ghost use Rattle.semver_parser.specs.Versions.{PlainVersion, numeric, alphanumeric};
+ghost use Rattle.semver_parser.specs.Versions.{PlainVersion, VersionValue, numeric, alphanumeric};
+ghost use Rattle.semver_parser.specs.VersionGrammar.{SpellsVersion};
 ghost use Rattle.semver_parser.specs.Precedence.{precedence};
 ghost use Rattle.semver_parser.specs.OwnMeaning.{meets_tree};
 ghost use Rattle.semver_parser.specs.RewritingTable.{PlainSet, fits, rewritten};
@@ -19,6 +20,11 @@ ghost use Rattle.semver_parser.specs.Examples.{IsMet, release, version};
 pub fn one_token_list()
     ensures { (text : Text) (ts us : List TokenValue) (rest other : Text) →
         AreTokensOf text ts rest → AreTokensOf text us other → (ts ≡ us) × (rest ≡ other) }
+{}
+
+/// No text spells two versions.
+pub fn one_version()
+    ensures { (v w : VersionValue) (text : Text) → SpellsVersion v text → SpellsVersion w text → v ≡ w }
 {}
 
 /// No range text has two trees.

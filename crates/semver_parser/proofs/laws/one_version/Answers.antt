@@ -1,0 +1,5 @@
+use Rattle.semver_parser.proofs.OneVersion.{one_version}
+use Rattle.semver_parser.proofs.laws.one_version.Goals as goal
+
+pub returns : goal.returns
+returns c = one_version
