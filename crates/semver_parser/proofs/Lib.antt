@@ -26,3 +26,4 @@ pub mod VersionSteps
 pub mod Writes
 pub mod ReportSteps
 pub mod VersionTaking
+pub mod ZeroOne

@@ -104,7 +104,7 @@ kept_word text run other = (refl, record { runs = text ∷ []; some = omega arit
 alpha1_is_kept : grammar.SpellsIdentifier (alphanumeric (codes "alpha1")) (codes "alpha1")
 alpha1_is_kept = kept_word (codes "alpha1") (is_run (codes "alpha1") (omega arith) refl) refl
 
-zero_one_is_printable : grammar.IsPrintableIdentifier (alphanumeric (codes "01"))
+pub zero_one_is_printable : grammar.IsPrintableIdentifier (alphanumeric (codes "01"))
 zero_one_is_printable = kept_word (codes "01") (is_run (codes "01") (omega arith) refl) refl
 
 seven_is_a_number : grammar.SpellsIdentifier (numeric 7) (codes "7")

@@ -47,8 +47,8 @@ pub fn meanings_agree()
 
 /// What some versions meet: first by the text's own meaning, and then by its comparators.
 pub fn row_facts()
-    // A version keeps `01` as a text, and a range as a number.
-    ensures leading_zero { (mode : Compat) → IsMet (codes "=1.2.3-01") mode (version 1 2 3 (alphanumeric (codes "01") ∷ [])) false false }
+    // A version keeps `01` as a text, and a range as a number: the version read from `1.2.3-01` doesn't meet `=1.2.3-01`.
+    ensures leading_zero { (mode : Compat) (v : VersionValue) → SpellsVersion v (codes "1.2.3-01") → IsMet (codes "=1.2.3-01") mode v.plain false false }
     ensures later_pre_release { (mode : Compat) → IsMet (codes "^1.2.3-beta.4") mode (version 1 2 3 (alphanumeric (codes "rc") ∷ [])) true true }
     ensures later_minor { (mode : Compat) → IsMet (codes "^1.2.3-beta.4") mode (release 1 9 0) true true }
     ensures earlier_pre_release { (mode : Compat) → IsMet (codes "^1.2.3-beta.4") mode (version 1 2 3 (alphanumeric (codes "beta") ∷ numeric 3 ∷ [])) false false }
