@@ -1,7 +1,9 @@
 pub mod AnswerLaws
 pub mod AnsweredLaws
+pub mod Cursor
 pub mod Cuts
 pub mod FirstToken
+pub mod Gathered
 pub mod IdentifierSteps
 pub mod LexerSteps
 pub mod Meanings
@@ -15,6 +17,7 @@ pub mod ReadingSteps
 pub mod RowFacts
 pub mod Rows
 pub mod Runs
+pub mod Slices
 pub mod Tests
 pub mod TokenLists
 pub mod Vectors

@@ -21,3 +21,5 @@ pub mod Examples
 pub mod RangeViews
 pub mod Reader
 pub mod Answers
+pub mod Pieces
+pub mod PieceViews
