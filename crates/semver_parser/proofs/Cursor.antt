@@ -1,15 +1,15 @@
 -- The reader's steps, as the cursor takes them.
-use Rattle.std.proofs.Common.{◌≡◌, ℕ, zero, suc, ◌+◌, ◌<◌, ◌≤◌, Bool, true, false, not, ◌&&◌, List, [], ◌∷◌, codes, length, ◌==◌, Option, Some, None, Result, Ok, Err, if◌then◌else◌, refl, sym, ap, ◌∙◌, subst, arith, inl, inr}
+use Rattle.std.proofs.Common.{◌≡◌, ℕ, suc, ◌≤◌, Bool, true, false, not, List, [], ◌∷◌, codes, length, ◌==◌, Option, Some, None, Result, Ok, Err, if◌then◌else◌, refl, sym, ap, ◌∙◌, subst, arith, inl, inr}
 use Rattle.std.specs.Prelude.{option_and_then}
 use Rattle.std.specs.List.{slice_split, list_all}
 use Rattle.std.proofs.lemmas.Bool.{cases_Bool, eqb-true, ne_eqb}
 use Rattle.semver_parser.specs.declared.range_set.RangeError.{RangeError}
 use Rattle.semver_parser.specs.declared.range_set.RangeError.TheVariants.{NotARange}
-use Rattle.semver_parser.specs.RangeTree.{PartialTree, two, RangeTree, empty, simples, SetTree, Simple, is_component, is_part}
+use Rattle.semver_parser.specs.RangeTree.{two, RangeTree, empty, simples, SetTree, Simple, is_component, is_part}
 use Rattle.semver_parser.specs.Texts.{Text, is_empty}
 use Rattle.semver_parser.specs.PieceViews.{IsReadable}
-use Rattle.semver_parser.specs.Reader.{front, back, is_component_byte, is_dot, not_plus, after_first, after_second, after_third, read_qualifier, read_pre, read_build, read_partial, read_form, is_sign, with_form, read_simple, onto, read_simples, as_range, is_hyphen, read_hyphen, or_else, read_words, words, read_range, is_bar, read_pieces, read}
-use Rattle.semver_parser.specs.Pieces.{not_bar, not_dot, behind}
+use Rattle.semver_parser.specs.Reader.{front, back, is_component_byte, is_dot, not_plus, after_first, after_second, after_third, read_qualifier, read_pre, read_build, read_partial, read_form, is_sign, with_form, read_simple, onto, read_simples, as_range, is_hyphen, read_hyphen, or_else, read_words, read_range, is_bar, read_pieces, read}
+use Rattle.semver_parser.specs.Pieces.{not_bar, behind}
 use Rattle.semver_parser.proofs.Gathered.{onto_none}
 use Rattle.semver_parser.proofs.Slices.{length-behind, length-back}
 

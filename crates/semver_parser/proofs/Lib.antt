@@ -5,9 +5,11 @@ pub mod Cuts
 pub mod FirstToken
 pub mod Gathered
 pub mod IdentifierSteps
+pub mod KeptParts
 pub mod LexerSteps
 pub mod Meanings
 pub mod Numbers
+pub mod ParsedPartials
 pub mod ParserSteps
 pub mod PrecedenceLaws
 pub mod PrintedLaws
@@ -17,6 +19,7 @@ pub mod ReadingSteps
 pub mod RowFacts
 pub mod Rows
 pub mod Runs
+pub mod SizedRanges
 pub mod Slices
 pub mod Tests
 pub mod TokenLists

@@ -1,15 +1,15 @@
 -- Texts that are cut at a byte, as the cursor cuts them.
-use Rattle.std.proofs.Common.{◌≡◌, ℕ, zero, suc, ◌+◌, ◌-◌, ◌<◌, ◌≤◌, Bool, true, false, not, ◌&&◌, List, [], ◌∷◌, ◌++◌, length, get_or, ◌==◌, Option, Some, None, inl, inr, take, drop, if◌then◌else◌, refl, sym, ap, ◌∙◌, subst, arith, length-drop, add-one}
-use Rattle.std.proofs.lemmas.Bool.{cases_Bool, cases_lt, eqb-true, false_from_ne_true, true≢false, not_from_false}
+use Rattle.std.proofs.Common.{◌≡◌, ℕ, zero, suc, ◌+◌, ◌-◌, ◌<◌, ◌≤◌, Bool, true, false, not, ◌&&◌, List, [], ◌∷◌, length, get_or, ◌==◌, Some, None, inl, inr, take, drop, if◌then◌else◌, refl, sym, ap, ◌∙◌, subst, arith, length-drop}
+use Rattle.std.proofs.lemmas.Bool.{cases_Bool, eqb-true, false_from_ne_true, true≢false, not_from_false}
 use Rattle.std.proofs.lemmas.List.Sums.{prefix_len-le-length, prefix_len_passes, prefix_len_stops}
-use Rattle.std.proofs.lemmas.Str.{IsCharBoundary-after_ascii, IsCharBoundary-start}
+use Rattle.std.proofs.lemmas.Str.{IsCharBoundary-after_ascii}
 use Rattle.std.specs.Char.{is_ascii_digit}
 use Rattle.std.specs.Prelude.{slice_get}
 use Rattle.std.specs.Str.{IsUtf8, IsCharBoundary, all_ascii_digits}
-use Rattle.std.specs.List.{prefix_len, slice_split, onto_first, list_all}
+use Rattle.std.specs.List.{prefix_len, slice_split, list_all}
 use Rattle.semver_parser.specs.RangeTree.{is_blank, is_part, is_part_byte}
-use Rattle.semver_parser.specs.Texts.{Text, is_empty}
-use Rattle.semver_parser.specs.Reader.{front, back, is_component_byte, is_dot, is_bar, not_plus, words}
+use Rattle.semver_parser.specs.Texts.{Text}
+use Rattle.semver_parser.specs.Reader.{front, back, is_dot, not_plus, words}
 use Rattle.semver_parser.specs.Pieces.{not_blank, not_dot, not_bar, behind}
 use Rattle.semver_parser.proofs.Runs.{blank_ascii, run_boundary, stop_boundary, skip_blanks, word_run}
 
@@ -164,8 +164,9 @@ both_parts (b ∷ t) =
     elim (cases_Bool (is_dot b)) [
       | inl e ↦ rw e (h.1, refl)
       | inr e ↦ rw e (rw (pieces t) (
-          rw h.0 (sym (and_assoc (is_part_byte b) (list_all is_part_byte (first_piece (slice_split is_dot t))) (list_all is_part (other_pieces (slice_split is_dot t))))),
-          rw h.0 (sym (and_assoc (is_part_byte b) (list_all is_part_byte (first_piece (slice_split is_dot t))) (list_all is_part (other_pieces (slice_split is_dot t)))))))
+        rw h.0 (sym (and_assoc (is_part_byte b) (list_all is_part_byte (first_piece (slice_split is_dot t))) (list_all is_part (other_pieces (slice_split is_dot t))))),
+        rw h.0 (sym (and_assoc (is_part_byte b) (list_all is_part_byte (first_piece (slice_split is_dot t))) (list_all is_part (other_pieces (slice_split is_dot t))))),
+      ))
     ]
 
 pub parts_pass-split : (t : Text) → parts_pass false t ≡ list_all is_part (slice_split is_dot t)

@@ -23,3 +23,4 @@ pub mod Reader
 pub mod Answers
 pub mod Pieces
 pub mod PieceViews
+pub mod PartialViews

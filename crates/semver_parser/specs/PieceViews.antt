@@ -1,5 +1,5 @@
 -- A means of proof, which no public clause cites: what private contracts see of the pieces that the cursor yields.
-use Rattle.std.specs.Prelude.{◌≡◌, ℕ, suc, Bool, false, Option, Some, None, Result, Ok, Err, List, [], length}
+use Rattle.std.specs.Prelude.{◌≡◌, ℕ, suc, false, Option, Some, None, Result, Ok, Err, [], length}
 use Rattle.std.specs.Borrow.{Bor}
 use Rattle.semver_parser.specs.declared.grammar.Form.{Form}
 use Rattle.semver_parser.specs.declared.grammar.Form.TheVariants as form

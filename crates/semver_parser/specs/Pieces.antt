@@ -2,7 +2,7 @@
 use Rattle.std.specs.Prelude.{ℕ, Bool, not, ◌==◌, if◌then◌else◌, Option, Some, None, List, [], ◌∷◌}
 use Rattle.std.specs.Borrow.{Bor}
 use Rattle.std.specs.List.{slice_split}
-use Rattle.semver_parser.specs.RangeTree.{PartialTree, one, two, three, is_blank}
+use Rattle.semver_parser.specs.RangeTree.{PartialTree, one, two, three, is_blank, is_wildcard}
 use Rattle.semver_parser.specs.Texts.{Text}
 use Rattle.semver_parser.specs.Reader.{is_dot, is_bar}
 
@@ -25,6 +25,11 @@ behind b (c ∷ t) = if c == b then Some t else None
 abbrev pub text_of : Option (Bor Text) → Option Text
 text_of None = None
 text_of (Some t) = Some t.now
+
+-- a component, if it is there and is no wildcard
+abbrev pub stated_text : Option (Bor Text) → Option Text
+stated_text None = None
+stated_text (Some t) = if is_wildcard t.now then None else Some t.now
 
 -- the parts of a slice between dots
 abbrev pub parts : Option (Bor Text) → List Text

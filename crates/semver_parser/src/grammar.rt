@@ -139,7 +139,7 @@ fn read_hyphen_range<'input>(
 pub(crate) fn next_simple(text: &str) -> Result<Option<(Simple<'_>, &str)>, RangeError>
     ensures { MatchResult result
         (λ o. MatchOption o (read_simples (words text.now) ≡ Some [])
-            (λ found. (read_simples (words text.now) ≡ onto (Some (simple_of found.0)) (read_simples (words found.1.now))) × (length found.1.now < length text.now)))
+        (λ found. (read_simples (words text.now) ≡ onto (Some (simple_of found.0)) (read_simples (words found.1.now))) × (length found.1.now < length text.now)))
         (λ e. (e ≡ RangeError.NotARange) × (read_simples (words text.now) ≡ None)) }
 {
     let Some((word, rest)) = next_word(text) else {
@@ -269,7 +269,11 @@ fn read_build(text: &str) -> Option<Option<&str>>
         return Some(None);
     }
     let build = after_byte(text, b'+')?;
-    if are_parts(build) { Some(Some(build)) } else { None }
+    if are_parts(build) {
+        Some(Some(build))
+    } else {
+        None
+    }
 }
 
 /// Whether a text is parts joined by dots.
@@ -360,35 +364,50 @@ fn are_digits(bytes: &[u8]) -> bool
 fn range_len(text: &str) -> usize
     ensures { result ≡ prefix_len not_bar text.now }
 {
-    text.as_bytes().iter().take_while(|&&byte| byte != b'|').count()
+    text.as_bytes()
+        .iter()
+        .take_while(|&&byte| byte != b'|')
+        .count()
 }
 
 /// How many bytes at the front are blanks.
 fn blank_len(text: &str) -> usize
     ensures { result ≡ prefix_len blank text.now }
 {
-    text.as_bytes().iter().take_while(|&&byte| is_blank(byte)).count()
+    text.as_bytes()
+        .iter()
+        .take_while(|&&byte| is_blank(byte))
+        .count()
 }
 
 /// How many bytes at the front are no blanks.
 fn word_len(text: &str) -> usize
     ensures { result ≡ prefix_len not_blank text.now }
 {
-    text.as_bytes().iter().take_while(|&&byte| !is_blank(byte)).count()
+    text.as_bytes()
+        .iter()
+        .take_while(|&&byte| !is_blank(byte))
+        .count()
 }
 
 /// How many bytes at the front are those of components.
 fn component_len(text: &str) -> usize
     ensures { result ≡ prefix_len component_byte text.now }
 {
-    text.as_bytes().iter().take_while(|&&byte| is_component_byte(byte)).count()
+    text.as_bytes()
+        .iter()
+        .take_while(|&&byte| is_component_byte(byte))
+        .count()
 }
 
 /// How many bytes at the front stand before a plus.
 fn pre_len(text: &str) -> usize
     ensures { result ≡ prefix_len not_plus text.now }
 {
-    text.as_bytes().iter().take_while(|&&byte| byte != b'+').count()
+    text.as_bytes()
+        .iter()
+        .take_while(|&&byte| byte != b'+')
+        .count()
 }
 
 #[inline(always)]

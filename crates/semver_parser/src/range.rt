@@ -1,5 +1,19 @@
 //! The comparators of a range.
 
+ghost use Rattle.std.specs.Prelude.{◌≡◌, ◌+◌, ◌-◌, ◌^◌, ◌<◌, ◌≤◌, ℕ, Some, None, [], ◌∷◌, ◌++◌, length, map, if◌then◌else◌, true, false, IsTrue, IfOk, MatchResult};
+ghost use Rattle.std.specs.List.{list_all, slice_split, flat_map};
+ghost use Rattle.std.specs.Str.{all_ascii_digits};
+ghost use Rattle.std.specs.Str.Parse.{digits_value};
+ghost use Rattle.semver_parser.specs.RangeTree.{Simple as SimpleTree, bare, equal, at_most, tilde, caret, is_number, is_part};
+ghost use Rattle.semver_parser.specs.Texts.{is_empty};
+ghost use Rattle.semver_parser.specs.Reader.{is_dot, read_simples, words};
+ghost use Rattle.semver_parser.specs.Partials.{fits_u64, kept, leading_place, zero_version};
+ghost use Rattle.semver_parser.specs.RewritingTable.{comparator, cell, nothing_stated, cell_comparators, simple_comparators, range_comparators};
+ghost use Rattle.semver_parser.specs.RangeViews.{identifier_of, comparator_of, range_of};
+ghost use Rattle.semver_parser.specs.Pieces.{stated_text, text_of};
+ghost use Rattle.semver_parser.specs.PieceViews.{form_of, partial_of, simple_of, read_of, HasWords};
+ghost use Rattle.semver_parser.specs.PartialViews.{number_of, stated_of, version_of, IsSmall, bound_of, bounds_of, IsParsed, IsUp, IsCell, IsRow, AreSides, range_fits, simple_fits, IsSized};
+
 use crate::grammar::{Form, RangeText, Simple, is_wildcard, next_simple};
 use crate::partial::{Partial, PartialKind, PartialText};
 use crate::printing::{write_joined, write_part};
@@ -57,7 +71,13 @@ pub enum Identifier {
 
 impl<'input> Partial<'input> {
     /// Nothing stated.
-    fn new() -> Partial<'input> {
+    fn new() -> Partial<'input>
+        ensures major { result.major ≡ None }
+        ensures minor { result.minor ≡ None }
+        ensures patch { result.patch ≡ None }
+        ensures pre { result.pre ≡ None }
+        ensures kind { result.kind ≡ PartialKind.XRangeOnly }
+    {
         Partial {
             major: None,
             minor: None,
@@ -68,7 +88,9 @@ impl<'input> Partial<'input> {
     }
 
     /// The comparator of an operator and this partial, with zeros for what is missing.
-    fn as_comparator(&self, alloc: Global, op: Op) -> Result<Comparator, AllocError> {
+    fn as_comparator(&self, alloc: Global, op: Op) -> Result<Comparator, AllocError>
+        ensures { IfOk result (λ c. comparator_of c ≡ comparator op (version_of self.now)) }
+    {
         let pre = match self.pre {
             Some(pre) => read_identifiers(alloc, pre)?,
             None => Vec::new(alloc),
@@ -82,45 +104,66 @@ impl<'input> Partial<'input> {
         })
     }
 
-    fn inc_major(mut self) -> Partial<'input> {
+    fn inc_major(mut self) -> Partial<'input>
+        requires { number_of self.major < 2 ^ 64 - 1 }
+        ensures { version_of result ≡ record (version_of self.entry) { major = number_of self.entry.major + 1 } }
+    {
         self.major = Some(self.major.unwrap_or(0) + 1);
         self
     }
 
-    fn inc_minor(mut self) -> Partial<'input> {
+    fn inc_minor(mut self) -> Partial<'input>
+        requires { number_of self.minor < 2 ^ 64 - 1 }
+        ensures { version_of result ≡ record (version_of self.entry) { minor = number_of self.entry.minor + 1 } }
+    {
         self.minor = Some(self.minor.unwrap_or(0) + 1);
         self
     }
 
-    fn inc_patch(mut self) -> Partial<'input> {
+    fn inc_patch(mut self) -> Partial<'input>
+        requires { number_of self.patch < 2 ^ 64 - 1 }
+        ensures { version_of result ≡ record (version_of self.entry) { patch = number_of self.entry.patch + 1 } }
+    {
         self.patch = Some(self.patch.unwrap_or(0) + 1);
         self
     }
 
-    fn zero_missing(mut self) -> Partial<'input> {
+    fn zero_missing(mut self) -> Partial<'input>
+        ensures { version_of result ≡ version_of self.entry }
+    {
         self.major = Some(self.major.unwrap_or(0));
         self.minor = Some(self.minor.unwrap_or(0));
         self.patch = Some(self.patch.unwrap_or(0));
         self
     }
 
-    fn zero_minor(mut self) -> Partial<'input> {
+    fn zero_minor(mut self) -> Partial<'input>
+        ensures { version_of result ≡ record (version_of self.entry) { minor = 0 } }
+    {
         self.minor = Some(0);
         self
     }
 
-    fn zero_patch(mut self) -> Partial<'input> {
+    fn zero_patch(mut self) -> Partial<'input>
+        ensures { version_of result ≡ record (version_of self.entry) { patch = 0 } }
+    {
         self.patch = Some(0);
         self
     }
 
-    fn no_pre(mut self) -> Partial<'input> {
+    fn no_pre(mut self) -> Partial<'input>
+        ensures { version_of result ≡ record (version_of self.entry) { pre = [] } }
+    {
         self.pre = None;
         self
     }
 
     /// The bound above all versions with this major; none where it is above 2^64 - 1.
-    fn next_major(self) -> Option<Partial<'input>> {
+    fn next_major(self) -> Option<Partial<'input>>
+        requires stated { 1 ≤ length (stated_of self) }
+        requires small { IsSmall self }
+        ensures { IsUp 1 self.entry result }
+    {
         if self.major.unwrap_or(0) == u64::MAX {
             return None;
         }
@@ -128,7 +171,11 @@ impl<'input> Partial<'input> {
     }
 
     /// The bound above all versions with this major and minor; none where it is above 2^64 - 1.
-    fn next_minor(self) -> Option<Partial<'input>> {
+    fn next_minor(self) -> Option<Partial<'input>>
+        requires stated { 2 ≤ length (stated_of self) }
+        requires small { IsSmall self }
+        ensures { IsUp 2 self.entry result }
+    {
         if self.minor.unwrap_or(0) == u64::MAX {
             return None;
         }
@@ -136,7 +183,11 @@ impl<'input> Partial<'input> {
     }
 
     /// The bound above all versions with these three numbers; none where it is above 2^64 - 1.
-    fn next_patch(self) -> Option<Partial<'input>> {
+    fn next_patch(self) -> Option<Partial<'input>>
+        requires stated { 3 ≤ length (stated_of self) }
+        requires small { IsSmall self }
+        ensures { IsUp 3 self.entry result }
+    {
         if self.patch.unwrap_or(0) == u64::MAX {
             return None;
         }
@@ -160,7 +211,9 @@ struct Bounds<'input> {
 
 impl<'input> Bounds<'input> {
     /// One comparator.
-    fn one(op: Op, partial: Partial<'input>) -> Bounds<'input> {
+    fn one(op: Op, partial: Partial<'input>) -> Bounds<'input>
+        ensures { bounds_of result ≡ comparator op (version_of partial.entry) ∷ [] }
+    {
         Bounds {
             first: Bound { op, partial },
             second: None,
@@ -168,7 +221,9 @@ impl<'input> Bounds<'input> {
     }
 
     /// From this version on, and below another.
-    fn between(lower: Partial<'input>, upper: Partial<'input>) -> Bounds<'input> {
+    fn between(lower: Partial<'input>, upper: Partial<'input>) -> Bounds<'input>
+        ensures { bounds_of result ≡ comparator Op.Gte (version_of lower.entry) ∷ comparator Op.Lt (version_of upper.entry) ∷ [] }
+    {
         Bounds {
             first: Bound {
                 op: Op::Gte,
@@ -182,18 +237,24 @@ impl<'input> Bounds<'input> {
     }
 
     /// How many comparators.
-    fn count(&self) -> usize {
+    fn count(&self) -> usize
+        ensures { result ≤ 2 }
+    {
         if self.second.is_some() { 2 } else { 1 }
     }
 }
 
 /// Any version that isn't below 0.0.0.
-fn from_zero<'input>() -> Bounds<'input> {
+fn from_zero<'input>() -> Bounds<'input>
+    ensures { bounds_of result ≡ comparator Op.Gte zero_version ∷ [] }
+{
     Bounds::one(Op::Gte, Partial::new().zero_missing())
 }
 
 /// The comparators of a simple; none where a number or the raised bound is above 2^64 - 1.
-fn from_simple<'input>(simple: &Simple<'input>, compat: Compat) -> Option<Bounds<'input>> {
+fn from_simple<'input>(simple: &Simple<'input>, compat: Compat) -> Option<Bounds<'input>>
+    ensures { IsRow compat (simple_of simple.now) result }
+{
     let partial = parse_partial(&simple.partial)?;
     if partial.kind == PartialKind::XRangeOnly {
         return Some(from_wildcard(simple.form));
@@ -212,7 +273,9 @@ fn from_simple<'input>(simple: &Simple<'input>, compat: Compat) -> Option<Bounds
 }
 
 /// Where nothing is stated.
-fn from_wildcard<'input>(form: Form) -> Bounds<'input> {
+fn from_wildcard<'input>(form: Form) -> Bounds<'input>
+    ensures { bounds_of result ≡ cell_comparators (nothing_stated (form_of form)) [] zero_version }
+{
     match form {
         Form::Less | Form::Greater => Bounds::one(Op::Lt, Partial::new().zero_missing()),
         _ => from_zero(),
@@ -220,7 +283,11 @@ fn from_wildcard<'input>(form: Form) -> Bounds<'input> {
 }
 
 /// `=`: this version, or any that agrees with the numbers stated.
-fn handle_equal_range<'input>(partial: Partial<'input>) -> Option<Bounds<'input>> {
+fn handle_equal_range<'input>(partial: Partial<'input>) -> Option<Bounds<'input>>
+    requires stated { 1 ≤ length (stated_of partial) }
+    requires small { IsSmall partial }
+    ensures { IsCell (cell Compat.Npm equal (stated_of partial.entry)) partial.entry result }
+{
     match partial.kind {
         PartialKind::MajorMinorPatch => Some(Bounds::one(Op::Eq, partial)),
         PartialKind::MajorMinor => Some(Bounds::between(partial, partial.next_minor()?)),
@@ -229,7 +296,11 @@ fn handle_equal_range<'input>(partial: Partial<'input>) -> Option<Bounds<'input>
 }
 
 /// `<=`: up to this version, or below the next that disagrees with the numbers stated.
-fn handle_at_most<'input>(partial: Partial<'input>) -> Option<Bounds<'input>> {
+fn handle_at_most<'input>(partial: Partial<'input>) -> Option<Bounds<'input>>
+    requires stated { 1 ≤ length (stated_of partial) }
+    requires small { IsSmall partial }
+    ensures { IsCell (cell Compat.Npm at_most (stated_of partial.entry)) partial.entry result }
+{
     match partial.kind {
         PartialKind::MajorMinorPatch => Some(Bounds::one(Op::Lte, partial)),
         PartialKind::MajorMinor => Some(Bounds::one(Op::Lt, partial.next_minor()?)),
@@ -238,7 +309,11 @@ fn handle_at_most<'input>(partial: Partial<'input>) -> Option<Bounds<'input>> {
 }
 
 /// `~`: the patch may rise, and the minor where it isn't stated.
-fn handle_tilde_range<'input>(partial: Partial<'input>) -> Option<Bounds<'input>> {
+fn handle_tilde_range<'input>(partial: Partial<'input>) -> Option<Bounds<'input>>
+    requires stated { 1 ≤ length (stated_of partial) }
+    requires small { IsSmall partial }
+    ensures { IsCell (cell Compat.Npm tilde (stated_of partial.entry)) partial.entry result }
+{
     let upper = if partial.kind == PartialKind::MajorOnly {
         partial.next_major()?
     } else {
@@ -248,22 +323,37 @@ fn handle_tilde_range<'input>(partial: Partial<'input>) -> Option<Bounds<'input>
 }
 
 /// `^`: what stands behind the first number that isn't 0 may rise.
-fn handle_caret_range<'input>(partial: Partial<'input>) -> Option<Bounds<'input>> {
-    let upper = if partial.kind == PartialKind::MajorOnly || partial.major.unwrap_or(0) > 0 {
-        partial.next_major()?
-    } else if partial.kind == PartialKind::MajorMinor || partial.minor.unwrap_or(0) > 0 {
-        partial.next_minor()?
-    } else {
-        partial.next_patch()?
-    };
+fn handle_caret_range<'input>(partial: Partial<'input>) -> Option<Bounds<'input>>
+    requires stated { 1 ≤ length (stated_of partial) }
+    requires small { IsSmall partial }
+    ensures { IsCell (cell Compat.Npm caret (stated_of partial.entry)) partial.entry result }
+{
+    let upper = caret_bound(partial)?;
     Some(Bounds::between(partial, upper))
+}
+
+/// The bound that a caret raises: at the first number that isn't 0, or the last that is stated.
+fn caret_bound<'input>(partial: Partial<'input>) -> Option<Partial<'input>>
+    requires stated { 1 ≤ length (stated_of partial) }
+    requires small { IsSmall partial }
+    ensures { IsUp (leading_place (stated_of partial.entry)) partial.entry result }
+{
+    match partial.kind {
+        PartialKind::XRangeOnly | PartialKind::MajorOnly => partial.next_major(),
+        _ if partial.major.unwrap_or(0) > 0 => partial.next_major(),
+        PartialKind::MajorMinor => partial.next_minor(),
+        _ if partial.minor.unwrap_or(0) > 0 => partial.next_minor(),
+        _ => partial.next_patch(),
+    }
 }
 
 /// The comparators of a hyphen range; none where a number or the raised bound is above 2^64 - 1.
 fn from_hyphen_range<'input>(
     left: &PartialText<'input>,
     right: &PartialText<'input>,
-) -> Option<Bounds<'input>> {
+) -> Option<Bounds<'input>>
+    ensures { AreSides (partial_of left.now) (partial_of right.now) result }
+{
     let lower = parse_partial(left)?;
     let upper = parse_partial(right)?;
     if upper.kind == PartialKind::XRangeOnly {
@@ -286,7 +376,9 @@ fn from_hyphen_range<'input>(
 }
 
 /// The numbers before the first wildcard; none where one of them is above 2^64 - 1.
-fn parse_partial<'input>(text: &PartialText<'input>) -> Option<Partial<'input>> {
+fn parse_partial<'input>(text: &PartialText<'input>) -> Option<Partial<'input>>
+    ensures { IsParsed (partial_of text.now) result }
+{
     let mut partial = Partial::new();
     if is_wildcard(text.major) {
         return Some(partial);
@@ -308,7 +400,9 @@ fn parse_partial<'input>(text: &PartialText<'input>) -> Option<Partial<'input>> 
 }
 
 /// A component that is there and is no wildcard.
-fn stated(component: Option<&str>) -> Option<&str> {
+fn stated(component: Option<&str>) -> Option<&str>
+    ensures { stated_text component.entry ≡ text_of result }
+{
     match component {
         Some(text) if !is_wildcard(text) => Some(text),
         _ => None,
@@ -316,12 +410,21 @@ fn stated(component: Option<&str>) -> Option<&str> {
 }
 
 /// The value of digits; none where it is above 2^64 - 1.
-fn parse_number(digits: &str) -> Option<u64> {
-    digits.parse::<u64>().ok()
+fn parse_number(digits: &str) -> Option<u64>
+    requires { is_number digits.now ≡ true }
+    ensures { result ≡ (if fits_u64 (digits_value 10 digits.now) then Some (digits_value 10 digits.now) else None) }
+{
+    match digits.parse::<u64>() {
+        Ok(number) => Some(number),
+        Err(_) => None,
+    }
 }
 
 /// The identifiers of a pre-release.
-fn read_identifiers(alloc: Global, pre: &str) -> Result<Vec<Identifier>, AllocError> {
+fn read_identifiers(alloc: Global, pre: &str) -> Result<Vec<Identifier>, AllocError>
+    requires { IsTrue (list_all is_part (slice_split is_dot pre.now)) }
+    ensures { IfOk result (λ v. map identifier_of v.items ≡ map kept (slice_split is_dot pre.now)) }
+{
     let mut identifiers = Vec::with_capacity(alloc, count_parts(pre.as_bytes()))?;
     for part in pre.split('.') {
         identifiers.push(read_identifier(alloc, part)?)?;
@@ -329,12 +432,16 @@ fn read_identifiers(alloc: Global, pre: &str) -> Result<Vec<Identifier>, AllocEr
     Ok(identifiers)
 }
 
+/// How many parts a pre-release has.
 fn count_parts(pre: &[u8]) -> usize {
     1 + pre.iter().filter(|&&byte| byte == b'.').count()
 }
 
 /// A part as it is kept.
-fn read_identifier(alloc: Global, part: &str) -> Result<Identifier, AllocError> {
+fn read_identifier(alloc: Global, part: &str) -> Result<Identifier, AllocError>
+    requires { is_part part.now ≡ true }
+    ensures { IfOk result (λ i. identifier_of i ≡ kept part.now) }
+{
     match part.parse::<u64>() {
         Ok(number) => Ok(Identifier::Numeric(number)),
         Err(_) => Ok(Identifier::AlphaNumeric(String::from_str(alloc, part)?)),
@@ -342,7 +449,10 @@ fn read_identifier(alloc: Global, part: &str) -> Result<Identifier, AllocError> 
 }
 
 /// How many comparators a range has, if its numbers and raised bounds fit.
-pub(crate) fn count_comparators(range: RangeText<'_>, compat: Compat) -> Result<usize, RangeError> {
+pub(crate) fn count_comparators(range: RangeText<'_>, compat: Compat) -> Result<usize, RangeError>
+    requires { HasWords range }
+    ensures { IsSized (range_fits compat) (λ r n. (Unit {0})) ⊥ (read_of range.entry) result }
+{
     match range {
         RangeText::Empty => Ok(1),
         RangeText::Hyphen(left, right) => match from_hyphen_range(&left, &right) {
@@ -353,7 +463,10 @@ pub(crate) fn count_comparators(range: RangeText<'_>, compat: Compat) -> Result<
     }
 }
 
-fn count_simples(text: &str, compat: Compat) -> Result<usize, RangeError> {
+/// How many comparators simples have, if their numbers and raised bounds fit.
+fn count_simples(text: &str, compat: Compat) -> Result<usize, RangeError>
+    ensures { IsSized (list_all (simple_fits compat)) (λ ss n. (Unit {0})) ⊥ (read_simples (words text.now)) result }
+{
     let mut rest = text;
     let mut count = 0;
     while let Some((simple, behind)) = next_simple(rest)? {
@@ -371,33 +484,54 @@ pub(crate) fn build_range(
     alloc: Global,
     range: RangeText<'_>,
     compat: Compat,
-) -> Result<Range, RangeError> {
+) -> Result<Range, RangeError>
+    requires { HasWords range }
+    ensures { IsSized (range_fits compat) (λ r built. range_of built ≡ record { comparators = range_comparators compat r; compat = compat }) (Unit {0}) (read_of range.entry) result }
+{
     let count = count_comparators(range, compat)?;
     let Ok(mut comparators) = Vec::with_capacity(alloc, count) else {
         return Err(RangeError::OutOfMemory);
     };
-    match range {
-        RangeText::Empty => push_bounds(alloc, &mut comparators, from_zero())?,
-        RangeText::Hyphen(left, right) => {
-            let Some(bounds) = from_hyphen_range(&left, &right) else {
-                return Err(RangeError::NumberTooLarge);
-            };
-            push_bounds(alloc, &mut comparators, bounds)?;
-        }
-        RangeText::Simples(text) => push_simples(alloc, &mut comparators, text, compat)?,
-    }
+    push_range(alloc, &mut comparators, range, compat)?;
     Ok(Range {
         comparator_set: comparators,
         compat,
     })
 }
 
+/// Adds the comparators of a range.
+fn push_range(
+    alloc: Global,
+    comparators: &mut Vec<Comparator>,
+    range: RangeText<'_>,
+    compat: Compat,
+) -> Result<(), RangeError>
+    requires { HasWords range }
+    ensures { IsSized (range_fits compat)
+        (λ r u. map comparator_of comparators.new.items ≡ map comparator_of comparators.old.items ++ range_comparators compat r)
+        (Unit {0}) (read_of range.entry) result }
+{
+    match range {
+        RangeText::Empty => push_bounds(alloc, comparators, from_zero()),
+        RangeText::Hyphen(left, right) => match from_hyphen_range(&left, &right) {
+            Some(bounds) => push_bounds(alloc, comparators, bounds),
+            None => Err(RangeError::NumberTooLarge),
+        },
+        RangeText::Simples(text) => push_simples(alloc, comparators, text, compat),
+    }
+}
+
+/// Adds the comparators of simples.
 fn push_simples(
     alloc: Global,
     comparators: &mut Vec<Comparator>,
     text: &str,
     compat: Compat,
-) -> Result<(), RangeError> {
+) -> Result<(), RangeError>
+    ensures { IsSized (list_all (simple_fits compat))
+        (λ ss u. map comparator_of comparators.new.items ≡ map comparator_of comparators.old.items ++ flat_map (simple_comparators compat) ss)
+        (Unit {0}) (read_simples (words text.now)) result }
+{
     let mut rest = text;
     while let Some((simple, behind)) = next_simple(rest)? {
         let Some(bounds) = from_simple(&simple, compat) else {
@@ -409,11 +543,16 @@ fn push_simples(
     Ok(())
 }
 
+/// Adds one or two comparators.
 fn push_bounds(
     alloc: Global,
     comparators: &mut Vec<Comparator>,
     bounds: Bounds<'_>,
-) -> Result<(), RangeError> {
+) -> Result<(), RangeError>
+    ensures { MatchResult result
+        (λ u. map comparator_of comparators.new.items ≡ map comparator_of comparators.old.items ++ bounds_of bounds.entry)
+        (λ e. e ≡ RangeError.OutOfMemory) }
+{
     push_bound(alloc, comparators, bounds.first)?;
     match bounds.second {
         Some(second) => push_bound(alloc, comparators, second),
@@ -421,11 +560,16 @@ fn push_bounds(
     }
 }
 
+/// Adds a comparator.
 fn push_bound(
     alloc: Global,
     comparators: &mut Vec<Comparator>,
     bound: Bound<'_>,
-) -> Result<(), RangeError> {
+) -> Result<(), RangeError>
+    ensures { MatchResult result
+        (λ u. map comparator_of comparators.new.items ≡ map comparator_of comparators.old.items ++ bound_of bound.entry ∷ [])
+        (λ e. e ≡ RangeError.OutOfMemory) }
+{
     let Ok(comparator) = bound.partial.as_comparator(alloc, bound.op) else {
         return Err(RangeError::OutOfMemory);
     };

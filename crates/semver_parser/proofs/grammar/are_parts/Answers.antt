@@ -1,4 +1,4 @@
-use Rattle.std.proofs.Common.{◌≡◌, ℕ, ◌+◌, ◌<◌, Bool, true, false, ◌&&◌, List, length, drop, get_or, sym, refl, ap, ◌∙◌}
+use Rattle.std.proofs.Common.{◌≡◌, ℕ, ◌+◌, Bool, true, false, ◌&&◌, drop, get_or, sym, ap, ◌∙◌}
 use Rattle.std.specs.List.{list_all, slice_split}
 use Rattle.semver_parser.specs.RangeTree.{is_part, is_part_byte}
 use Rattle.semver_parser.specs.Texts.{Text}
@@ -17,23 +17,23 @@ returns-then-not-begun c =
     let items : Text = c.as_bytes-byte-items.result.now in
     let i : ℕ = c.loop-byte.byte-index in
     sym (decided c.args.text.now items c.loop-byte.begun i c.as_bytes-byte-items.ensures.value c.loop-byte.invariant
-        ∙ parts_pass-dot c.loop-byte.begun items i c.loop-byte-test.true c.if-byte-eq46.true
-        ∙ ap (λ (b : Bool). b && parts_pass false (drop (i + 1) items)) c.if-not-begun.true)
+    ∙ parts_pass-dot c.loop-byte.begun items i c.loop-byte-test.true c.if-byte-eq46.true
+    ∙ ap (λ (b : Bool). b && parts_pass false (drop (i + 1) items)) c.if-not-begun.true)
 
 pub returns-else-is_part_byte : goal.returns-else-is_part_byte
 returns-else-is_part_byte c =
     let items : Text = c.as_bytes-byte-items.result.now in
     let i : ℕ = c.loop-byte.byte-index in
     sym (decided c.args.text.now items c.loop-byte.begun i c.as_bytes-byte-items.ensures.value c.loop-byte.invariant
-        ∙ parts_pass-byte c.loop-byte.begun items i c.loop-byte-test.true c.if-byte-eq46.false
-        ∙ ap (λ (b : Bool). b && parts_pass true (drop (i + 1) items)) (sym c.is_part_byte.ensures ∙ c.if-is_part_byte.false))
+    ∙ parts_pass-byte c.loop-byte.begun items i c.loop-byte-test.true c.if-byte-eq46.false
+    ∙ ap (λ (b : Bool). b && parts_pass true (drop (i + 1) items)) (sym c.is_part_byte.ensures ∙ c.if-is_part_byte.false))
 
 pub returns : goal.returns
 returns c =
     let items : Text = c.as_bytes-byte-items.result.now in
     let i : ℕ = c.loop-byte.byte-index in
     sym (decided c.args.text.now items c.loop-byte.begun i c.as_bytes-byte-items.ensures.value c.loop-byte.invariant
-        ∙ parts_pass-end c.loop-byte.begun items i c.loop-byte-test.false)
+    ∙ parts_pass-end c.loop-byte.begun items i c.loop-byte-test.false)
 
 pub loop-byte-preserved : goal.loop-byte-preserved
 loop-byte-preserved c =

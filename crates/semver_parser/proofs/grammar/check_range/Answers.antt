@@ -1,4 +1,4 @@
-use Rattle.std.proofs.Common.{◌≡◌, sym, ap, subst, inl, inr}
+use Rattle.std.proofs.Common.{sym, ap, subst, inl, inr}
 use Rattle.semver_parser.specs.declared.grammar.RangeText.{RangeText}
 use Rattle.semver_parser.specs.RangeTree.{empty, hyphen}
 use Rattle.semver_parser.specs.PieceViews.{read_of, partial_of, IsReadable}

@@ -1,4 +1,4 @@
-use Rattle.std.proofs.Common.{◌≡◌, ◌++◌, ◌∷◌, [], ◌∙◌, rules}
+use Rattle.std.proofs.Common.{◌++◌, ◌∷◌, [], ◌∙◌, rules}
 use Rattle.std.proofs.lemmas.Result.{err_from_is_err_and}
 use Rattle.semver_parser.specs.PieceViews.{simple_of}
 use Rattle.semver_parser.proofs.Gathered.{gathered_more, gathered_all, gathered_none}

@@ -1,4 +1,4 @@
-use Rattle.std.proofs.Common.{◌≡◌, ◌++◌, ◌∷◌, [], sym, ◌∙◌, ap, refl, Option, List, arith}
+use Rattle.std.proofs.Common.{◌++◌, ◌∷◌, [], ◌∙◌, ap, Option, arith}
 use Rattle.std.proofs.lemmas.Result.{err_from_is_err_and}
 use Rattle.semver_parser.specs.RangeTree.{RangeTree}
 use Rattle.semver_parser.specs.Reader.{onto}

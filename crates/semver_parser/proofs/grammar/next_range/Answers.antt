@@ -1,16 +1,16 @@
-use Rattle.std.proofs.Common.{◌≡◌, ◌≤◌, Some, None, Option, length, true, false, [], sym, ◌∙◌, ap, subst, take, drop, refl, arith}
+use Rattle.std.proofs.Common.{◌≡◌, Some, None, Option, length, sym, ◌∙◌, ap, subst, take, drop, refl, arith}
 use Rattle.std.proofs.lemmas.Bool.{eqb-true}
 use Rattle.std.proofs.lemmas.Result.{err_from_is_err_and}
 use Rattle.std.specs.Prelude.{option_and_then}
 use Rattle.std.specs.Str.{IsCharBoundary}
 use Rattle.semver_parser.specs.RangeTree.{RangeTree}
-use Rattle.semver_parser.specs.Texts.{Text, is_empty}
+use Rattle.semver_parser.specs.Texts.{Text}
 use Rattle.semver_parser.specs.Reader.{front, back, onto, read, read_range}
 use Rattle.semver_parser.specs.Pieces.{not_bar, behind}
 use Rattle.semver_parser.specs.PieceViews.{read_of}
 use Rattle.semver_parser.proofs.Slices.{cut_before, bar_ascii, front_cut, back_cut}
 use Rattle.semver_parser.proofs.Gathered.{onto_none}
-use Rattle.semver_parser.proofs.Cursor.{read_next, read_rest, read_text, rest_end, rest_bars, shorter_behind}
+use Rattle.semver_parser.proofs.Cursor.{read_next, read_rest, rest_end, rest_bars, shorter_behind}
 use Rattle.semver_parser.proofs.grammar.next_range.Goals as goal
 use Rattle.semver_parser.proofs.grammar.next_range.Goals.{After-split_at}
 
@@ -38,11 +38,12 @@ returns-then-is_empty c =
 
 pub returns-in-Some : goal.returns-in-Some
 returns-in-Some c =
-    let bars : option_and_then (behind 124) (behind 124 c.split_at.result.1.now) ≡ Some c.in-Some.behind.now = sym c.in-Some.ensures in
-    (reads (goal.at.returns-in-Some c).After-split_at ∙ ap (λ (o : Option RangeTree). onto o (read_rest c.split_at.result.1.now)) (sym c.in_ok-range.ensures.0)
-        ∙ ap (onto (read_of c.in_ok-range.range)) (rest_bars c.split_at.result.1.now (Some c.in-Some.behind.now) (sym c.is_empty.ensures ∙ c.if-is_empty.false) bars),
-    c.in_ok-range.ensures.1,
-    shorter_behind c.args.text.now c.in-Some.behind.now (ap (λ (x : Text). option_and_then (behind 124) (behind 124 x)) (sym (rest_is (goal.at.returns-in-Some c).After-split_at)) ∙ bars))
+    let bars : option_and_then (behind 124) (behind 124 c.split_at.result.1.now) ≡ Some c.in-Some.behind.now = sym c.in-Some.ensures in (
+      reads (goal.at.returns-in-Some c).After-split_at ∙ ap (λ (o : Option RangeTree). onto o (read_rest c.split_at.result.1.now)) (sym c.in_ok-range.ensures.0)
+          ∙ ap (onto (read_of c.in_ok-range.range)) (rest_bars c.split_at.result.1.now (Some c.in-Some.behind.now) (sym c.is_empty.ensures ∙ c.if-is_empty.false) bars),
+      c.in_ok-range.ensures.1,
+      shorter_behind c.args.text.now c.in-Some.behind.now (ap (λ (x : Text). option_and_then (behind 124) (behind 124 x)) (sym (rest_is (goal.at.returns-in-Some c).After-split_at)) ∙ bars),
+    )
 
 pub returns-in-None : goal.returns-in-None
 returns-in-None c =

@@ -1,11 +1,10 @@
-use Rattle.std.proofs.Common.{◌≡◌, ◌<◌, ◌∷◌, length, drop, take, sym, ap, ◌∙◌, subst, arith}
+use Rattle.std.proofs.Common.{◌≡◌, ◌<◌, length, drop, take, sym, ap, ◌∙◌, subst, arith}
 use Rattle.std.proofs.lemmas.Bool.{eqb-true}
 use Rattle.std.proofs.lemmas.Grind.{common_steps}
 use Rattle.std.specs.Str.{IsCharBoundary}
 use Rattle.std.specs.List.{prefix_len}
 use Rattle.semver_parser.specs.RangeTree.{is_blank}
 use Rattle.semver_parser.specs.Texts.{Text}
-use Rattle.semver_parser.specs.Reader.{words}
 use Rattle.semver_parser.specs.Pieces.{not_blank}
 use Rattle.semver_parser.proofs.Runs.{blank_ascii}
 use Rattle.semver_parser.proofs.Slices.{cut_behind, cut_before, blank_stop_ascii, no_words, first_word}

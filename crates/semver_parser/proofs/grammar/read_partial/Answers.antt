@@ -1,7 +1,6 @@
-use Rattle.std.proofs.Common.{◌≡◌, sym, ◌∙◌, ap, length}
+use Rattle.std.proofs.Common.{◌≡◌, sym, ◌∙◌, length}
 use Rattle.std.proofs.lemmas.Bool.{eqb-true}
-use Rattle.semver_parser.specs.Texts.{Text}
-use Rattle.semver_parser.specs.Reader.{front, back, is_component_byte, read_partial, read_qualifier, after_second, after_third}
+use Rattle.semver_parser.specs.Reader.{front, back, is_component_byte, read_partial, after_second, after_third}
 use Rattle.semver_parser.proofs.Cursor.{to_second, to_third, two_components, three_components, no_third}
 use Rattle.semver_parser.proofs.grammar.read_partial.Goals as goal
 use Rattle.semver_parser.proofs.grammar.read_partial.Goals.{In_ok-after_byte, In_ok-after_byte-2, In_ok-patch}

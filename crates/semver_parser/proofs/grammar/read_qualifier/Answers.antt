@@ -1,9 +1,8 @@
-use Rattle.std.proofs.Common.{List, ◌≡◌, sym, ◌∙◌, ap, subst, take, drop, false, true, None, []}
-use Rattle.std.specs.List.{list_all, slice_split}
+use Rattle.std.proofs.Common.{List, ◌≡◌, sym, ◌∙◌, ap, subst, take, drop, []}
+use Rattle.std.specs.List.{slice_split}
 use Rattle.std.specs.Str.{IsCharBoundary}
-use Rattle.semver_parser.specs.RangeTree.{is_part}
 use Rattle.semver_parser.specs.Texts.{Text}
-use Rattle.semver_parser.specs.Reader.{front, back, is_dot, not_plus, read_build, read_pre, read_qualifier}
+use Rattle.semver_parser.specs.Reader.{front, back, is_dot, not_plus, read_pre, read_qualifier}
 use Rattle.semver_parser.proofs.Slices.{cut_before, plus_ascii, front_cut, back_cut}
 use Rattle.semver_parser.proofs.Cursor.{no_pre, with_pre, pre_pass, pre_fail}
 use Rattle.semver_parser.proofs.grammar.read_qualifier.Goals as goal

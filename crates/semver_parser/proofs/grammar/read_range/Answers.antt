@@ -1,4 +1,4 @@
-use Rattle.std.proofs.Common.{◌≡◌, ◌∷◌, List, Option, sym, ◌∙◌, ap, subst, refl, codes, true, false}
+use Rattle.std.proofs.Common.{◌≡◌, ◌∷◌, List, Option, sym, ◌∙◌, ap, subst, codes}
 use Rattle.semver_parser.specs.RangeTree.{RangeTree}
 use Rattle.semver_parser.specs.Texts.{Text, is_empty}
 use Rattle.semver_parser.specs.Reader.{as_range, read_simples, read_words, words}
@@ -15,8 +15,8 @@ pub returns-then-is_hyphen : goal.returns-then-is_hyphen
 returns-then-is_hyphen c =
     let second : c.in-Some-next_word.second.now ≡ codes "-" = hyphen_is c.in-Some-next_word.second.now (sym c.is_hyphen.ensures ∙ c.if-is_hyphen.true) in
     let reads = ap read_words (first_words (goal.at.returns-then-is_hyphen c).After-is_hyphen)
-        ∙ ap (λ (d : Text). read_words (c.in-Some.first.now ∷ d ∷ words c.in-Some-next_word.behind.now)) second
-        ∙ hyphen_words c.in-Some.first.now (words c.in-Some-next_word.behind.now) in
+    ∙ ap (λ (d : Text). read_words (c.in-Some.first.now ∷ d ∷ words c.in-Some-next_word.behind.now)) second
+    ∙ hyphen_words c.in-Some.first.now (words c.in-Some-next_word.behind.now) in
     subst (λ (o : Option RangeTree). IsReadAs o c.read_hyphen_range.result) (sym reads) c.read_hyphen_range.ensures
 
 pub returns : goal.returns

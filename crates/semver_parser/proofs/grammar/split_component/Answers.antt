@@ -1,5 +1,4 @@
 use Rattle.std.proofs.Common.{◌≡◌, sym, ◌∙◌, ap, subst, drop, take}
-use Rattle.std.specs.List.{prefix_len}
 use Rattle.std.specs.Str.{IsCharBoundary}
 use Rattle.semver_parser.specs.RangeTree.{is_component}
 use Rattle.semver_parser.specs.Reader.{front, back, is_component_byte as component_byte}
