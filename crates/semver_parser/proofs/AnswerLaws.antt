@@ -1,5 +1,5 @@
 -- What an answer by the reader says in the words of trees and texts.
-use Rattle.std.proofs.Common.{◌≡◌, ◌↔◌, ◌⊎◌, true, false, Bool, [], refl, sym, ap, ◌∙◌, subst, inl, inr, IsTrue, Result, Ok, Err, Option, Some, None}
+use Rattle.std.proofs.Common.{◌≡◌, ◌↔◌, ◌⊎◌, true, false, [], refl, sym, ap, ◌∙◌, subst, inl, inr, IsTrue, Result, Ok, Err, Some, None}
 use Rattle.std.proofs.lemmas.Bool.{both_ways}
 use Rattle.std.specs.Prelude.{IfOk}
 use Rattle.std.specs.Result.{IsOkAnd}
@@ -17,9 +17,10 @@ use Rattle.semver_parser.specs.PrintedRanges.{IsPrintableSet, set_text}
 use Rattle.semver_parser.specs.Reader.{read}
 use Rattle.semver_parser.specs.RangeViews.{set_of}
 use Rattle.semver_parser.specs.Answers.{IsAnswer}
+use Rattle.semver_parser.specs.PartialViews.{IsSized}
 use Rattle.semver_parser.proofs.ReaderComplete.{tree_read}
 use Rattle.semver_parser.proofs.ReaderSound.{read_sound}
-use Rattle.semver_parser.proofs.Meanings.{some_agrees, agree_on_releases}
+use Rattle.semver_parser.proofs.Meanings.{some_agrees, own_meaning_meets, agree_on_releases}
 use Rattle.semver_parser.proofs.PrintedLaws.{printed_again}
 use Rattle.semver_parser.proofs.AnsweredLaws.{rewritten_printable}
 
@@ -63,6 +64,14 @@ pub releases : (t : Text) (mode : Compat) (r : Result RangeSet RangeError) → I
 releases t mode (Ok set) h = λ tree v s e. ap (meets_set v) (h.3 ∙ ap (rewritten mode) (read_one t h.0 tree h.1 s)) ∙ agree_on_releases mode tree v e
 releases t mode (Err e) h = tt
 
+pub out_of_memory : (t : Text) (mode : Compat) (r : Result RangeSet RangeError) → IsAnswer t mode r → r ≡ Err OutOfMemory → (tree : SetTree) × Spells tree t × IsTrue (fits mode tree)
+out_of_memory t mode r h e = let found = subst (IsAnswer t mode) e h in (found.0, read_sound t found.0 found.1, found.2)
+
+pub implied : (t : Text) (mode : Compat) (r : Result RangeSet RangeError) → IsAnswer t mode r
+    → IfOk r (λ set. (tree : SetTree) (v : PlainVersion) → Spells tree t → IsTrue (meets_tree mode tree v) → IsTrue (meets_set v (set_of set)))
+implied t mode (Ok set) h = λ tree v s own. ap (meets_set v) (h.3 ∙ ap (rewritten mode) (read_one t h.0 tree h.1 s)) ∙ own_meaning_meets mode tree v own
+implied t mode (Err e) h = tt
+
 pub printable : (t : Text) (mode : Compat) (r : Result RangeSet RangeError) → IsAnswer t mode r → IfOk r (λ set. IsPrintableSet (set_of set))
 printable t mode (Ok set) h = subst IsPrintableSet (sym h.3) (rewritten_printable mode h.0 t (read_sound t h.0 h.1) h.2)
 printable t mode (Err e) h = tt
@@ -80,3 +89,16 @@ reads_back t mode r h s p m e =
       go (Err NotARange) h tree spelled fit again = absurd (none_read t tree h spelled)
       go (Err NumberTooLarge) h tree spelled fit again = absurd (both_ways (fits mode tree) (sym (ap (fits mode) (read_one t h.0 tree h.1 spelled)) ∙ h.2) fit)
       go (Err OutOfMemory) h tree spelled fit again = inl refl
+
+-- what the runs over a text say of the answer
+pub answer_none : (t : Text) (mode : Compat) (r : Result RangeSet RangeError) (e : RangeError) → r ≡ Err e → e ≡ NotARange → read t ≡ None → IsAnswer t mode r
+answer_none t mode r e is why none = subst (IsAnswer t mode) (sym (is ∙ ap (λ (x : RangeError). Err x) why)) none
+
+pub answer_sized : {A : Type 0} (t : Text) (mode : Compat) (good : SetTree → A → Type 0) (memory : Type 0) (r : Result RangeSet RangeError) (e e' : RangeError)
+    → (tree : SetTree) × (read t ≡ Some tree) → (memory → (tree : SetTree) × (read t ≡ Some tree) × IsTrue (fits mode tree))
+    → IsSized {A = A} (fits mode) good memory (read t) (Err e) → r ≡ Err e' → e' ≡ e → IsAnswer t mode r
+answer_sized {A = A} t mode good memory r e e' found fit h is same = subst (IsAnswer t mode) (sym (is ∙ ap (λ (x : RangeError). Err x) same)) (go e h) where
+  go : (e : RangeError) → IsSized {A = A} (fits mode) good memory (read t) (Err e) → IsAnswer t mode (Err e)
+  go NotARange h = h
+  go NumberTooLarge h = (found.0, found.1, h found.0 found.1)
+  go OutOfMemory h = fit h

@@ -1,7 +1,9 @@
 pub mod AnswerLaws
 pub mod AnsweredLaws
+pub mod Cursor
 pub mod Cuts
 pub mod FirstToken
+pub mod Gathered
 pub mod IdentifierSteps
 pub mod IdentifierTexts
 pub mod Joins
@@ -9,6 +11,8 @@ pub mod LexerSteps
 pub mod Meanings
 pub mod Numbers
 pub mod OneVersion
+pub mod KeptParts
+pub mod ParsedPartials
 pub mod ParserSteps
 pub mod PrecedenceLaws
 pub mod PrintedLaws
@@ -18,6 +22,8 @@ pub mod ReadingSteps
 pub mod RowFacts
 pub mod Rows
 pub mod Runs
+pub mod SizedRanges
+pub mod Slices
 pub mod Tests
 pub mod TokenLists
 pub mod Vectors

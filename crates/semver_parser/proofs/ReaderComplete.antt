@@ -1,10 +1,10 @@
 -- The reader finds the tree that a text spells.
-use Rattle.std.proofs.Common.{◌≡◌, ℕ, Bool, true, false, not, ◌&&◌, ◌||◌, ◌==◌, List, [], ◌∷◌, ◌++◌, codes, refl, sym, ap, ◌∙◌, inl, inr, Option, Some, None, All, append_assoc, append-nil}
+use Rattle.std.proofs.Common.{◌≡◌, ℕ, Bool, true, false, not, ◌&&◌, ◌==◌, List, [], ◌∷◌, ◌++◌, codes, refl, sym, ap, ◌∙◌, inl, inr, Option, Some, None, All, append_assoc, append-nil}
 use Rattle.std.proofs.lemmas.Bool.{or_left, or_right, not_from_false, and_parts, and_from, or_cases, not-true, eqb-true, false_from_ne_true, true≢false}
 use Rattle.std.proofs.lemmas.List.Elements.{All-nil, All-cons}
 use Rattle.std.proofs.lemmas.List.Folds.{list_all-append}
 use Rattle.std.proofs.lemmas.List.Splits.{slice_split_none, slice_split_at}
-use Rattle.std.specs.Char.{is_ascii_digit, is_ascii_alphanumeric}
+use Rattle.std.specs.Char.{is_ascii_digit}
 use Rattle.std.specs.Str.{all_ascii_digits}
 use Rattle.std.specs.List.{list_all, slice_split, join_with_byte}
 use Rattle.semver_parser.specs.RangeTree.{PartialTree, one, two, three, Form, bare, equal, less, at_most, greater, at_least, tilde, caret, Simple, RangeTree, empty, hyphen, simples, SetTree, is_blank, is_wildcard, is_number, is_component, is_part, is_part_byte, components, qualifier, HasParts, AreBlanks, AreSomeBlanks, SpellsPartial, IsSignAndBlanks, SpellsForm, SpellsSimple, SpellsSimples, SpellsRange, SpellsPadded, Spells}

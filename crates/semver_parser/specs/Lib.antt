@@ -25,3 +25,6 @@ pub mod Answers
 pub mod Writing
 pub mod ReportLines
 pub mod Shown
+pub mod Pieces
+pub mod PieceViews
+pub mod PartialViews

@@ -1,7 +1,6 @@
 -- The printed text of comparators, ranges and sets, and the sets that read back to themselves.
-use Rattle.std.specs.Prelude.{◌≡◌, Bool, ◌&&◌, not, List, [], ◌∷◌, ◌++◌, map, codes, IsTrue, All}
-use Rattle.std.specs.List.{list_all, join_with_byte}
-use Rattle.std.specs.Fmt.{decimal}
+use Rattle.std.specs.Prelude.{◌≡◌, Bool, ◌&&◌, not, ◌++◌, map, codes, IsTrue, All}
+use Rattle.std.specs.List.{list_all}
 use Rattle.std.specs.Str.{all_ascii_digits}
 use Rattle.std.specs.Str.Parse.{digits_value}
 use Rattle.semver_parser.specs.declared.range.Op.{Op}

@@ -1,6 +1,5 @@
 -- What contracts see of ranges: their values, and not where they lie in memory.
-use Rattle.std.specs.Prelude.{List, map, string_bytes}
-use Rattle.std.specs.declared.alloc.Global.{Global}
+use Rattle.std.specs.Prelude.{map, string_bytes}
 use Rattle.semver_parser.specs.declared.range.Identifier.{Identifier}
 use Rattle.semver_parser.specs.declared.range.Identifier.TheVariants.{Numeric, AlphaNumeric}
 use Rattle.semver_parser.specs.declared.range.Comparator.{Comparator}

@@ -1,9 +1,11 @@
 //! Version texts and range texts as plain data: tokens, a `Version` that prints again, and a `RangeSet` of plain comparators.
 #![tactic(auto)]
 
+mod grammar;
 pub mod laws;
 pub mod lexer;
 pub mod parser;
+mod partial;
 mod printing;
 mod range;
 mod range_set;

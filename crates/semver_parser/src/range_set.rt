@@ -1,6 +1,22 @@
 //! Range sets.
 
-use crate::range::Range;
+ghost use Rattle.std.specs.Prelude.{◌≡◌, ◌↔◌, ◌⊎◌, ◌++◌, false, [], map, IsTrue, IfOk, IsOkAnd};
+ghost use Rattle.semver_parser.specs.RangeTree.{SetTree, Spells};
+ghost use Rattle.semver_parser.specs.Versions.{PlainVersion};
+ghost use Rattle.semver_parser.specs.OwnMeaning.{meets_tree};
+ghost use Rattle.semver_parser.specs.RewritingTable.{PlainSet, fits, rewritten};
+ghost use Rattle.semver_parser.specs.Meeting.{meets_set, meets_tree_or_bounds};
+ghost use Rattle.semver_parser.specs.PrintedRanges.{IsPrintableSet, set_text};
+ghost use Rattle.semver_parser.specs.RangeViews.{range_of, set_of};
+ghost use Rattle.semver_parser.specs.Reader.{read};
+ghost use Rattle.semver_parser.specs.Answers.{IsAnswer};
+ghost use Rattle.semver_parser.specs.PartialViews.{range_for, IsSized};
+
+use crate::grammar::{count_ranges, next_range};
+use crate::printing::write_joined;
+use crate::range::{Range, build_range, count_comparators};
+use std::alloc::Global;
+use std::fmt;
 use thiserror::Error;
 
 /// A range set: ranges of which a version meets at least one.
@@ -33,4 +49,115 @@ pub enum RangeError {
     /// The text is in the grammar and its numbers fit, but a growth was refused.
     #[error("out of memory")]
     OutOfMemory,
+}
+
+impl RangeSet {
+    /// The ranges of a text.
+    pub fn parse(alloc: Global, input: &str, compat: Compat) -> Result<RangeSet, RangeError>
+        // There is a tree of the text that fits, and what is answered is what each tree of the text is rewritten to, in this mode.
+        ensures accepted { IfOk result (λ set. (tree : SetTree) × Spells tree input.now × IsTrue (fits compat tree)) }
+        ensures as_rewritten { IfOk result (λ set. (tree : SetTree) → Spells tree input.now → set_of set ≡ rewritten compat tree) }
+
+        // Refusals. The first two are exact, and memory runs out only where there is a set to answer.
+        ensures not_a_range { (result ≡ Err RangeError.NotARange) ↔ ((tree : SetTree) → Spells tree input.now → ⊥) }
+        ensures too_large { (result ≡ Err RangeError.NumberTooLarge) ↔ ((tree : SetTree) × Spells tree input.now × (fits compat tree ≡ false)) }
+        ensures out_of_memory { result ≡ Err RangeError.OutOfMemory → (tree : SetTree) × Spells tree input.now × IsTrue (fits compat tree) }
+
+        // A version meets the answer exactly if some range of the text has each term met, or the version is a pre-release of that term's raised bound.
+        ensures meaning { IfOk result (λ set. (tree : SetTree) (v : PlainVersion) → Spells tree input.now →
+            meets_set v (set_of set) ≡ meets_tree_or_bounds compat tree v) }
+        // So a release meets it exactly if it meets what the text means by itself, and what meets that always meets the answer.
+        ensures releases { IfOk result (λ set. (tree : SetTree) (v : PlainVersion) → Spells tree input.now → v.pre ≡ [] →
+            meets_set v (set_of set) ≡ meets_tree compat tree v) }
+        ensures implied { IfOk result (λ set. (tree : SetTree) (v : PlainVersion) → Spells tree input.now → IsTrue (meets_tree compat tree v) →
+            IsTrue (meets_set v (set_of set))) }
+
+        // What is answered is printable, and the text of a printable set in this mode gives that set again.
+        ensures printable { IfOk result (λ set. IsPrintableSet (set_of set)) }
+        ensures reads_back { (s : PlainSet) → IsPrintableSet s → s.compat ≡ compat → input.now ≡ set_text s →
+            (result ≡ Err RangeError.OutOfMemory) ⊎ IsOkAnd result (λ set. set_of set ≡ s) }
+    {
+        read_set(alloc, input, compat)
+    }
+
+    /// The ranges of a text in Cargo mode.
+    pub fn from_str(alloc: Global, input: &str) -> Result<RangeSet, RangeError>
+        // There is a tree of the text that fits, and what is answered is what each tree of the text is rewritten to, in this mode.
+        ensures accepted { IfOk result (λ set. (tree : SetTree) × Spells tree input.now × IsTrue (fits Compat.Cargo tree)) }
+        ensures as_rewritten { IfOk result (λ set. (tree : SetTree) → Spells tree input.now → set_of set ≡ rewritten Compat.Cargo tree) }
+
+        // Refusals. The first two are exact, and memory runs out only where there is a set to answer.
+        ensures not_a_range { (result ≡ Err RangeError.NotARange) ↔ ((tree : SetTree) → Spells tree input.now → ⊥) }
+        ensures too_large { (result ≡ Err RangeError.NumberTooLarge) ↔ ((tree : SetTree) × Spells tree input.now × (fits Compat.Cargo tree ≡ false)) }
+        ensures out_of_memory { result ≡ Err RangeError.OutOfMemory → (tree : SetTree) × Spells tree input.now × IsTrue (fits Compat.Cargo tree) }
+
+        // A version meets the answer exactly if some range of the text has each term met, or the version is a pre-release of that term's raised bound.
+        ensures meaning { IfOk result (λ set. (tree : SetTree) (v : PlainVersion) → Spells tree input.now →
+            meets_set v (set_of set) ≡ meets_tree_or_bounds Compat.Cargo tree v) }
+        // So a release meets it exactly if it meets what the text means by itself, and what meets that always meets the answer.
+        ensures releases { IfOk result (λ set. (tree : SetTree) (v : PlainVersion) → Spells tree input.now → v.pre ≡ [] →
+            meets_set v (set_of set) ≡ meets_tree Compat.Cargo tree v) }
+        ensures implied { IfOk result (λ set. (tree : SetTree) (v : PlainVersion) → Spells tree input.now → IsTrue (meets_tree Compat.Cargo tree v) →
+            IsTrue (meets_set v (set_of set))) }
+
+        // What is answered is printable, and the text of a printable set in this mode gives that set again.
+        ensures printable { IfOk result (λ set. IsPrintableSet (set_of set)) }
+        ensures reads_back { (s : PlainSet) → IsPrintableSet s → s.compat ≡ Compat.Cargo → input.now ≡ set_text s →
+            (result ≡ Err RangeError.OutOfMemory) ⊎ IsOkAnd result (λ set. set_of set ≡ s) }
+    {
+        read_set(alloc, input, Compat::Cargo)
+    }
+}
+
+/// Reads a text three times: for the grammar, for the sizes, and to build.
+fn read_set(alloc: Global, input: &str, compat: Compat) -> Result<RangeSet, RangeError>
+    ensures { IsAnswer input.now compat result }
+{
+    let count = count_ranges(input)?;
+    check_sizes(input, compat)?;
+    let Ok(mut ranges) = Vec::with_capacity(alloc, count) else {
+        return Err(RangeError::OutOfMemory);
+    };
+    push_ranges(alloc, &mut ranges, input, compat)?;
+    Ok(RangeSet { ranges, compat })
+}
+
+/// Whether the numbers and the raised bounds of all ranges fit.
+fn check_sizes(input: &str, compat: Compat) -> Result<(), RangeError>
+    ensures { IsSized (fits compat) (λ tree u. Unit {0}) ⊥ (read input.now) result }
+{
+    let mut rest = Some(input);
+    while let Some(text) = rest {
+        let (range, behind) = next_range(text)?;
+        count_comparators(range, compat)?;
+        rest = behind;
+    }
+    Ok(())
+}
+
+/// Adds the ranges of a text.
+fn push_ranges(
+    alloc: Global,
+    ranges: &mut Vec<Range>,
+    input: &str,
+    compat: Compat,
+) -> Result<(), RangeError>
+    ensures { IsSized (fits compat) (λ tree u. map range_of ranges.new.items ≡ map range_of ranges.old.items ++ map (range_for compat) tree) (Unit {0}) (read input.now) result }
+{
+    let mut rest = Some(input);
+    while let Some(text) = rest {
+        let (range, behind) = next_range(text)?;
+        let built = build_range(alloc, range, compat)?;
+        let Ok(()) = ranges.push(built) else {
+            return Err(RangeError::OutOfMemory);
+        };
+        rest = behind;
+    }
+    Ok(())
+}
+
+impl fmt::Display for RangeSet {
+    fn fmt<W: fmt::Write>(&self, f: &mut fmt::Formatter<W>) -> fmt::Result {
+        write_joined(f, " || ", &self.ranges)
+    }
 }
