@@ -1,0 +1,2 @@
+pub mod KeptReleases
+pub mod Numbers

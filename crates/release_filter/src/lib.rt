@@ -1,0 +1,112 @@
+//! The releases that a range text means.
+#![tactic(auto)]
+
+ghost use Rattle.std.specs.Prelude.{◌≡◌, ◌↔◌, ◌&&◌, false, map, filter, IfOk, IsTrue};
+ghost use Rattle.semver_parser.specs.RangeTree.{SetTree, Spells};
+ghost use Rattle.semver_parser.specs.RewritingTable.{fits};
+ghost use Rattle.std.specs.List.{list_all, list_any};
+ghost use Rattle.semver_parser.specs.Meeting.{meets_comparator, meets_set};
+ghost use Rattle.semver_parser.specs.RangeViews.{comparator_of, set_of};
+ghost use Rattle.semver_parser.specs.VersionViews.{version_value};
+ghost use Rattle.release_filter.specs.KeptReleases.{is_release, kept_releases};
+ghost use Rattle.release_filter.specs.Numbers.{numbers_alone};
+
+use semver_parser::version::Version;
+use semver_parser::{Comparator, Compat, Op, Range, RangeError, RangeSet};
+use std::alloc::{AllocError, Global};
+use std::cmp::Ordering;
+
+/// Whether a version is a release that meets a range set: it has no pre-release, and some range of the set has all its
+/// comparators met, by precedence (SemVer 2.0.0, section 11).
+///
+/// `2.5.0` meets the set of `^0.2 || 2.x`; `2.0.0-rc` doesn't, and neither does `0.3.0`. No version meets a set without
+/// ranges, and each release meets a range without comparators. It takes no memory.
+pub fn release_meets(set: &RangeSet, version: &Version) -> bool
+    ensures { result ≡ (is_release (version_value version.now) && meets_set (version_value version.now).plain (set_of set.now)) }
+{
+    version.pre.is_empty() && some_range_meets(&set.ranges, version)
+}
+
+// Whether a version, without its pre-release, meets some range.
+fn some_range_meets(ranges: &[Range], version: &Version) -> bool
+    ensures { result ≡ list_any (λ range. list_all (λ comparator. meets_comparator (numbers_alone version.now) (comparator_of comparator)) range.comparator_set.items) ranges.now }
+{
+    ranges.iter().any(|range| each_comparator_is_met(&range.comparator_set, version))
+}
+
+// Whether a version, without its pre-release, meets all comparators.
+fn each_comparator_is_met(comparators: &[Comparator], version: &Version) -> bool
+    ensures { result ≡ list_all (λ comparator. meets_comparator (numbers_alone version.now) (comparator_of comparator)) comparators.now }
+{
+    comparators
+        .iter()
+        .all(|comparator| comparator_is_met(comparator, version))
+}
+
+// Whether a version, without its pre-release, meets a comparator. A pre-release of its numbers is below it.
+fn comparator_is_met(comparator: &Comparator, version: &Version) -> bool
+    ensures { result ≡ meets_comparator (numbers_alone version.now) (comparator_of comparator.now) }
+{
+    let ordering = version
+        .major
+        .cmp(&comparator.major)
+        .then(version.minor.cmp(&comparator.minor))
+        .then(version.patch.cmp(&comparator.patch))
+        .then(if comparator.pre.is_empty() {
+            Ordering::Equal
+        } else {
+            Ordering::Greater
+        });
+    match comparator.op {
+        Op::Lt => ordering.is_lt(),
+        Op::Lte => ordering.is_le(),
+        Op::Gt => ordering.is_gt(),
+        Op::Gte => ordering.is_ge(),
+        Op::Eq => ordering.is_eq(),
+    }
+}
+
+/// The releases among the versions that a range text means, in the given order and with repeats kept: each version without
+/// pre-release that meets the text's own meaning. Of `^0.2 || 2.x` in Cargo mode, and of 0.2.0, 0.3.0, 2.0.0-rc, 2.5.0 and
+/// 2.5.0 again, these are 0.2.0, 2.5.0 and 2.5.0.
+///
+/// The text is read first, so its refusal doesn't depend on the versions: `NotARange` where it isn't in the range grammar,
+/// `NumberTooLarge` where it is and a stated number or a raised bound is above 2^64 - 1. `OutOfMemory` stands in place of an
+/// answer alone. Pre-releases are never among what is answered, whatever the text says.
+pub fn filter_text<'v>(
+    alloc: Global,
+    text: &str,
+    compat: Compat,
+    versions: &'v [Version],
+) -> Result<Vec<&'v Version>, RangeError>
+    // Some tree spells the text and fits, and what is answered is what each tree of the text keeps.
+    ensures accepted { IfOk result (λ kept. (tree : SetTree) × Spells tree text.now × IsTrue (fits compat tree)) }
+    ensures kept { IfOk result (λ kept. (tree : SetTree) → Spells tree text.now → map (λ v. v.now) kept.items ≡ kept_releases compat tree versions.now) }
+
+    // Refusals, exactly; memory may run out in place of an answer alone.
+    ensures not_a_range { (result ≡ Err RangeError.NotARange) ↔ ((tree : SetTree) → Spells tree text.now → ⊥) }
+    ensures too_large { (result ≡ Err RangeError.NumberTooLarge) ↔ ((tree : SetTree) × Spells tree text.now × (fits compat tree ≡ false)) }
+    ensures out_of_memory { result ≡ Err RangeError.OutOfMemory → (tree : SetTree) × Spells tree text.now × IsTrue (fits compat tree) }
+{
+    match RangeSet::parse(alloc, text, compat) {
+        Ok(set) => match kept(alloc, &set, versions) {
+            Ok(kept) => Ok(kept),
+            Err(_) => Err(RangeError::OutOfMemory),
+        },
+        Err(error) => Err(error),
+    }
+}
+
+// The releases among the versions that meet a set, in their order and with repeats.
+fn kept<'v>(
+    alloc: Global,
+    set: &RangeSet,
+    versions: &'v [Version],
+) -> Result<Vec<&'v Version>, AllocError>
+    ensures { IfOk result (λ kept. map (λ v. v.now) kept.items ≡ filter (λ v. is_release (version_value v) && meets_set (version_value v).plain (set_of set.now)) versions.now) }
+{
+    versions
+        .iter()
+        .filter(|version| release_meets(set, version))
+        .collect(alloc)
+}
