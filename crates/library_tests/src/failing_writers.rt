@@ -2,14 +2,14 @@
 use super::made_values::{a_version, identifier};
 use super::writers::{AtEnd, FailsAfter, Limited, OneByOne};
 use semver_parser::parser::Parser;
-use semver_parser::{report, version};
+use semver_parser::{Compat, Op, RangeSet, report, version};
 use std::fmt;
 use std::fmt::Write;
 use std::process::Abort;
 use std::test::Fail;
 
 /// The report of `1.2.3`.
-const REPORT: &str = "version: 1.2.3\n";
+const REPORT: &str = "version: 1.2.3\ncargo: >=1.2.3 <2.0.0\nnpm: =1.2.3\n";
 
 #[test]
 fn report_stops_at_the_first_refusal(rt: HostRuntime) -> Result<(), Fail> {
@@ -47,6 +47,30 @@ fn printing_fails_exactly_where_the_writer_does(rt: HostRuntime) -> Result<(), F
     passes_faults_on(&rt, &version, "1.2.3-7.beta+01.a-b")?;
     passes_faults_on(&rt, &identifier(rt.alloc(), "7")?, "7")?;
     passes_faults_on(&rt, &identifier(rt.alloc(), "beta")?, "beta")?;
+    Ok(())
+}
+
+#[test]
+fn printed_sets_fail_exactly_where_the_writer_does(rt: HostRuntime) -> Result<(), Fail> {
+    let printed = ">=1.2.3-7.beta <2.0.0 || =4.5.6";
+    let set = RangeSet::parse(rt.alloc(), "^1.2.3-7.beta || =4.5.6", Compat::Npm)?;
+    passes_faults_on(&rt, &set, printed)?;
+    let range = set.ranges.first().ok_or("a range")?;
+    passes_faults_on(&rt, range, ">=1.2.3-7.beta <2.0.0")?;
+    let comparator = range.comparator_set.first().ok_or("a comparator")?;
+    passes_faults_on(&rt, comparator, ">=1.2.3-7.beta")?;
+    for (identifier, text) in comparator.pre.iter().zip(["7", "beta"]) {
+        passes_faults_on(&rt, identifier, text)?;
+    }
+    for (op, sign) in [
+        (Op::Lt, "<"),
+        (Op::Lte, "<="),
+        (Op::Gt, ">"),
+        (Op::Gte, ">="),
+        (Op::Eq, "="),
+    ] {
+        passes_faults_on(&rt, &op, sign)?;
+    }
     Ok(())
 }
 

@@ -4,6 +4,8 @@
 #[cfg(test)]
 mod failing_writers;
 #[cfg(test)]
+mod made_sets;
+#[cfg(test)]
 mod made_values;
 #[cfg(test)]
 mod writers;

@@ -3,12 +3,15 @@
 //! else the one request that is refused has to be met by exactly one call, which is named.
 #![tactic(auto)]
 
+mod filters;
 mod fixed;
 mod identifiers;
 mod parsers;
+mod ranges;
 mod reports;
 mod versions;
 
+use semver_parser::Compat;
 use std::alloc::Global;
 use std::io;
 use std::io::Read;
@@ -74,7 +77,21 @@ fn main(rt: HostRuntime) -> io::Result<()> {
             identifiers::concat_of_a_text(rt.alloc()),
         ),
         ("error_text", identifiers::error_text(rt.alloc())),
+        (
+            "range_set_in_cargo_mode",
+            ranges::parse(rt.alloc(), Compat::Cargo),
+        ),
+        (
+            "range_set_in_npm_mode",
+            ranges::parse(rt.alloc(), Compat::Npm),
+        ),
+        ("range_set_from_str", ranges::from_str(rt.alloc())),
+        ("refused_range_texts", ranges::refused_texts(rt.alloc())),
+        ("range_set_clone", ranges::clone(rt.alloc())),
+        ("filter", filters::filter(rt.alloc())),
+        ("refused_filter_texts", filters::refused_texts(rt.alloc())),
         ("report", reports::report(rt.alloc())),
+        ("report_of_faults", reports::report_of_faults(rt.alloc())),
     ];
     for (call, ending) in endings {
         match ending {

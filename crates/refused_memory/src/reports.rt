@@ -5,16 +5,31 @@ use super::fixed::Fixed;
 use semver_parser::report;
 use std::alloc::Global;
 
-/// A line whose value can't be printed for want of memory says so, and the report goes on.
+/// A line whose value can't be read or printed for want of memory says so, and the report goes on.
 pub fn report(alloc: Global) -> Ending {
     let mut out = Fixed::new();
     let ran = report::run(alloc, "1.2.3", &mut out);
     let written = out.as_bytes();
-    if written == b"version: 1.2.3\n".as_slice() {
+    let whole = b"version: 1.2.3\ncargo: >=1.2.3 <2.0.0\nnpm: =1.2.3\n";
+    let version = b"version: out-of-memory\ncargo: >=1.2.3 <2.0.0\nnpm: =1.2.3\n";
+    let cargo = b"version: 1.2.3\ncargo: out-of-memory\nnpm: =1.2.3\n";
+    let npm = b"version: 1.2.3\ncargo: >=1.2.3 <2.0.0\nnpm: out-of-memory\n";
+    if written == whole.as_slice() {
         Ending::full_if(matches!(ran, Ok(true)))
-    } else if written == b"version: out-of-memory\n".as_slice() {
-        Ending::refused_if(matches!(ran, Ok(false)))
+    } else if written == version.as_slice()
+        || written == cargo.as_slice()
+        || written == npm.as_slice()
+    {
+        Ending::refused_if(matches!(ran, Ok(true)))
     } else {
         Ending::Wrong
     }
+}
+
+/// Where each line has a fault without memory, none is asked for.
+pub fn report_of_faults(alloc: Global) -> Ending {
+    let mut out = Fixed::new();
+    let ran = report::run(alloc, "/", &mut out);
+    let whole = b"version: unexpected-char\ncargo: not-a-range\nnpm: not-a-range\n";
+    Ending::full_if(matches!(ran, Ok(false)) && out.as_bytes() == whole.as_slice())
 }

@@ -1,14 +1,17 @@
 //! Replays a table of cases. Each line of standard input has a name, a call and a text, parted by tabs, and for the
-//! calls of a parser its steps; the line of standard output begins with the name and tells what the call answered.
+//! calls of a parser its steps, for those of the filter the versions; the line of standard output begins with the name and tells what the call answered.
 //! What is expected stands in the file beside this crate's input: it comes from the published rows and from the Rust crate.
 #![tactic(auto)]
 
+mod filtering;
 mod lexing;
 mod parsing;
+mod ranges;
 mod reporting;
 mod text;
 mod versions;
 
+use semver_parser::Compat;
 use std::alloc::Global;
 use std::io;
 use std::io::{BufRead, BufReader, BufWriter, Write};
@@ -53,6 +56,17 @@ fn answer<W: Write>(
         "version" => versions::write_version(alloc, text, out),
         "version-text" => versions::write_printed(alloc, text, out),
         "version-lengths" => versions::write_lengths(alloc, text, out),
+        "cargo" => ranges::write_set(alloc, text, Compat::Cargo, out),
+        "npm" => ranges::write_set(alloc, text, Compat::Npm, out),
+        "cargo-text" => ranges::write_printed(alloc, text, Compat::Cargo, out),
+        "npm-text" => ranges::write_printed(alloc, text, Compat::Npm, out),
+        "from-str" => ranges::write_from_str(alloc, text, out),
+        "cargo-counts" => ranges::write_counts(alloc, text, Compat::Cargo, out),
+        "npm-counts" => ranges::write_counts(alloc, text, Compat::Npm, out),
+        "cargo-lengths" => ranges::write_lengths(alloc, text, Compat::Cargo, out),
+        "npm-lengths" => ranges::write_lengths(alloc, text, Compat::Npm, out),
+        "filter-cargo" => filtering::write_kept(alloc, text, Compat::Cargo, steps, out),
+        "filter-npm" => filtering::write_kept(alloc, text, Compat::Npm, steps, out),
         "report" => reporting::write_report(alloc, text, out),
         _ => write!(out, "no such call"),
     }

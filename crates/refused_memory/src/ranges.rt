@@ -1,0 +1,68 @@
+//! Calls that read a range set, and its clone.
+
+use super::Ending;
+use super::fixed::Fixed;
+use semver_parser::{Compat, RangeError, RangeSet};
+use std::alloc::Global;
+use std::fmt::Write as _;
+
+const TEXT: &str = "^1.2.3-beta.4 || 2.x";
+
+const PRINTED: &str = ">=1.2.3-beta.4 <2.0.0 || >=2.0.0 <3.0.0";
+
+/// The set of two ranges, in a mode.
+pub fn parse(alloc: Global, compat: Compat) -> Ending {
+    match RangeSet::parse(alloc, TEXT, compat) {
+        Ok(set) => Ending::full_if(set.compat == compat && prints_as(&set, PRINTED)),
+        Err(RangeError::OutOfMemory) => Ending::Refused,
+        Err(_) => Ending::Wrong,
+    }
+}
+
+/// The same in Cargo mode.
+pub fn from_str(alloc: Global) -> Ending {
+    match RangeSet::from_str(alloc, TEXT) {
+        Ok(set) => Ending::full_if(prints_as(&set, PRINTED)),
+        Err(RangeError::OutOfMemory) => Ending::Refused,
+        Err(_) => Ending::Wrong,
+    }
+}
+
+/// Texts that are refused for their grammar or their numbers are refused without a request.
+pub fn refused_texts(alloc: Global) -> Ending {
+    for compat in [Compat::Cargo, Compat::Npm] {
+        let half_a_bar = RangeSet::parse(alloc, "|", compat);
+        let grammar_first = RangeSet::parse(alloc, "99999999999999999999 ~", compat);
+        let too_large = RangeSet::parse(alloc, "99999999999999999999", compat);
+        let bound = RangeSet::parse(alloc, "<=18446744073709551615", compat);
+        if !matches!(half_a_bar, Err(RangeError::NotARange))
+            || !matches!(grammar_first, Err(RangeError::NotARange))
+            || !matches!(too_large, Err(RangeError::NumberTooLarge))
+            || !matches!(bound, Err(RangeError::NumberTooLarge))
+        {
+            return Ending::Wrong;
+        }
+    }
+    Ending::Full
+}
+
+/// A clone equals its source, or finds no memory and leaves the source as it was.
+pub fn clone(alloc: Global) -> Ending {
+    let Ok(set) = RangeSet::parse(alloc, TEXT, Compat::Npm) else {
+        return Ending::Refused;
+    };
+    let cloned: Result<_, _> = set.clone();
+    if !prints_as(&set, PRINTED) {
+        return Ending::Wrong;
+    }
+    match cloned {
+        Ok(clone) => Ending::full_if(clone == set),
+        Err(_) => Ending::Refused,
+    }
+}
+
+/// The set prints as the text.
+fn prints_as(set: &RangeSet, text: &str) -> bool {
+    let mut out = Fixed::new();
+    write!(out, "{set}").is_ok() && out.as_bytes() == text.as_bytes()
+}

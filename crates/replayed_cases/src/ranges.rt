@@ -1,0 +1,141 @@
+//! Range sets, by their fields and as they print.
+
+use semver_parser::{Compat, Identifier, RangeError, RangeSet};
+use std::alloc::Global;
+use std::io;
+use std::io::Write;
+
+/// Writes the fields of the set that a text is in a mode, or its fault. The mode is written where the set and each range have it.
+pub fn write_set<W: Write>(
+    alloc: Global,
+    text: &str,
+    compat: Compat,
+    out: &mut W,
+) -> io::Result<()> {
+    match RangeSet::parse(alloc, text, compat) {
+        Ok(set) => {
+            let compat = set.compat;
+            write!(out, "{compat:?}")?;
+            for (i, range) in set.ranges.iter().enumerate() {
+                if i > 0 {
+                    write!(out, " ||")?;
+                }
+                if range.compat != set.compat {
+                    write!(out, " another mode")?;
+                }
+                for comparator in range.comparator_set.iter() {
+                    let op = &comparator.op;
+                    let (major, minor, patch) = (
+                        comparator.major,
+                        comparator.minor,
+                        comparator.patch,
+                    );
+                    write!(out, " {op}{major}.{minor}.{patch}[")?;
+                    write_identifiers(comparator.pre.as_slice(), out)?;
+                    write!(out, "]")?;
+                }
+            }
+            Ok(())
+        }
+        Err(error) => write!(out, "{error:?}"),
+    }
+}
+
+/// Writes what the set prints, if it reads back to an equal set, or its fault.
+pub fn write_printed<W: Write>(
+    alloc: Global,
+    text: &str,
+    compat: Compat,
+    out: &mut W,
+) -> io::Result<()> {
+    let set = match RangeSet::parse(alloc, text, compat) {
+        Ok(set) => set,
+        Err(error) => return write!(out, "{error}"),
+    };
+    let printed = set.to_string(alloc)?;
+    match RangeSet::parse(alloc, printed.as_str(), compat) {
+        Ok(again) if again == set => write!(out, "{printed}"),
+        _ => write!(out, "{printed} reads back as another set"),
+    }
+}
+
+/// Writes what `from_str` answers, as it prints.
+pub fn write_from_str<W: Write>(alloc: Global, text: &str, out: &mut W) -> io::Result<()> {
+    match RangeSet::from_str(alloc, text) {
+        Ok(set) => write!(out, "{set}"),
+        Err(error) => write!(out, "{error}"),
+    }
+}
+
+/// Writes how many ranges the set has, and how many comparators each of them has where all have as many and are `>=0.0.0`.
+pub fn write_counts<W: Write>(
+    alloc: Global,
+    text: &str,
+    compat: Compat,
+    out: &mut W,
+) -> io::Result<()> {
+    let set = match RangeSet::parse(alloc, text, compat) {
+        Ok(set) => set,
+        Err(error) => return write!(out, "{error}"),
+    };
+    let ranges = set.ranges.len();
+    let each = set
+        .ranges
+        .first()
+        .map_or(0, |range| range.comparator_set.len());
+    let alike = set.ranges.iter().all(|range| {
+        range.comparator_set.len() == each
+            && range.comparator_set.iter().all(|comparator| {
+                comparator.op == semver_parser::Op::Gte
+                    && comparator.major == 0
+                    && comparator.minor == 0
+                    && comparator.patch == 0
+                    && comparator.pre.is_empty()
+            })
+    });
+    if alike {
+        write!(out, "{ranges} ranges of {each}")
+    } else {
+        write!(out, "ranges that differ")
+    }
+}
+
+/// Writes the lengths of the texts of all identifiers.
+pub fn write_lengths<W: Write>(
+    alloc: Global,
+    text: &str,
+    compat: Compat,
+    out: &mut W,
+) -> io::Result<()> {
+    let set = match RangeSet::parse(alloc, text, compat) {
+        Ok(set) => set,
+        Err(error) => return write!(out, "{error}"),
+    };
+    for range in set.ranges.iter() {
+        for comparator in range.comparator_set.iter() {
+            for identifier in comparator.pre.iter() {
+                match identifier {
+                    Identifier::Numeric(number) => write!(out, "Numeric({number}) ")?,
+                    Identifier::AlphaNumeric(word) => {
+                        let len = word.len();
+                        write!(out, "{len} ")?;
+                    }
+                }
+            }
+        }
+    }
+    write!(out, "end")
+}
+
+fn write_identifiers<W: Write>(identifiers: &[Identifier], out: &mut W) -> io::Result<()> {
+    for (i, identifier) in identifiers.iter().enumerate() {
+        if i > 0 {
+            write!(out, " ")?;
+        }
+        match identifier {
+            Identifier::Numeric(number) => write!(out, "Numeric({number})")?,
+            Identifier::AlphaNumeric(word) => write!(out, "AlphaNumeric({word})")?,
+        }
+    }
+    Ok(())
+}
