@@ -5,6 +5,7 @@ pub mod Cuts
 pub mod FirstToken
 pub mod Gathered
 pub mod IdentifierSteps
+pub mod Joins
 pub mod KeptParts
 pub mod LexerSteps
 pub mod Meanings

@@ -1,13 +1,19 @@
-//! Lists as printed text.
+//! Lists as printed text. Nothing here takes memory, and the writer's fault is passed on.
+ghost use Rattle.std.specs.Prelude.{◌≡◌, ℕ, List, Some, map};
+ghost use Rattle.std.specs.Fmt.{WritesOnOk};
+ghost use Rattle.semver_parser.specs.Texts.{joined, marked};
 
 use std::fmt;
 
-/// Writes items, parted by a text.
+/// Writes the items with the separator between each two.
 pub(crate) fn write_joined<W: fmt::Write, T: fmt::Display>(
     f: &mut fmt::Formatter<W>,
     separator: &str,
     items: &[T],
-) -> fmt::Result {
+) -> fmt::Result
+    ensures { (text : T → List ℕ) → ((x : T) → T.output x ≡ Some (text x)) →
+        WritesOnOk W.write_str_gives f.old result (joined separator.now (map text items.now)) f.new }
+{
     let Some((first, rest)) = items.split_first() else {
         return Ok(());
     };
@@ -18,12 +24,15 @@ pub(crate) fn write_joined<W: fmt::Write, T: fmt::Display>(
     Ok(())
 }
 
-/// Writes a mark and items joined by dots; nothing where there are no items.
+/// Writes the mark, and then the items joined by `.`; nothing where there are none.
 pub(crate) fn write_part<W: fmt::Write, T: fmt::Display>(
     f: &mut fmt::Formatter<W>,
     mark: &str,
     items: &[T],
-) -> fmt::Result {
+) -> fmt::Result
+    ensures { (text : T → List ℕ) → ((x : T) → T.output x ≡ Some (text x)) →
+        WritesOnOk W.write_str_gives f.old result (marked mark.now (map text items.now)) f.new }
+{
     if items.is_empty() {
         return Ok(());
     }
