@@ -7,11 +7,11 @@ pub mod Gathered
 pub mod IdentifierSteps
 pub mod IdentifierTexts
 pub mod Joins
+pub mod KeptParts
 pub mod LexerSteps
 pub mod Meanings
 pub mod Numbers
 pub mod OneVersion
-pub mod KeptParts
 pub mod ParsedPartials
 pub mod ParserSteps
 pub mod PrecedenceLaws

@@ -1,29 +1,83 @@
 -- What the report writes, from what its lines show.
-use Rattle.std.proofs.Common.{◌≡◌, Bool, true, false, List, ℕ, ◌++◌, Option, Result, Ok, Err, IfOk, codes, refl, sym, subst, inl, inr}
+use Rattle.std.proofs.Common.{◌≡◌, ◌↔◌, Bool, true, false, List, ℕ, ◌++◌, Option, Result, Ok, Err, IfOk, IsTrue, codes, refl, sym, ap, ◌∙◌, subst}
+use Rattle.std.specs.Prelude.{◌||◌}
+use Rattle.semver_parser.specs.declared.range_set.Compat.{Compat}
+use Rattle.semver_parser.specs.declared.range_set.Compat.TheVariants.{Cargo, Npm}
+use Rattle.semver_parser.specs.declared.range_set.RangeSet.{RangeSet}
+use Rattle.semver_parser.specs.declared.range_set.RangeError.{RangeError}
+use Rattle.semver_parser.specs.declared.range_set.RangeError.TheVariants.{NotARange, NumberTooLarge, OutOfMemory}
 use Rattle.semver_parser.specs.Texts.{Text}
 use Rattle.semver_parser.specs.Versions.{VersionValue}
 use Rattle.semver_parser.specs.PrintedText.{version_text}
 use Rattle.semver_parser.specs.ParserState as fault
+use Rattle.semver_parser.specs.RangeTree.{SetTree, Spells}
+use Rattle.semver_parser.specs.RewritingTable.{PlainSet, fits, rewritten}
+use Rattle.semver_parser.specs.PrintedRanges.{set_text}
 use Rattle.semver_parser.specs.Writing.{WritesOrBegins}
-use Rattle.semver_parser.specs.ReportLines.{MayShowVersion, AreLines, WritesLines, line}
+use Rattle.semver_parser.specs.ReportLines.{VersionLine, version_printed, version_refused, range_fault_word, RangeLine, set_printed, not_a_range, number_too_large, no_memory, AreLines, WritesLines, lines}
 use Rattle.semver_parser.specs.Shown.{shown_text, is_value_of}
 use Rattle.semver_parser.specs.declared.report.Shown.{Shown}
 use Rattle.semver_parser.specs.declared.report.Shown.TheVariants.{Value, Fault}
 
 -- a version that was read shows as its printed text, or as want of memory
-pub may_show_printed : (shown : Shown) (v : VersionValue)
+pub shows_version : (text : Text) (shown : Shown) (v : VersionValue)
     → (is_value_of shown ≡ true → shown_text shown ≡ version_text v) → (is_value_of shown ≡ false → shown_text shown ≡ codes "out-of-memory")
-    → MayShowVersion (is_value_of shown) (shown_text shown)
-may_show_printed (Value t) v value no_memory = inl (refl, v, value refl)
-may_show_printed (Fault w) v value no_memory = inr (refl, fault.OutOfMemory, no_memory refl)
+    → VersionLine text (is_value_of shown) (shown_text shown)
+shows_version text (Value t) v value other = subst (λ s. VersionLine text true s) (sym (value refl)) (version_printed text v)
+shows_version text (Fault w) v value other = subst (λ s. VersionLine text false s) (sym (other refl)) (version_refused text fault.OutOfMemory)
+
+-- a set that was read shows as its printed text, or as want of memory
+pub shows_set : (mode : Compat) (text : Text) (shown : Shown) (set : PlainSet) (tree : SetTree) → Spells tree text → IsTrue (fits mode tree) → set ≡ rewritten mode tree
+    → (is_value_of shown ≡ true → shown_text shown ≡ set_text set) → (is_value_of shown ≡ false → shown_text shown ≡ codes "out-of-memory")
+    → RangeLine mode text (is_value_of shown) (shown_text shown)
+shows_set mode text (Value t) set tree spelled fit is value other =
+    subst (λ s. RangeLine mode text true s) (sym (value refl ∙ ap set_text is)) (set_printed mode text tree spelled fit)
+shows_set mode text (Fault w) set tree spelled fit is value other =
+    subst (λ s. RangeLine mode text false s) (sym (other refl)) (no_memory mode text tree spelled fit)
+
+-- a refusal shows as its word
+pub shows_refusal : (mode : Compat) (text : Text) (e : RangeError)
+    → (◌≡◌ {A = Result RangeSet RangeError} (Err e) (Err NotARange)) ↔ ((tree : SetTree) → Spells tree text → ⊥)
+    → (◌≡◌ {A = Result RangeSet RangeError} (Err e) (Err NumberTooLarge)) ↔ ((tree : SetTree) × Spells tree text × (fits mode tree ≡ false))
+    → (◌≡◌ {A = Result RangeSet RangeError} (Err e) (Err OutOfMemory) → (tree : SetTree) × Spells tree text × IsTrue (fits mode tree))
+    → (word : Text) → word ≡ range_fault_word e → RangeLine mode text false word
+shows_refusal mode text e none large memory word is = subst (λ w. RangeLine mode text false w) (sym is) (go e none large memory)
+  where
+    go : (e : RangeError)
+        → (◌≡◌ {A = Result RangeSet RangeError} (Err e) (Err NotARange)) ↔ ((tree : SetTree) → Spells tree text → ⊥)
+        → (◌≡◌ {A = Result RangeSet RangeError} (Err e) (Err NumberTooLarge)) ↔ ((tree : SetTree) × Spells tree text × (fits mode tree ≡ false))
+        → (◌≡◌ {A = Result RangeSet RangeError} (Err e) (Err OutOfMemory) → (tree : SetTree) × Spells tree text × IsTrue (fits mode tree))
+        → RangeLine mode text false (range_fault_word e)
+    go NotARange none large memory = not_a_range mode text (none.0 refl)
+    go NumberTooLarge none large memory = let found = large.0 refl in number_too_large mode text found.0 found.1 found.2
+    go OutOfMemory none large memory = let found = memory refl in no_memory mode text found.0 found.1 found.2
+
+are_lines : (text : Text) (version cargo npm : Shown)
+    → VersionLine text (is_value_of version) (shown_text version)
+    → RangeLine Cargo text (is_value_of cargo) (shown_text cargo)
+    → RangeLine Npm text (is_value_of npm) (shown_text npm)
+    → AreLines text (is_value_of version || (is_value_of cargo || is_value_of npm)) (lines (shown_text version) (shown_text cargo) (shown_text npm))
+are_lines text version cargo npm p q s = record {
+  version = shown_text version;
+  cargo = shown_text cargo;
+  npm = shown_text npm;
+  version_good = is_value_of version;
+  cargo_good = is_value_of cargo;
+  npm_good = is_value_of npm;
+  version_line = p;
+  cargo_line = q;
+  npm_line = s;
+  some_good = refl;
+  whole = refl;
+}
 
 -- what was written of the lines was written of the lines of the text
-pub writes_lines : {E : Type 0} (text : Text) (version : Shown) (a b : Option (List ℕ)) (r : Result Bool E)
-    → MayShowVersion (is_value_of version) (shown_text version)
-    → WritesOrBegins a b r (line (codes "version: ") (shown_text version))
-    → IfOk r (λ good. good ≡ is_value_of version) → WritesLines text a b r
-writes_lines text version a b (Ok good) p wrote is =
-    let bytes = line (codes "version: ") (shown_text version) in
-    (bytes, subst (λ g. AreLines text g bytes) (sym is) (record { version = shown_text version; version_shows = p; whole = refl }), wrote)
-writes_lines text version a b (Err e) p wrote is =
-    (is_value_of version, _, record { version = shown_text version; version_shows = p; whole = refl }, wrote)
+pub writes_lines : {E : Type 0} (text : Text) (version cargo npm : Shown) (a b : Option (List ℕ)) (r : Result Bool E)
+    → VersionLine text (is_value_of version) (shown_text version)
+    → RangeLine Cargo text (is_value_of cargo) (shown_text cargo)
+    → RangeLine Npm text (is_value_of npm) (shown_text npm)
+    → WritesOrBegins a b r (lines (shown_text version) (shown_text cargo) (shown_text npm))
+    → IfOk r (λ good. good ≡ (is_value_of version || (is_value_of cargo || is_value_of npm))) → WritesLines text a b r
+writes_lines text version cargo npm a b (Ok good) p q s wrote is =
+    (_, subst (λ g. AreLines text g (lines (shown_text version) (shown_text cargo) (shown_text npm))) (sym is) (are_lines text version cargo npm p q s), wrote)
+writes_lines text version cargo npm a b (Err e) p q s wrote is = (_, _, are_lines text version cargo npm p q s, wrote)

@@ -1,11 +1,18 @@
 -- The lines of a text: what the report writes of it.
-use Rattle.std.specs.Prelude.{◌≡◌, ℕ, Bool, true, false, List, [], ◌∷◌, ◌++◌, ◌⊎◌, Option, Result, Ok, Err, MatchResult, codes}
+use Rattle.std.specs.Prelude.{◌≡◌, ℕ, Bool, true, false, ◌||◌, List, [], ◌∷◌, ◌++◌, IsTrue, Option, Result, Ok, Err, MatchResult, codes}
 use Rattle.std.specs.Io.KnownBytes.{Appends}
+use Rattle.semver_parser.specs.declared.range_set.Compat.{Compat}
+use Rattle.semver_parser.specs.declared.range_set.Compat.TheVariants.{Cargo, Npm}
+use Rattle.semver_parser.specs.declared.range_set.RangeError.{RangeError}
+use Rattle.semver_parser.specs.declared.range_set.RangeError.TheVariants.{NotARange, NumberTooLarge, OutOfMemory}
 use Rattle.semver_parser.specs.Texts.{Text}
 use Rattle.semver_parser.specs.Versions.{VersionValue}
 use Rattle.semver_parser.specs.PrintedText.{version_text}
 use Rattle.semver_parser.specs.ParserState as fault
 use Rattle.semver_parser.specs.ParserState.{Fault}
+use Rattle.semver_parser.specs.RangeTree.{SetTree, Spells}
+use Rattle.semver_parser.specs.RewritingTable.{fits, rewritten}
+use Rattle.semver_parser.specs.PrintedRanges.{set_text}
 use Rattle.semver_parser.specs.Writing.{AppendsBeginning}
 
 -- the word for a fault of a version text
@@ -18,21 +25,51 @@ version_fault_word fault.EmptyPredicate = codes "empty-predicate"
 version_fault_word fault.EmptyRange = codes "empty-range"
 version_fault_word fault.OutOfMemory = codes "out-of-memory"
 
--- what stands behind `version: `, and whether it is no fault word: a printed version, or the word of a fault
-abbrev pub MayShowVersion : Bool → Text → Type 0
-MayShowVersion good shown =
-    ((good ≡ true) × (v : VersionValue) × (shown ≡ version_text v))
-    ⊎ ((good ≡ false) × (e : Fault) × (shown ≡ version_fault_word e))
+-- the word for a fault of a range text
+abbrev pub range_fault_word : RangeError → Text
+range_fault_word NotARange = codes "not-a-range"
+range_fault_word NumberTooLarge = codes "number-too-large"
+range_fault_word OutOfMemory = codes "out-of-memory"
+
+-- what stands behind `version: ` for a text, and whether it is no fault word
+pub data VersionLine : Text → Bool → Text → Type 0 where
+  -- the version that the text is, printed
+  version_printed : (text : Text) (v : VersionValue) → VersionLine text true (version_text v)
+  -- the word of the text's fault
+  version_refused : (text : Text) (e : Fault) → VersionLine text false (version_fault_word e)
+
+-- what stands behind `cargo: ` and `npm: ` for a text, and whether it is no fault word
+pub data RangeLine : Compat → Text → Bool → Text → Type 0 where
+  -- the comparators of the tree that spells the text, printed
+  set_printed : (mode : Compat) (text : Text) (tree : SetTree) → Spells tree text → IsTrue (fits mode tree) → RangeLine mode text true (set_text (rewritten mode tree))
+  -- no tree spells the text
+  not_a_range : (mode : Compat) (text : Text) → ((tree : SetTree) → Spells tree text → ⊥) → RangeLine mode text false (range_fault_word NotARange)
+  -- one does, and doesn't fit
+  number_too_large : (mode : Compat) (text : Text) (tree : SetTree) → Spells tree text → fits mode tree ≡ false → RangeLine mode text false (range_fault_word NumberTooLarge)
+  -- in place of a set, or of a printed set
+  no_memory : (mode : Compat) (text : Text) (tree : SetTree) → Spells tree text → IsTrue (fits mode tree) → RangeLine mode text false (range_fault_word OutOfMemory)
 
 -- a line: its label, what it shows, and a line feed
 abbrev pub line : Text → Text → Text
 line label shown = label ++ shown ++ 10 ∷ []
 
+-- the three lines that show these
+abbrev pub lines : Text → Text → Text → Text
+lines version cargo npm = line (codes "version: ") version ++ line (codes "cargo: ") cargo ++ line (codes "npm: ") npm
+
 -- the bytes are the lines of the text, of which at least one holds no fault word exactly if `good`
 pub record AreLines (text : Text) (good : Bool) (bytes : Text) : Type 0 where
   pub version : Text
-  pub version_shows : MayShowVersion good version
-  pub whole : bytes ≡ line (codes "version: ") version
+  pub cargo : Text
+  pub npm : Text
+  pub version_good : Bool
+  pub cargo_good : Bool
+  pub npm_good : Bool
+  pub version_line : VersionLine text version_good version
+  pub cargo_line : RangeLine Cargo text cargo_good cargo
+  pub npm_line : RangeLine Npm text npm_good npm
+  pub some_good : good ≡ (version_good || (cargo_good || npm_good))
+  pub whole : bytes ≡ lines version cargo npm
 
 -- `Ok(good)`: exactly the lines were written; `Err`: a beginning of such lines was
 abbrev pub WritesLines : {E : Type 0} → Text → Option (List ℕ) → Option (List ℕ) → Result Bool E → Type 0

@@ -1,4 +1,7 @@
-//! The comparators of a range.
+//! Ranges: plain comparators, and how simples and hyphen ranges are rewritten to them.
+//!
+//! The rewriting takes no memory: it answers one or two comparators whose pre-release is still a slice of the text, or
+//! none where a number or a raised bound is above 2^64 - 1. Only building copies the identifiers.
 
 ghost use Rattle.std.specs.Prelude.{◌≡◌, ◌+◌, ◌-◌, ◌^◌, ◌<◌, ◌≤◌, ℕ, Some, None, [], ◌∷◌, ◌++◌, length, map, if◌then◌else◌, true, false, IsTrue, IfOk, MatchResult};
 ghost use Rattle.std.specs.List.{list_all, slice_split, flat_map};
@@ -104,6 +107,7 @@ impl<'input> Partial<'input> {
         })
     }
 
+    /// The major raised by one; a missing one counts as 0.
     fn inc_major(mut self) -> Partial<'input>
         requires { number_of self.major < 2 ^ 64 - 1 }
         ensures { version_of result ≡ record (version_of self.entry) { major = number_of self.entry.major + 1 } }
@@ -112,6 +116,7 @@ impl<'input> Partial<'input> {
         self
     }
 
+    /// The minor raised by one; a missing one counts as 0.
     fn inc_minor(mut self) -> Partial<'input>
         requires { number_of self.minor < 2 ^ 64 - 1 }
         ensures { version_of result ≡ record (version_of self.entry) { minor = number_of self.entry.minor + 1 } }
@@ -120,6 +125,7 @@ impl<'input> Partial<'input> {
         self
     }
 
+    /// The patch raised by one; a missing one counts as 0.
     fn inc_patch(mut self) -> Partial<'input>
         requires { number_of self.patch < 2 ^ 64 - 1 }
         ensures { version_of result ≡ record (version_of self.entry) { patch = number_of self.entry.patch + 1 } }
@@ -128,6 +134,7 @@ impl<'input> Partial<'input> {
         self
     }
 
+    /// Zeros for the numbers that are missing.
     fn zero_missing(mut self) -> Partial<'input>
         ensures { version_of result ≡ version_of self.entry }
     {
@@ -137,6 +144,7 @@ impl<'input> Partial<'input> {
         self
     }
 
+    /// The minor as 0.
     fn zero_minor(mut self) -> Partial<'input>
         ensures { version_of result ≡ record (version_of self.entry) { minor = 0 } }
     {
@@ -144,6 +152,7 @@ impl<'input> Partial<'input> {
         self
     }
 
+    /// The patch as 0.
     fn zero_patch(mut self) -> Partial<'input>
         ensures { version_of result ≡ record (version_of self.entry) { patch = 0 } }
     {
@@ -151,6 +160,7 @@ impl<'input> Partial<'input> {
         self
     }
 
+    /// Without pre-release.
     fn no_pre(mut self) -> Partial<'input>
         ensures { version_of result ≡ record (version_of self.entry) { pre = [] } }
     {
@@ -272,7 +282,7 @@ fn from_simple<'input>(simple: &Simple<'input>, compat: Compat) -> Option<Bounds
     }
 }
 
-/// Where nothing is stated.
+/// The comparators of a simple that states no number.
 fn from_wildcard<'input>(form: Form) -> Bounds<'input>
     ensures { bounds_of result ≡ cell_comparators (nothing_stated (form_of form)) [] zero_version }
 {
@@ -479,7 +489,7 @@ fn count_simples(text: &str, compat: Compat) -> Result<usize, RangeError>
     Ok(count)
 }
 
-/// A range in a mode.
+/// A range in a mode, with its comparators in a vector of their exact number.
 pub(crate) fn build_range(
     alloc: Global,
     range: RangeText<'_>,
@@ -580,6 +590,10 @@ fn push_bound(
 }
 
 impl fmt::Display for Op {
+    ghost use Rattle.semver_parser.specs.PrintedRanges.{op_text};
+
+    ghost output = { λ op. Some (op_text op) };
+
     fn fmt<W: fmt::Write>(&self, f: &mut fmt::Formatter<W>) -> fmt::Result {
         f.write_str(match self {
             Op::Lt => "<",
@@ -592,6 +606,10 @@ impl fmt::Display for Op {
 }
 
 impl fmt::Display for Identifier {
+    ghost use Rattle.semver_parser.specs.PrintedText.{identifier_text};
+
+    ghost output = { λ i. Some (identifier_text (identifier_of i)) };
+
     fn fmt<W: fmt::Write>(&self, f: &mut fmt::Formatter<W>) -> fmt::Result {
         match self {
             Identifier::Numeric(number) => write!(f, "{number}"),
@@ -601,6 +619,10 @@ impl fmt::Display for Identifier {
 }
 
 impl fmt::Display for Comparator {
+    ghost use Rattle.semver_parser.specs.PrintedRanges.{comparator_text};
+
+    ghost output = { λ c. Some (comparator_text (comparator_of c)) };
+
     fn fmt<W: fmt::Write>(&self, f: &mut fmt::Formatter<W>) -> fmt::Result {
         let (op, major, minor, patch) = (&self.op, self.major, self.minor, self.patch);
         write!(f, "{op}{major}.{minor}.{patch}")?;
@@ -609,6 +631,10 @@ impl fmt::Display for Comparator {
 }
 
 impl fmt::Display for Range {
+    ghost use Rattle.semver_parser.specs.PrintedRanges.{range_text};
+
+    ghost output = { λ r. Some (range_text (range_of r)) };
+
     fn fmt<W: fmt::Write>(&self, f: &mut fmt::Formatter<W>) -> fmt::Result {
         write_joined(f, " ", &self.comparator_set)
     }

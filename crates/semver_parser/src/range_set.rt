@@ -1,6 +1,6 @@
-//! Range sets.
+//! Range sets: the ranges of a text in one of two modes, and their printed text.
 
-ghost use Rattle.std.specs.Prelude.{◌≡◌, ◌↔◌, ◌⊎◌, ◌++◌, false, [], map, IsTrue, IfOk, IsOkAnd};
+ghost use Rattle.std.specs.Prelude.{Some, ◌≡◌, ◌↔◌, ◌⊎◌, ◌++◌, false, [], map, IsTrue, IfOk, IsOkAnd};
 ghost use Rattle.semver_parser.specs.RangeTree.{SetTree, Spells};
 ghost use Rattle.semver_parser.specs.Versions.{PlainVersion};
 ghost use Rattle.semver_parser.specs.OwnMeaning.{meets_tree};
@@ -52,7 +52,27 @@ pub enum RangeError {
 }
 
 impl RangeSet {
-    /// The ranges of a text.
+    /// Reads a range text, as `>=1.2 <2 || 3.x`, into plain comparators.
+    ///
+    /// The text is one or more ranges parted by `||`. A range is nothing, one or more simples parted by blanks, or two
+    /// partials round a hyphen between blanks; a simple is a partial behind `=`, `<`, `<=`, `>`, `>=`, `~`, `~>`, `^` or no
+    /// operator. A blank is a space or a tab. `docs/GRAMMAR.md` states the whole grammar, and `docs/MEANING.md` which
+    /// comparators stand for which simple, and what they mean.
+    ///
+    /// The answer has the ranges in the order of the text, each with its comparators in order, and `compat` in the set and
+    /// in each range. It has at least one range, and each range at least one comparator. The mode decides how a bare
+    /// version of three numbers is read, and nothing else. Builds are dropped.
+    ///
+    /// In Cargo mode `1.2.3 || ~2.0.0-rc` gives `>=1.2.3 <2.0.0 || >=2.0.0-rc <2.1.0`, and in Npm mode
+    /// `=1.2.3 || >=2.0.0-rc <2.1.0`. The empty text gives `>=0.0.0`.
+    ///
+    /// # Errors
+    ///
+    /// - `NotARange` exactly where the text isn't in the grammar, as `1.2.3 -4`, `>=1.0.0, <2.0.0` or `v1.2.3`.
+    /// - `NumberTooLarge` exactly where it is, and a number before the first wildcard of its partial, or an upper bound that
+    ///   is raised by one, is above 2^64 - 1, as `<=18446744073709551615`.
+    /// - `OutOfMemory` where a growth was refused. The first two answers take no memory, so this one stands in place of a
+    ///   set alone.
     pub fn parse(alloc: Global, input: &str, compat: Compat) -> Result<RangeSet, RangeError>
         // There is a tree of the text that fits, and what is answered is what each tree of the text is rewritten to, in this mode.
         ensures accepted { IfOk result (λ set. (tree : SetTree) × Spells tree input.now × IsTrue (fits compat tree)) }
@@ -80,7 +100,9 @@ impl RangeSet {
         read_set(alloc, input, compat)
     }
 
-    /// The ranges of a text in Cargo mode.
+    /// Reads a range text in Cargo mode: what `RangeSet::parse` answers with `Compat::Cargo`, with its errors.
+    ///
+    /// `1.2.3` gives `>=1.2.3 <2.0.0`, and `1.2` gives `>=1.2.0 <1.3.0`.
     pub fn from_str(alloc: Global, input: &str) -> Result<RangeSet, RangeError>
         // There is a tree of the text that fits, and what is answered is what each tree of the text is rewritten to, in this mode.
         ensures accepted { IfOk result (λ set. (tree : SetTree) × Spells tree input.now × IsTrue (fits Compat.Cargo tree)) }
@@ -157,6 +179,8 @@ fn push_ranges(
 }
 
 impl fmt::Display for RangeSet {
+    ghost output = { λ s. Some (set_text (set_of s)) };
+
     fn fmt<W: fmt::Write>(&self, f: &mut fmt::Formatter<W>) -> fmt::Result {
         write_joined(f, " || ", &self.ranges)
     }

@@ -1,13 +1,16 @@
 //! The lines of the program, and its status.
 ghost use Rattle.std.specs.Prelude.{◌≡◌, true, false, ◌++◌, ◌||◌, IfOk, codes};
 ghost use Rattle.semver_parser.specs.Writing.{WritesOrBegins};
-ghost use Rattle.semver_parser.specs.ReportLines.{MayShowVersion, version_fault_word, line, WritesLines, status_of};
+ghost use Rattle.semver_parser.specs.ReportLines.{VersionLine, RangeLine, version_fault_word, range_fault_word, line, lines, WritesLines, status_of};
+ghost use Rattle.semver_parser.specs.RangeViews.{set_of};
+ghost use Rattle.semver_parser.specs.PrintedRanges.{set_text};
 ghost use Rattle.semver_parser.specs.ParserViews.{fault_of};
 ghost use Rattle.semver_parser.specs.VersionViews.{version_value};
 ghost use Rattle.semver_parser.specs.PrintedText.{version_text};
 ghost use Rattle.semver_parser.specs.Shown.{shown_text, is_value_of};
 
 use crate::parser;
+use crate::range_set::{Compat, RangeError, RangeSet};
 use crate::version::{self, Version};
 use std::alloc::Global;
 use std::io::{self, ErrorKind, Write};
@@ -21,28 +24,40 @@ enum Shown {
     Fault(&'static str),
 }
 
-/// Writes the line of a text, `version: `, with the printed version or a fault word. It answers true where the line holds
+/// Writes the three lines of a text, each with a printed value or a fault word, and a line feed: `version: ` with the
+/// version, `cargo: ` and `npm: ` with the range set in Cargo and in npm mode. It answers true where at least one line holds
 /// no fault word.
 ///
-/// Of `1.2.3` it writes `version: 1.2.3` and answers true; of `1.2` it writes `version: unexpected-end` and answers false.
-/// The line ends with a line feed. Want of memory shows as `out-of-memory`.
+/// Of `1.2.3` it writes `version: 1.2.3`, `cargo: >=1.2.3 <2.0.0` and `npm: =1.2.3`; of `1.2` the first line is
+/// `version: unexpected-end`. The fault words are `unexpected-end`, `unexpected-token`, `unexpected-char` and `more-input` for
+/// versions, `not-a-range` and `number-too-large` for ranges, and `out-of-memory` for each.
 ///
 /// `Err` only where a write failed, was interrupted, or took no byte; then nothing more is written, and `out` got a
-/// beginning of the line.
+/// beginning of the lines.
 pub fn run<W: Write>(alloc: Global, text: &str, out: &mut W) -> Result<bool, io::Error>
     ensures { WritesLines text.now (W.contents out.old) (W.contents out.new) result }
 {
     let version = version_shown(alloc, text);
-    write_lines(out, &version)
+    let cargo = range_shown(alloc, text, Compat::Cargo);
+    let npm = range_shown(alloc, text, Compat::Npm);
+    write_lines(out, &version, &cargo, &npm)
 }
 
 // Writes the lines, and tells whether some line holds no fault word.
-fn write_lines<W: Write>(out: &mut W, version: &Shown) -> io::Result<bool>
-    ensures writes { WritesOrBegins (W.contents out.old) (W.contents out.new) result (line (codes "version: ") (shown_text version.now)) }
-    ensures good { IfOk result (λ good. good ≡ is_value_of version.now) }
+fn write_lines<W: Write>(
+    out: &mut W,
+    version: &Shown,
+    cargo: &Shown,
+    npm: &Shown,
+) -> io::Result<bool>
+    ensures writes { WritesOrBegins (W.contents out.old) (W.contents out.new) result
+        (lines (shown_text version.now) (shown_text cargo.now) (shown_text npm.now)) }
+    ensures good { IfOk result (λ good. good ≡ is_value_of version.now || (is_value_of cargo.now || is_value_of npm.now)) }
 {
     write_line(out, "version: ", version)?;
-    Ok(version.is_value())
+    write_line(out, "cargo: ", cargo)?;
+    write_line(out, "npm: ", npm)?;
+    Ok(version.is_value() || (cargo.is_value() || npm.is_value()))
 }
 
 /// The exit status of a run: 0 where some line holds no fault word, 1 where each holds one, 2 after a failed write.
@@ -60,7 +75,7 @@ pub fn status(ran: &Result<bool, io::Error>) -> u8
 
 // What the line of the version shows.
 fn version_shown(alloc: Global, text: &str) -> Shown
-    ensures { MayShowVersion (is_value_of result) (shown_text result) }
+    ensures { VersionLine text.now (is_value_of result) (shown_text result) }
 {
     match version::parse(alloc, text) {
         Ok(version) => printed_version(alloc, &version),
@@ -74,6 +89,38 @@ fn printed_version(alloc: Global, version: &Version) -> Shown
     ensures fault { is_value_of result ≡ false → shown_text result ≡ codes "out-of-memory" }
 {
     match version.to_string(alloc) {
+        Ok(text) => Shown::Value(text),
+        Err(_) => Shown::Fault("out-of-memory"),
+    }
+}
+
+// What the line of a range set in a mode shows.
+fn range_shown(alloc: Global, text: &str, compat: Compat) -> Shown
+    ensures { RangeLine compat text.now (is_value_of result) (shown_text result) }
+{
+    match RangeSet::parse(alloc, text, compat) {
+        Ok(set) => printed_set(alloc, &set),
+        Err(error) => Shown::Fault(range_fault_word(&error)),
+    }
+}
+
+// The word for a fault of a range text.
+fn range_fault_word(error: &RangeError) -> &'static str
+    ensures { result.now ≡ range_fault_word error.now }
+{
+    match error {
+        RangeError::NotARange => "not-a-range",
+        RangeError::NumberTooLarge => "number-too-large",
+        RangeError::OutOfMemory => "out-of-memory",
+    }
+}
+
+// The printed set, or the word for want of memory.
+fn printed_set(alloc: Global, set: &RangeSet) -> Shown
+    ensures value { is_value_of result ≡ true → shown_text result ≡ set_text (set_of set.now) }
+    ensures fault { is_value_of result ≡ false → shown_text result ≡ codes "out-of-memory" }
+{
+    match set.to_string(alloc) {
         Ok(text) => Shown::Value(text),
         Err(_) => Shown::Fault("out-of-memory"),
     }
