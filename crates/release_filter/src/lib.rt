@@ -97,7 +97,8 @@ pub fn filter_text<'v>(
     }
 }
 
-// The releases among the versions that meet a set, in their order and with repeats.
+// The releases among the versions that meet a set, in their order and with repeats. It asks for memory once, for exactly
+// their number, and not at all where there are none.
 fn kept<'v>(
     alloc: Global,
     set: &RangeSet,
@@ -105,8 +106,15 @@ fn kept<'v>(
 ) -> Result<Vec<&'v Version>, AllocError>
     ensures { IfOk result (λ kept. map (λ v. v.now) kept.items ≡ filter (λ v. is_release (version_value v) && meets_set (version_value v).plain (set_of set.now)) versions.now) }
 {
-    versions
+    let count = versions
         .iter()
         .filter(|version| release_meets(set, version))
-        .collect(alloc)
+        .count();
+    let mut kept = Vec::with_capacity(alloc, count)?;
+    for version in versions {
+        if release_meets(set, version) {
+            kept.push(version)?;
+        }
+    }
+    Ok(kept)
 }
