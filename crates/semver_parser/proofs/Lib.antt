@@ -24,3 +24,4 @@ pub mod Vectors
 pub mod VersionExamples
 pub mod VersionSteps
 pub mod VersionTaking
+pub mod VersionTokens

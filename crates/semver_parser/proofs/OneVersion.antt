@@ -29,8 +29,7 @@ passes_append p (x ∷ xs) ys a b = (a.0, passes_append p xs ys a.1 b)
 -- equal texts that begin with bytes that pass a test, and go on with one that fails it, are equal in both parts
 peel : (p : ℕ → Bool) (xs zs ys ws : List ℕ) → p 0 ≡ false → Passes p xs → Passes p zs → p (slice_index ys 0) ≡ false → p (slice_index ws 0) ≡ false → xs ++ ys ≡ zs ++ ws → (xs ≡ zs) × (ys ≡ ws)
 peel p xs zs ys ws past all all_z stop stop_w e =
-    let len : length xs ≡ length zs = sym (prefix_is p xs ys all past stop) ∙ ap (prefix_len p) e ∙ prefix_is p zs ws all_z past stop_w in
-    (
+    let len : length xs ≡ length zs = sym (prefix_is p xs ys all past stop) ∙ ap (prefix_len p) e ∙ prefix_is p zs ws all_z past stop_w in (
       sym (take_at xs ys (length xs) refl) ∙ ap (take (length xs)) e ∙ take_at zs ws (length xs) (sym len),
       sym (drop_at xs ys (length xs) refl) ∙ ap (drop (length xs)) e ∙ drop_at zs ws (length xs) (sym len),
     )
