@@ -25,3 +25,4 @@ pub mod VersionExamples
 pub mod VersionSteps
 pub mod VersionTaking
 pub mod VersionTokens
+pub mod WholeText
