@@ -3,6 +3,7 @@ use Rattle.std.proofs.Common.{◌≡◌, ℕ, zero, suc, ◌+◌, ◌-◌, ◌<�
 use Rattle.std.specs.Prelude.{IsTrue, slice_index, slice_get, chars, flat_map, encode_utf8_all}
 use Rattle.std.specs.Str.{IsAscii, IsCharBoundary}
 use Rattle.std.specs.List.{AllByRecursion, AllZip, join_by, join_with_byte}
+use Rattle.std.specs.Char.{is_ascii_alphanumeric}
 use Rattle.std.proofs.lemmas.Str.{chars-nil, encodes-chars, IsAscii-append, IsUtf8-drop, IsCharBoundary-start}
 use Rattle.std.proofs.lemmas.Str.Ascii.{IsAscii-nil}
 use Rattle.std.proofs.lemmas.List.{drop_at}
@@ -194,3 +195,137 @@ whole_spelled v text ts tokens shape w =
 
     first_place : (t : TokenValue) (us ts more : List TokenValue) → ts ≡ t ∷ us → AreInPlace text 0 (ts ++ more) → (at : ℕ) × IsTokenAt text at t
     first_place t us ts more e a = (0, (subst (λ (l : List TokenValue). AreInPlace text 0 (l ++ more)) e a).0)
+
+-- ---- an accepted text
+
+-- behind ASCII a text is UTF-8 too
+utf8_behind : (text xs ys : List ℕ) → IsUtf8 text → text ≡ xs ++ ys → IsAscii xs → IsUtf8 ys
+utf8_behind text [] ys utf8 e ascii = subst IsUtf8 e utf8
+utf8_behind text (x ∷ xs) ys utf8 e ascii =
+    let cut : IsCharBoundary text (0 + length (x ∷ xs)) = cut_after_ascii text 0 (x ∷ xs) ys utf8 e (omega arith) ascii in
+    let here : drop (0 + length (x ∷ xs)) text ≡ ys = ap (drop (0 + length (x ∷ xs))) e ∙ drop_at (x ∷ xs) ys (0 + length (x ∷ xs)) (omega arith) in
+    subst IsUtf8 here (IsUtf8-drop text (0 + length (x ∷ xs)) utf8 cut)
+
+tokens_ascii : (text : List ℕ) (place : ℕ) (ts : List TokenValue) → AreInPlace text place ts → IsAscii (tokens_text text ts)
+tokens_ascii text place [] w = IsAscii-nil
+tokens_ascii text place (t ∷ ts) w = IsAscii-append (token_text text t) (tokens_text text ts) (IsAscii-token_text text place t w.0) (tokens_ascii text (place + length (token_text text t)) ts w.1)
+
+no_char : (cs bs : List ℕ) → encode_utf8_all cs ≡ bs → slice_get cs 0 ≡ None → bs ≡ []
+no_char [] bs e none = sym e
+no_char (c ∷ cs) bs e none = absurd (none-some c (sym none))
+
+-- where no character is pending, the tokens are all of the text
+no_rest : (text : List ℕ) (s : ParserState) → IsUtf8 text → (w : IsStateOf text s) → s.pending ≡ None → w.0 ≡ []
+no_rest text s utf8 w none =
+    let rest_utf8 : IsUtf8 w.0 = utf8_behind text (tokens_text text s.remaining) w.0 utf8 w.1.spelled (tokens_ascii text 0 s.remaining w.1.in_place) in
+    no_char (chars w.0) w.0 (encodes-chars w.0 rest_utf8) (sym w.2 ∙ none)
+
+-- and where they are, none is
+no_pending : (text : List ℕ) (s : ParserState) → (w : IsStateOf text s) → w.0 ≡ [] → s.pending ≡ None
+no_pending text s w empty = w.2 ∙ ap (λ (l : List ℕ). slice_get (chars l) 0) empty ∙ ap (λ (cs : List ℕ). slice_get cs 0) chars-nil
+
+ok_whole : (v : VersionValue) (r : Result VersionValue Fault) (left : List TokenValue) (pending : Option ℕ) → Ok v ≡ whole_answer r left pending → (r ≡ Ok v) × (left ≡ [])
+ok_whole v (Err e) left pending d = cc
+ok_whole v (Ok w) [] pending d = (sym d, refl)
+ok_whole v (Ok w) (t ∷ left) None d = cc
+ok_whole v (Ok w) (t ∷ left) (Some c) d = cc
+
+accepted_spells : (v : VersionValue) (text : List ℕ) → IsUtf8 text → IsOutcomeOf text (Ok v) → SpellsVersion v text
+accepted_spells v text utf8 o =
+    let q = ok_whole v o.answer o.end.remaining o.end.pending o.whole in
+    let w : ReadsVersion o.start (Ok v) o.end = subst (λ (r : Result VersionValue Fault). ReadsVersion o.start r o.end) q.0 o.reads in
+    let empty : w.rest ≡ [] = sym w.answer.2 ∙ q.1 in
+    let all : w.front ≡ o.start.remaining = sym (w.longest.split ∙ ap (λ (l : List TokenValue). w.front ++ l) empty ∙ append-nil w.front) in
+    let none : o.start.pending ≡ None = ⊎_elim (λ some. absurd (omega (arith, some, ap length empty))) (λ n. n) w.answer.0.1 in
+    let tokens : AreTokensOf text o.start.remaining [] = subst (AreTokensOf text o.start.remaining) (no_rest text o.start utf8 o.state none) o.state.1 in
+    whole_spelled v text o.start.remaining tokens (subst IsVersionShape all w.answer.0.0) (subst (λ (l : List TokenValue). SpellsVersion v (inner_texts l)) all w.answer.1)
+
+-- ---- a text that spells a version
+
+-- bytes of a version without pre-release and build, with white space
+abbrev is_plain_byte : ℕ → Bool
+is_plain_byte b = (is_ascii_alphanumeric b || eqb b 46) || is_space b
+
+no_part : (mark : List ℕ) (ids : List IdentifierValue) (part : List ℕ) → ids ≡ [] → SpellsPart mark ids part → part ≡ []
+no_part mark ids part none w = part_text mark ids part w ∙ ap (λ (l : List IdentifierValue). marked mark (map identifier_text l)) none
+
+run_plain : (b : ℕ) → is_ascii_alphanumeric b ≡ true → is_plain_byte b ≡ true
+run_plain b h = rw h refl
+
+space_plain : (b : ℕ) → is_space b ≡ true → is_plain_byte b ≡ true
+space_plain b h = rw h (or_true (is_ascii_alphanumeric b || eqb b 46))
+  where
+    or_true : (a : Bool) → (a || true) ≡ true
+    or_true true = refl
+    or_true false = refl
+
+number_plain : (n : ℕ) → n < 2 ^ 64 → Passes is_plain_byte (decimal n)
+number_plain n small = passes_more is_ascii_alphanumeric is_plain_byte run_plain (decimal n) (decimal_is_run n small).1
+
+behind : (p : ℕ → Bool) (xs : List ℕ) (y : ℕ) (ys : List ℕ) → Passes p (xs ++ y ∷ ys) → p y ≡ true
+behind p [] y ys all = all.0
+behind p (x ∷ xs) y ys all = behind p xs y ys all.1
+
+without : (a b c : List ℕ) → a ++ b ++ [] ++ [] ++ c ≡ a ++ (b ++ c)
+without a b c = simp (append_assoc, append-nil)
+
+module _ (v : VersionValue) (text : List ℕ) (spells : SpellsVersion v text) where
+  has : HasTokens v text
+  has = version_tokens v text spells
+
+  -- all its tokens are the longest front
+  all_longest : IsLongestFront IsVersionShape has.ts has.ts []
+  all_longest = record {
+    split = sym (append-nil has.ts);
+    begins = ([], subst IsVersionShape (sym (append-nil has.ts)) has.shape);
+    longest = λ longer more e b. omega (arith, ap length e, length-append longer more);
+  }
+
+  state_is : (s : ParserState) (w : IsStateOf text s) → (has.ts ≡ s.remaining) × ([] ≡ w.0)
+  state_is s w = same_tokens text 0 has.ts s.remaining [] w.0 has.tokens w.1
+
+  front_is : (s : ParserState) → IsStateOf text s → (front rest : List TokenValue) → IsLongestFront IsVersionShape s.remaining front rest → (has.ts ≡ front) × ([] ≡ rest)
+  front_is s w front rest longest = same_front IsVersionShape has.ts has.ts front [] rest all_longest (subst (λ (l : List TokenValue). IsLongestFront IsVersionShape l front rest) (sym (state_is s w).0) longest)
+
+  pub outcome_spelled : (x : Result VersionValue Fault) → IsOutcomeOf text x → x ≡ Ok v
+  outcome_spelled x o = o.whole ∙ go o.answer o.reads
+    where
+      go : (r : Result VersionValue Fault) → ReadsVersion o.start r o.end → whole_answer r o.end.remaining o.end.pending ≡ Ok v
+      go (Ok u) w =
+          let same = front_is o.start o.state w.front w.rest w.longest in
+          let value : u ≡ v = one_version u v (inner_texts has.ts) (subst (λ (l : List TokenValue). SpellsVersion u (inner_texts l)) (sym same.0) w.answer.1) has.spells in
+          ap (λ (l : List TokenValue). whole_answer (Ok u) l o.end.pending) (w.answer.2 ∙ sym same.1) ∙ ap (λ (z : VersionValue). Ok z) value
+      go (Err e) w =
+          let same = front_is o.start o.state w.front w.rest w.longest in
+          absurd (w.answer.0 (subst IsVersionShape same.0 has.shape, inr (no_pending text o.start o.state (sym (state_is o.start o.state).1))))
+
+  -- without pre-release and build no memory is asked for
+  pub plain_has_memory : v.plain.pre ≡ [] → v.build ≡ [] → ¬ (TextMayRunOut text)
+  plain_has_memory no_pre no_build m =
+      ⊎_elim
+      (λ holds. no_sign plain_bytes (subst HoldsIdentifierRun (sym (front_is m.start m.state m.front m.rest m.longest).0) holds))
+      (λ left. let e = outcome_spelled _ left.1 in cc)
+      m.why
+    where
+      plain_bytes : Passes is_plain_byte (inner_texts has.ts)
+      plain_bytes =
+          let w = has.spells in
+          let major = decimal v.plain.major in
+          let minor = decimal v.plain.minor in
+          let patch = decimal v.plain.patch in
+          let three : Passes is_plain_byte (major ++ (46 ∷ (minor ++ (46 ∷ patch)))) =
+          passes_append is_plain_byte major (46 ∷ (minor ++ (46 ∷ patch))) (number_plain v.plain.major w.major) (refl, passes_append is_plain_byte minor (46 ∷ patch) (number_plain v.plain.minor w.minor) (refl, number_plain v.plain.patch w.patch)) in
+          let is : inner_texts has.ts ≡ w.before ++ (major ++ (46 ∷ (minor ++ (46 ∷ patch)))) ++ [] ++ [] ++ w.after =
+          w.spelled ∙ (λ i. w.before ++ join_with_byte 46 (map decimal (numbers v.plain)) ++ no_part (codes "-") v.plain.pre w.pre_text no_pre w.pre i ++ no_part (codes "+") v.build w.build_text no_build w.build i ++ w.after) in
+          subst (Passes is_plain_byte) (sym (is ∙ without w.before (major ++ (46 ∷ (minor ++ (46 ∷ patch)))) w.after))
+          (passes_append is_plain_byte w.before ((major ++ (46 ∷ (minor ++ (46 ∷ patch)))) ++ w.after) (passes_more is_space is_plain_byte space_plain w.before w.spaces_before)
+          (passes_append is_plain_byte (major ++ (46 ∷ (minor ++ (46 ∷ patch)))) w.after three (passes_more is_space is_plain_byte space_plain w.after w.spaces_after)))
+
+      no_sign : Passes is_plain_byte (inner_texts has.ts) → HoldsIdentifierRun has.ts → ⊥
+      no_sign all h =
+          let split : inner_texts has.ts ≡ inner_texts h.before ++ (inner_text h.sign ++ inner_texts (h.component ∷ h.after)) = ap inner_texts h.split ∙ flat_map-append inner_text h.before (h.sign ∷ h.component ∷ h.after) in
+          let passes : Passes is_plain_byte (inner_texts h.before ++ (inner_text h.sign ++ inner_texts (h.component ∷ h.after))) = subst (Passes is_plain_byte) split all in
+          ⊎_elim
+          (λ hyphen. let e : is_plain_byte 45 ≡ true = behind is_plain_byte (inner_texts h.before) 45 (inner_texts (h.component ∷ h.after)) (subst (λ (x : TokenValue). Passes is_plain_byte (inner_texts h.before ++ (inner_text x ++ inner_texts (h.component ∷ h.after)))) hyphen passes) in cc)
+          (λ plus. let e : is_plain_byte 43 ≡ true = behind is_plain_byte (inner_texts h.before) 43 (inner_texts (h.component ∷ h.after)) (subst (λ (x : TokenValue). Passes is_plain_byte (inner_texts h.before ++ (inner_text x ++ inner_texts (h.component ∷ h.after)))) plus passes) in cc)
+          h.is_sign
