@@ -9,6 +9,7 @@ pub mod LexerSteps
 pub mod Meanings
 pub mod Numbers
 pub mod OneVersion
+pub mod ParseFacts
 pub mod ParserSteps
 pub mod PrecedenceLaws
 pub mod PrintedLaws

@@ -230,7 +230,7 @@ ok_whole v (Ok w) [] pending d = (sym d, refl)
 ok_whole v (Ok w) (t ∷ left) None d = cc
 ok_whole v (Ok w) (t ∷ left) (Some c) d = cc
 
-accepted_spells : (v : VersionValue) (text : List ℕ) → IsUtf8 text → IsOutcomeOf text (Ok v) → SpellsVersion v text
+pub accepted_spells : (v : VersionValue) (text : List ℕ) → IsUtf8 text → IsOutcomeOf text (Ok v) → SpellsVersion v text
 accepted_spells v text utf8 o =
     let q = ok_whole v o.answer o.end.remaining o.end.pending o.whole in
     let w : ReadsVersion o.start (Ok v) o.end = subst (λ (r : Result VersionValue Fault). ReadsVersion o.start r o.end) q.0 o.reads in

@@ -1,10 +1,13 @@
 //! Versions.
-ghost use Rattle.std.specs.Prelude.{◌≡◌, ◌++◌, Some, map, IfOk, IfErr, decimal, string_bytes};
+ghost use Rattle.std.specs.Prelude.{◌≡◌, ◌↔◌, ◌++◌, [], Some, map, IfOk, IfErr, decimal, string_bytes};
 ghost use Rattle.std.specs.Fmt.{WritesOnOk};
 ghost use Rattle.semver_parser.specs.Texts.{Text, joined, marked};
-ghost use Rattle.semver_parser.specs.Versions.{alphanumeric};
-ghost use Rattle.semver_parser.specs.PrintedText.{identifier_text};
-ghost use Rattle.semver_parser.specs.VersionViews.{identifier_value};
+ghost use Rattle.semver_parser.specs.Versions.{VersionValue, alphanumeric};
+ghost use Rattle.semver_parser.specs.PrintedText.{identifier_text, version_text};
+ghost use Rattle.semver_parser.specs.VersionGrammar.{SpellsVersion, IsTrimmed, IsPrintableVersion};
+ghost use Rattle.semver_parser.specs.VersionReading.{IsOutcomeOf, TextMayRunOut};
+ghost use Rattle.semver_parser.specs.VersionViews.{identifier_value, version_value};
+ghost use Rattle.semver_parser.specs.ParserViews.{answer_of, UnlessOutOfMemory, IfOutOfMemory};
 
 use crate::parser::{self, Parser};
 use std::alloc::{AllocError, Global};
@@ -129,7 +132,24 @@ pub(crate) fn write_joined<W: fmt::Write, T: fmt::Display>(
 }
 
 /// Parse.
-pub fn parse(alloc: Global, input: &str) -> Result<Version, parser::Error<'_>> {
+pub fn parse(alloc: Global, input: &str) -> Result<Version, parser::Error<'_>>
+    // Unless memory ran out, the answer is a version exactly where the text spells it.
+    ensures exact { (v : VersionValue) →
+        UnlessOutOfMemory result ((answer_of version_value result ≡ Ok v) ↔ SpellsVersion v input.now) }
+    // A version without pre-release and build takes no memory.
+    ensures plain { (v : VersionValue) → SpellsVersion v input.now → v.plain.pre ≡ [] → v.build ≡ [] →
+        answer_of version_value result ≡ Ok v }
+    // A version that is answered prints as the text without the white space at its ends.
+    ensures trimmed { IfOk result (λ v. IsTrimmed input.now (version_text (version_value v))) }
+    // The printed text of a version reads back to it, unless memory ran out, exactly where it is printable.
+    ensures printable { IfOk result (λ v. IsPrintableVersion (version_value v)) }
+    ensures read_back { (v : VersionValue) → IsPrintableVersion v → input.now ≡ version_text v →
+        UnlessOutOfMemory result (answer_of version_value result ≡ Ok v) }
+    // Unless memory ran out, the answer is the outcome of the text.
+    ensures outcome { UnlessOutOfMemory result (IsOutcomeOf input.now (answer_of version_value result)) }
+    // Memory runs out only where an identifier's run was read, or in place of `MoreInput`.
+    ensures out_of_memory { IfOutOfMemory result (TextMayRunOut input.now) }
+{
     let mut parser = Parser::new(input)?;
     let version = parser.version(alloc)?;
     if parser.is_eof() {
