@@ -22,11 +22,11 @@ use Rattle.semver_parser.proofs.ReadingSteps.{Stops, IsReadBy, longest_stops, re
 use Rattle.semver_parser.proofs.IdentifierSteps.{id_step, identifier_is_read, IsWellFormed, kept_as, kept_spells}
 
 -- a token of an identifier
-abbrev is_piece : TokenValue → Bool
+abbrev pub is_piece : TokenValue → Bool
 is_piece Hyphen = true
 is_piece t = is_component t
 
-abbrev IsPiece : TokenValue → Type 0
+abbrev pub IsPiece : TokenValue → Type 0
 IsPiece t = IsTrue (is_piece t)
 
 abbrev ArePartBytes : List ℕ → Type 0
@@ -57,12 +57,12 @@ piece_text text (AlphaNumeric s) h = refl
 piece_text text Hyphen h = refl
 piece_text text _ h = cc
 
-pieces_text : (text : List ℕ) (ts : List TokenValue) → AllByRecursion IsPiece ts → tokens_text text ts ≡ inner_texts ts
+pub pieces_text : (text : List ℕ) (ts : List TokenValue) → AllByRecursion IsPiece ts → tokens_text text ts ≡ inner_texts ts
 pieces_text text [] all = refl
 pieces_text text (t ∷ ts) all = (λ i. piece_text text t all.0 i ++ pieces_text text ts all.1 i)
 
 -- what leads on is such a token
-pieces : (s u : Bool) (ts : List TokenValue) → run id_step s ts ≡ Some u → AllByRecursion IsPiece ts
+pub pieces : (s u : Bool) (ts : List TokenValue) → run id_step s ts ≡ Some u → AllByRecursion IsPiece ts
 pieces s u [] e = tt
 pieces false u (Numeric n ∷ ts) e = (refl, pieces true u ts e)
 pieces false u (AlphaNumeric s ∷ ts) e = (refl, pieces true u ts e)
@@ -122,7 +122,7 @@ no_run_follows true (Hyphen ∷ y ∷ ts) t us some e none = no_run_follows fals
 no_run_follows true (x ∷ y ∷ ts) t us some e none = absurd (none-some true e)
 
 -- the first of the tokens behind some stands in its place
-behind_in_place : (text : List ℕ) (place : ℕ) (ts : List TokenValue) (t : TokenValue) (us : List TokenValue) → AreInPlace text place (ts ++ t ∷ us) → (at : ℕ) × IsTokenAt text at t
+pub behind_in_place : (text : List ℕ) (place : ℕ) (ts : List TokenValue) (t : TokenValue) (us : List TokenValue) → AreInPlace text place (ts ++ t ∷ us) → (at : ℕ) × IsTokenAt text at t
 behind_in_place text place [] t us a = (place, a.0)
 behind_in_place text place (x ∷ ts) t us a = behind_in_place text (place + length (token_text text x)) ts t us a.1
 

@@ -13,6 +13,7 @@ pub mod Meanings
 pub mod Numbers
 pub mod OneVersion
 pub mod ParsedPartials
+pub mod ParseFacts
 pub mod ParserSteps
 pub mod PrecedenceLaws
 pub mod PrintedLaws
@@ -33,3 +34,5 @@ pub mod Writes
 pub mod ReportSteps
 pub mod VersionTaking
 pub mod ZeroOne
+pub mod VersionTokens
+pub mod WholeText

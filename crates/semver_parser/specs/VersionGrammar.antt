@@ -1,5 +1,5 @@
 -- The grammar of versions: which version a text spells (SemVer 2.0.0, section 2 and sections 9 and 10 in this crate's wider form).
-use Rattle.std.specs.Prelude.{◌≡◌, ◌^◌, ◌<◌, List, ◌++◌, length, map, IsTrue, codes, decimal}
+use Rattle.std.specs.Prelude.{◌≡◌, ◌-◌, ◌^◌, ◌<◌, false, List, ◌++◌, length, map, slice_index, IsTrue, codes, decimal}
 use Rattle.std.specs.List.{AllByRecursion, AllZip, join_with_byte}
 use Rattle.semver_parser.specs.Texts.{Text, marked}
 use Rattle.semver_parser.specs.Tokens.{IsRun, IsNumber, is_space}
@@ -42,6 +42,16 @@ pub record SpellsVersion (v : VersionValue) (text : Text) : Type 0 where
 -- some version is spelled so
 abbrev pub IsVersionText : Text → Type 0
 IsVersionText text = (v : VersionValue) × SpellsVersion v text
+
+-- the text without the spaces, tabs, line feeds and carriage returns at its ends
+pub record IsTrimmed (text inner : Text) : Type 0 where
+  pub before : Text
+  pub after : Text
+  pub spaces_before : AllByRecursion (λ b. IsTrue (is_space b)) before
+  pub spaces_after : AllByRecursion (λ b. IsTrue (is_space b)) after
+  pub whole : text ≡ before ++ inner ++ after
+  pub first : is_space (slice_index inner 0) ≡ false
+  pub last : is_space (slice_index inner (length inner - 1)) ≡ false
 
 -- an identifier that its own printed text spells
 abbrev pub IsPrintableIdentifier : IdentifierValue → Type 0

@@ -158,3 +158,12 @@ MayRunOutInIdentifier s t = MayRunOut IsIdentifierShape HoldsRun s t
 
 abbrev pub MayRunOutInVersion : ParserState → ParserState → Type 0
 MayRunOutInVersion s t = MayRunOut IsVersionShape HoldsIdentifierRun s t
+
+-- reading this whole text may run out of memory: the longest front of its tokens holds a run of an identifier, or the answer would be the tokens that are left
+pub record TextMayRunOut (text : List ℕ) : Type 0 where
+  pub start : ParserState
+  pub front : List TokenValue
+  pub rest : List TokenValue
+  pub state : IsStateOf text start
+  pub longest : IsLongestFront IsVersionShape start.remaining front rest
+  pub why : HoldsIdentifierRun front ⊎ ((left : List TokenValue) × IsOutcomeOf text (Err (fault.MoreInput left)))
