@@ -9,22 +9,42 @@ use Rattle.semver_parser.specs.declared.range_set.RangeError.TheVariants.{NotARa
 use Rattle.semver_parser.specs.Texts.{Text}
 use Rattle.semver_parser.specs.Versions.{VersionValue}
 use Rattle.semver_parser.specs.PrintedText.{version_text}
-use Rattle.semver_parser.specs.ParserState as fault
+use Rattle.semver_parser.specs.ParserViews.{fault_of, answer_of, UnlessOutOfMemory, IfOutOfMemory}
+use Rattle.semver_parser.specs.VersionViews.{version_value}
+use Rattle.semver_parser.specs.VersionReading.{IsOutcomeOf, TextMayRunOut}
+use Rattle.semver_parser.specs.declared.parser.Error.{Error}
+use Rattle.semver_parser.specs.declared.parser.Error.TheVariants as error
+use Rattle.semver_parser.specs.declared.version.Version.{Version}
 use Rattle.semver_parser.specs.RangeTree.{SetTree, Spells}
 use Rattle.semver_parser.specs.RewritingTable.{PlainSet, fits, rewritten}
 use Rattle.semver_parser.specs.PrintedRanges.{set_text}
 use Rattle.semver_parser.specs.Writing.{WritesOrBegins}
-use Rattle.semver_parser.specs.ReportLines.{VersionLine, version_printed, version_refused, range_fault_word, RangeLine, set_printed, not_a_range, number_too_large, no_memory, AreLines, WritesLines, lines}
+use Rattle.semver_parser.specs.ReportLines.{VersionLine, version_printed, version_refused, version_unread, version_unprinted, version_fault_word, range_fault_word, RangeLine, set_printed, not_a_range, number_too_large, no_memory, AreLines, WritesLines, lines}
 use Rattle.semver_parser.specs.Shown.{shown_text, is_value_of}
 use Rattle.semver_parser.specs.declared.report.Shown.{Shown}
 use Rattle.semver_parser.specs.declared.report.Shown.TheVariants.{Value, Fault}
 
 -- a version that was read shows as its printed text, or as want of memory
-pub shows_version : (text : Text) (shown : Shown) (v : VersionValue)
+pub shows_version : (text : Text) (shown : Shown) (v : VersionValue) → IsOutcomeOf text (Ok v)
     → (is_value_of shown ≡ true → shown_text shown ≡ version_text v) → (is_value_of shown ≡ false → shown_text shown ≡ codes "out-of-memory")
     → VersionLine text (is_value_of shown) (shown_text shown)
-shows_version text (Value t) v value other = subst (λ s. VersionLine text true s) (sym (value refl)) (version_printed text v)
-shows_version text (Fault w) v value other = subst (λ s. VersionLine text false s) (sym (other refl)) (version_refused text fault.OutOfMemory)
+shows_version text (Value t) v outcome value other = subst (λ s. VersionLine text true s) (sym (value refl)) (version_printed text v outcome)
+shows_version text (Fault w) v outcome value other = subst (λ s. VersionLine text false s) (sym (other refl)) (version_unprinted text v outcome)
+
+-- a fault shows as its word
+pub shows_fault : (text : Text) (e : Error) → UnlessOutOfMemory {T = Version} (Err e) (IsOutcomeOf text (answer_of version_value (Err e))) → IfOutOfMemory {T = Version} (Err e) (TextMayRunOut text)
+    → (word : Text) → word ≡ version_fault_word (fault_of e) → VersionLine text false word
+shows_fault text e outcome memory word is = subst (λ w. VersionLine text false w) (sym is) (go e outcome memory)
+  where
+    go : (e : Error) → UnlessOutOfMemory {T = Version} (Err e) (IsOutcomeOf text (answer_of version_value (Err e))) → IfOutOfMemory {T = Version} (Err e) (TextMayRunOut text)
+        → VersionLine text false (version_fault_word (fault_of e))
+    go error.OutOfMemory outcome memory = version_unread text memory
+    go error.UnexpectedEnd outcome memory = version_refused text _ outcome
+    go (error.UnexpectedToken t) outcome memory = version_refused text _ outcome
+    go (error.Lexer x) outcome memory = version_refused text _ outcome
+    go (error.MoreInput ts) outcome memory = version_refused text _ outcome
+    go error.EmptyPredicate outcome memory = version_refused text _ outcome
+    go error.EmptyRange outcome memory = version_refused text _ outcome
 
 -- a set that was read shows as its printed text, or as want of memory
 pub shows_set : (mode : Compat) (text : Text) (shown : Shown) (set : PlainSet) (tree : SetTree) → Spells tree text → IsTrue (fits mode tree) → set ≡ rewritten mode tree

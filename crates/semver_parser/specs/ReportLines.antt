@@ -10,6 +10,7 @@ use Rattle.semver_parser.specs.Versions.{VersionValue}
 use Rattle.semver_parser.specs.PrintedText.{version_text}
 use Rattle.semver_parser.specs.ParserState as fault
 use Rattle.semver_parser.specs.ParserState.{Fault}
+use Rattle.semver_parser.specs.VersionReading.{IsOutcomeOf, TextMayRunOut}
 use Rattle.semver_parser.specs.RangeTree.{SetTree, Spells}
 use Rattle.semver_parser.specs.RewritingTable.{fits, rewritten}
 use Rattle.semver_parser.specs.PrintedRanges.{set_text}
@@ -34,9 +35,13 @@ range_fault_word OutOfMemory = codes "out-of-memory"
 -- what stands behind `version: ` for a text, and whether it is no fault word
 pub data VersionLine : Text → Bool → Text → Type 0 where
   -- the version that the text is, printed
-  version_printed : (text : Text) (v : VersionValue) → VersionLine text true (version_text v)
+  version_printed : (text : Text) (v : VersionValue) → IsOutcomeOf text (Ok v) → VersionLine text true (version_text v)
   -- the word of the text's fault
-  version_refused : (text : Text) (e : Fault) → VersionLine text false (version_fault_word e)
+  version_refused : (text : Text) (e : Fault) → IsOutcomeOf text (Err e) → VersionLine text false (version_fault_word e)
+  -- where reading the text may run out of memory
+  version_unread : (text : Text) → TextMayRunOut text → VersionLine text false (version_fault_word fault.OutOfMemory)
+  -- in place of a printed version
+  version_unprinted : (text : Text) (v : VersionValue) → IsOutcomeOf text (Ok v) → VersionLine text false (version_fault_word fault.OutOfMemory)
 
 -- what stands behind `cargo: ` and `npm: ` for a text, and whether it is no fault word
 pub data RangeLine : Compat → Text → Bool → Text → Type 0 where
