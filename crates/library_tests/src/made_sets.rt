@@ -66,21 +66,23 @@ fn sets_that_read_back(rt: HostRuntime) -> Result<(), Fail> {
 }
 
 #[test]
-fn sets_that_read_back_as_another(rt: HostRuntime) -> Result<(), Fail> {
+fn sets_without_comparators_read_back_as_another(rt: HostRuntime) -> Result<(), Fail> {
     let nothing_stated = of_one_range(
         rt.alloc(),
         vec![in rt.alloc(); comparator(rt.alloc(), Op::Gte, 0, 0, 0)]?,
     )?;
-
     let no_range = RangeSet {
         ranges: Vec::new(rt.alloc()),
         compat: Compat::Cargo,
     };
     assert!(rt; read_back(rt.alloc(), &no_range, "")? == nothing_stated);
-
     let no_comparator = of_one_range(rt.alloc(), Vec::new(rt.alloc()))?;
     assert!(rt; read_back(rt.alloc(), &no_comparator, "")? == nothing_stated);
+    Ok(())
+}
 
+#[test]
+fn identifiers_that_no_part_gives_read_back_as_others(rt: HostRuntime) -> Result<(), Fail> {
     let digits = of_one_text(rt.alloc(), Op::Eq, (1, 2, 3), "007")?;
     let mut number = comparator(rt.alloc(), Op::Eq, 1, 2, 3);
     number.pre.push(Identifier::Numeric(7))?;
@@ -89,29 +91,30 @@ fn sets_that_read_back_as_another(rt: HostRuntime) -> Result<(), Fail> {
 
     let dotted = of_one_text(rt.alloc(), Op::Eq, (1, 2, 3), "a.b")?;
     let mut parted = comparator(rt.alloc(), Op::Eq, 1, 2, 3);
-    parted
-        .pre
-        .push(Identifier::AlphaNumeric("a".to_string(rt.alloc())?))?;
-    parted
-        .pre
-        .push(Identifier::AlphaNumeric("b".to_string(rt.alloc())?))?;
+    for part in ["a", "b"] {
+        let text = part.to_string(rt.alloc())?;
+        parted.pre.push(Identifier::AlphaNumeric(text))?;
+    }
     let parted = of_one_range(rt.alloc(), vec![in rt.alloc(); parted]?)?;
     assert!(rt; read_back(rt.alloc(), &dotted, "=1.2.3-a.b")? == parted);
+    Ok(())
+}
 
-    let mode = of_one_range(
-        rt.alloc(),
-        vec![in rt.alloc(); comparator(rt.alloc(), Op::Gt, 1, 0, 0)]?,
-    )?;
+#[test]
+fn a_range_in_another_mode_reads_back_in_that_of_the_set(rt: HostRuntime) -> Result<(), Fail> {
+    let above_one = comparator(rt.alloc(), Op::Gt, 1, 0, 0);
+    let cargo = of_one_range(rt.alloc(), vec![in rt.alloc(); above_one]?)?;
+    let above_one = comparator(rt.alloc(), Op::Gt, 1, 0, 0);
     let npm_range = Range {
-        comparator_set: vec![in rt.alloc(); comparator(rt.alloc(), Op::Gt, 1, 0, 0)]?,
+        comparator_set: vec![in rt.alloc(); above_one]?,
         compat: Compat::Npm,
     };
     let mixed = RangeSet {
         ranges: vec![in rt.alloc(); npm_range]?,
         compat: Compat::Cargo,
     };
-    assert!(rt; read_back(rt.alloc(), &mixed, ">1.0.0")? == mode);
-    assert!(rt; mixed != mode);
+    assert!(rt; mixed != cargo);
+    assert!(rt; read_back(rt.alloc(), &mixed, ">1.0.0")? == cargo);
     Ok(())
 }
 

@@ -49,50 +49,13 @@ impl Ending {
 
 fn main(rt: HostRuntime) -> io::Result<()> {
     spend_requests(rt.alloc(), &mut rt.stdin())?;
-    let endings = [
-        ("identifier", parsers::identifier(rt.alloc())),
-        ("tail", parsers::tail(rt.alloc())),
-        (
-            "tail_before_a_bad_character",
-            parsers::tail_before_a_bad_character(rt.alloc()),
-        ),
-        ("tail_of_nothing", parsers::tail_of_nothing(rt.alloc())),
-        (
-            "versions_without_identifiers",
-            versions::without_identifiers(rt.alloc()),
-        ),
-        (
-            "version_with_identifiers",
-            versions::with_identifiers(rt.alloc()),
-        ),
-        ("version_with_numbers", versions::with_numbers(rt.alloc())),
-        ("more_input", versions::more_input(rt.alloc())),
-        ("version_clone", versions::clone(rt.alloc())),
-        (
-            "concat_of_a_number",
-            identifiers::concat_of_a_number(rt.alloc()),
-        ),
-        (
-            "concat_of_a_text",
-            identifiers::concat_of_a_text(rt.alloc()),
-        ),
-        ("error_text", identifiers::error_text(rt.alloc())),
-        (
-            "range_set_in_cargo_mode",
-            ranges::parse(rt.alloc(), Compat::Cargo),
-        ),
-        (
-            "range_set_in_npm_mode",
-            ranges::parse(rt.alloc(), Compat::Npm),
-        ),
-        ("range_set_from_str", ranges::from_str(rt.alloc())),
-        ("refused_range_texts", ranges::refused_texts(rt.alloc())),
-        ("range_set_clone", ranges::clone(rt.alloc())),
-        ("filter", filters::filter(rt.alloc())),
-        ("refused_filter_texts", filters::refused_texts(rt.alloc())),
-        ("report", reports::report(rt.alloc())),
-        ("report_of_faults", reports::report_of_faults(rt.alloc())),
-    ];
+    tell(&rt, &of_versions(rt.alloc()))?;
+    tell(&rt, &of_ranges(rt.alloc()))?;
+    rt.println("done")
+}
+
+/// Names the calls that were refused, and those that went wrong.
+fn tell(rt: &impl Print, endings: &[(&'static str, Ending)]) -> io::Result<()> {
     for (call, ending) in endings {
         match ending {
             Ending::Full => {}
@@ -100,7 +63,46 @@ fn main(rt: HostRuntime) -> io::Result<()> {
             Ending::Wrong => println!(rt; "wrong: {call}")?,
         }
     }
-    rt.println("done")
+    Ok(())
+}
+
+/// How each call on tokens, versions and their identifiers ends.
+fn of_versions(alloc: Global) -> [(&'static str, Ending); 12] {
+    [
+        ("identifier", parsers::identifier(alloc)),
+        ("tail", parsers::tail(alloc)),
+        ("bad_character", parsers::tail_before_a_bad_character(alloc)),
+        ("tail_of_nothing", parsers::tail_of_nothing(alloc)),
+        ("plain_versions", versions::without_identifiers(alloc)),
+        (
+            "version_with_identifiers",
+            versions::with_identifiers(alloc),
+        ),
+        ("version_with_numbers", versions::with_numbers(alloc)),
+        ("more_input", versions::more_input(alloc)),
+        ("version_clone", versions::clone(alloc)),
+        ("concat_of_a_number", identifiers::concat_of_a_number(alloc)),
+        ("concat_of_a_text", identifiers::concat_of_a_text(alloc)),
+        ("error_text", identifiers::error_text(alloc)),
+    ]
+}
+
+/// How each call on ranges and above them ends.
+fn of_ranges(alloc: Global) -> [(&'static str, Ending); 9] {
+    [
+        (
+            "range_set_in_cargo_mode",
+            ranges::parse(alloc, Compat::Cargo),
+        ),
+        ("range_set_in_npm_mode", ranges::parse(alloc, Compat::Npm)),
+        ("range_set_from_str", ranges::from_str(alloc)),
+        ("refused_range_texts", ranges::refused_texts(alloc)),
+        ("range_set_clone", ranges::clone(alloc)),
+        ("filter", filters::filter(alloc)),
+        ("refused_filter_texts", filters::refused_texts(alloc)),
+        ("report", reports::report(alloc)),
+        ("report_of_faults", reports::report_of_faults(alloc)),
+    ]
 }
 
 /// Makes as many requests as the input says.
