@@ -2,7 +2,7 @@
 //!
 //! Nothing here takes memory, and each byte is looked at a fixed number of times.
 
-ghost use Rattle.std.specs.Prelude.{◌≡◌, ◌<◌, ◌≤◌, ℕ, Bool, true, false, [], ◌∷◌, List, length, option_and_then, option_map, IfSome, MatchOption, MatchResult, IsTrue, codes};
+ghost use Rattle.std.specs.Prelude.{◌≡◌, ◌<◌, ◌≤◌, true, false, [], ◌∷◌, List, length, option_and_then, option_map, IfSome, MatchOption, MatchResult, IsTrue, codes};
 ghost use Rattle.std.specs.List.{prefix_len, slice_split, list_all};
 ghost use Rattle.std.specs.Char.{is_ascii_digit};
 ghost use Rattle.semver_parser.specs.RangeTree.{three, is_component, is_number, is_part, is_wildcard, is_blank as blank, is_part_byte as part_byte};
@@ -57,6 +57,7 @@ pub(crate) fn count_ranges(input: &str) -> Result<usize, RangeError>
     Ok(count)
 }
 
+/// Whether a range is in the grammar.
 fn check_range(range: RangeText<'_>) -> Result<(), RangeError>
     ensures { IsReadable (read_of range.entry) result }
 {
@@ -66,6 +67,7 @@ fn check_range(range: RangeText<'_>) -> Result<(), RangeError>
     }
 }
 
+/// Whether a text is simples.
 fn check_simples(text: &str) -> Result<(), RangeError>
     ensures { IsReadable (read_simples (words text.now)) result }
 {
@@ -169,6 +171,7 @@ fn read_simple(form: Form, word: &str) -> Option<Simple<'_>>
 }
 
 /// The operator at the front of a word, and what follows it.
+#[inline(always)]
 fn split_operator(word: &str) -> (Form, &str)
     ensures { (form_of result.0, result.1.now) ≡ read_form word.now }
 {
@@ -188,6 +191,7 @@ fn split_operator(word: &str) -> (Form, &str)
 }
 
 /// The form by whether a second sign follows, and what follows that.
+#[inline(always)]
 fn with_second(rest: &str, second: u8, with: Form, without: Form) -> (Form, &str)
     requires { second < 128 }
     ensures { MatchOption (behind second rest.now) (result ≡ (without, rest.entry)) (λ t. (result.0 ≡ with) × (result.1.now ≡ t)) }
@@ -234,6 +238,7 @@ fn read_partial(word: &str) -> Option<PartialText<'_>>
 }
 
 /// A component at the front of a text, and what follows it.
+#[inline(always)]
 fn split_component(text: &str) -> Option<(&str, &str)>
     ensures { MatchOption result (is_component (front component_byte text.now) ≡ false)
         (λ s. (is_component s.0.now ≡ true) × (s.0.now ≡ front component_byte text.now) × (s.1.now ≡ back component_byte text.now)) }
@@ -297,6 +302,7 @@ fn are_parts(text: &str) -> bool
 }
 
 /// The first word of a text, and what follows it.
+#[inline(always)]
 fn next_word(text: &str) -> Option<(&str, &str)>
     ensures { MatchOption result (words text.now ≡ [])
         (λ found. (words text.now ≡ found.0.now ∷ words found.1.now) × (length found.1.now < length text.now)) }
@@ -321,6 +327,7 @@ fn after_byte(text: &str, byte: u8) -> Option<&str>
 }
 
 /// Whether a word is a hyphen.
+#[inline(always)]
 fn is_hyphen(word: &str) -> bool
     ensures { result ≡ is_hyphen word.now }
 {
@@ -336,6 +343,7 @@ pub(crate) fn is_wildcard(text: &str) -> bool
 }
 
 /// Whether a text is a wildcard or a number.
+#[inline(always)]
 fn is_component(text: &str) -> bool
     ensures { result ≡ is_component text.now }
 {
@@ -343,6 +351,7 @@ fn is_component(text: &str) -> bool
 }
 
 /// Whether a text is a number of any size, without leading zeros.
+#[inline(always)]
 fn is_number(text: &str) -> bool
     ensures { result ≡ is_number text.now }
 {
@@ -354,6 +363,7 @@ fn is_number(text: &str) -> bool
 }
 
 /// Whether bytes are digits.
+#[inline(always)]
 fn are_digits(bytes: &[u8]) -> bool
     ensures { result ≡ list_all is_ascii_digit bytes.now }
 {
@@ -361,6 +371,7 @@ fn are_digits(bytes: &[u8]) -> bool
 }
 
 /// How many bytes at the front stand before a bar.
+#[inline(always)]
 fn range_len(text: &str) -> usize
     ensures { result ≡ prefix_len not_bar text.now }
 {
@@ -371,6 +382,7 @@ fn range_len(text: &str) -> usize
 }
 
 /// How many bytes at the front are blanks.
+#[inline(always)]
 fn blank_len(text: &str) -> usize
     ensures { result ≡ prefix_len blank text.now }
 {
@@ -381,6 +393,7 @@ fn blank_len(text: &str) -> usize
 }
 
 /// How many bytes at the front are no blanks.
+#[inline(always)]
 fn word_len(text: &str) -> usize
     ensures { result ≡ prefix_len not_blank text.now }
 {
@@ -391,6 +404,7 @@ fn word_len(text: &str) -> usize
 }
 
 /// How many bytes at the front are those of components.
+#[inline(always)]
 fn component_len(text: &str) -> usize
     ensures { result ≡ prefix_len component_byte text.now }
 {
@@ -401,6 +415,7 @@ fn component_len(text: &str) -> usize
 }
 
 /// How many bytes at the front stand before a plus.
+#[inline(always)]
 fn pre_len(text: &str) -> usize
     ensures { result ≡ prefix_len not_plus text.now }
 {

@@ -3,12 +3,10 @@
 //! The rewriting takes no memory: it answers one or two comparators whose pre-release is still a slice of the text, or
 //! none where a number or a raised bound is above 2^64 - 1. Only building copies the identifiers.
 
-ghost use Rattle.std.specs.Prelude.{◌≡◌, ◌+◌, ◌-◌, ◌^◌, ◌<◌, ◌≤◌, ℕ, Some, None, [], ◌∷◌, ◌++◌, length, map, if◌then◌else◌, true, false, IsTrue, IfOk, MatchResult};
+ghost use Rattle.std.specs.Prelude.{◌≡◌, ◌+◌, ◌-◌, ◌^◌, ◌<◌, ◌≤◌, Some, None, [], ◌∷◌, ◌++◌, length, map, if◌then◌else◌, true, IsTrue, IfOk, MatchResult};
 ghost use Rattle.std.specs.List.{list_all, slice_split, flat_map};
-ghost use Rattle.std.specs.Str.{all_ascii_digits};
 ghost use Rattle.std.specs.Str.Parse.{digits_value};
-ghost use Rattle.semver_parser.specs.RangeTree.{Simple as SimpleTree, bare, equal, at_most, tilde, caret, is_number, is_part};
-ghost use Rattle.semver_parser.specs.Texts.{is_empty};
+ghost use Rattle.semver_parser.specs.RangeTree.{equal, at_most, tilde, caret, is_number, is_part};
 ghost use Rattle.semver_parser.specs.Reader.{is_dot, read_simples, words};
 ghost use Rattle.semver_parser.specs.Partials.{fits_u64, kept, leading_place, zero_version};
 ghost use Rattle.semver_parser.specs.RewritingTable.{comparator, cell, nothing_stated, cell_comparators, simple_comparators, range_comparators};
