@@ -15,7 +15,7 @@ use crate::partial::PartialText;
 use crate::range_set::RangeError;
 
 /// What stands before a partial: nothing, or an operator.
-#[derive(Clone, Copy, PartialEq, Eq, Debug)]
+#[derive(Clone, Copy)]
 pub(crate) enum Form {
     Bare,
     Equal,
@@ -28,14 +28,14 @@ pub(crate) enum Form {
 }
 
 /// A partial and what stands before it.
-#[derive(Clone, Copy, Debug)]
+#[derive(Clone, Copy)]
 pub(crate) struct Simple<'input> {
     pub(crate) form: Form,
     pub(crate) partial: PartialText<'input>,
 }
 
 /// A range: nothing, a hyphen range, or a text of one or more simples.
-#[derive(Clone, Copy, Debug)]
+#[derive(Clone, Copy)]
 pub(crate) enum RangeText<'input> {
     Empty,
     Hyphen(PartialText<'input>, PartialText<'input>),

@@ -204,14 +204,14 @@ impl<'input> Partial<'input> {
 }
 
 /// A comparator whose pre-release is still a slice of the text.
-#[derive(Debug, Drop)]
+#[derive(Drop)]
 struct Bound<'input> {
     op: Op,
     partial: Partial<'input>,
 }
 
 /// The one or two comparators of a simple, or of both sides of a hyphen range.
-#[derive(Debug, Drop)]
+#[derive(Drop)]
 struct Bounds<'input> {
     first: Bound<'input>,
     second: Option<Bound<'input>>,
