@@ -15,7 +15,7 @@ use crate::partial::PartialText;
 use crate::range_set::RangeError;
 
 /// What stands before a partial: nothing, or an operator.
-#[derive(Clone, Copy, PartialEq, Eq, Debug)]
+#[derive(Clone, Copy)]
 pub(crate) enum Form {
     Bare,
     Equal,
@@ -28,14 +28,14 @@ pub(crate) enum Form {
 }
 
 /// A partial and what stands before it.
-#[derive(Clone, Copy, Debug)]
+#[derive(Clone, Copy)]
 pub(crate) struct Simple<'input> {
     pub(crate) form: Form,
     pub(crate) partial: PartialText<'input>,
 }
 
 /// A range: nothing, a hyphen range, or a text of one or more simples.
-#[derive(Clone, Copy, Debug)]
+#[derive(Clone, Copy)]
 pub(crate) enum RangeText<'input> {
     Empty,
     Hyphen(PartialText<'input>, PartialText<'input>),
@@ -79,6 +79,7 @@ fn check_simples(text: &str) -> Result<(), RangeError>
 }
 
 /// The first range of a text, and what stands behind the bars that follow it.
+#[inline(always)]
 pub(crate) fn next_range(text: &str) -> Result<(RangeText<'_>, Option<&str>), RangeError>
     ensures { MatchResult result
         (λ found. (read text.now ≡ onto (read_of found.0) (read_after found.1)) × HasWords found.0 × (rest_len found.1 ≤ length text.now))
@@ -96,6 +97,7 @@ pub(crate) fn next_range(text: &str) -> Result<(RangeText<'_>, Option<&str>), Ra
 }
 
 /// What follows two bars, where the text begins with them.
+#[inline(always)]
 fn after_bars(text: &str) -> Option<&str>
     ensures { text_of result ≡ option_and_then (behind 124) (behind 124 text.now) }
 {
@@ -103,6 +105,7 @@ fn after_bars(text: &str) -> Option<&str>
 }
 
 /// What a text without bars is, by its first two words: the simples of a range aren't read here.
+#[inline(always)]
 fn read_range(text: &str) -> Result<RangeText<'_>, RangeError>
     ensures { IsReadAs (read_range text.now) result }
 {
@@ -138,6 +141,7 @@ fn read_hyphen_range<'input>(
 }
 
 /// The first simple of a text, and what follows it; none where only blanks are left.
+#[inline(always)]
 pub(crate) fn next_simple(text: &str) -> Result<Option<(Simple<'_>, &str)>, RangeError>
     ensures { MatchResult result
         (λ o. MatchOption o (read_simples (words text.now) ≡ Some [])
@@ -163,6 +167,7 @@ pub(crate) fn next_simple(text: &str) -> Result<Option<(Simple<'_>, &str)>, Rang
 }
 
 /// A word as the partial behind this form.
+#[inline(always)]
 fn read_simple(form: Form, word: &str) -> Option<Simple<'_>>
     ensures { option_map simple_of result ≡ with_form (form_of form) (read_partial word.now) }
 {
@@ -203,6 +208,7 @@ fn with_second(rest: &str, second: u8, with: Form, without: Form) -> (Form, &str
 }
 
 /// A word as a partial.
+#[inline(always)]
 fn read_partial(word: &str) -> Option<PartialText<'_>>
     ensures { option_map partial_of result ≡ read_partial word.now }
 {
@@ -252,6 +258,7 @@ fn split_component(text: &str) -> Option<(&str, &str)>
 }
 
 /// The pre-release and the build behind three components.
+#[inline(always)]
 fn read_qualifier(text: &str) -> Option<(Option<&str>, Option<&str>)>
     ensures value { (a b c : Text) → option_map (λ q. three a b c (parts q.0) (parts q.1)) result ≡ read_qualifier a b c text.now }
     ensures parts_pass { IfSome result (λ q. IsTrue (list_all is_part (parts q.0))) }
@@ -267,6 +274,7 @@ fn read_qualifier(text: &str) -> Option<(Option<&str>, Option<&str>)>
 }
 
 /// A build, if one is there, up to the end of a text.
+#[inline(always)]
 fn read_build(text: &str) -> Option<Option<&str>>
     ensures { (a b c : Text) (pre : List Text) → option_map (λ o. three a b c pre (parts o)) result ≡ read_build a b c pre text.now }
 {

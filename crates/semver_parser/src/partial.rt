@@ -5,7 +5,7 @@ ghost use Rattle.semver_parser.specs.RangeTree.{components, is_component, is_par
 ghost use Rattle.semver_parser.specs.Pieces.{parts, tree};
 
 /// The slices of a partial: its components, its pre-release and its build. The last two stand without their mark.
-#[derive(Clone, Copy, Debug)]
+#[derive(Clone, Copy)]
 pub(crate) struct PartialText<'input> {
     pub(crate) major: &'input str,
     pub(crate) minor: Option<&'input str>,
@@ -17,7 +17,7 @@ pub(crate) struct PartialText<'input> {
 }
 
 /// How many numbers a partial states.
-#[derive(Clone, Copy, PartialEq, Eq, Debug)]
+#[derive(Clone, Copy, PartialEq, Eq)]
 pub(crate) enum PartialKind {
     /// None: it begins with a wildcard.
     XRangeOnly,
@@ -30,7 +30,7 @@ pub(crate) enum PartialKind {
 }
 
 /// The numbers that a partial states, and its pre-release as a slice of the text.
-#[derive(Clone, Copy, Debug)]
+#[derive(Clone, Copy)]
 pub(crate) struct Partial<'input> {
     pub(crate) major: Option<u64>,
     pub(crate) minor: Option<u64>,

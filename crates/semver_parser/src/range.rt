@@ -72,6 +72,7 @@ pub enum Identifier {
 
 impl<'input> Partial<'input> {
     /// Nothing stated.
+    #[inline(always)]
     fn new() -> Partial<'input>
         ensures major { result.major ≡ None }
         ensures minor { result.minor ≡ None }
@@ -106,6 +107,7 @@ impl<'input> Partial<'input> {
     }
 
     /// The major raised by one; a missing one counts as 0.
+    #[inline(always)]
     fn inc_major(mut self) -> Partial<'input>
         requires { number_of self.major < 2 ^ 64 - 1 }
         ensures { version_of result ≡ record (version_of self.entry) { major = number_of self.entry.major + 1 } }
@@ -115,6 +117,7 @@ impl<'input> Partial<'input> {
     }
 
     /// The minor raised by one; a missing one counts as 0.
+    #[inline(always)]
     fn inc_minor(mut self) -> Partial<'input>
         requires { number_of self.minor < 2 ^ 64 - 1 }
         ensures { version_of result ≡ record (version_of self.entry) { minor = number_of self.entry.minor + 1 } }
@@ -124,6 +127,7 @@ impl<'input> Partial<'input> {
     }
 
     /// The patch raised by one; a missing one counts as 0.
+    #[inline(always)]
     fn inc_patch(mut self) -> Partial<'input>
         requires { number_of self.patch < 2 ^ 64 - 1 }
         ensures { version_of result ≡ record (version_of self.entry) { patch = number_of self.entry.patch + 1 } }
@@ -133,6 +137,7 @@ impl<'input> Partial<'input> {
     }
 
     /// Zeros for the numbers that are missing.
+    #[inline(always)]
     fn zero_missing(mut self) -> Partial<'input>
         ensures { version_of result ≡ version_of self.entry }
     {
@@ -143,6 +148,7 @@ impl<'input> Partial<'input> {
     }
 
     /// The minor as 0.
+    #[inline(always)]
     fn zero_minor(mut self) -> Partial<'input>
         ensures { version_of result ≡ record (version_of self.entry) { minor = 0 } }
     {
@@ -151,6 +157,7 @@ impl<'input> Partial<'input> {
     }
 
     /// The patch as 0.
+    #[inline(always)]
     fn zero_patch(mut self) -> Partial<'input>
         ensures { version_of result ≡ record (version_of self.entry) { patch = 0 } }
     {
@@ -159,6 +166,7 @@ impl<'input> Partial<'input> {
     }
 
     /// Without pre-release.
+    #[inline(always)]
     fn no_pre(mut self) -> Partial<'input>
         ensures { version_of result ≡ record (version_of self.entry) { pre = [] } }
     {
@@ -167,6 +175,7 @@ impl<'input> Partial<'input> {
     }
 
     /// The bound above all versions with this major; none where it is above 2^64 - 1.
+    #[inline(always)]
     fn next_major(self) -> Option<Partial<'input>>
         requires stated { 1 ≤ length (stated_of self) }
         requires small { IsSmall self }
@@ -179,6 +188,7 @@ impl<'input> Partial<'input> {
     }
 
     /// The bound above all versions with this major and minor; none where it is above 2^64 - 1.
+    #[inline(always)]
     fn next_minor(self) -> Option<Partial<'input>>
         requires stated { 2 ≤ length (stated_of self) }
         requires small { IsSmall self }
@@ -191,6 +201,7 @@ impl<'input> Partial<'input> {
     }
 
     /// The bound above all versions with these three numbers; none where it is above 2^64 - 1.
+    #[inline(always)]
     fn next_patch(self) -> Option<Partial<'input>>
         requires stated { 3 ≤ length (stated_of self) }
         requires small { IsSmall self }
@@ -204,14 +215,14 @@ impl<'input> Partial<'input> {
 }
 
 /// A comparator whose pre-release is still a slice of the text.
-#[derive(Debug, Drop)]
+#[derive(Drop)]
 struct Bound<'input> {
     op: Op,
     partial: Partial<'input>,
 }
 
 /// The one or two comparators of a simple, or of both sides of a hyphen range.
-#[derive(Debug, Drop)]
+#[derive(Drop)]
 struct Bounds<'input> {
     first: Bound<'input>,
     second: Option<Bound<'input>>,
@@ -219,6 +230,7 @@ struct Bounds<'input> {
 
 impl<'input> Bounds<'input> {
     /// One comparator.
+    #[inline(always)]
     fn one(op: Op, partial: Partial<'input>) -> Bounds<'input>
         ensures { bounds_of result ≡ comparator op (version_of partial.entry) ∷ [] }
     {
@@ -229,6 +241,7 @@ impl<'input> Bounds<'input> {
     }
 
     /// From this version on, and below another.
+    #[inline(always)]
     fn between(lower: Partial<'input>, upper: Partial<'input>) -> Bounds<'input>
         ensures { bounds_of result ≡ comparator Op.Gte (version_of lower.entry) ∷ comparator Op.Lt (version_of upper.entry) ∷ [] }
     {
@@ -245,6 +258,7 @@ impl<'input> Bounds<'input> {
     }
 
     /// How many comparators.
+    #[inline(always)]
     fn count(&self) -> usize
         ensures { result ≤ 2 }
     {
@@ -253,6 +267,7 @@ impl<'input> Bounds<'input> {
 }
 
 /// Any version that isn't below 0.0.0.
+#[inline(always)]
 fn from_zero<'input>() -> Bounds<'input>
     ensures { bounds_of result ≡ comparator Op.Gte zero_version ∷ [] }
 {
@@ -260,6 +275,7 @@ fn from_zero<'input>() -> Bounds<'input>
 }
 
 /// The comparators of a simple; none where a number or the raised bound is above 2^64 - 1.
+#[inline(always)]
 fn from_simple<'input>(simple: &Simple<'input>, compat: Compat) -> Option<Bounds<'input>>
     ensures { IsRow compat (simple_of simple.now) result }
 {
@@ -281,6 +297,7 @@ fn from_simple<'input>(simple: &Simple<'input>, compat: Compat) -> Option<Bounds
 }
 
 /// The comparators of a simple that states no number.
+#[inline(always)]
 fn from_wildcard<'input>(form: Form) -> Bounds<'input>
     ensures { bounds_of result ≡ cell_comparators (nothing_stated (form_of form)) [] zero_version }
 {
@@ -291,6 +308,7 @@ fn from_wildcard<'input>(form: Form) -> Bounds<'input>
 }
 
 /// `=`: this version, or any that agrees with the numbers stated.
+#[inline(always)]
 fn handle_equal_range<'input>(partial: Partial<'input>) -> Option<Bounds<'input>>
     requires stated { 1 ≤ length (stated_of partial) }
     requires small { IsSmall partial }
@@ -304,6 +322,7 @@ fn handle_equal_range<'input>(partial: Partial<'input>) -> Option<Bounds<'input>
 }
 
 /// `<=`: up to this version, or below the next that disagrees with the numbers stated.
+#[inline(always)]
 fn handle_at_most<'input>(partial: Partial<'input>) -> Option<Bounds<'input>>
     requires stated { 1 ≤ length (stated_of partial) }
     requires small { IsSmall partial }
@@ -317,6 +336,7 @@ fn handle_at_most<'input>(partial: Partial<'input>) -> Option<Bounds<'input>>
 }
 
 /// `~`: the patch may rise, and the minor where it isn't stated.
+#[inline(always)]
 fn handle_tilde_range<'input>(partial: Partial<'input>) -> Option<Bounds<'input>>
     requires stated { 1 ≤ length (stated_of partial) }
     requires small { IsSmall partial }
@@ -331,6 +351,7 @@ fn handle_tilde_range<'input>(partial: Partial<'input>) -> Option<Bounds<'input>
 }
 
 /// `^`: what stands behind the first number that isn't 0 may rise.
+#[inline(always)]
 fn handle_caret_range<'input>(partial: Partial<'input>) -> Option<Bounds<'input>>
     requires stated { 1 ≤ length (stated_of partial) }
     requires small { IsSmall partial }
@@ -341,6 +362,7 @@ fn handle_caret_range<'input>(partial: Partial<'input>) -> Option<Bounds<'input>
 }
 
 /// The bound that a caret raises: at the first number that isn't 0, or the last that is stated.
+#[inline(always)]
 fn caret_bound<'input>(partial: Partial<'input>) -> Option<Partial<'input>>
     requires stated { 1 ≤ length (stated_of partial) }
     requires small { IsSmall partial }
@@ -384,6 +406,7 @@ fn from_hyphen_range<'input>(
 }
 
 /// The numbers before the first wildcard; none where one of them is above 2^64 - 1.
+#[inline(always)]
 fn parse_partial<'input>(text: &PartialText<'input>) -> Option<Partial<'input>>
     ensures { IsParsed (partial_of text.now) result }
 {
@@ -408,6 +431,7 @@ fn parse_partial<'input>(text: &PartialText<'input>) -> Option<Partial<'input>>
 }
 
 /// A component that is there and is no wildcard.
+#[inline(always)]
 fn stated(component: Option<&str>) -> Option<&str>
     ensures { stated_text component.entry ≡ text_of result }
 {
@@ -418,6 +442,7 @@ fn stated(component: Option<&str>) -> Option<&str>
 }
 
 /// The value of digits; none where it is above 2^64 - 1.
+#[inline(always)]
 fn parse_number(digits: &str) -> Option<u64>
     requires { is_number digits.now ≡ true }
     ensures { result ≡ (if fits_u64 (digits_value 10 digits.now) then Some (digits_value 10 digits.now) else None) }
@@ -552,6 +577,7 @@ fn push_simples(
 }
 
 /// Adds one or two comparators.
+#[inline(always)]
 fn push_bounds(
     alloc: Global,
     comparators: &mut Vec<Comparator>,
@@ -569,6 +595,7 @@ fn push_bounds(
 }
 
 /// Adds a comparator.
+#[inline(always)]
 fn push_bound(
     alloc: Global,
     comparators: &mut Vec<Comparator>,

@@ -1,5 +1,5 @@
-use Rattle.std.proofs.Common.{◌≡◌, List, refl, ap}
-use Rattle.std.specs.Prelude.{codes, map}
+use Rattle.std.proofs.Common.{List, refl, ap}
+use Rattle.std.specs.Prelude.{codes}
 use Rattle.std.proofs.Output.{has_written_of_eq}
 use Rattle.semver_parser.specs.declared.range.Range.{Range}
 use Rattle.semver_parser.specs.Texts.{Text, joined}
