@@ -1,13 +1,13 @@
 -- Rows that show what the definitions say.
-use Rattle.std.proofs.Common.{◌≡◌, ℕ, ◌<◌, List, [], ◌∷◌, ◌++◌, length, Some, None, Ok, Err, true, false, refl, sym, subst, ap, arith, inl, inr, append-nil, length-append}
+use Rattle.std.proofs.Common.{◌≡◌, ℕ, ◌<◌, List, [], ◌∷◌, length, Some, None, Ok, Err, true, false, refl, sym, subst, ap, arith, inl, inr, length-append}
 use Rattle.std.specs.Prelude.{IsTrue, Bool, ◌&&◌}
 use Rattle.std.specs.Prelude.{codes}
 use Rattle.std.specs.Str.{chars}
 use Rattle.std.proofs.lemmas.Fmt.{decimal_digit}
 use Rattle.semver_parser.specs.Tokens as token
-use Rattle.semver_parser.specs.Tokens.{TokenValue, AreTokensOf, IsNumber, IsRun}
+use Rattle.semver_parser.specs.Tokens.{TokenValue, AreTokensOf, IsRun}
 use Rattle.semver_parser.specs.ParserState as state
-use Rattle.semver_parser.specs.ParserState.{ParserState, IsStateOf}
+use Rattle.semver_parser.specs.ParserState.{IsStateOf}
 use Rattle.semver_parser.specs.Scanning.{scan, first_token, component, sign, is_number}
 use Rattle.semver_parser.specs.PrintedText.{version_text}
 use Rattle.semver_parser.specs.VersionGrammar as grammar
