@@ -1,15 +1,15 @@
 -- The shape of an identifier, token by token, and that each identifier that is read has a value.
 use Rattle.std.proofs.Common.{◌≡◌, ℕ, ◌^◌, ◌<◌, ◌≤◌, Bool, true, false, List, [], ◌∷◌, ◌++◌, length, map, Some, None, Option, Result, Ok, Err, sym, refl, ap, ◌∙◌, subst, ◌⊎◌, inl, inr, arith, append_assoc, append-nil, cond, decimal, ◌&&◌, length-append}
-use Rattle.std.specs.Prelude.{option_and_then, IsTrue, flat_map, codes, slice_get}
+use Rattle.std.specs.Prelude.{option_and_then, IsTrue, flat_map, slice_get}
 use Rattle.std.specs.List.{AllByRecursion, join_by, join_with_byte}
 use Rattle.std.specs.Str.{all_ascii_digits}
 use Rattle.std.proofs.lemmas.Option.{none-some, same_Some}
 use Rattle.semver_parser.specs.Tokens.{TokenValue, Hyphen, Numeric, AlphaNumeric, is_component, IsRun, IsNumber}
 use Rattle.semver_parser.specs.Versions.{numeric, alphanumeric}
-use Rattle.semver_parser.specs.VersionGrammar.{SpellsIdentifier, IsIdentifierText}
+use Rattle.semver_parser.specs.VersionGrammar.{SpellsIdentifier}
 use Rattle.semver_parser.specs.Versions.{IdentifierValue}
 use Rattle.semver_parser.specs.ParserState as fault
-use Rattle.semver_parser.specs.ParserState.{ParserState, Fault, Step, pop, pop_of, look, and_then}
+use Rattle.semver_parser.specs.ParserState.{ParserState, Fault, Step, pop, pop_of, and_then}
 use Rattle.semver_parser.specs.Taking.{run, PassesIdentifier, TakesIdentifier, expect_run, as_run, number_of, lone_number}
 use Rattle.semver_parser.specs.VersionReading.{Reads, IsIdentifierShape, inner_text, inner_texts}
 use Rattle.semver_parser.proofs.Numbers.{canonical_from_IsNumber}

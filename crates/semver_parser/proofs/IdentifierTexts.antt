@@ -1,6 +1,6 @@
 -- The text that an identifier's tokens spell is the longest front of letters, digits and hyphens.
-use Rattle.std.proofs.Common.{◌≡◌, ℕ, ◌+◌, ◌<◌, Bool, true, false, eqb, ◌||◌, List, [], ◌∷◌, ◌++◌, length, take, drop, Some, None, Option, Result, Ok, Err, sym, refl, ap, ◌∙◌, subst, ◌⊎◌, inl, inr, arith, append_assoc}
-use Rattle.std.specs.Prelude.{option_and_then, IsTrue, flat_map, slice_index, take_while, not}
+use Rattle.std.proofs.Common.{◌≡◌, ℕ, ◌+◌, ◌<◌, Bool, true, false, eqb, ◌||◌, List, [], ◌∷◌, ◌++◌, length, Some, Option, Result, Ok, Err, sym, refl, ap, ◌∙◌, subst, ◌⊎◌, inl, inr, arith, append_assoc}
+use Rattle.std.specs.Prelude.{IsTrue, slice_index, take_while, not}
 use Rattle.std.specs.List.{AllByRecursion, prefix_len, join_by}
 use Rattle.std.specs.Char.{is_ascii_alphanumeric}
 use Rattle.std.proofs.lemmas.List.{take_at, get_or_append_left}
@@ -8,7 +8,7 @@ use Rattle.std.proofs.lemmas.Grind.{flat_map-append}
 use Rattle.std.proofs.lemmas.Option.{none-some, same_Some}
 use Rattle.std.proofs.lemmas.Bool.Decides.{nat_tests}
 use Rattle.semver_parser.specs.RangeTree.{is_part_byte}
-use Rattle.semver_parser.specs.Tokens.{TokenValue, Eq, Gt, Lt, LtEq, GtEq, Caret, Tilde, Star, Dot, Comma, Hyphen, Plus, Or, Whitespace, Numeric, AlphaNumeric, is_component, is_sign, token_text, tokens_text, opens_token, IsRun, IsTokenAt, IsBadStart, AreInPlace, merges, NoneMerge, AreTokensFrom}
+use Rattle.semver_parser.specs.Tokens.{TokenValue, Hyphen, Whitespace, Numeric, AlphaNumeric, is_component, is_sign, token_text, tokens_text, IsTokenAt, IsBadStart, AreInPlace, NoneMerge, AreTokensFrom}
 use Rattle.semver_parser.specs.ParserState.{ParserState, IsStateFrom}
 use Rattle.semver_parser.specs.VersionGrammar.{SpellsIdentifier}
 use Rattle.semver_parser.specs.VersionReading.{Reads, IsIdentifierShape, inner_text, inner_texts, HoldsRun, MayRunOutInIdentifier}
@@ -16,9 +16,8 @@ use Rattle.semver_parser.specs.Taking.{run, PassesIdentifier, lone_number}
 use Rattle.semver_parser.specs.ParserViews.{fault_of, UnlessOutOfMemory, IfOutOfMemory}
 use Rattle.semver_parser.specs.declared.parser.Error.{Error}
 use Rattle.semver_parser.specs.declared.parser.Error.TheVariants as error
-use Rattle.semver_parser.proofs.FirstToken.{run_is_no_space}
 use Rattle.semver_parser.proofs.TokenLists.{prefix_is, shows_kind, decimal_is_run, false_from_not, opens_nothing}
-use Rattle.semver_parser.proofs.ReadingSteps.{Stops, IsReadBy, longest_stops, refuses_otherwise}
+use Rattle.semver_parser.proofs.ReadingSteps.{Stops, longest_stops, refuses_otherwise}
 use Rattle.semver_parser.proofs.IdentifierSteps.{id_step, identifier_is_read, IsWellFormed, kept_as, kept_spells}
 
 -- a token of an identifier

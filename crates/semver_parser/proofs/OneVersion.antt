@@ -3,14 +3,14 @@ use Rattle.std.proofs.Common.{◌≡◌, ℕ, ◌+◌, ◌<◌, ◌^◌, Bool, t
 use Rattle.std.specs.Prelude.{IsTrue, slice_index}
 use Rattle.std.specs.List.{AllByRecursion, AllZip, prefix_len, join_with_byte}
 use Rattle.std.specs.Char.{is_ascii_alphanumeric}
-use Rattle.std.proofs.lemmas.List.{take_at, drop_at, get_or_append_left}
+use Rattle.std.proofs.lemmas.List.{take_at, drop_at}
 use Rattle.std.proofs.lemmas.Fmt.{decimal_injective}
 use Rattle.std.proofs.lemmas.Bool.Decides.{nat_tests}
-use Rattle.semver_parser.specs.Texts.{Text, marked}
+use Rattle.semver_parser.specs.Texts.{marked}
 use Rattle.semver_parser.specs.RangeTree.{is_part_byte}
-use Rattle.semver_parser.specs.Tokens.{IsRun, IsNumber, is_space}
+use Rattle.semver_parser.specs.Tokens.{IsRun, is_space}
 use Rattle.semver_parser.specs.Versions.{IdentifierValue, numeric, alphanumeric, VersionValue, numbers}
-use Rattle.semver_parser.specs.VersionGrammar.{IsIdentifierText, SpellsIdentifier, SpellsPart, SpellsVersion}
+use Rattle.semver_parser.specs.VersionGrammar.{SpellsIdentifier, SpellsPart, SpellsVersion}
 use Rattle.semver_parser.proofs.FirstToken.{run_is_no_space, space_is_no_run}
 use Rattle.semver_parser.proofs.TokenLists.{prefix_is, decimal_is_run}
 

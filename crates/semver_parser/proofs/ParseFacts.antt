@@ -1,6 +1,5 @@
 -- What a call of `parse` answers, from the outcome of the text.
-use Rattle.std.proofs.Common.{◌≡◌, ℕ, ◌<◌, List, [], ◌∷◌, length, map, Some, None, Option, Result, Ok, Err, sym, refl, ap, ◌∙◌, subst, inl, inr, arith, IsUtf8, IfOk, ◌↔◌}
-use Rattle.std.proofs.lemmas.Option.{none-some}
+use Rattle.std.proofs.Common.{◌≡◌, ℕ, List, [], ◌∷◌, Some, None, Option, Result, Ok, Err, sym, refl, ap, ◌∙◌, subst, inl, inr, IsUtf8, IfOk, ◌↔◌}
 use Rattle.semver_parser.specs.Tokens.{TokenValue}
 use Rattle.semver_parser.specs.Versions.{VersionValue}
 use Rattle.semver_parser.specs.PrintedText.{version_text}
@@ -9,13 +8,11 @@ use Rattle.semver_parser.specs.ParserState as fault
 use Rattle.semver_parser.specs.ParserState.{ParserState, Fault, Step, IsStateOf, tail_of}
 use Rattle.semver_parser.specs.VersionReading.{IsVersionShape, ReadsVersion, IsOutcomeOf, whole_answer, MayRunOutInVersion, TextMayRunOut}
 use Rattle.semver_parser.specs.VersionViews.{version_value}
-use Rattle.semver_parser.specs.Views.{token_value}
 use Rattle.semver_parser.specs.ParserViews.{fault_of, answer_of, UnlessOutOfMemory, IfOutOfMemory}
 use Rattle.semver_parser.specs.declared.version.Version.{Version}
 use Rattle.semver_parser.specs.declared.parser.Error.{Error}
 use Rattle.semver_parser.specs.declared.parser.Error.TheVariants as error
 use Rattle.semver_parser.specs.Taking.{step, accepts, start}
-use Rattle.semver_parser.specs.VersionGrammar as grammar
 use Rattle.semver_parser.proofs.VersionSteps.{version_is_read}
 use Rattle.semver_parser.proofs.ReadingSteps.{reads_nothing}
 use Rattle.semver_parser.proofs.WholeText.{trimmed, printable, printed_spells, accepted_spells, outcome_spelled, plain_has_memory}

@@ -1,13 +1,13 @@
 -- Rows that show what the definitions say.
-use Rattle.std.proofs.Common.{◌≡◌, ℕ, ◌<◌, List, [], ◌∷◌, ◌++◌, length, Some, None, Ok, Err, true, false, refl, sym, subst, ap, arith, inl, inr, append-nil, length-append}
+use Rattle.std.proofs.Common.{◌≡◌, ℕ, ◌<◌, List, [], ◌∷◌, length, Some, None, Ok, Err, true, false, refl, sym, subst, ap, arith, inl, inr, length-append}
 use Rattle.std.specs.Prelude.{IsTrue, Bool, ◌&&◌}
 use Rattle.std.specs.Prelude.{codes}
 use Rattle.std.specs.Str.{chars}
 use Rattle.std.proofs.lemmas.Fmt.{decimal_digit}
 use Rattle.semver_parser.specs.Tokens as token
-use Rattle.semver_parser.specs.Tokens.{TokenValue, AreTokensOf, IsNumber, IsRun}
+use Rattle.semver_parser.specs.Tokens.{TokenValue, AreTokensOf, IsRun}
 use Rattle.semver_parser.specs.ParserState as state
-use Rattle.semver_parser.specs.ParserState.{ParserState, IsStateOf}
+use Rattle.semver_parser.specs.ParserState.{IsStateOf}
 use Rattle.semver_parser.specs.Scanning.{scan, first_token, component, sign, is_number}
 use Rattle.semver_parser.specs.PrintedText.{version_text}
 use Rattle.semver_parser.specs.VersionGrammar as grammar
@@ -23,6 +23,7 @@ use Rattle.semver_parser.proofs.TokenLists.{scan_finds}
 use Rattle.semver_parser.proofs.ReadingSteps.{reads_value, reads_unexpected, reads_end, reads_pending}
 use Rattle.semver_parser.specs.Taking.{step, accepts, start, in_pre, end}
 use Rattle.semver_parser.proofs.VersionSteps.{version_is_read}
+use Rattle.semver_parser.proofs.WholeText.{outcome_spelled}
 
 -- tokens that are found are the tokens
 tokens_found : (text : List ℕ) (ts : List TokenValue) (rest : List ℕ) → scan (length text) text 0 ≡ (ts, rest) → AreTokensOf text ts rest
@@ -201,6 +202,25 @@ two_hyphens = record {
   whole = refl;
 }
 
+-- so no version is spelled so
+two_hyphens_are_no_version : ¬ (grammar.IsVersionText (codes "1.2.3--1"))
+two_hyphens_are_no_version w = let e = outcome_spelled w.0 (codes "1.2.3--1") w.1 (Err (state.UnexpectedToken token.Hyphen)) two_hyphens in cc
+
+-- `01.0.0`: a leading zero makes it no number
+leading_zero : IsOutcomeOf (codes "01.0.0") (Err (state.UnexpectedToken (token.AlphaNumeric (codes "01"))))
+unfolding scan first_token component sign chars
+leading_zero = record {
+  start = record { remaining = token.AlphaNumeric (codes "01") ∷ token.Dot ∷ token.Numeric 0 ∷ token.Dot ∷ token.Numeric 0 ∷ []; pending = None };
+  answer = Err (state.UnexpectedToken (token.AlphaNumeric (codes "01")));
+  end = record { remaining = token.Dot ∷ token.Numeric 0 ∷ token.Dot ∷ token.Numeric 0 ∷ []; pending = None };
+  state = ([], tokens_found _ _ _ refl, refl);
+  reads = reads_unexpected step accepts start IsVersionShape version_is_read grammar.SpellsVersion _ [] _ None start refl refl (token.AlphaNumeric (codes "01")) (token.Dot ∷ token.Numeric 0 ∷ token.Dot ∷ token.Numeric 0 ∷ []) refl refl refl (inr refl);
+  whole = refl;
+}
+
+leading_zero_is_no_version : ¬ (grammar.IsVersionText (codes "01.0.0"))
+leading_zero_is_no_version w = let e = outcome_spelled w.0 (codes "01.0.0") w.1 (Err (state.UnexpectedToken (token.AlphaNumeric (codes "01")))) leading_zero in cc
+
 -- `1.2.3 a`: the version is there, and more behind it
 one_two_three : VersionValue
 one_two_three = record { plain = record { major = 1; minor = 2; patch = 3; pre = [] }; build = [] }
@@ -213,6 +233,31 @@ more_input = record {
   end = record { remaining = token.AlphaNumeric (codes "a") ∷ []; pending = None };
   state = ([], tokens_found _ _ _ refl, refl);
   reads = reads_value step accepts start IsVersionShape version_is_read grammar.SpellsVersion _ (token.Numeric 1 ∷ token.Dot ∷ token.Numeric 2 ∷ token.Dot ∷ token.Numeric 3 ∷ token.Whitespace 5 6 ∷ []) (token.AlphaNumeric (codes "a") ∷ []) None end refl refl one_two_three refl refl (inl (omega arith)) (record {
+    before = [];
+    pre_text = [];
+    build_text = [];
+    after = [];
+    major = omega arith;
+    minor = omega arith;
+    patch = omega arith;
+    pre = record { texts = []; each = tt; joined = refl };
+    build = record { texts = []; each = tt; joined = refl };
+    spaces_before = tt;
+    spaces_after = tt;
+    spelled = refl;
+  });
+  whole = refl;
+}
+
+-- `1.2.3 a/`: a bad character behind it goes before what is left
+bad_behind_more : IsOutcomeOf (codes "1.2.3 a/") (Err (state.Lexer 47))
+unfolding scan first_token component sign chars digits one_two_three
+bad_behind_more = record {
+  start = record { remaining = token.Numeric 1 ∷ token.Dot ∷ token.Numeric 2 ∷ token.Dot ∷ token.Numeric 3 ∷ token.Whitespace 5 6 ∷ token.AlphaNumeric (codes "a") ∷ []; pending = Some 47 };
+  answer = Ok one_two_three;
+  end = record { remaining = token.AlphaNumeric (codes "a") ∷ []; pending = Some 47 };
+  state = (codes "/", tokens_found _ _ _ refl, refl);
+  reads = reads_value step accepts start IsVersionShape version_is_read grammar.SpellsVersion _ (token.Numeric 1 ∷ token.Dot ∷ token.Numeric 2 ∷ token.Dot ∷ token.Numeric 3 ∷ token.Whitespace 5 6 ∷ []) (token.AlphaNumeric (codes "a") ∷ []) (Some 47) end refl refl one_two_three refl refl (inl (omega arith)) (record {
     before = [];
     pre_text = [];
     build_text = [];

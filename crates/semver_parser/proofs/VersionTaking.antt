@@ -1,17 +1,17 @@
 -- Taking a version token by token: each step goes on, or is a way in which reading ends.
-use Rattle.std.proofs.Common.{◌≡◌, ℕ, ◌<◌, ◌≤◌, ◌^◌, Bool, true, false, List, [], ◌∷◌, ◌++◌, length, map, Some, None, Option, Result, Ok, Err, sym, refl, ap, ◌∙◌, subst, ◌⊎◌, inl, inr, ⊎_elim, arith, append_assoc, append-nil, length-append, cond, decimal, codes}
-use Rattle.std.specs.Prelude.{option_and_then, IsTrue, slice_get}
+use Rattle.std.proofs.Common.{◌≡◌, ℕ, ◌<◌, ◌^◌, Bool, true, false, List, [], ◌∷◌, ◌++◌, length, Some, None, Option, Result, Ok, Err, sym, refl, ap, ◌∙◌, subst, ◌⊎◌, inl, inr, ⊎_elim, arith, append_assoc, append-nil, length-append, decimal, codes}
+use Rattle.std.specs.Prelude.{option_and_then, slice_get}
 use Rattle.std.specs.Bool.{MatchBool}
-use Rattle.std.specs.List.{AllByRecursion, AllZip, join_with_byte}
+use Rattle.std.specs.List.{AllZip, join_with_byte}
 use Rattle.std.proofs.lemmas.Option.{none-some, same_Some}
 use Rattle.std.proofs.lemmas.Grind.{flat_map-append}
 use Rattle.semver_parser.specs.Texts.{marked}
-use Rattle.semver_parser.specs.Tokens.{TokenValue, Hyphen, Dot, Plus, Whitespace, Numeric, AlphaNumeric, is_component, is_whitespace}
+use Rattle.semver_parser.specs.Tokens.{TokenValue, Hyphen, Dot, Plus, Whitespace, Numeric, AlphaNumeric, is_whitespace}
 use Rattle.semver_parser.specs.Versions.{IdentifierValue, VersionValue}
 use Rattle.semver_parser.specs.VersionGrammar.{SpellsIdentifier, SpellsPart, SpellsVersion}
 use Rattle.semver_parser.specs.ParserState as fault
 use Rattle.semver_parser.specs.ParserState.{ParserState, Fault, Step, pop, look, and_then, numeric, as_numeric, dot_numeric, expect_dot}
-use Rattle.semver_parser.specs.VersionReading.{IsIdentifierShape, IsVersionShape, IsLongestFront, IsWhole, Reads, Refuses, ReadsIdentifier, ReadsVersion, HoldsRun, HoldsIdentifierRun, IsEndPart, MayRunOutInIdentifier, MayRunOutInVersion, inner_text, inner_texts, last_alone}
+use Rattle.semver_parser.specs.VersionReading.{IsIdentifierShape, IsVersionShape, IsLongestFront, Refuses, ReadsIdentifier, ReadsVersion, HoldsRun, HoldsIdentifierRun, IsEndPart, MayRunOutInIdentifier, MayRunOutInVersion, inner_text, inner_texts, last_alone}
 use Rattle.semver_parser.specs.Taking.{run, Place, start, major, after_major, minor, after_minor, patch, after_patch, in_pre, after_pre, in_build, after_build, end, step, accepts, IsTakenTo, IsAtMark, AreRunPlaces, in_pre_release, in_the_build, ArePassed, PassesIdentifiers, TakesPart, PartMayRunOut, skip_at, skip_whitespace}
 use Rattle.semver_parser.proofs.ReadingSteps.{run-append, furthest, longest_stops, longest_front, not_whole, Stops, reads_value, reads_unexpected, reads_end, reads_pending, reads_nothing}
 use Rattle.semver_parser.proofs.IdentifierSteps.{id_step, identifier_is_read, Pops, pop_gives, Refused, at_end, at_nothing, at_last, pop_fails, err_ok, ok_parts, err_parts}

@@ -1,21 +1,21 @@
 -- A text that spells a version has the tokens of one, and they spell that version.
-use Rattle.std.proofs.Common.{◌≡◌, ℕ, ◌+◌, ◌-◌, ◌<◌, ◌≤◌, ◌^◌, Bool, true, false, List, [], ◌∷◌, ◌++◌, length, take, drop, map, Some, None, Option, sym, refl, ap, ◌∙◌, subst, inl, inr, arith, append_assoc, append-nil, length-append, length-drop, codes, decimal, cond}
+use Rattle.std.proofs.Common.{◌≡◌, ℕ, ◌+◌, ◌-◌, ◌<◌, ◌^◌, Bool, true, false, List, [], ◌∷◌, ◌++◌, length, take, drop, Some, None, sym, refl, ap, ◌∙◌, subst, inl, arith, append_assoc, append-nil, length-append, length-drop, decimal, cond}
 use Rattle.std.specs.Prelude.{option_and_then, IsTrue, slice_index, slice_range}
 use Rattle.std.specs.List.{AllByRecursion, AllZip, join_with_byte}
 use Rattle.std.specs.Char.{is_ascii_alphanumeric}
-use Rattle.std.proofs.lemmas.List.{take_at, drop_at, drop-drop, get_or_append_left}
-use Rattle.semver_parser.specs.Texts.{Text, marked}
+use Rattle.std.proofs.lemmas.List.{take_at, drop_at, drop-drop}
+use Rattle.semver_parser.specs.Texts.{marked}
 use Rattle.semver_parser.specs.Tokens.{TokenValue, Dot, Hyphen, Plus, Whitespace, Numeric, token_text, IsRun, IsTokenAt, AreTokensFrom, AreTokensOf, is_space, is_component, is_whitespace}
 use Rattle.semver_parser.specs.Scanning.{component, is_number}
 use Rattle.semver_parser.specs.Versions.{IdentifierValue, numeric, alphanumeric, VersionValue}
-use Rattle.semver_parser.specs.VersionGrammar.{IsIdentifierText, SpellsIdentifier, SpellsPart, SpellsVersion}
+use Rattle.semver_parser.specs.VersionGrammar.{SpellsIdentifier, SpellsPart, SpellsVersion}
 use Rattle.semver_parser.specs.VersionReading.{IsVersionShape, inner_text, inner_texts}
 use Rattle.semver_parser.specs.Taking.{run, Place, start, major, after_major, minor, after_minor, patch, after_patch, in_pre, after_pre, in_build, after_build, end, step, accepts, AreRunPlaces, in_pre_release, in_the_build}
-use Rattle.semver_parser.proofs.FirstToken.{IsFront, IsFound, goes_on, continues, continues-component, token_text-component, IsTokenAt-component, by_test, never}
+use Rattle.semver_parser.proofs.FirstToken.{IsFound, goes_on, continues-component, token_text-component, IsTokenAt-component, by_test, never}
 use Rattle.semver_parser.proofs.TokenLists.{tokens_cons, shows_kind, decimal_is_run}
 use Rattle.semver_parser.proofs.Numbers.{component_number, component_other, is_number_true, canonical_from_is_number}
 use Rattle.semver_parser.proofs.VersionSteps.{version_is_read}
-use Rattle.semver_parser.proofs.OneVersion.{Passes, grouped, regroup, no_run_behind_build, no_run_behind_pre, no_run_behind_patch, no_space_follows}
+use Rattle.semver_parser.proofs.OneVersion.{Passes, regroup, no_run_behind_build, no_run_behind_pre, no_run_behind_patch, no_space_follows}
 
 -- what stands at each place where this text begins: its tokens, which lead from the place p to one where a version may end, and their text without white space
 record AreEnding (text : List ℕ) (p : Place) (spelled : List ℕ) (at : ℕ) : Type 0 where

@@ -1,29 +1,28 @@
 -- What reading a whole text answers, by the texts and the grammar.
-use Rattle.std.proofs.Common.{◌≡◌, ℕ, zero, suc, ◌+◌, ◌-◌, ◌<◌, ◌≤◌, ◌^◌, Bool, true, false, eqb, ◌||◌, List, [], ◌∷◌, ◌++◌, length, take, drop, map, Some, None, Option, Result, Ok, Err, sym, refl, ap, ◌∙◌, subst, ◌⊎◌, inl, inr, ⊎_elim, arith, append_assoc, append-nil, length-append, codes, decimal, IsUtf8, IfOk}
-use Rattle.std.specs.Prelude.{IsTrue, slice_index, slice_get, chars, flat_map, encode_utf8_all}
+use Rattle.std.proofs.Common.{◌≡◌, ℕ, zero, suc, ◌+◌, ◌-◌, ◌<◌, ◌^◌, Bool, true, false, eqb, ◌||◌, List, [], ◌∷◌, ◌++◌, length, drop, map, Some, None, Option, Result, Ok, Err, sym, refl, ap, ◌∙◌, subst, ◌⊎◌, inr, ⊎_elim, arith, append_assoc, append-nil, length-append, codes, decimal, IsUtf8}
+use Rattle.std.specs.Prelude.{slice_index, slice_get, chars, flat_map, encode_utf8_all}
 use Rattle.std.specs.Str.{IsAscii, IsCharBoundary}
 use Rattle.std.specs.List.{AllByRecursion, AllZip, join_by, join_with_byte}
 use Rattle.std.specs.Char.{is_ascii_alphanumeric}
-use Rattle.std.proofs.lemmas.Str.{chars-nil, encodes-chars, IsAscii-append, IsUtf8-drop, IsCharBoundary-start}
+use Rattle.std.proofs.lemmas.Str.{chars-nil, encodes-chars, IsAscii-append, IsUtf8-drop}
 use Rattle.std.proofs.lemmas.Str.Ascii.{IsAscii-nil}
 use Rattle.std.proofs.lemmas.List.{drop_at}
-use Rattle.std.proofs.lemmas.Option.{none-some, same_Some}
+use Rattle.std.proofs.lemmas.Option.{none-some}
 use Rattle.std.proofs.lemmas.Grind.{flat_map-append}
 use Rattle.std.proofs.lemmas.Bool.Decides.{nat_tests}
-use Rattle.semver_parser.specs.Texts.{Text, marked}
+use Rattle.semver_parser.specs.Texts.{marked}
 use Rattle.semver_parser.specs.RangeTree.{is_part_byte}
-use Rattle.semver_parser.specs.Tokens.{TokenValue, Dot, Hyphen, Plus, Whitespace, Numeric, token_text, tokens_text, IsTokenAt, AreInPlace, IsBadStart, AreTokensFrom, AreTokensOf, is_space, is_component, is_whitespace}
+use Rattle.semver_parser.specs.Tokens.{TokenValue, Dot, Hyphen, Plus, Whitespace, Numeric, token_text, tokens_text, IsTokenAt, AreInPlace, AreTokensOf, is_space}
 use Rattle.semver_parser.specs.Versions.{IdentifierValue, numeric, alphanumeric, VersionValue, numbers}
 use Rattle.semver_parser.specs.PrintedText.{identifier_text, version_text}
 use Rattle.semver_parser.specs.VersionGrammar.{SpellsIdentifier, SpellsPart, SpellsVersion, IsTrimmed, IsPrintableIdentifier, IsPrintableVersion}
-use Rattle.semver_parser.specs.ParserState as fault
 use Rattle.semver_parser.specs.ParserState.{ParserState, Fault, IsStateOf}
-use Rattle.semver_parser.specs.VersionReading.{IsIdentifierShape, IsPartShape, IsOuterShape, IsVersionShape, IsLongestFront, Begins, Reads, ReadsVersion, IsOutcomeOf, whole_answer, HoldsIdentifierRun, MayRunOutInVersion, TextMayRunOut, inner_text, inner_texts}
+use Rattle.semver_parser.specs.VersionReading.{IsIdentifierShape, IsPartShape, IsOuterShape, IsVersionShape, IsLongestFront, ReadsVersion, IsOutcomeOf, whole_answer, HoldsIdentifierRun, TextMayRunOut, inner_text, inner_texts}
 use Rattle.semver_parser.proofs.Cuts.{IsAscii-token_text, cut_after_ascii}
 use Rattle.semver_parser.proofs.TokenLists.{same_tokens, decimal_is_run}
 use Rattle.semver_parser.proofs.ReadingSteps.{same_front}
 use Rattle.semver_parser.proofs.IdentifierSteps.{identifier_is_read}
-use Rattle.semver_parser.proofs.IdentifierTexts.{is_piece, IsPiece, pieces, pieces_text, behind_in_place}
+use Rattle.semver_parser.proofs.IdentifierTexts.{pieces, pieces_text, behind_in_place}
 use Rattle.semver_parser.proofs.OneVersion.{Passes, passes_more, passes_append, run_passes, part_passes, one_version}
 use Rattle.semver_parser.proofs.VersionTokens.{HasTokens, version_tokens}
 

@@ -1,10 +1,9 @@
-use Rattle.std.proofs.Common.{◌≡◌, ℕ, refl, sym, ap, ◌∙◌, subst, Ok, Err, Result, List, [], map}
+use Rattle.std.proofs.Common.{◌≡◌, ℕ, refl, sym, ap, ◌∙◌, Ok, Err, Result, List, [], map}
 use Rattle.std.proofs.lemmas.Result.{err_from_is_err_and}
-use Rattle.semver_parser.specs.Tokens.{TokenValue}
-use Rattle.semver_parser.specs.ParserState.{ParserState, Fault, Step, tail, IsStateOf}
+use Rattle.semver_parser.specs.ParserState.{ParserState, tail}
 use Rattle.semver_parser.specs.Views.{token_value}
 use Rattle.semver_parser.specs.ParserViews.{fault_of, answer_of, UnlessOutOfMemory, IfOutOfMemory}
-use Rattle.semver_parser.specs.VersionReading.{ReadsVersion, IsOutcomeOf, TextMayRunOut}
+use Rattle.semver_parser.specs.VersionReading.{IsOutcomeOf, TextMayRunOut}
 use Rattle.semver_parser.specs.VersionViews.{version_value}
 use Rattle.semver_parser.specs.declared.version.Version.{Version}
 use Rattle.semver_parser.specs.declared.parser.Error.{Error}

@@ -1,6 +1,4 @@
-use Rattle.std.proofs.Common.{subst, sym, ap, ◌≡◌, List, ℕ, drop, true, false, Bool}
-use Rattle.semver_parser.specs.ParserState.{ParserState, IsStateFrom}
-use Rattle.semver_parser.specs.Scanning.{state_left}
+use Rattle.std.proofs.Common.{true, false}
 use Rattle.semver_parser.proofs.LexerSteps.{state_at_place, state_after_error}
 use Rattle.semver_parser.proofs.lexer.Lexer.rest.Goals as goal
 

@@ -1,10 +1,9 @@
-use Rattle.std.proofs.Common.{◌≡◌, ◌∙◌, sym, ap, subst, Some, None, Option, ℕ, List}
+use Rattle.std.proofs.Common.{◌∙◌, sym, subst, Option, ℕ, List}
 use Rattle.std.specs.String.{string_bytes}
 use Rattle.std.proofs.lemmas.Result.{err_from_is_err_and}
 use Rattle.semver_parser.specs.ParserState.{IsStateFrom}
 use Rattle.semver_parser.specs.VersionGrammar.{SpellsIdentifier}
 use Rattle.semver_parser.specs.Versions.{alphanumeric}
-use Rattle.semver_parser.specs.Taking.{TakesIdentifier}
 use Rattle.semver_parser.specs.VersionReading.{inner_texts}
 use Rattle.semver_parser.proofs.ReadingSteps.{reads_refused, reads_other}
 use Rattle.semver_parser.proofs.IdentifierSteps.{kept_as}

@@ -1,10 +1,9 @@
-use Rattle.std.proofs.Common.{◌≡◌, sym, ap, ◌∙◌, refl, subst, List, map, ◌<◌, length, arith, Ok, Err, Option, ◌∷◌, [], ◌++◌, true, false, Bool}
+use Rattle.std.proofs.Common.{sym, map, true, false}
 use Rattle.std.proofs.lemmas.Result.{err_from_is_err_and}
 use Rattle.std.proofs.lemmas.List.{map_push}
 use Rattle.semver_parser.specs.VersionViews.{identifier_value}
 use Rattle.semver_parser.specs.Views.{token_value}
 use Rattle.semver_parser.specs.ParserViews.{fault_of}
-use Rattle.semver_parser.specs.VersionReading.{ReadsIdentifier, MayRunOutInIdentifier}
 use Rattle.semver_parser.proofs.IdentifierTexts.{unless_out_of_memory, unless_err, if_err}
 use Rattle.semver_parser.proofs.VersionTaking.{part_begins, part_refused_mark, part_refused, part_runs_out, part_runs_out_behind, part_goes_on, part_ends}
 use Rattle.semver_parser.proofs.parser.Parser.identifiers.Goals as goal

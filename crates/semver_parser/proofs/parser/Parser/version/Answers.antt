@@ -1,13 +1,13 @@
-use Rattle.std.proofs.Common.{rules, ◌<◌, ◌^◌, sym, ◌++◌, map, Ok, Err, codes}
+use Rattle.std.proofs.Common.{rules, ◌<◌, ◌^◌, sym, map, codes}
 use Rattle.std.proofs.lemmas.Result.{err_from_is_err_and}
 use Rattle.semver_parser.specs.ParserViews.{fault_of}
 use Rattle.semver_parser.specs.VersionViews.{identifier_value, version_value}
 use Rattle.semver_parser.specs.Versions.{VersionValue}
 use Rattle.semver_parser.specs.Taking.{IsTakenTo, after_patch}
 use Rattle.semver_parser.proofs.IdentifierTexts.{unless_out_of_memory, unless_err, if_err}
-use Rattle.semver_parser.proofs.VersionTaking.{begin_refused, three_numbers, major_refused, minor_refused, patch_refused, patch_taken, IsPart, MayBePlus, MayBeNothing, pre_taken, pre_refused, pre_runs_out, build_taken, build_refused, build_runs_out, end_refused, version_ends, spells_whole}
+use Rattle.semver_parser.proofs.VersionTaking.{begin_refused, three_numbers, major_refused, minor_refused, patch_refused, patch_taken, IsPart, MayBePlus, pre_taken, pre_refused, pre_runs_out, build_taken, build_refused, build_runs_out, end_refused, version_ends, spells_whole}
 use Rattle.semver_parser.proofs.parser.Parser.version.Goals as goal
-use Rattle.semver_parser.proofs.parser.Parser.version.Goals.{In_ok-patch, In_ok-pre, In_ok-build}
+use Rattle.semver_parser.proofs.parser.Parser.version.Goals.{In_ok-patch, In_ok-pre}
 
 pub returns-in_err-skip_whitespace-clause-answer : goal.returns-in_err-skip_whitespace-clause-answer
 returns-in_err-skip_whitespace-clause-answer c =
