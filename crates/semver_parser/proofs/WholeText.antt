@@ -20,7 +20,7 @@ use Rattle.semver_parser.specs.ParserState.{ParserState, Fault, IsStateOf}
 use Rattle.semver_parser.specs.VersionReading.{IsIdentifierShape, IsPartShape, IsOuterShape, IsVersionShape, IsLongestFront, ReadsVersion, IsOutcomeOf, whole_answer, HoldsIdentifierRun, TextMayRunOut, inner_text, inner_texts}
 use Rattle.semver_parser.proofs.Cuts.{IsAscii-token_text, cut_after_ascii}
 use Rattle.semver_parser.proofs.TokenLists.{same_tokens, decimal_is_run}
-use Rattle.semver_parser.proofs.ReadingSteps.{same_front}
+use Rattle.semver_parser.proofs.ReadingSteps.{same_front, reads_once}
 use Rattle.semver_parser.proofs.IdentifierSteps.{identifier_is_read}
 use Rattle.semver_parser.proofs.IdentifierTexts.{pieces, pieces_text, behind_in_place}
 use Rattle.semver_parser.proofs.OneVersion.{Passes, passes_more, passes_append, run_passes, part_passes, one_version}
@@ -328,3 +328,13 @@ module _ (v : VersionValue) (text : List ℕ) (spells : SpellsVersion v text) wh
           (λ hyphen. let e : is_plain_byte 45 ≡ true = behind is_plain_byte (inner_texts h.before) 45 (inner_texts (h.component ∷ h.after)) (subst (λ (x : TokenValue). Passes is_plain_byte (inner_texts h.before ++ (inner_text x ++ inner_texts (h.component ∷ h.after)))) hyphen passes) in cc)
           (λ plus. let e : is_plain_byte 43 ≡ true = behind is_plain_byte (inner_texts h.before) 43 (inner_texts (h.component ∷ h.after)) (subst (λ (x : TokenValue). Passes is_plain_byte (inner_texts h.before ++ (inner_text x ++ inner_texts (h.component ∷ h.after)))) plus passes) in cc)
           h.is_sign
+
+-- ---- the outcome is one
+
+pub one_outcome : (text : List ℕ) (x y : Result VersionValue Fault) → IsOutcomeOf text x → IsOutcomeOf text y → x ≡ y
+one_outcome text x y a b =
+    let same = same_tokens text 0 a.start.remaining b.start.remaining a.state.0 b.state.0 a.state.1 b.state.1 in
+    let pending : a.start.pending ≡ b.start.pending = a.state.2 ∙ ap (λ (l : List ℕ). slice_get (chars l) 0) same.1 ∙ sym b.state.2 in
+    let begin : a.start ≡ b.start = (λ i. record { remaining = same.0 i; pending = pending i }) in
+    let once = reads_once IsVersionShape SpellsVersion one_version b.start a.answer b.answer a.end b.end (subst (λ (s : ParserState). ReadsVersion s a.answer a.end) begin a.reads) b.reads in
+    a.whole ∙ (λ i. whole_answer (once.0 i) (once.1 i).remaining (once.1 i).pending) ∙ sym b.whole

@@ -1,5 +1,5 @@
 //! Laws over the definitions: each is the contract of a function that does nothing.
-ghost use Rattle.std.specs.Prelude.{◌≡◌, ◌↔◌, ℕ, List, [], ◌∷◌, true, false, codes, IsTrue};
+ghost use Rattle.std.specs.Prelude.{◌≡◌, Result, ◌↔◌, ℕ, List, [], ◌∷◌, true, false, codes, IsTrue};
 ghost use Rattle.std.specs.Cmp.{IsTotalOrder};
 ghost use Rattle.std.specs.declared.cmp.Ordering.TheVariants.{Equal};
 ghost use Rattle.semver_parser.specs.declared.range_set.Compat.{Compat};
@@ -9,6 +9,8 @@ ghost use Rattle.semver_parser.specs.Tokens.{TokenValue, AreTokensOf};
 ghost use Rattle.semver_parser.specs.RangeTree.{SetTree, Spells};
 ghost use Rattle.semver_parser.specs.Versions.{PlainVersion, VersionValue, numeric, alphanumeric};
 ghost use Rattle.semver_parser.specs.VersionGrammar.{SpellsVersion};
+ghost use Rattle.semver_parser.specs.ParserState.{Fault};
+ghost use Rattle.semver_parser.specs.VersionReading.{IsOutcomeOf};
 ghost use Rattle.semver_parser.specs.Precedence.{precedence};
 ghost use Rattle.semver_parser.specs.OwnMeaning.{meets_tree};
 ghost use Rattle.semver_parser.specs.RewritingTable.{PlainSet, fits, rewritten};
@@ -25,6 +27,11 @@ pub fn one_token_list()
 /// No text spells two versions.
 pub fn one_version()
     ensures { (v w : VersionValue) (text : Text) → SpellsVersion v text → SpellsVersion w text → v ≡ w }
+{}
+
+/// Reading a text as a version has one outcome.
+pub fn one_outcome()
+    ensures { (text : Text) (x y : Result VersionValue Fault) → IsOutcomeOf text x → IsOutcomeOf text y → x ≡ y }
 {}
 
 /// No range text has two trees.
