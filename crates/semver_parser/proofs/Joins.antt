@@ -1,7 +1,7 @@
 -- Steps of a loop that writes the items of a list one after the other.
 use Rattle.std.proofs.Common.{◌≡◌, ℕ, ◌+◌, ◌<◌, ◌≤◌, List, [], ◌∷◌, ◌++◌, length, get_or, take, eqb, false, refl, sym, ap, ◌∙◌, take_all, append_assoc, append-nil, codes}
 use Rattle.std.specs.Prelude.{flat_map, map}
-use Rattle.std.specs.List.{join_by, join_with_byte}
+use Rattle.std.specs.List.{join_with_byte}
 use Rattle.std.proofs.lemmas.List.{take_more, flat_map_more}
 use Rattle.semver_parser.specs.Texts.{Text, joined, marked}
 

@@ -1,5 +1,5 @@
 -- What the report writes, from what its lines show.
-use Rattle.std.proofs.Common.{◌≡◌, ◌↔◌, Bool, true, false, List, ℕ, ◌++◌, Option, Result, Ok, Err, IfOk, IsTrue, codes, refl, sym, ap, ◌∙◌, subst}
+use Rattle.std.proofs.Common.{◌≡◌, ◌↔◌, Bool, true, false, List, ℕ, Option, Result, Ok, Err, IfOk, IsTrue, codes, refl, sym, ap, ◌∙◌, subst}
 use Rattle.std.specs.Prelude.{◌||◌}
 use Rattle.semver_parser.specs.declared.range_set.Compat.{Compat}
 use Rattle.semver_parser.specs.declared.range_set.Compat.TheVariants.{Cargo, Npm}

@@ -1,5 +1,5 @@
 -- What reading a whole text answers, by the texts and the grammar.
-use Rattle.std.proofs.Common.{◌≡◌, ℕ, zero, suc, ◌+◌, ◌-◌, ◌<◌, ◌^◌, Bool, true, false, eqb, ◌||◌, List, [], ◌∷◌, ◌++◌, length, drop, map, Some, None, Option, Result, Ok, Err, sym, refl, ap, ◌∙◌, subst, ◌⊎◌, inr, ⊎_elim, arith, append_assoc, append-nil, length-append, codes, decimal, IsUtf8}
+use Rattle.std.proofs.Common.{◌≡◌, ℕ, zero, suc, ◌+◌, ◌-◌, ◌<◌, ◌^◌, Bool, true, false, eqb, ◌||◌, List, [], ◌∷◌, ◌++◌, length, drop, map, Some, None, Option, Result, Ok, Err, sym, refl, ap, ◌∙◌, subst, inr, ⊎_elim, arith, append_assoc, append-nil, length-append, codes, decimal, IsUtf8}
 use Rattle.std.specs.Prelude.{slice_index, slice_get, chars, flat_map, encode_utf8_all}
 use Rattle.std.specs.Str.{IsAscii, IsCharBoundary}
 use Rattle.std.specs.List.{AllByRecursion, AllZip, join_by, join_with_byte}

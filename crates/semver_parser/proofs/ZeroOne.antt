@@ -1,7 +1,7 @@
 -- The version that `1.2.3-01` spells.
 use Rattle.std.proofs.Common.{[], ◌∷◌, codes, refl, arith}
 use Rattle.std.specs.Fmt.{digits}
-use Rattle.semver_parser.specs.Versions.{VersionValue, alphanumeric}
+use Rattle.semver_parser.specs.Versions.{alphanumeric}
 use Rattle.semver_parser.specs.VersionGrammar.{SpellsVersion}
 use Rattle.semver_parser.proofs.VersionExamples.{zero_one_is_printable}
 

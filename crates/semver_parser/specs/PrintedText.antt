@@ -1,5 +1,5 @@
 -- The printed text of identifiers and versions.
-use Rattle.std.specs.Prelude.{List, ◌++◌, map, codes}
+use Rattle.std.specs.Prelude.{◌++◌, map, codes}
 use Rattle.std.specs.List.{join_with_byte}
 use Rattle.std.specs.Fmt.{decimal}
 use Rattle.semver_parser.specs.Texts.{Text, marked}

@@ -1,4 +1,3 @@
-use Rattle.std.proofs.Common.{true, false}
 use Rattle.semver_parser.proofs.LexerSteps.{state_at_place, state_after_error}
 use Rattle.semver_parser.proofs.lexer.Lexer.rest.Goals as goal
 

@@ -1,4 +1,4 @@
-use Rattle.std.proofs.Common.{sym, map, true, false}
+use Rattle.std.proofs.Common.{sym, map}
 use Rattle.std.proofs.lemmas.Result.{err_from_is_err_and}
 use Rattle.std.proofs.lemmas.List.{map_push}
 use Rattle.semver_parser.specs.VersionViews.{identifier_value}

@@ -1,12 +1,12 @@
 use Rattle.std.proofs.Common.{◌++◌, codes, refl, rules}
-use Rattle.std.specs.Prelude.{map, List}
+use Rattle.std.specs.Prelude.{map}
 use Rattle.std.specs.List.{join_with_byte}
 use Rattle.std.specs.Fmt.{decimal}
 use Rattle.semver_parser.specs.Versions.{numbers}
 use Rattle.std.proofs.Output.{has_written_append, has_written_of_eq}
 use Rattle.semver_parser.specs.declared.version.Identifier.{Identifier}
 use Rattle.semver_parser.specs.Texts.{Text, marked}
-use Rattle.semver_parser.specs.PrintedText.{identifier_text, plain_text}
+use Rattle.semver_parser.specs.PrintedText.{identifier_text}
 use Rattle.semver_parser.specs.VersionViews.{identifier_value, version_value}
 use Rattle.semver_parser.proofs.Joins.{map_view}
 use Rattle.semver_parser.proofs.version.VersionDisplay.fmt.Goals as goal
