@@ -2,7 +2,7 @@
 use super::made_values::{a_version, identifier};
 use super::writers::{AtEnd, FailsAfter, Limited, OneByOne};
 use semver_parser::parser::Parser;
-use semver_parser::{Compat, Op, RangeSet, report, version};
+use semver_parser::{Compat, Op, RangeError, RangeSet, report, version};
 use std::fmt;
 use std::fmt::Write;
 use std::process::Abort;
@@ -71,7 +71,7 @@ fn printed_sets_fail_exactly_where_the_writer_does(rt: HostRuntime) -> Result<()
     ] {
         passes_faults_on(&rt, &op, sign)?;
     }
-    Ok(())
+    passes_faults_on(&rt, &RangeError::NotARange, "not a range")
 }
 
 #[test]
