@@ -22,7 +22,7 @@ use std::cmp::Ordering;
 /// `2.5.0` meets the set of `^0.2 || 2.x`; `2.0.0-rc` doesn't, and neither does `0.3.0`. No version meets a set without
 /// ranges, and each release meets a range without comparators. It takes no memory.
 pub fn release_meets(set: &RangeSet, version: &Version) -> bool
-    ensures { result ≡ (is_release (version_value version.now) && meets_set (version_value version.now).plain (set_of set.now)) }
+    ensures meets { result ≡ (is_release (version_value version.now) && meets_set (version_value version.now).plain (set_of set.now)) }
 {
     version.pre.is_empty() && some_range_meets(&set.ranges, version)
 }

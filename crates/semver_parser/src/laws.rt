@@ -20,23 +20,23 @@ ghost use Rattle.semver_parser.specs.Examples.{IsMet, release, version};
 
 /// A text has one list of tokens and one rest.
 pub fn one_token_list()
-    ensures { (text : Text) (ts us : List TokenValue) (rest other : Text) →
+    ensures same_tokens { (text : Text) (ts us : List TokenValue) (rest other : Text) →
         AreTokensOf text ts rest → AreTokensOf text us other → (ts ≡ us) × (rest ≡ other) }
 {}
 
 /// No text spells two versions.
 pub fn one_version()
-    ensures { (v w : VersionValue) (text : Text) → SpellsVersion v text → SpellsVersion w text → v ≡ w }
+    ensures same_version { (v w : VersionValue) (text : Text) → SpellsVersion v text → SpellsVersion w text → v ≡ w }
 {}
 
 /// Reading a text as a version has one outcome.
 pub fn one_outcome()
-    ensures { (text : Text) (x y : Result VersionValue Fault) → IsOutcomeOf text x → IsOutcomeOf text y → x ≡ y }
+    ensures same_outcome { (text : Text) (x y : Result VersionValue Fault) → IsOutcomeOf text x → IsOutcomeOf text y → x ≡ y }
 {}
 
 /// No range text has two trees.
 pub fn one_tree()
-    ensures { (tree tree' : SetTree) (text : Text) → Spells tree text → Spells tree' text → tree ≡ tree' }
+    ensures same_tree { (tree tree' : SetTree) (text : Text) → Spells tree text → Spells tree' text → tree ≡ tree' }
 {}
 
 /// A version meets the comparators of a range text exactly if, in some range, it meets each term or is a
@@ -77,11 +77,11 @@ pub fn precedence_is_total()
 
 /// The text of a printable set is spelled by a tree that fits and is rewritten to the set.
 pub fn printed_sets_read_back()
-    ensures { (s : PlainSet) → IsPrintableSet s → (tree : SetTree) × Spells tree (set_text s)
+    ensures read_back { (s : PlainSet) → IsPrintableSet s → (tree : SetTree) × Spells tree (set_text s)
         × IsTrue (fits s.compat tree) × (rewritten s.compat tree ≡ s) }
 {}
 
 /// What a tree that spells a text and fits is rewritten to is printable.
 pub fn answered_sets_are_printable()
-    ensures { (mode : Compat) (tree : SetTree) (text : Text) → Spells tree text → IsTrue (fits mode tree) → IsPrintableSet (rewritten mode tree) }
+    ensures printable { (mode : Compat) (tree : SetTree) (text : Text) → Spells tree text → IsTrue (fits mode tree) → IsPrintableSet (rewritten mode tree) }
 {}

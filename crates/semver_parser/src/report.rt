@@ -35,7 +35,7 @@ enum Shown {
 /// `Err` only where a write failed, was interrupted, or took no byte; then nothing more is written, and `out` got a
 /// beginning of the lines.
 pub fn run<W: Write>(alloc: Global, text: &str, out: &mut W) -> Result<bool, io::Error>
-    ensures { WritesLines text.now (W.contents out.old) (W.contents out.new) result }
+    ensures lines { WritesLines text.now (W.contents out.old) (W.contents out.new) result }
 {
     let version = version_shown(alloc, text);
     let cargo = range_shown(alloc, text, Compat::Cargo);
@@ -64,7 +64,7 @@ fn write_lines<W: Write>(
 ///
 /// Of `Ok(false)` it is 1.
 pub fn status(ran: &Result<bool, io::Error>) -> u8
-    ensures { result ≡ status_of ran.now }
+    ensures code { result ≡ status_of ran.now }
 {
     match ran {
         Ok(true) => 0,

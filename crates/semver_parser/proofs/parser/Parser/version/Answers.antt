@@ -20,26 +20,26 @@ pub returns-in_err-major-clause-answer : goal.returns-in_err-major-clause-answer
 returns-in_err-major-clause-answer c =
     let p = err_from_is_err_and c.from_residual-in_err-major.result c.from_residual-in_err-major.ensures.1 in
     unless_out_of_memory c.from_residual-in_err-major.result
-    (rw (p.1, p.2) (major_refused c.args.self.now c.skip_whitespace.new.self c.numeric.new.self (sym c.in_ok-skip_whitespace.ensures) _ (sym c.in_err-major.ensures)))
+    (rw (p.1, p.2) (major_refused c.args.self.now c.skip_whitespace.new.self c.numeric.new.self (sym c.in_ok-skip_whitespace.ensures) _ (sym c.in_err-major.ensures.step)))
 
 pub returns-in_err-minor-clause-answer : goal.returns-in_err-minor-clause-answer
 returns-in_err-minor-clause-answer c =
     let p = err_from_is_err_and c.from_residual-in_err-minor.result c.from_residual-in_err-minor.ensures.1 in
     unless_out_of_memory c.from_residual-in_err-minor.result
-    (rw (p.1, p.2) (minor_refused c.args.self.now c.skip_whitespace.new.self c.numeric.new.self (sym c.in_ok-skip_whitespace.ensures) _ (sym c.in_ok-major.ensures) c.dot_numeric.new.self _ (sym c.in_err-minor.ensures)))
+    (rw (p.1, p.2) (minor_refused c.args.self.now c.skip_whitespace.new.self c.numeric.new.self (sym c.in_ok-skip_whitespace.ensures) _ (sym c.in_ok-major.ensures.step) c.dot_numeric.new.self _ (sym c.in_err-minor.ensures.step)))
 
 pub returns-in_err-patch-clause-answer : goal.returns-in_err-patch-clause-answer
 returns-in_err-patch-clause-answer c =
     let p = err_from_is_err_and c.from_residual-in_err-patch.result c.from_residual-in_err-patch.ensures.1 in
     unless_out_of_memory c.from_residual-in_err-patch.result
     (rw (p.1, p.2)
-    (patch_refused c.args.self.now c.skip_whitespace.new.self c.numeric.new.self (sym c.in_ok-skip_whitespace.ensures) _ (sym c.in_ok-major.ensures) c.dot_numeric.new.self _ (sym c.in_ok-minor.ensures) c.dot_numeric-2.new.self _
-    (sym c.in_err-patch.ensures)))
+    (patch_refused c.args.self.now c.skip_whitespace.new.self c.numeric.new.self (sym c.in_ok-skip_whitespace.ensures) _ (sym c.in_ok-major.ensures.step) c.dot_numeric.new.self _ (sym c.in_ok-minor.ensures.step) c.dot_numeric-2.new.self _
+    (sym c.in_err-patch.ensures.step)))
 
 numbers : (c : In_ok-patch) → IsTakenTo c.args.self.now after_patch (three_numbers c.in_ok-major.major c.in_ok-minor.minor c.in_ok-patch.patch) c.dot_numeric-2.new.self
 numbers c =
-    patch_taken c.args.self.now c.skip_whitespace.new.self c.numeric.new.self (sym c.in_ok-skip_whitespace.ensures) _ (sym c.in_ok-major.ensures) c.dot_numeric.new.self _ (sym c.in_ok-minor.ensures) c.dot_numeric-2.new.self _
-    (sym c.in_ok-patch.ensures)
+    patch_taken c.args.self.now c.skip_whitespace.new.self c.numeric.new.self (sym c.in_ok-skip_whitespace.ensures) _ (sym c.in_ok-major.ensures.step) c.dot_numeric.new.self _ (sym c.in_ok-minor.ensures.step) c.dot_numeric-2.new.self _
+    (sym c.in_ok-patch.ensures.step)
 
 -- ---- the pre-release
 
