@@ -32,5 +32,6 @@ release_meets v s found none is = go v.pre.items none
 pub returns-then-is_empty : goal.returns-then-is_empty
 returns-then-is_empty c =
     let none : c.args.version.now.pre.items ≡ [] = grind (arith, common_steps) in
-    release_meets c.args.version.now c.args.set.now c.some_range_meets.result none
-    (c.some_range_meets.ensures ∙ seen (numbers_alone c.args.version.now) c.deref.result.now ∙ ap (λ (l : List Range). list_any (meets_range (numbers_alone c.args.version.now)) (map range_of l)) c.deref.ensures.value)
+    let same = seen (numbers_alone c.args.version.now) c.deref.result.now in
+    let ranges = ap (λ (l : List Range). list_any (meets_range (numbers_alone c.args.version.now)) (map range_of l)) c.deref.ensures.value in
+    record { meets = release_meets c.args.version.now c.args.set.now c.some_range_meets.result none (c.some_range_meets.ensures ∙ same ∙ ranges) }
