@@ -181,6 +181,8 @@ fn push_ranges(
 impl fmt::Display for RangeSet {
     ghost output = { λ s. Some (set_text (set_of s)) };
 
+    /// Writes the ranges with ` || ` between each two: `>=1.2.3 <2.0.0 || =3.0.0`. The mode isn't written. It takes no memory, and its only
+    /// fault is the writer's.
     fn fmt<W: fmt::Write>(&self, f: &mut fmt::Formatter<W>) -> fmt::Result {
         write_joined(f, " || ", &self.ranges)
     }

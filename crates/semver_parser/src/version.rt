@@ -97,8 +97,6 @@ impl fmt::Display for Identifier {
     }
 }
 
-/// The three numbers parted by dots; then, where there are any, `-` and the identifiers of the pre-release parted by dots; then, where
-/// there are any, `+` and those of the build likewise: `1.2.3-rc.4+5aedf`. It takes no memory, and a fault is the writer's.
 impl fmt::Display for Version {
     ghost use Rattle.semver_parser.specs.PrintedText.{version_text};
     ghost use Rattle.semver_parser.specs.VersionViews.{version_value};
