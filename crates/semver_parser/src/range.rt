@@ -512,16 +512,20 @@ fn count_simples(text: &str, compat: Compat) -> Result<usize, RangeError>
     Ok(count)
 }
 
-/// A range in a mode, with its comparators in a vector of their exact number.
+/// A range in a mode, with its comparators in a vector of their exact number, which is counted where it isn't given.
 pub(crate) fn build_range(
     alloc: Global,
     range: RangeText<'_>,
     compat: Compat,
+    count: Option<usize>,
 ) -> Result<Range, RangeError>
     requires { HasWords range }
     ensures { IsSized (range_fits compat) (λ r built. range_of built ≡ record { comparators = range_comparators compat r; compat = compat }) (Unit {0}) (read_of range.entry) result }
 {
-    let count = count_comparators(range, compat)?;
+    let count = match count {
+        Some(count) => count,
+        None => count_comparators(range, compat)?,
+    };
     let Ok(mut comparators) = Vec::with_capacity(alloc, count) else {
         return Err(RangeError::OutOfMemory);
     };

@@ -136,40 +136,43 @@ fn read_set(alloc: Global, input: &str, compat: Compat) -> Result<RangeSet, Rang
     ensures { IsAnswer input.now compat result }
 {
     let count = count_ranges(input)?;
-    check_sizes(input, compat)?;
+    let last = check_sizes(input, compat)?;
     let Ok(mut ranges) = Vec::with_capacity(alloc, count) else {
         return Err(RangeError::OutOfMemory);
     };
-    push_ranges(alloc, &mut ranges, input, compat)?;
+    push_ranges(alloc, &mut ranges, input, compat, last)?;
     Ok(RangeSet { ranges, compat })
 }
 
-/// Whether the numbers and the raised bounds of all ranges fit.
-fn check_sizes(input: &str, compat: Compat) -> Result<(), RangeError>
-    ensures { IsSized (fits compat) (λ tree u. Unit {0}) ⊥ (read input.now) result }
+/// Whether the numbers and the raised bounds of all ranges fit, and how many comparators the last range has.
+fn check_sizes(input: &str, compat: Compat) -> Result<usize, RangeError>
+    ensures { IsSized (fits compat) (λ tree n. Unit {0}) ⊥ (read input.now) result }
 {
     let mut rest = Some(input);
+    let mut last = 0;
     while let Some(text) = rest {
         let (range, behind) = next_range(text)?;
-        count_comparators(range, compat)?;
+        last = count_comparators(range, compat)?;
         rest = behind;
     }
-    Ok(())
+    Ok(last)
 }
 
-/// Adds the ranges of a text.
+/// Adds the ranges of a text whose last range has `last` comparators. The others are counted once more.
 fn push_ranges(
     alloc: Global,
     ranges: &mut Vec<Range>,
     input: &str,
     compat: Compat,
+    last: usize,
 ) -> Result<(), RangeError>
     ensures { IsSized (fits compat) (λ tree u. map range_of ranges.new.items ≡ map range_of ranges.old.items ++ map (range_for compat) tree) (Unit {0}) (read input.now) result }
 {
     let mut rest = Some(input);
     while let Some(text) = rest {
         let (range, behind) = next_range(text)?;
-        let built = build_range(alloc, range, compat)?;
+        let count = behind.is_none().then_some(last);
+        let built = build_range(alloc, range, compat, count)?;
         let Ok(()) = ranges.push(built) else {
             return Err(RangeError::OutOfMemory);
         };

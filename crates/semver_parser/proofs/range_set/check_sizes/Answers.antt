@@ -13,14 +13,14 @@ returns-in_err-range c =
     let p = err_from_is_err_and c.from_residual.result c.from_residual.ensures.1 in
     sized_none _ _ _ _ _ p.0 p.1 (p.2 ∙ c.in_err-range.ensures.0) (gathered_none _ _ c.loop-rest.invariant.0 c.loop-rest.invariant.1 (ap read_after c.in-Some.is ∙ c.in_err-range.ensures.1))
 
-pub returns-in_err-count_comparators : goal.returns-in_err-count_comparators
-returns-in_err-count_comparators c =
-    let p = err_from_is_err_and c.from_residual-in_err-count_comparators.result c.from_residual-in_err-count_comparators.ensures.1 in
-    set_exit {A = ℕ} c.args.compat (λ r n. Unit {0}) _ _ _ _ _ c.loop-rest.invariant.0 _ _ c.in_err-count_comparators.field-0.0 p.0 c.loop-rest.invariant.1 (ap read_after c.in-Some.is ∙ c.in_ok-range.ensures.0) c.in_err-count_comparators.ensures p.1 p.2
+pub returns-in_err-last : goal.returns-in_err-last
+returns-in_err-last c =
+    let p = err_from_is_err_and c.from_residual-in_err-last.result c.from_residual-in_err-last.ensures.1 in
+    set_exit {A = ℕ} c.args.compat (λ r n. Unit {0}) _ _ _ _ _ c.loop-rest.invariant.0 _ _ c.in_err-last.field-0.0 p.0 c.loop-rest.invariant.1 (ap read_after c.in-Some.is ∙ c.in_ok-range.ensures.0) c.in_err-last.ensures p.1 p.2
 
 pub loop-rest-preserved : goal.loop-rest-preserved
 loop-rest-preserved c =
-    let found = c.in_ok-count_comparators.ensures in
+    let found = c.in_ok-last.ensures in
     let step = ap read_after c.in-Some.is ∙ c.in_ok-range.ensures.0 ∙ ap (λ (o : Option RangeTree). onto o (read_after c.in_ok-range.behind)) found.1 in
     (c.loop-rest.invariant.0 ++ found.0 ∷ [], gathered_more _ _ _ c.loop-rest.invariant.0 found.0 c.loop-rest.invariant.1 step, fits_more (range_fits c.args.compat) c.loop-rest.invariant.0 found.0 c.loop-rest.invariant.2 found.2)
 
