@@ -7,7 +7,7 @@ use Rattle.semver_parser.specs.declared.range_set.RangeError.{RangeError}
 use Rattle.semver_parser.specs.declared.range_set.RangeError.TheVariants.{NotARange}
 use Rattle.semver_parser.specs.RangeTree.{two, RangeTree, empty, simples, SetTree, Simple, is_component, is_part}
 use Rattle.semver_parser.specs.Texts.{Text, is_empty}
-use Rattle.semver_parser.specs.PieceViews.{IsReadable}
+use Rattle.semver_parser.specs.PieceViews.{IsReadable, IsCounted}
 use Rattle.semver_parser.specs.Reader.{front, back, is_component_byte, is_dot, not_plus, after_first, after_second, after_third, read_qualifier, read_pre, read_build, read_partial, read_form, is_sign, with_form, read_simple, onto, read_simples, as_range, is_hyphen, read_hyphen, or_else, read_words, read_range, is_bar, read_pieces, read}
 use Rattle.semver_parser.specs.Pieces.{not_bar, behind}
 use Rattle.semver_parser.proofs.Gathered.{onto_none}
@@ -184,6 +184,9 @@ pre_fail a b c pre t e = rw e refl
 -- what an exit answers
 pub stopped : {X A : Type 0} (o : Option X) (r : Result A RangeError) (e : RangeError) → r ≡ Err e → e ≡ NotARange → o ≡ None → IsReadable o r
 stopped {X = X} {A = A} o r e is why none = subst (λ (x : Result A RangeError). IsReadable o x) (sym is) (why, none)
+
+pub not_counted : {X : Type 0} (o : Option (List X)) (r : Result ℕ RangeError) (e : RangeError) → r ≡ Err e → e ≡ NotARange → o ≡ None → IsCounted o r
+not_counted o r e is why none = subst (λ (x : Result ℕ RangeError). IsCounted o x) (sym is) (why, none)
 
 pub as_range_readable : {A : Type 0} (o : Option (List Simple)) (r : Result A RangeError) → IsReadable o r → IsReadable (as_range o) r
 as_range_readable None (Ok a) h = cc (h.1)

@@ -1,8 +1,9 @@
 -- What is read and fits, from simples to ranges and sets.
-use Rattle.std.proofs.Common.{◌≡◌, Bool, true, false, List, [], ◌∷◌, ◌++◌, Option, Some, None, Result, Ok, Err, refl, sym, ap, ◌∙◌, subst, append_assoc, append-nil}
+use Rattle.std.proofs.Common.{◌≡◌, ℕ, ◌+◌, length, arith, Bool, true, false, List, [], ◌∷◌, ◌++◌, Option, Some, None, Result, Ok, Err, refl, sym, ap, ◌∙◌, subst, append_assoc, append-nil}
 use Rattle.std.specs.Prelude.{map, MatchResult}
 use Rattle.std.specs.List.{list_all, flat_map}
 use Rattle.std.proofs.lemmas.Bool.{and_from}
+use Rattle.std.proofs.lemmas.List.{length-append}
 use Rattle.std.proofs.lemmas.List.Folds.{list_all-append, list_all-map}
 use Rattle.semver_parser.specs.declared.range_set.Compat.{Compat}
 use Rattle.semver_parser.specs.declared.range_set.RangeError.{RangeError}
@@ -12,7 +13,7 @@ use Rattle.semver_parser.specs.Texts.{Text, is_empty}
 use Rattle.semver_parser.specs.Reader.{onto, as_range, is_sign, read_simple, read_simples, read_form, read_partial, with_form}
 use Rattle.semver_parser.specs.Terms.{of_simple}
 use Rattle.semver_parser.specs.RewritingTable.{term_fits, fits}
-use Rattle.semver_parser.specs.PartialViews.{simple_fits, range_fits, IsSized}
+use Rattle.semver_parser.specs.PartialViews.{simple_fits, range_fits, comparator_count, last_count, IsSized}
 use Rattle.semver_parser.proofs.ParsedPartials.{mapped_push}
 use Rattle.semver_parser.proofs.Gathered.{onto_all, gathered_none, unfit_at}
 
@@ -38,6 +39,20 @@ pub pushed_more : {X Y : Type 0} (f : X → List Y) (first now new more : List Y
     → now ≡ first ++ flat_map f done → new ≡ now ++ more → more ≡ f x → new ≡ first ++ flat_map f (done ++ x ∷ [])
 pushed_more f first now new more done x so_far step is =
     step ∙ ap (λ l. l ++ more) so_far ∙ ap (λ l. (first ++ flat_map f done) ++ l) is ∙ append_assoc first (flat_map f done) (f x) ∙ ap (λ l. first ++ l) (sym (flat_map_one f done x))
+
+-- and their number
+pub counted_more : {X Y : Type 0} (f : X → List Y) (done : List X) (x : X) (now more : ℕ) (ys : List Y)
+    → now ≡ length (flat_map f done) → more ≡ length ys → ys ≡ f x → now + more ≡ length (flat_map f (done ++ x ∷ []))
+counted_more f done x now more ys so_far here is =
+    let all : length (flat_map f (done ++ x ∷ [])) ≡ length (flat_map f done) + length (f x) = ap length (flat_map_one f done x) ∙ length-append (flat_map f done) (f x) in
+    let one : length ys ≡ length (f x) = ap length is in
+    omega (arith, all, one, so_far, here)
+
+-- the last of the ranges so far
+pub last_more : (mode : Compat) (done : SetTree) (r : RangeTree) (n : ℕ) → n ≡ comparator_count mode r → n ≡ last_count mode (done ++ r ∷ [])
+last_more mode [] r n e = e
+last_more mode (d ∷ []) r n e = e
+last_more mode (d ∷ next ∷ done) r n e = last_more mode (next ∷ done) r n e
 
 -- words that are simples are at least one
 onto_some : {X : Type 0} (o : Option X) (u : Option (List X)) → onto o u ≡ Some [] → ⊥

@@ -1,6 +1,6 @@
 -- A means of proof, which no public clause cites: what private contracts see of the numbers of a partial, and of the comparators that are made of it.
-use Rattle.std.specs.Prelude.{◌≡◌, ℕ, Bool, true, false, Option, Some, None, Result, Ok, Err, List, [], ◌∷◌, map, unwrap_or}
-use Rattle.std.specs.List.{list_all}
+use Rattle.std.specs.Prelude.{◌≡◌, ℕ, Bool, true, false, Option, Some, None, Result, Ok, Err, List, [], ◌∷◌, length, map, unwrap_or}
+use Rattle.std.specs.List.{list_all, flat_map}
 use Rattle.semver_parser.specs.declared.partial.Partial.{Partial}
 use Rattle.semver_parser.specs.declared.partial.PartialKind.{PartialKind}
 use Rattle.semver_parser.specs.declared.partial.PartialKind.TheVariants.{XRangeOnly, MajorOnly, MajorMinor, MajorMinorPatch}
@@ -84,6 +84,19 @@ range_for mode r = record { comparators = range_comparators mode r; compat = mod
 abbrev pub AreSides : PartialTree → PartialTree → Option Bounds → Type 0
 AreSides l r None = (mode : Compat) → range_fits mode (hyphen l r) ≡ false
 AreSides l r (Some b) = (mode : Compat) → (range_fits mode (hyphen l r) ≡ true) × (bounds_of b ≡ range_comparators mode (hyphen l r))
+
+-- how many comparators a range has, and how many simples have
+abbrev pub comparator_count : Compat → RangeTree → ℕ
+comparator_count mode r = length (range_comparators mode r)
+
+abbrev pub simples_count : Compat → List Simple → ℕ
+simples_count mode ss = length (flat_map (simple_comparators mode) ss)
+
+-- how many the last range has
+abbrev pub last_count : Compat → List RangeTree → ℕ
+last_count mode [] = 0
+last_count mode (r ∷ []) = comparator_count mode r
+last_count mode (r ∷ s ∷ tree) = last_count mode (s ∷ tree)
 
 -- what is read and fits, or why there is nothing; where memory runs out no more is said than this
 abbrev pub IsSized : {X A : Type 0} → (X → Bool) → (X → A → Type 0) → Type 0 → Option X → Result A RangeError → Type 0

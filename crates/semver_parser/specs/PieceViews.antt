@@ -1,5 +1,5 @@
 -- A means of proof, which no public clause cites: what private contracts see of the pieces that the cursor yields.
-use Rattle.std.specs.Prelude.{◌≡◌, ℕ, suc, false, Option, Some, None, Result, Ok, Err, [], length}
+use Rattle.std.specs.Prelude.{◌≡◌, ℕ, suc, false, Option, Some, None, Result, Ok, Err, List, [], length}
 use Rattle.std.specs.Borrow.{Bor}
 use Rattle.semver_parser.specs.declared.grammar.Form.{Form}
 use Rattle.semver_parser.specs.declared.grammar.Form.TheVariants as form
@@ -58,6 +58,11 @@ rest_len (Some t) = suc (length t.now)
 abbrev pub IsReadAs : Option tree.RangeTree → Result RangeText RangeError → Type 0
 IsReadAs o (Ok range) = (read_of range ≡ o) × HasWords range
 IsReadAs o (Err e) = (e ≡ NotARange) × (o ≡ None)
+
+-- there is a list to be read, of this length; else it isn't a range
+abbrev pub IsCounted : {X : Type 0} → Option (List X) → Result ℕ RangeError → Type 0
+IsCounted {X = X} o (Ok n) = (xs : List X) × (o ≡ Some xs) × (n ≡ length xs)
+IsCounted o (Err e) = (e ≡ NotARange) × (o ≡ None)
 
 -- there is something to be read; else it isn't a range
 abbrev pub IsReadable : {X A : Type 0} → Option X → Result A RangeError → Type 0

@@ -9,7 +9,7 @@ ghost use Rattle.semver_parser.specs.RangeTree.{three, is_component, is_number, 
 ghost use Rattle.semver_parser.specs.Texts.{Text};
 ghost use Rattle.semver_parser.specs.Reader.{front, back, is_component_byte as component_byte, is_dot, is_hyphen, not_plus, onto, read, read_build, read_form, read_hyphen, read_partial, read_qualifier, read_range, read_simples, with_form, words};
 ghost use Rattle.semver_parser.specs.Pieces.{behind, not_bar, not_blank, parts, text_of};
-ghost use Rattle.semver_parser.specs.PieceViews.{form_of, partial_of, simple_of, read_of, HasWords, read_after, rest_len, IsReadAs, IsReadable};
+ghost use Rattle.semver_parser.specs.PieceViews.{form_of, partial_of, simple_of, read_of, HasWords, read_after, rest_len, IsReadAs, IsReadable, IsCounted};
 
 use crate::partial::PartialText;
 use crate::range_set::RangeError;
@@ -44,7 +44,7 @@ pub(crate) enum RangeText<'input> {
 
 /// How many ranges a text has.
 pub(crate) fn count_ranges(input: &str) -> Result<usize, RangeError>
-    ensures { IsReadable (read input.now) result }
+    ensures { IsCounted (read input.now) result }
 {
     let mut count = 0;
     let mut rest = Some(input);

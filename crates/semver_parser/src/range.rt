@@ -13,7 +13,7 @@ ghost use Rattle.semver_parser.specs.RewritingTable.{comparator, cell, nothing_s
 ghost use Rattle.semver_parser.specs.RangeViews.{identifier_of, comparator_of, range_of};
 ghost use Rattle.semver_parser.specs.Pieces.{stated_text, text_of};
 ghost use Rattle.semver_parser.specs.PieceViews.{form_of, partial_of, simple_of, read_of, HasWords};
-ghost use Rattle.semver_parser.specs.PartialViews.{number_of, stated_of, version_of, IsSmall, bound_of, bounds_of, IsParsed, IsUp, IsCell, IsRow, AreSides, range_fits, simple_fits, IsSized};
+ghost use Rattle.semver_parser.specs.PartialViews.{number_of, stated_of, version_of, IsSmall, bound_of, bounds_of, IsParsed, IsUp, IsCell, IsRow, AreSides, range_fits, simple_fits, comparator_count, simples_count, IsSized};
 
 use crate::grammar::{Form, RangeText, Simple, is_wildcard, next_simple};
 use crate::partial::{Partial, PartialKind, PartialText};
@@ -260,7 +260,8 @@ impl<'input> Bounds<'input> {
     /// How many comparators.
     #[inline(always)]
     fn count(&self) -> usize
-        ensures { result ≤ 2 }
+        ensures count { result ≡ length (bounds_of self.now) }
+        ensures small { result ≤ 2 }
     {
         if self.second.is_some() { 2 } else { 1 }
     }
@@ -484,7 +485,7 @@ fn read_identifier(alloc: Global, part: &str) -> Result<Identifier, AllocError>
 /// How many comparators a range has, if its numbers and raised bounds fit.
 pub(crate) fn count_comparators(range: RangeText<'_>, compat: Compat) -> Result<usize, RangeError>
     requires { HasWords range }
-    ensures { IsSized (range_fits compat) (λ r n. (Unit {0})) ⊥ (read_of range.entry) result }
+    ensures { IsSized (range_fits compat) (λ r n. n ≡ comparator_count compat r) ⊥ (read_of range.entry) result }
 {
     match range {
         RangeText::Empty => Ok(1),
@@ -498,7 +499,7 @@ pub(crate) fn count_comparators(range: RangeText<'_>, compat: Compat) -> Result<
 
 /// How many comparators simples have, if their numbers and raised bounds fit.
 fn count_simples(text: &str, compat: Compat) -> Result<usize, RangeError>
-    ensures { IsSized (list_all (simple_fits compat)) (λ ss n. (Unit {0})) ⊥ (read_simples (words text.now)) result }
+    ensures { IsSized (list_all (simple_fits compat)) (λ ss n. n ≡ simples_count compat ss) ⊥ (read_simples (words text.now)) result }
 {
     let mut rest = text;
     let mut count = 0;

@@ -10,7 +10,7 @@ ghost use Rattle.semver_parser.specs.PrintedRanges.{IsPrintableSet, set_text};
 ghost use Rattle.semver_parser.specs.RangeViews.{range_of, set_of};
 ghost use Rattle.semver_parser.specs.Reader.{read};
 ghost use Rattle.semver_parser.specs.Answers.{IsAnswer};
-ghost use Rattle.semver_parser.specs.PartialViews.{range_for, IsSized};
+ghost use Rattle.semver_parser.specs.PartialViews.{range_for, last_count, IsSized};
 
 use crate::grammar::{count_ranges, next_range};
 use crate::printing::write_joined;
@@ -146,7 +146,7 @@ fn read_set(alloc: Global, input: &str, compat: Compat) -> Result<RangeSet, Rang
 
 /// Whether the numbers and the raised bounds of all ranges fit, and how many comparators the last range has.
 fn check_sizes(input: &str, compat: Compat) -> Result<usize, RangeError>
-    ensures { IsSized (fits compat) (λ tree n. Unit {0}) ⊥ (read input.now) result }
+    ensures { IsSized (fits compat) (λ tree n. n ≡ last_count compat tree) ⊥ (read input.now) result }
 {
     let mut rest = Some(input);
     let mut last = 0;

@@ -1,9 +1,10 @@
 use Rattle.std.proofs.Common.{◌++◌, ◌∷◌, [], ◌∙◌, Some, rules, arith}
 use Rattle.std.proofs.lemmas.Result.{err_from_is_err_and}
 use Rattle.semver_parser.specs.PieceViews.{simple_of}
+use Rattle.semver_parser.specs.RewritingTable.{simple_comparators}
 use Rattle.semver_parser.specs.PartialViews.{simple_fits}
 use Rattle.semver_parser.proofs.Gathered.{gathered_more, gathered_all, gathered_none, unfit_at}
-use Rattle.semver_parser.proofs.SizedRanges.{sized_none, fits_more, unfit}
+use Rattle.semver_parser.proofs.SizedRanges.{sized_none, fits_more, unfit, counted_more}
 use Rattle.semver_parser.proofs.range.count_simples.Goals as goal
 
 pub returns-in_err-simple : goal.returns-in_err-simple
@@ -23,10 +24,11 @@ loop-simple-preserved c =
       c.loop-simple.invariant.1 ++ simple_of c.in-Some.simple ∷ [],
       gathered_more _ _ _ c.loop-simple.invariant.1 _ c.loop-simple.invariant.2 step.0,
       fits_more (simple_fits c.args.compat) c.loop-simple.invariant.1 (simple_of c.in-Some.simple) c.loop-simple.invariant.3 c.in-Some-from_simple.ensures.0,
-      omega (arith, step.1, c.loop-simple.invariant.4, c.count-count.ensures),
+      omega (arith, step.1, c.loop-simple.invariant.4, c.count-count.ensures.small),
+      counted_more (simple_comparators c.args.compat) c.loop-simple.invariant.1 (simple_of c.in-Some.simple) _ _ _ c.loop-simple.invariant.5 c.count-count.ensures.count c.in-Some-from_simple.ensures.1,
     )
 
 pub returns : goal.returns
 returns c =
     let end = rw c.in_default.is at c.in_ok-simple.ensures in
-    (c.loop-simple.invariant.1, gathered_all _ _ c.loop-simple.invariant.1 c.loop-simple.invariant.2 end, c.loop-simple.invariant.3, tt)
+    (c.loop-simple.invariant.1, gathered_all _ _ c.loop-simple.invariant.1 c.loop-simple.invariant.2 end, c.loop-simple.invariant.3, c.loop-simple.invariant.5)

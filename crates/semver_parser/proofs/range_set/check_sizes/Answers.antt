@@ -1,11 +1,11 @@
-use Rattle.std.proofs.Common.{ℕ, ◌++◌, ◌∷◌, [], ◌∙◌, ap, Option}
+use Rattle.std.proofs.Common.{ℕ, ◌≡◌, ◌++◌, ◌∷◌, [], ◌∙◌, ap, Option}
 use Rattle.std.proofs.lemmas.Result.{err_from_is_err_and}
 use Rattle.semver_parser.specs.RangeTree.{RangeTree}
 use Rattle.semver_parser.specs.Reader.{onto}
 use Rattle.semver_parser.specs.PieceViews.{read_after}
-use Rattle.semver_parser.specs.PartialViews.{range_fits}
+use Rattle.semver_parser.specs.PartialViews.{range_fits, comparator_count}
 use Rattle.semver_parser.proofs.Gathered.{gathered_more, gathered_all, gathered_none}
-use Rattle.semver_parser.proofs.SizedRanges.{sized_none, set_exit, fits_more}
+use Rattle.semver_parser.proofs.SizedRanges.{sized_none, set_exit, fits_more, last_more}
 use Rattle.semver_parser.proofs.range_set.check_sizes.Goals as goal
 
 pub returns-in_err-range : goal.returns-in_err-range
@@ -16,13 +16,13 @@ returns-in_err-range c =
 pub returns-in_err-last : goal.returns-in_err-last
 returns-in_err-last c =
     let p = err_from_is_err_and c.from_residual-in_err-last.result c.from_residual-in_err-last.ensures.1 in
-    set_exit {A = ℕ} c.args.compat (λ r n. Unit {0}) _ _ _ _ _ c.loop-rest.invariant.0 _ _ c.in_err-last.field-0.0 p.0 c.loop-rest.invariant.1 (ap read_after c.in-Some.is ∙ c.in_ok-range.ensures.0) c.in_err-last.ensures p.1 p.2
+    set_exit {A = ℕ} c.args.compat (λ r n. n ≡ comparator_count c.args.compat r) _ _ _ _ _ c.loop-rest.invariant.0 _ _ c.in_err-last.field-0.0 p.0 c.loop-rest.invariant.1 (ap read_after c.in-Some.is ∙ c.in_ok-range.ensures.0) c.in_err-last.ensures p.1 p.2
 
 pub loop-rest-preserved : goal.loop-rest-preserved
 loop-rest-preserved c =
     let found = c.in_ok-last.ensures in
     let step = ap read_after c.in-Some.is ∙ c.in_ok-range.ensures.0 ∙ ap (λ (o : Option RangeTree). onto o (read_after c.in_ok-range.behind)) found.1 in
-    (c.loop-rest.invariant.0 ++ found.0 ∷ [], gathered_more _ _ _ c.loop-rest.invariant.0 found.0 c.loop-rest.invariant.1 step, fits_more (range_fits c.args.compat) c.loop-rest.invariant.0 found.0 c.loop-rest.invariant.2 found.2)
+    (c.loop-rest.invariant.0 ++ found.0 ∷ [], gathered_more _ _ _ c.loop-rest.invariant.0 found.0 c.loop-rest.invariant.1 step, fits_more (range_fits c.args.compat) c.loop-rest.invariant.0 found.0 c.loop-rest.invariant.2 found.2, last_more c.args.compat c.loop-rest.invariant.0 found.0 _ found.3)
 
 pub returns : goal.returns
-returns c = (c.loop-rest.invariant.0, gathered_all _ _ c.loop-rest.invariant.0 c.loop-rest.invariant.1 (ap read_after c.in_default.is), c.loop-rest.invariant.2, tt)
+returns c = (c.loop-rest.invariant.0, gathered_all _ _ c.loop-rest.invariant.0 c.loop-rest.invariant.1 (ap read_after c.in_default.is), c.loop-rest.invariant.2, c.loop-rest.invariant.3)
