@@ -136,17 +136,6 @@ impl<'input> Partial<'input> {
         self
     }
 
-    /// Zeros for the numbers that are missing.
-    #[inline(always)]
-    fn zero_missing(mut self) -> Partial<'input>
-        ensures { version_of result ≡ version_of self.entry }
-    {
-        self.major = Some(self.major.unwrap_or(0));
-        self.minor = Some(self.minor.unwrap_or(0));
-        self.patch = Some(self.patch.unwrap_or(0));
-        self
-    }
-
     /// The minor as 0.
     #[inline(always)]
     fn zero_minor(mut self) -> Partial<'input>
@@ -272,7 +261,7 @@ impl<'input> Bounds<'input> {
 fn from_zero<'input>() -> Bounds<'input>
     ensures { bounds_of result ≡ comparator Op.Gte zero_version ∷ [] }
 {
-    Bounds::one(Op::Gte, Partial::new().zero_missing())
+    Bounds::one(Op::Gte, Partial::new())
 }
 
 /// The comparators of a simple; none where a number or the raised bound is above 2^64 - 1.
@@ -303,7 +292,7 @@ fn from_wildcard<'input>(form: Form) -> Bounds<'input>
     ensures { bounds_of result ≡ cell_comparators (nothing_stated (form_of form)) [] zero_version }
 {
     match form {
-        Form::Less | Form::Greater => Bounds::one(Op::Lt, Partial::new().zero_missing()),
+        Form::Less | Form::Greater => Bounds::one(Op::Lt, Partial::new()),
         _ => from_zero(),
     }
 }
@@ -459,16 +448,11 @@ fn read_identifiers(alloc: Global, pre: &str) -> Result<Vec<Identifier>, AllocEr
     requires { IsTrue (list_all is_part (slice_split is_dot pre.now)) }
     ensures { IfOk result (λ v. map identifier_of v.items ≡ map kept (slice_split is_dot pre.now)) }
 {
-    let mut identifiers = Vec::with_capacity(alloc, count_parts(pre.as_bytes()))?;
+    let mut identifiers = Vec::with_capacity(alloc, pre.split('.').count())?;
     for part in pre.split('.') {
         identifiers.push(read_identifier(alloc, part)?)?;
     }
     Ok(identifiers)
-}
-
-/// How many parts a pre-release has.
-fn count_parts(pre: &[u8]) -> usize {
-    1 + pre.iter().filter(|&&byte| byte == b'.').count()
 }
 
 /// A part as it is kept.
