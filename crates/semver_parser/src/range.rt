@@ -4,7 +4,7 @@
 //! none where a number or a raised bound is above 2^64 - 1. Only building copies the identifiers.
 
 ghost use Rattle.std.specs.Prelude.{◌≡◌, ◌+◌, ◌-◌, ◌^◌, ◌<◌, ◌≤◌, Some, None, [], ◌∷◌, ◌++◌, length, map, if◌then◌else◌, true, IsTrue, IfOk, MatchResult};
-ghost use Rattle.std.specs.List.{list_all, slice_split, flat_map};
+ghost use Rattle.std.specs.List.{count_by, list_all, slice_split, flat_map};
 ghost use Rattle.std.specs.Str.Parse.{digits_value};
 ghost use Rattle.semver_parser.specs.RangeTree.{equal, at_most, tilde, caret, is_number, is_part};
 ghost use Rattle.semver_parser.specs.Reader.{is_dot, read_simples, words};
@@ -448,11 +448,26 @@ fn read_identifiers(alloc: Global, pre: &str) -> Result<Vec<Identifier>, AllocEr
     requires { IsTrue (list_all is_part (slice_split is_dot pre.now)) }
     ensures { IfOk result (λ v. map identifier_of v.items ≡ map kept (slice_split is_dot pre.now)) }
 {
-    let mut identifiers = Vec::with_capacity(alloc, pre.split('.').count())?;
+    let mut identifiers = Vec::with_capacity(alloc, count_parts(pre.as_bytes()))?;
     for part in pre.split('.') {
         identifiers.push(read_identifier(alloc, part)?)?;
     }
     Ok(identifiers)
+}
+
+/// How many parts a pre-release has.
+fn count_parts(pre: &[u8]) -> usize
+    ensures { result ≡ length (slice_split is_dot pre.now) }
+{
+    count_dots(pre) + 1
+}
+
+/// How many dots bytes have.
+#[inline(always)]
+fn count_dots(bytes: &[u8]) -> usize
+    ensures { result ≡ count_by is_dot bytes.now }
+{
+    bytes.iter().filter(|&&byte| byte == b'.').count()
 }
 
 /// A part as it is kept.
