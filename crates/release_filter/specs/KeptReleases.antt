@@ -4,7 +4,7 @@ use Rattle.semver_parser.specs.Texts.{is_empty}
 use Rattle.semver_parser.specs.Versions.{VersionValue}
 use Rattle.semver_parser.specs.VersionViews.{version_value}
 use Rattle.semver_parser.specs.declared.version.Version.{Version}
-use Rattle.semver_parser.specs.declared.range_set.Compat.{Compat}
+use Rattle.semver_parser.specs.declared.Compat.{Compat}
 use Rattle.semver_parser.specs.RangeTree.{SetTree}
 use Rattle.semver_parser.specs.OwnMeaning.{meets_tree}
 

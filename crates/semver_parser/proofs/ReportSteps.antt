@@ -1,23 +1,23 @@
 -- What the report writes, from what its lines show.
 use Rattle.std.proofs.Common.{◌≡◌, ◌↔◌, Bool, true, false, List, ℕ, Option, Result, Ok, Err, IfOk, IsTrue, codes, refl, sym, ap, ◌∙◌, subst}
 use Rattle.std.specs.Prelude.{◌||◌}
-use Rattle.semver_parser.specs.declared.range_set.Compat.{Compat}
-use Rattle.semver_parser.specs.declared.range_set.Compat.TheVariants.{Cargo, Npm}
-use Rattle.semver_parser.specs.declared.range_set.RangeSet.{RangeSet}
-use Rattle.semver_parser.specs.declared.range_set.RangeError.{RangeError}
-use Rattle.semver_parser.specs.declared.range_set.RangeError.TheVariants.{NotARange, NumberTooLarge, OutOfMemory}
-use Rattle.semver_parser.specs.Texts.{Text}
-use Rattle.semver_parser.specs.Versions.{VersionValue}
-use Rattle.semver_parser.specs.PrintedText.{version_text}
-use Rattle.semver_parser.specs.ParserViews.{fault_of, answer_of, UnlessOutOfMemory, IfOutOfMemory}
-use Rattle.semver_parser.specs.VersionViews.{version_value}
-use Rattle.semver_parser.specs.VersionReading.{IsOutcomeOf, TextMayRunOut}
-use Rattle.semver_parser.specs.declared.parser.Error.{Error}
-use Rattle.semver_parser.specs.declared.parser.Error.TheVariants as error
-use Rattle.semver_parser.specs.declared.version.Version.{Version}
-use Rattle.semver_parser.specs.RangeTree.{SetTree, Spells}
-use Rattle.semver_parser.specs.RewritingTable.{PlainSet, fits, rewritten}
-use Rattle.semver_parser.specs.PrintedRanges.{set_text}
+use Rattle.semver_ranges.specs.declared.range_set.Compat.{Compat}
+use Rattle.semver_ranges.specs.declared.range_set.Compat.TheVariants.{Cargo, Npm}
+use Rattle.semver_ranges.specs.declared.range_set.RangeSet.{RangeSet}
+use Rattle.semver_ranges.specs.declared.range_set.RangeError.{RangeError}
+use Rattle.semver_ranges.specs.declared.range_set.RangeError.TheVariants.{NotARange, NumberTooLarge, OutOfMemory}
+use Rattle.semver_texts.specs.Texts.{Text}
+use Rattle.semver_texts.specs.Versions.{VersionValue}
+use Rattle.semver_texts.specs.PrintedText.{version_text}
+use Rattle.semver_versions.specs.ParserViews.{fault_of, answer_of, UnlessOutOfMemory, IfOutOfMemory}
+use Rattle.semver_versions.specs.VersionViews.{version_value}
+use Rattle.semver_versions.specs.VersionReading.{IsOutcomeOf, TextMayRunOut}
+use Rattle.semver_versions.specs.declared.parser.Error.{Error}
+use Rattle.semver_versions.specs.declared.parser.Error.TheVariants as error
+use Rattle.semver_versions.specs.declared.version.Version.{Version}
+use Rattle.semver_ranges.specs.RangeTree.{SetTree, Spells}
+use Rattle.semver_ranges.specs.RewritingTable.{PlainSet, fits, rewritten}
+use Rattle.semver_ranges.specs.PrintedRanges.{set_text}
 use Rattle.semver_parser.specs.Writing.{WritesOrBegins}
 use Rattle.semver_parser.specs.ReportLines.{VersionLine, version_printed, version_refused, version_unread, version_unprinted, version_fault_word, range_fault_word, RangeLine, set_printed, not_a_range, number_too_large, no_memory, AreLines, WritesLines, lines}
 use Rattle.semver_parser.specs.Shown.{shown_text, is_value_of}

@@ -3,17 +3,17 @@ use Rattle.std.specs.Prelude.{◌≡◌, ℕ, Bool, true, false, ◌&&◌, List,
 use Rattle.std.proofs.Common.{inr}
 use Rattle.std.specs.Fmt.{digits}
 use Rattle.std.specs.Ordering.{is_lt}
-use Rattle.semver_parser.specs.declared.range_set.Compat.{Compat}
-use Rattle.semver_parser.specs.declared.range_set.Compat.TheVariants.{Cargo, Npm}
-use Rattle.semver_parser.specs.RangeTree.{PartialTree, one, three, Form, bare, equal, at_most, greater, tilde, caret, empty, hyphen, simples, SetTree, SpellsPartial, SpellsForm, Spells}
-use Rattle.semver_parser.specs.Texts.{Text}
-use Rattle.semver_parser.specs.Precedence.{precedence}
-use Rattle.semver_parser.specs.Versions.{IdentifierValue, numeric, alphanumeric, PlainVersion}
-use Rattle.semver_parser.specs.Partials.{filled}
-use Rattle.semver_parser.specs.OwnMeaning.{meets_tree}
-use Rattle.semver_parser.specs.RewritingTable.{rewritten, fits}
-use Rattle.semver_parser.specs.Meeting.{meets_set}
-use Rattle.semver_parser.specs.PrintedRanges.{set_text}
+use Rattle.semver_ranges.specs.declared.range_set.Compat.{Compat}
+use Rattle.semver_ranges.specs.declared.range_set.Compat.TheVariants.{Cargo, Npm}
+use Rattle.semver_ranges.specs.RangeTree.{PartialTree, one, three, Form, bare, equal, at_most, greater, tilde, caret, empty, hyphen, simples, SetTree, SpellsPartial, SpellsForm, Spells}
+use Rattle.semver_texts.specs.Texts.{Text}
+use Rattle.semver_ranges.specs.Precedence.{precedence}
+use Rattle.semver_texts.specs.Versions.{IdentifierValue, numeric, alphanumeric, PlainVersion}
+use Rattle.semver_ranges.specs.Partials.{filled}
+use Rattle.semver_ranges.specs.OwnMeaning.{meets_tree}
+use Rattle.semver_ranges.specs.RewritingTable.{rewritten, fits}
+use Rattle.semver_ranges.specs.Meeting.{meets_set}
+use Rattle.semver_ranges.specs.PrintedRanges.{set_text}
 
 -- a tree that spells the text fits in the mode, and its comparators are printed so
 abbrev pub IsRewritten : Text → Compat → Text → Type 0

@@ -1,19 +1,19 @@
 -- The lines of a text: what the report writes of it.
 use Rattle.std.specs.Prelude.{◌≡◌, ℕ, Bool, true, false, ◌||◌, List, [], ◌∷◌, ◌++◌, IsTrue, Option, Result, Ok, Err, MatchResult, codes}
 use Rattle.std.specs.Io.KnownBytes.{Appends}
-use Rattle.semver_parser.specs.declared.range_set.Compat.{Compat}
-use Rattle.semver_parser.specs.declared.range_set.Compat.TheVariants.{Cargo, Npm}
-use Rattle.semver_parser.specs.declared.range_set.RangeError.{RangeError}
-use Rattle.semver_parser.specs.declared.range_set.RangeError.TheVariants.{NotARange, NumberTooLarge, OutOfMemory}
-use Rattle.semver_parser.specs.Texts.{Text}
-use Rattle.semver_parser.specs.Versions.{VersionValue}
-use Rattle.semver_parser.specs.PrintedText.{version_text}
-use Rattle.semver_parser.specs.ParserState as fault
-use Rattle.semver_parser.specs.ParserState.{Fault}
-use Rattle.semver_parser.specs.VersionReading.{IsOutcomeOf, TextMayRunOut}
-use Rattle.semver_parser.specs.RangeTree.{SetTree, Spells}
-use Rattle.semver_parser.specs.RewritingTable.{fits, rewritten}
-use Rattle.semver_parser.specs.PrintedRanges.{set_text}
+use Rattle.semver_ranges.specs.declared.range_set.Compat.{Compat}
+use Rattle.semver_ranges.specs.declared.range_set.Compat.TheVariants.{Cargo, Npm}
+use Rattle.semver_ranges.specs.declared.range_set.RangeError.{RangeError}
+use Rattle.semver_ranges.specs.declared.range_set.RangeError.TheVariants.{NotARange, NumberTooLarge, OutOfMemory}
+use Rattle.semver_texts.specs.Texts.{Text}
+use Rattle.semver_texts.specs.Versions.{VersionValue}
+use Rattle.semver_texts.specs.PrintedText.{version_text}
+use Rattle.semver_versions.specs.ParserState as fault
+use Rattle.semver_versions.specs.ParserState.{Fault}
+use Rattle.semver_versions.specs.VersionReading.{IsOutcomeOf, TextMayRunOut}
+use Rattle.semver_ranges.specs.RangeTree.{SetTree, Spells}
+use Rattle.semver_ranges.specs.RewritingTable.{fits, rewritten}
+use Rattle.semver_ranges.specs.PrintedRanges.{set_text}
 use Rattle.semver_parser.specs.Writing.{AppendsBeginning}
 
 -- the word for a fault of a version text

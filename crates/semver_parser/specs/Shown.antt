@@ -1,6 +1,6 @@
 -- A means of proof: what the report holds for a line before it writes.
 use Rattle.std.specs.Prelude.{Bool, true, false, string_bytes}
-use Rattle.semver_parser.specs.Texts.{Text}
+use Rattle.semver_texts.specs.Texts.{Text}
 use Rattle.semver_parser.specs.declared.report.Shown.{Shown}
 use Rattle.semver_parser.specs.declared.report.Shown.TheVariants.{Value, Fault}
 

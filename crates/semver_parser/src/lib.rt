@@ -1,16 +1,10 @@
 //! Version texts and range texts as plain data: tokens, a `Version` that prints again, and a `RangeSet` of plain comparators.
+//!
+//! Its parts stand in two crates below it, one for versions and one for ranges. Here is their whole surface.
 #![tactic(auto)]
 
-mod grammar;
 pub mod laws;
-pub mod lexer;
-pub mod parser;
-mod partial;
-mod printing;
-mod range;
-mod range_set;
 pub mod report;
-pub mod version;
 
-pub use range::{Comparator, Identifier, Op, Range};
-pub use range_set::{Compat, RangeError, RangeSet};
+pub use semver_ranges::{Comparator, Compat, Identifier, Op, Range, RangeError, RangeSet};
+pub use semver_versions::{lexer, parser, version};

@@ -1,10 +1,10 @@
-use Rattle.std.proofs.Common.{◌≡◌, Bool, true, List, [], ◌∷◌, ap, ◌∙◌, map, arith}
+use Rattle.std.proofs.Common.{◌≡◌, Bool, List, [], ◌∷◌, ap, ◌∙◌, map, arith}
 use Rattle.std.specs.Prelude.{◌&&◌}
 use Rattle.std.specs.List.{list_all, list_any}
 use Rattle.std.proofs.lemmas.Grind.{common_steps}
 use Rattle.semver_parser.specs.Versions.{PlainVersion}
-use Rattle.semver_parser.specs.declared.range.Range.{Range}
-use Rattle.semver_parser.specs.declared.range_set.RangeSet.{RangeSet}
+use Rattle.semver_parser.specs.declared.Range.{Range}
+use Rattle.semver_parser.specs.declared.RangeSet.{RangeSet}
 use Rattle.semver_parser.specs.declared.version.Version.{Version}
 use Rattle.semver_parser.specs.declared.version.Identifier.{Identifier}
 use Rattle.semver_parser.specs.Meeting.{meets_comparator, meets_range, meets_set}

@@ -1,4 +1,4 @@
-use Rattle.semver_parser.specs.RangeViews.{set_of}
+use Rattle.semver_ranges.specs.RangeViews.{set_of}
 use Rattle.semver_parser.proofs.ReportSteps.{shows_set, shows_refusal}
 use Rattle.semver_parser.proofs.report.range_shown.Goals as goal
 

@@ -1,0 +1,104 @@
+-- What an answer by the reader says in the words of trees and texts.
+use Rattle.std.proofs.Common.{◌≡◌, ◌↔◌, ◌⊎◌, true, false, [], refl, sym, ap, ◌∙◌, subst, inl, inr, IsTrue, Result, Ok, Err, Some, None}
+use Rattle.std.proofs.lemmas.Bool.{both_ways}
+use Rattle.std.specs.Prelude.{IfOk}
+use Rattle.std.specs.Result.{IsOkAnd}
+use Rattle.semver_ranges.specs.declared.range_set.Compat.{Compat}
+use Rattle.semver_ranges.specs.declared.range_set.RangeSet.{RangeSet}
+use Rattle.semver_ranges.specs.declared.range_set.RangeError.{RangeError}
+use Rattle.semver_ranges.specs.declared.range_set.RangeError.TheVariants.{NotARange, NumberTooLarge, OutOfMemory}
+use Rattle.semver_ranges.specs.RangeTree.{SetTree, Spells}
+use Rattle.semver_texts.specs.Texts.{Text}
+use Rattle.semver_texts.specs.Versions.{PlainVersion}
+use Rattle.semver_ranges.specs.OwnMeaning.{meets_tree}
+use Rattle.semver_ranges.specs.RewritingTable.{PlainSet, fits, rewritten}
+use Rattle.semver_ranges.specs.Meeting.{meets_set, meets_tree_or_bounds}
+use Rattle.semver_ranges.specs.PrintedRanges.{IsPrintableSet, set_text}
+use Rattle.semver_ranges.specs.Reader.{read}
+use Rattle.semver_ranges.specs.RangeViews.{set_of}
+use Rattle.semver_ranges.specs.Answers.{IsAnswer}
+use Rattle.semver_ranges.specs.PartialViews.{IsSized}
+use Rattle.semver_ranges.proofs.ReaderComplete.{tree_read}
+use Rattle.semver_ranges.proofs.ReaderSound.{read_sound}
+use Rattle.semver_ranges.proofs.Meanings.{some_agrees, own_meaning_meets, agree_on_releases}
+use Rattle.semver_ranges.proofs.PrintedLaws.{printed_again}
+use Rattle.semver_ranges.proofs.AnsweredLaws.{rewritten_printable}
+
+-- what is read is the one tree
+read_one : (t : Text) (tree tree' : SetTree) → read t ≡ Some tree → Spells tree' t → tree ≡ tree'
+read_one t tree tree' e h = let same : Some tree ≡ Some tree' = sym e ∙ tree_read tree' t h in cc
+
+none_read : (t : Text) (tree : SetTree) → read t ≡ None → Spells tree t → ⊥
+none_read t tree e h = let same : None ≡ Some tree = sym e ∙ tree_read tree t h in cc
+
+pub accepted : (t : Text) (mode : Compat) (r : Result RangeSet RangeError) → IsAnswer t mode r → IfOk r (λ set. (tree : SetTree) × Spells tree t × IsTrue (fits mode tree))
+accepted t mode (Ok set) h = (h.0, read_sound t h.0 h.1, h.2)
+accepted t mode (Err e) h = tt
+
+pub as_rewritten : (t : Text) (mode : Compat) (r : Result RangeSet RangeError) → IsAnswer t mode r → IfOk r (λ set. (tree : SetTree) → Spells tree t → set_of set ≡ rewritten mode tree)
+as_rewritten t mode (Ok set) h = λ tree s. h.3 ∙ ap (rewritten mode) (read_one t h.0 tree h.1 s)
+as_rewritten t mode (Err e) h = tt
+
+pub not_a_range : (t : Text) (mode : Compat) (r : Result RangeSet RangeError) → IsAnswer t mode r → (r ≡ Err NotARange) ↔ ((tree : SetTree) → Spells tree t → ⊥)
+not_a_range t mode (Ok set) h = (λ e. cc, λ no. absurd (no h.0 (read_sound t h.0 h.1)))
+not_a_range t mode (Err NotARange) h = (λ e tree s. none_read t tree h s, λ no. refl)
+not_a_range t mode (Err NumberTooLarge) h = (λ e. cc, λ no. absurd (no h.0 (read_sound t h.0 h.1)))
+not_a_range t mode (Err OutOfMemory) h = (λ e. cc, λ no. absurd (no h.0 (read_sound t h.0 h.1)))
+
+unfit : (t : Text) (mode : Compat) (tree : SetTree) → read t ≡ Some tree → fits mode tree ≡ true → (tree' : SetTree) × Spells tree' t × (fits mode tree' ≡ false) → ⊥
+unfit t mode tree e f (tree', s, large) = both_ways (fits mode tree') large (sym (ap (fits mode) (read_one t tree tree' e s)) ∙ f)
+
+pub too_large : (t : Text) (mode : Compat) (r : Result RangeSet RangeError) → IsAnswer t mode r → (r ≡ Err NumberTooLarge) ↔ ((tree : SetTree) × Spells tree t × (fits mode tree ≡ false))
+too_large t mode (Ok set) h = (λ e. cc, λ s. absurd (unfit t mode h.0 h.1 h.2 s))
+too_large t mode (Err NotARange) h = (λ e. cc, λ (tree, s, large). absurd (none_read t tree h s))
+too_large t mode (Err NumberTooLarge) h = (λ e. (h.0, read_sound t h.0 h.1, h.2), λ s. refl)
+too_large t mode (Err OutOfMemory) h = (λ e. cc, λ s. absurd (unfit t mode h.0 h.1 h.2 s))
+
+pub meaning : (t : Text) (mode : Compat) (r : Result RangeSet RangeError) → IsAnswer t mode r
+    → IfOk r (λ set. (tree : SetTree) (v : PlainVersion) → Spells tree t → meets_set v (set_of set) ≡ meets_tree_or_bounds mode tree v)
+meaning t mode (Ok set) h = λ tree v s. ap (meets_set v) (h.3 ∙ ap (rewritten mode) (read_one t h.0 tree h.1 s)) ∙ some_agrees mode tree v
+meaning t mode (Err e) h = tt
+
+pub releases : (t : Text) (mode : Compat) (r : Result RangeSet RangeError) → IsAnswer t mode r
+    → IfOk r (λ set. (tree : SetTree) (v : PlainVersion) → Spells tree t → v.pre ≡ [] → meets_set v (set_of set) ≡ meets_tree mode tree v)
+releases t mode (Ok set) h = λ tree v s e. ap (meets_set v) (h.3 ∙ ap (rewritten mode) (read_one t h.0 tree h.1 s)) ∙ agree_on_releases mode tree v e
+releases t mode (Err e) h = tt
+
+pub out_of_memory : (t : Text) (mode : Compat) (r : Result RangeSet RangeError) → IsAnswer t mode r → r ≡ Err OutOfMemory → (tree : SetTree) × Spells tree t × IsTrue (fits mode tree)
+out_of_memory t mode r h e = let found = subst (IsAnswer t mode) e h in (found.0, read_sound t found.0 found.1, found.2)
+
+pub implied : (t : Text) (mode : Compat) (r : Result RangeSet RangeError) → IsAnswer t mode r
+    → IfOk r (λ set. (tree : SetTree) (v : PlainVersion) → Spells tree t → IsTrue (meets_tree mode tree v) → IsTrue (meets_set v (set_of set)))
+implied t mode (Ok set) h = λ tree v s own. ap (meets_set v) (h.3 ∙ ap (rewritten mode) (read_one t h.0 tree h.1 s)) ∙ own_meaning_meets mode tree v own
+implied t mode (Err e) h = tt
+
+pub printable : (t : Text) (mode : Compat) (r : Result RangeSet RangeError) → IsAnswer t mode r → IfOk r (λ set. IsPrintableSet (set_of set))
+printable t mode (Ok set) h = subst IsPrintableSet (sym h.3) (rewritten_printable mode h.0 t (read_sound t h.0 h.1) h.2)
+printable t mode (Err e) h = tt
+
+pub reads_back : (t : Text) (mode : Compat) (r : Result RangeSet RangeError) → IsAnswer t mode r
+    → (s : PlainSet) → IsPrintableSet s → s.compat ≡ mode → t ≡ set_text s → (r ≡ Err OutOfMemory) ⊎ IsOkAnd r (λ set. set_of set ≡ s)
+reads_back t mode r h s p m e =
+    let found = printed_again s p in
+    let spelled : Spells found.0 t = subst (λ x. Spells found.0 x) (sym e) found.1 in
+    let fit : fits mode found.0 ≡ true = subst (λ x. fits x found.0 ≡ true) m found.2 in
+    let again : rewritten mode found.0 ≡ s = subst (λ x. rewritten x found.0 ≡ s) m found.3 in
+    go r h found.0 spelled fit again where
+      go : (r : Result RangeSet RangeError) → IsAnswer t mode r → (tree : SetTree) → Spells tree t → fits mode tree ≡ true → rewritten mode tree ≡ s → (r ≡ Err OutOfMemory) ⊎ IsOkAnd r (λ set. set_of set ≡ s)
+      go (Ok set) h tree spelled fit again = inr (h.3 ∙ ap (rewritten mode) (read_one t h.0 tree h.1 spelled) ∙ again)
+      go (Err NotARange) h tree spelled fit again = absurd (none_read t tree h spelled)
+      go (Err NumberTooLarge) h tree spelled fit again = absurd (both_ways (fits mode tree) (sym (ap (fits mode) (read_one t h.0 tree h.1 spelled)) ∙ h.2) fit)
+      go (Err OutOfMemory) h tree spelled fit again = inl refl
+
+-- what the runs over a text say of the answer
+pub answer_none : (t : Text) (mode : Compat) (r : Result RangeSet RangeError) (e : RangeError) → r ≡ Err e → e ≡ NotARange → read t ≡ None → IsAnswer t mode r
+answer_none t mode r e is why none = subst (IsAnswer t mode) (sym (is ∙ ap (λ (x : RangeError). Err x) why)) none
+
+pub answer_sized : {A : Type 0} (t : Text) (mode : Compat) (good : SetTree → A → Type 0) (memory : Type 0) (r : Result RangeSet RangeError) (e e' : RangeError)
+    → (tree : SetTree) × (read t ≡ Some tree) → (memory → (tree : SetTree) × (read t ≡ Some tree) × IsTrue (fits mode tree))
+    → IsSized {A = A} (fits mode) good memory (read t) (Err e) → r ≡ Err e' → e' ≡ e → IsAnswer t mode r
+answer_sized {A = A} t mode good memory r e e' found fit h is same = subst (IsAnswer t mode) (sym (is ∙ ap (λ (x : RangeError). Err x) same)) (go e h) where
+  go : (e : RangeError) → IsSized {A = A} (fits mode) good memory (read t) (Err e) → IsAnswer t mode (Err e)
+  go NotARange h = h
+  go NumberTooLarge h = (found.0, found.1, h found.0 found.1)
+  go OutOfMemory h = fit h

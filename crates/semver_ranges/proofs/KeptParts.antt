@@ -1,0 +1,71 @@
+-- Numbers and parts, as `parse` of a `u64` reads them.
+use Rattle.std.proofs.Common.{◌≡◌, ℕ, ◌^◌, ◌<◌, Bool, true, ◌&&◌, [], ◌∷◌, length, get_or, Some, None, Ok, Err, if◌then◌else◌, inl, inr, sym, refl, ap, ◌∙◌, arith}
+use Rattle.std.specs.Str.{all_ascii_digits}
+use Rattle.std.specs.Str.Parse.{digits_value, ParsesUnsigned}
+use Rattle.std.specs.Char.{is_ascii_digit}
+use Rattle.std.specs.List.{list_all}
+use Rattle.std.proofs.lemmas.Bool.{and_parts, and_from, cases_Bool, true≢false}
+use Rattle.std.proofs.lemmas.Str.Parse.{parse_plain}
+use Rattle.std.proofs.lemmas.Grind.{common_steps}
+use Rattle.semver_ranges.specs.RangeTree.{is_number, is_part}
+use Rattle.semver_texts.specs.Texts.{is_part_byte, Text}
+use Rattle.semver_texts.specs.Versions.{numeric, alphanumeric}
+use Rattle.semver_ranges.specs.Partials.{fits_u64, kept}
+use Rattle.semver_texts.proofs.Numerals.{own}
+
+pub small_fits : (n : ℕ) → n < 2 ^ 64 → fits_u64 n ≡ true
+small_fits n h = grind (arith, common_steps)
+
+pub fits_small : (n : ℕ) → fits_u64 n ≡ true → n < 2 ^ 64
+fits_small n e = grind (arith, common_steps)
+
+part_plus : (t : Text) → is_part t ≡ true → get_or t 0 0 ≡ 43 → ⊥
+part_plus [] e p = absurd (true≢false (sym e))
+part_plus (b ∷ t) e p =
+    let byte : is_part_byte b ≡ true = (and_parts (is_part_byte b) (list_all is_part_byte t) e).0 in
+    let no : is_part_byte 43 ≡ true = ap is_part_byte (sym p) ∙ byte in cc
+
+part_some : (t : Text) → is_part t ≡ true → 0 < length t
+part_some [] e = absurd (true≢false (sym e))
+part_some (b ∷ t) e = omega arith
+
+number_digits : (t : Text) → is_number t ≡ true → all_ascii_digits t ≡ true
+number_digits [] e = refl
+number_digits (b ∷ t) e = (and_parts (all_ascii_digits (b ∷ t)) _ e).0
+
+number_some : (t : Text) → is_number t ≡ true → 0 < length t
+number_some [] e = absurd (true≢false (sym e))
+number_some (b ∷ t) e = omega arith
+
+number_plus : (t : Text) → is_number t ≡ true → get_or t 0 0 ≡ 43 → ⊥
+number_plus [] e p = absurd (true≢false (sym e))
+number_plus (b ∷ t) e p =
+    let digit : is_ascii_digit b ≡ true = (and_parts (is_ascii_digit b) (all_ascii_digits t) (number_digits (b ∷ t) e)).0 in
+    let no : is_ascii_digit 43 ≡ true = ap is_ascii_digit (sym p) ∙ digit in cc
+
+pub kept_number : (t : Text) (n : ℕ) → is_part t ≡ true → ParsesUnsigned {E = Unit {0}} 64 10 t (Ok n) → numeric n ≡ kept t
+kept_number t n e h =
+    let p = parse_plain own {E = Unit {0}} 64 t (Ok n) h (part_plus t e) in
+    let fit : fits_u64 (digits_value 10 t) ≡ true = small_fits (digits_value 10 t) p.0.2 in
+    ap numeric p.1 ∙ sym (ap (λ (b : Bool). if b then numeric (digits_value 10 t) else alphanumeric t) (and_from _ _ p.0.0 fit))
+
+pub kept_text : (t : Text) → is_part t ≡ true → ParsesUnsigned {E = Unit {0}} 64 10 t (Err tt) → alphanumeric t ≡ kept t
+kept_text t e h =
+    let p = parse_plain own {E = Unit {0}} 64 t (Err tt) h (part_plus t e) in
+    elim (cases_Bool (all_ascii_digits t && fits_u64 (digits_value 10 t))) [
+      | inl y ↦ let parts = and_parts (all_ascii_digits t) (fits_u64 (digits_value 10 t)) y in absurd (p (parts.0, part_some t e, fits_small (digits_value 10 t) parts.1))
+      | inr n ↦ sym (ap (λ (b : Bool). if b then numeric (digits_value 10 t) else alphanumeric t) n)
+    ]
+
+pub number_fits : (t : Text) (n : ℕ) → is_number t ≡ true → ParsesUnsigned {E = Unit {0}} 64 10 t (Ok n) → Some n ≡ (if fits_u64 (digits_value 10 t) then Some (digits_value 10 t) else None)
+number_fits t n e h =
+    let p = parse_plain own {E = Unit {0}} 64 t (Ok n) h (number_plus t e) in
+    ap (λ (m : ℕ). Some m) p.1 ∙ sym (ap (λ (b : Bool). if b then Some (digits_value 10 t) else None) (small_fits (digits_value 10 t) p.0.2))
+
+pub number_large : (t : Text) → is_number t ≡ true → ParsesUnsigned {E = Unit {0}} 64 10 t (Err tt) → None ≡ (if fits_u64 (digits_value 10 t) then Some (digits_value 10 t) else None)
+number_large t e h =
+    let p = parse_plain own {E = Unit {0}} 64 t (Err tt) h (number_plus t e) in
+    elim (cases_Bool (fits_u64 (digits_value 10 t))) [
+      | inl y ↦ absurd (p (number_digits t e, number_some t e, fits_small (digits_value 10 t) y))
+      | inr n ↦ sym (ap (λ (b : Bool). if b then Some (digits_value 10 t) else None) n)
+    ]

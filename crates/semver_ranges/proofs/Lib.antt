@@ -1,0 +1,17 @@
+pub mod AnswerLaws
+pub mod AnsweredLaws
+pub mod Cursor
+pub mod Gathered
+pub mod KeptParts
+pub mod Meanings
+pub mod ParsedPartials
+pub mod PrecedenceLaws
+pub mod PrintedLaws
+pub mod ReaderComplete
+pub mod ReaderSound
+pub mod Rows
+pub mod Runs
+pub mod SizedRanges
+pub mod Slices
+pub mod Tests
+pub mod Vectors

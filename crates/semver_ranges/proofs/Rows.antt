@@ -1,0 +1,278 @@
+-- Each row of the table means what its form means, but for pre-releases of its raised bound.
+use Rattle.std.proofs.Common.{◌≡◌, ℕ, zero, suc, ◌+◌, ◌<◌, Bool, true, false, not, ◌&&◌, ◌||◌, ◌==◌, nat_eq, if◌then◌else◌, List, [], ◌∷◌, take, refl, inl, inr, arith, Some}
+use Rattle.std.proofs.lemmas.Bool.{cases_order, lt-ltb, le-ltb, eq-eqb, ne_eqb}
+use Rattle.std.specs.List.{list_all}
+use Rattle.std.specs.Ordering.{nat_cmp, ordering_then, is_eq, is_lt, is_gt, is_le, is_ge}
+use Rattle.std.specs.Cmp.Lexicographic.{slice_cmp}
+use Rattle.std.specs.declared.cmp.Ordering.{Ordering}
+use Rattle.std.specs.declared.cmp.Ordering.TheVariants.{Less, Equal, Greater}
+use Rattle.semver_ranges.specs.declared.range.Op.{Op}
+use Rattle.semver_ranges.specs.declared.range_set.Compat.{Compat}
+use Rattle.semver_ranges.specs.declared.range_set.Compat.TheVariants.{Cargo, Npm}
+use Rattle.semver_ranges.specs.RangeTree.{Form, bare, equal, less, at_most, greater, at_least, tilde, caret}
+use Rattle.semver_texts.specs.Texts.{is_empty}
+use Rattle.semver_ranges.specs.Precedence.{precedence, pre_cmp}
+use Rattle.semver_texts.specs.Versions.{numbers, IdentifierValue, PlainVersion}
+use Rattle.semver_ranges.specs.Partials.{filled}
+use Rattle.semver_ranges.specs.OwnMeaning.{meets_stated, agrees}
+use Rattle.semver_ranges.specs.RewritingTable.{cell, up, cell_comparators, cell_raised}
+use Rattle.semver_ranges.specs.Meeting.{op_holds, meets_comparator, is_pre_release_of}
+
+-- a number of a version against a number that is raised: below it, the same, one above, further above
+-- (the order against it, the order against it raised, whether they are the same, whether it is the raised one)
+pub data Place : Ordering → Ordering → Bool → Bool → Type 0 where
+  under : Place Less Less false false
+  level : Place Equal Less true false
+  next : Place Greater Equal false true
+  over : Place Greater Greater false false
+
+pub place : (a x : ℕ) → Place (nat_cmp a x) (nat_cmp a (x + 1)) (nat_eq x a) (nat_eq a (x + 1))
+place a x = elim (cases_order a x) [
+  | inl same ↦ rw (same, le-ltb x x (omega arith), eq-eqb x x refl, lt-ltb x (x + 1) (omega arith), ne_eqb x (x + 1) (λ e. omega arith)) level
+  | inr apart ↦ elim apart [
+    | inl low ↦ rw (lt-ltb a x low, lt-ltb a (x + 1) (omega arith), ne_eqb x a (λ e. omega arith), ne_eqb a (x + 1) (λ e. omega arith)) under
+    | inr above ↦ elim (cases_order a (x + 1)) [
+      | inl one ↦ rw (le-ltb a x (omega arith), ne_eqb a x (λ e. omega arith), ne_eqb x a (λ e. omega arith), le-ltb a (x + 1) (omega arith), eq-eqb a (x + 1) one) next
+      | inr more ↦ let far : x + 1 < a = elim more [ inl less_far ↦ absurd (omega arith) | inr far ↦ far ] in
+          rw (le-ltb a x (omega arith), ne_eqb a x (λ e. omega arith), ne_eqb x a (λ e. omega arith), le-ltb a (x + 1) (omega arith), ne_eqb a (x + 1) (λ e. omega arith)) over
+    ]
+  ]
+]
+
+-- a number of a version against a number that stays
+pub data Step : Ordering → Bool → Bool → Type 0 where
+  lower : Step Less false false
+  level : Step Equal true true
+  higher : Step Greater false false
+
+pub step : (a x : ℕ) → Step (nat_cmp a x) (nat_eq x a) (nat_eq a x)
+step a x = elim (cases_order a x) [
+  | inl same ↦ rw (same, le-ltb x x (omega arith), eq-eqb x x refl) Step.level
+  | inr apart ↦ elim apart [
+    | inl low ↦ rw (lt-ltb a x low, ne_eqb x a (λ e. omega arith), ne_eqb a x (λ e. omega arith)) lower
+    | inr above ↦ rw (le-ltb a x (omega arith), ne_eqb x a (λ e. omega arith), ne_eqb a x (λ e. omega arith)) higher
+  ]
+]
+
+-- a number of a version against 0
+pub data Rest : Ordering → Bool → Type 0 where
+  nothing : Rest Equal true
+  something : Rest Greater false
+
+pub rest : (b : ℕ) → Rest (nat_cmp b 0) (nat_eq b 0)
+rest zero = nothing
+rest (suc b) = rw (le-ltb (suc b) 0 (omega arith), ne_eqb (suc b) 0 (λ e. omega arith)) something
+
+-- a pre-release against none
+pub data Tail : Ordering → Bool → Type 0 where
+  release : Tail Equal false
+  pre : Tail Less true
+
+pub tail : (q : List IdentifierValue) → Tail (pre_cmp q []) (not (is_empty q))
+tail [] = release
+tail (x ∷ xs) = pre
+
+-- the order of two versions, from the orders of their parts
+abbrev compared : Ordering → Ordering → Ordering → Ordering → Ordering
+compared o o' o'' o4 = ordering_then o (ordering_then o' (ordering_then o'' o4))
+
+-- a test with what comes of an `and` at the end of a list, and of an `or` with what can't be
+same-true : (x : Bool) → (x && true) ≡ x
+same-true true = refl
+same-true false = refl
+
+pub alone : (x : Bool) → (x && true) ≡ (x || false)
+alone true = refl
+alone false = refl
+
+-- what is left of a row where the version agrees with what is stated, and isn't the bound
+agreed : (x i : Bool) → (x && true) ≡ ((x && true) || (i && false))
+agreed true i = refl
+agreed false true = refl
+agreed false false = refl
+
+-- `<up(1)`: the first number isn't above the stated one, or the version is a pre-release of the bound
+below_first : {o u : Ordering} {e m : Bool} → Place o u e m → {z : Ordering} {n : Bool} → Rest z n → {z' : Ordering} {n' : Bool} → Rest z' n' → {r : Ordering} {i : Bool} → Tail r i
+    → (is_lt (compared u z z' r) && true) ≡ (is_le (ordering_then o Equal) || (i && (m && (n && (n' && true)))))
+below_first under b c t = refl
+below_first Place.level b c t = refl
+below_first next nothing nothing release = refl
+below_first next nothing nothing pre = refl
+below_first next nothing something release = refl
+below_first next nothing something pre = refl
+below_first next something c release = refl
+below_first next something c pre = refl
+below_first over b c release = refl
+below_first over b c pre = refl
+
+-- `<up(2)`
+below_second : {o : Ordering} {e m : Bool} → Step o e m → {o' u : Ordering} {e' m' : Bool} → Place o' u e' m' → {z : Ordering} {n : Bool} → Rest z n → {r : Ordering} {i : Bool} → Tail r i
+    → (is_lt (compared o u z r) && true) ≡ (is_le (ordering_then o (ordering_then o' Equal)) || (i && (m && (m' && (n && true)))))
+below_second lower b c t = refl
+below_second Step.level under c t = refl
+below_second Step.level Place.level c t = refl
+below_second Step.level next nothing release = refl
+below_second Step.level next nothing pre = refl
+below_second Step.level next something release = refl
+below_second Step.level next something pre = refl
+below_second Step.level over c release = refl
+below_second Step.level over c pre = refl
+below_second higher b c release = refl
+below_second higher b c pre = refl
+
+-- `>=z <up(1)`: not below z, and agreement on the first number, or a pre-release of the bound
+between_first : {o u : Ordering} {e m : Bool} → Place o u e m → {z : Ordering} {n : Bool} → Rest z n → {z' : Ordering} {n' : Bool} → Rest z' n' → {r : Ordering} {i : Bool} → Tail r i
+    → (o2 o3 o4 : Ordering)
+    → (is_ge (compared o o2 o3 o4) && (is_lt (compared u z z' r) && true)) ≡ ((is_ge (compared o o2 o3 o4) && (e && true)) || (i && (m && (n && (n' && true)))))
+between_first under b c release o2 o3 o4 = refl
+between_first under b c pre o2 o3 o4 = refl
+between_first Place.level b c {i = i} t o2 o3 o4 = agreed (is_ge (compared Equal o2 o3 o4)) i
+between_first next nothing nothing release o2 o3 o4 = refl
+between_first next nothing nothing pre o2 o3 o4 = refl
+between_first next nothing something release o2 o3 o4 = refl
+between_first next nothing something pre o2 o3 o4 = refl
+between_first next something c release o2 o3 o4 = refl
+between_first next something c pre o2 o3 o4 = refl
+between_first over b c release o2 o3 o4 = refl
+between_first over b c pre o2 o3 o4 = refl
+
+-- `>=z <up(2)`
+between_second : {o : Ordering} {e m : Bool} → Step o e m → {o' u : Ordering} {e' m' : Bool} → Place o' u e' m' → {z : Ordering} {n : Bool} → Rest z n → {r : Ordering} {i : Bool} → Tail r i
+    → (o3 o4 : Ordering)
+    → (is_ge (compared o o' o3 o4) && (is_lt (compared o u z r) && true)) ≡ ((is_ge (compared o o' o3 o4) && (e && (e' && true))) || (i && (m && (m' && (n && true)))))
+between_second lower b c release o3 o4 = refl
+between_second lower b c pre o3 o4 = refl
+between_second Step.level under c release o3 o4 = refl
+between_second Step.level under c pre o3 o4 = refl
+between_second Step.level Place.level c {i = i} t o3 o4 = agreed (is_ge (compared Equal Equal o3 o4)) i
+between_second Step.level next nothing release o3 o4 = refl
+between_second Step.level next nothing pre o3 o4 = refl
+between_second Step.level next something release o3 o4 = refl
+between_second Step.level next something pre o3 o4 = refl
+between_second Step.level over c release o3 o4 = refl
+between_second Step.level over c pre o3 o4 = refl
+between_second higher b c release o3 o4 = refl
+between_second higher b c pre o3 o4 = refl
+
+-- `>=z <up(3)`
+between_third : {o : Ordering} {e m : Bool} → Step o e m → {o' : Ordering} {e' m' : Bool} → Step o' e' m' → {o3 u : Ordering} {e3 m3 : Bool} → Place o3 u e3 m3 → {r : Ordering} {i : Bool} → Tail r i
+    → (o4 : Ordering)
+    → (is_ge (compared o o' o3 o4) && (is_lt (compared o o' u r) && true)) ≡ ((is_ge (compared o o' o3 o4) && (e && (e' && (e3 && true)))) || (i && (m && (m' && (m3 && true)))))
+between_third lower b c release o4 = refl
+between_third lower b c pre o4 = refl
+between_third Step.level lower c release o4 = refl
+between_third Step.level lower c pre o4 = refl
+between_third Step.level Step.level under release o4 = refl
+between_third Step.level Step.level under pre o4 = refl
+between_third Step.level Step.level Place.level {i = i} t o4 = agreed (is_ge (compared Equal Equal Equal o4)) i
+between_third Step.level Step.level next release o4 = refl
+between_third Step.level Step.level next pre o4 = refl
+between_third Step.level Step.level over release o4 = refl
+between_third Step.level Step.level over pre o4 = refl
+between_third Step.level higher c release o4 = refl
+between_third Step.level higher c pre o4 = refl
+between_third higher b c release o4 = refl
+between_third higher b c pre o4 = refl
+
+-- one comparator against z
+against_z : (op : Op) (o : Ordering) → (op_holds op o && true) ≡ (op_holds op o || false)
+against_z op o = alone (op_holds op o)
+
+-- the stated lists are of none to three numbers
+pub data Shape : List ℕ → Type 0 where
+  none : Shape []
+  one : (x : ℕ) → Shape (x ∷ [])
+  two : (x y : ℕ) → Shape (x ∷ y ∷ [])
+  three : (x y w : ℕ) → Shape (x ∷ y ∷ w ∷ [])
+
+-- what a row says: the comparators of its cell are met exactly if its meaning is, or the version is a pre-release of its bound
+abbrev pub RowAgrees : Compat → Form → List ℕ → List IdentifierValue → PlainVersion → Type 0
+RowAgrees mode form s p v = list_all (meets_comparator v) (cell_comparators (cell mode form s) s (filled s p))
+    ≡ (meets_stated mode form s (filled s p) v || is_pre_release_of v (cell_raised (cell mode form s) s))
+
+-- nothing stated
+row_none : (mode : Compat) (form : Form) (p : List IdentifierValue) (v : PlainVersion) → RowAgrees mode form [] p v
+row_none mode bare p v = alone (is_ge (precedence v (filled [] [])))
+row_none mode equal p v = alone (is_ge (precedence v (filled [] [])))
+row_none mode less p v = alone (is_lt (precedence v (filled [] [])))
+row_none mode at_most p v = alone (is_ge (precedence v (filled [] [])))
+row_none mode greater p v = alone (is_lt (precedence v (filled [] [])))
+row_none mode at_least p v = alone (is_ge (precedence v (filled [] [])))
+row_none mode tilde p v = alone (is_ge (precedence v (filled [] [])))
+row_none mode caret p v = alone (is_ge (precedence v (filled [] [])))
+
+-- the rows of a version's numbers against x, y, w and p
+module _ (v : PlainVersion) where
+  -- `<up(1)`
+  under_one : (x : ℕ) → (is_lt (precedence v (up 1 (x ∷ []))) && true) ≡ (is_le (slice_cmp nat_cmp (take 1 (numbers v)) (x ∷ [])) || is_pre_release_of v (Some (up 1 (x ∷ []))))
+  under_one x = below_first (place v.major x) (rest v.minor) (rest v.patch) (tail v.pre)
+
+  under_two : (x y : ℕ) → (is_lt (precedence v (up 2 (x ∷ y ∷ []))) && true) ≡ (is_le (slice_cmp nat_cmp (take 2 (numbers v)) (x ∷ y ∷ [])) || is_pre_release_of v (Some (up 2 (x ∷ y ∷ []))))
+  under_two x y = below_second (step v.major x) (place v.minor y) (rest v.patch) (tail v.pre)
+
+  -- `>=z <up(1)`
+  within_one : (x y w : ℕ) (p : List IdentifierValue) → let z = filled (x ∷ y ∷ w ∷ []) p in
+      (is_ge (precedence v z) && (is_lt (precedence v (up 1 (x ∷ []))) && true)) ≡ ((is_ge (precedence v z) && agrees 1 (x ∷ []) v) || is_pre_release_of v (Some (up 1 (x ∷ []))))
+  within_one x y w p = between_first (place v.major x) (rest v.minor) (rest v.patch) (tail v.pre) (nat_cmp v.minor y) (nat_cmp v.patch w) (pre_cmp v.pre p)
+
+  within_two : (x y w : ℕ) (p : List IdentifierValue) → let z = filled (x ∷ y ∷ w ∷ []) p in
+      (is_ge (precedence v z) && (is_lt (precedence v (up 2 (x ∷ y ∷ []))) && true)) ≡ ((is_ge (precedence v z) && agrees 2 (x ∷ y ∷ []) v) || is_pre_release_of v (Some (up 2 (x ∷ y ∷ []))))
+  within_two x y w p = between_second (step v.major x) (place v.minor y) (rest v.patch) (tail v.pre) (nat_cmp v.patch w) (pre_cmp v.pre p)
+
+  within_three : (x y w : ℕ) (p : List IdentifierValue) → let z = filled (x ∷ y ∷ w ∷ []) p in
+      (is_ge (precedence v z) && (is_lt (precedence v (up 3 (x ∷ y ∷ w ∷ []))) && true)) ≡ ((is_ge (precedence v z) && agrees 3 (x ∷ y ∷ w ∷ []) v) || is_pre_release_of v (Some (up 3 (x ∷ y ∷ w ∷ []))))
+  within_three x y w p = between_third (step v.major x) (step v.minor y) (place v.patch w) (tail v.pre) (pre_cmp v.pre p)
+
+  -- one number stated
+  row_one : (mode : Compat) (form : Form) (x : ℕ) (p : List IdentifierValue) → RowAgrees mode form (x ∷ []) p v
+  row_one Cargo bare x p = within_one x 0 0 p
+  row_one Npm bare x p = within_one x 0 0 p
+  row_one mode equal x p = within_one x 0 0 p
+  row_one mode less x p = alone (is_lt (precedence v (filled (x ∷ []) p)))
+  row_one mode at_most x p = under_one x
+  row_one mode greater x p = alone (is_gt (precedence v (filled (x ∷ []) p)))
+  row_one mode at_least x p = alone (is_ge (precedence v (filled (x ∷ []) p)))
+  row_one mode tilde x p = within_one x 0 0 p
+  row_one mode caret x p = within_one x 0 0 p
+
+  caret_two : (b : Bool) (x y : ℕ) (p : List IdentifierValue) → let k : ℕ = (if b then 2 else 1) in let z = filled (x ∷ y ∷ []) p in
+      (is_ge (precedence v z) && (is_lt (precedence v (up k (x ∷ y ∷ []))) && true)) ≡ ((is_ge (precedence v z) && agrees k (x ∷ y ∷ []) v) || is_pre_release_of v (Some (up k (x ∷ y ∷ []))))
+  caret_two true x y p = within_two x y 0 p
+  caret_two false x y p = within_one x y 0 p
+
+  -- two numbers stated
+  row_two : (mode : Compat) (form : Form) (x y : ℕ) (p : List IdentifierValue) → RowAgrees mode form (x ∷ y ∷ []) p v
+  row_two Cargo bare x y p = within_two x y 0 p
+  row_two Npm bare x y p = within_two x y 0 p
+  row_two mode equal x y p = within_two x y 0 p
+  row_two mode less x y p = alone (is_lt (precedence v (filled (x ∷ y ∷ []) p)))
+  row_two mode at_most x y p = under_two x y
+  row_two mode greater x y p = alone (is_gt (precedence v (filled (x ∷ y ∷ []) p)))
+  row_two mode at_least x y p = alone (is_ge (precedence v (filled (x ∷ y ∷ []) p)))
+  row_two mode tilde x y p = within_two x y 0 p
+  row_two mode caret x y p = caret_two (x == 0) x y p
+
+  caret_three : (b c : Bool) (x y w : ℕ) (p : List IdentifierValue) → let k : ℕ = (if b then suc (if c then 2 else 1) else 1) in let z = filled (x ∷ y ∷ w ∷ []) p in
+      (is_ge (precedence v z) && (is_lt (precedence v (up k (x ∷ y ∷ w ∷ []))) && true)) ≡ ((is_ge (precedence v z) && agrees k (x ∷ y ∷ w ∷ []) v) || is_pre_release_of v (Some (up k (x ∷ y ∷ w ∷ []))))
+  caret_three true true x y w p = within_three x y w p
+  caret_three true false x y w p = within_two x y w p
+  caret_three false c x y w p = within_one x y w p
+
+  -- three numbers stated
+  row_three : (mode : Compat) (form : Form) (x y w : ℕ) (p : List IdentifierValue) → RowAgrees mode form (x ∷ y ∷ w ∷ []) p v
+  row_three Cargo bare x y w p = caret_three (x == 0) (y == 0) x y w p
+  row_three Npm bare x y w p = alone (is_eq (precedence v (filled (x ∷ y ∷ w ∷ []) p)))
+  row_three mode equal x y w p = alone (is_eq (precedence v (filled (x ∷ y ∷ w ∷ []) p)))
+  row_three mode less x y w p = alone (is_lt (precedence v (filled (x ∷ y ∷ w ∷ []) p)))
+  row_three mode at_most x y w p = alone (is_le (precedence v (filled (x ∷ y ∷ w ∷ []) p)))
+  row_three mode greater x y w p = alone (is_gt (precedence v (filled (x ∷ y ∷ w ∷ []) p)))
+  row_three mode at_least x y w p = alone (is_ge (precedence v (filled (x ∷ y ∷ w ∷ []) p)))
+  row_three mode tilde x y w p = within_two x y w p
+  row_three mode caret x y w p = caret_three (x == 0) (y == 0) x y w p
+
+  -- any row of the table
+  pub row : (mode : Compat) (form : Form) {s : List ℕ} → Shape s → (p : List IdentifierValue) → RowAgrees mode form s p v
+  row mode form none p = row_none mode form p v
+  row mode form (one x) p = row_one mode form x p
+  row mode form (two x y) p = row_two mode form x y p
+  row mode form (three x y w) p = row_three mode form x y w p

@@ -1,0 +1,5 @@
+use Rattle.semver_ranges.proofs.ReaderComplete.{same_tree}
+use Rattle.semver_ranges.proofs.laws.one_tree.Goals as goal
+
+pub returns : goal.returns
+returns c = record { same_tree = same_tree }

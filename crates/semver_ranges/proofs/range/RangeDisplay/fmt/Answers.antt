@@ -1,0 +1,14 @@
+use Rattle.std.proofs.Common.{List, refl, ap}
+use Rattle.std.specs.Prelude.{codes}
+use Rattle.std.proofs.Output.{has_written_of_eq}
+use Rattle.semver_ranges.specs.declared.range.Comparator.{Comparator}
+use Rattle.semver_texts.specs.Texts.{Text, joined}
+use Rattle.semver_ranges.specs.PrintedRanges.{comparator_text}
+use Rattle.semver_ranges.specs.RangeViews.{comparator_of}
+use Rattle.semver_texts.proofs.Joins.{map_view}
+use Rattle.semver_ranges.proofs.range.RangeDisplay.fmt.Goals as goal
+
+pub returns-clause-writes : goal.returns-clause-writes
+returns-clause-writes g c = λ plain ok.
+    let all = (rw c.deref.ensures.value at (c.write_joined.ensures (λ (x : Comparator). comparator_text (comparator_of x)) (λ _. refl))) plain ok in
+    has_written_of_eq _ _ _ _ _ (ap (λ (l : List Text). joined (codes " ") l) (map_view comparator_text comparator_of c.args.self.now.comparator_set.items)) all

@@ -1,0 +1,17 @@
+pub mod RangeTree
+pub mod Partials
+pub mod Precedence
+pub mod Terms
+pub mod OwnMeaning
+pub mod RewritingTable
+pub mod Meeting
+pub mod PrintedRanges
+pub mod RangeViews
+pub mod Reader
+pub mod Answers
+pub mod Pieces
+pub mod PieceViews
+pub mod PartialViews
+pub use Rattle.semver_texts.specs.Texts
+pub use Rattle.semver_texts.specs.Versions
+pub use Rattle.semver_texts.specs.PrintedText

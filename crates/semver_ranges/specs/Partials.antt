@@ -1,0 +1,51 @@
+-- What a partial states.
+use Rattle.std.specs.Prelude.{ℕ, suc, ◌^◌, ◌&&◌, Bool, if◌then◌else◌, ◌==◌, nat_lt, not, List, [], ◌∷◌, length, map, take_while, slice_index}
+use Rattle.std.specs.Str.{all_ascii_digits}
+use Rattle.std.specs.Str.Parse.{digits_value}
+use Rattle.semver_ranges.specs.RangeTree.{PartialTree, one, two, three, components, is_wildcard}
+use Rattle.semver_texts.specs.Texts.{Text, is_empty}
+use Rattle.semver_texts.specs.Versions.{IdentifierValue, numeric, alphanumeric, PlainVersion}
+
+-- whether a number is at most 2^64 - 1
+abbrev pub fits_u64 : ℕ → Bool
+fits_u64 n = nat_lt n (2 ^ 64)
+
+-- a part as it is kept: the number that its digits write, where it is digits alone and the number fits; else its text
+abbrev pub kept : Text → IdentifierValue
+kept part = if all_ascii_digits part && fits_u64 (digits_value 10 part) then numeric (digits_value 10 part) else alphanumeric part
+
+-- the stated numbers: those before the first wildcard
+abbrev pub stated : PartialTree → List ℕ
+stated p = map (digits_value 10) (take_while (λ c. not (is_wildcard c)) (components p))
+
+-- whether a partial states no number
+abbrev pub states_nothing : PartialTree → Bool
+states_nothing p = is_empty (stated p)
+
+-- the parts of the pre-release, whether it counts or not
+abbrev pub pre_parts : PartialTree → List Text
+pre_parts (one a) = []
+pre_parts (two a b) = []
+pre_parts (three a b c pre build) = pre
+
+-- the pre-release that counts: the parts as they are kept where three numbers are stated, else none
+abbrev pub pre_release : PartialTree → List IdentifierValue
+pre_release p = if length (stated p) == 3 then map kept (pre_parts p) else []
+
+-- a version of up to three numbers, filled with zeros
+abbrev pub filled : List ℕ → List IdentifierValue → PlainVersion
+filled s pre = record { major = slice_index s 0; minor = slice_index s 1; patch = slice_index s 2; pre = pre }
+
+-- the zero-filled version of a partial, with its pre-release
+abbrev pub zero_filled : PartialTree → PlainVersion
+zero_filled p = filled (stated p) (pre_release p)
+
+-- the version 0.0.0
+abbrev pub zero_version : PlainVersion
+zero_version = filled [] []
+
+-- the place, from 1, of the first number that isn't 0; the last place where all are 0
+abbrev pub leading_place : List ℕ → ℕ
+leading_place [] = 0
+leading_place (n ∷ []) = 1
+leading_place (n ∷ next ∷ rest) = if n == 0 then suc (leading_place (next ∷ rest)) else 1

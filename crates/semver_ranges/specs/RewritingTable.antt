@@ -1,0 +1,134 @@
+-- The comparators that stand for a range, by the form of each term and by how many numbers it states.
+use Rattle.std.specs.Prelude.{ℕ, suc, zero, ◌+◌, Bool, true, ◌&&◌, if◌then◌else◌, Option, Some, None, List, [], ◌∷◌, length, map}
+use Rattle.std.specs.List.{list_all, flat_map}
+use Rattle.semver_ranges.specs.declared.range.Op.{Op}
+use Rattle.semver_ranges.specs.declared.range.Op.TheVariants.{Lt, Lte, Gt, Gte, Eq}
+use Rattle.semver_ranges.specs.declared.range_set.Compat.{Compat}
+use Rattle.semver_ranges.specs.declared.range_set.Compat.TheVariants.{Cargo, Npm}
+use Rattle.semver_ranges.specs.RangeTree.{Form, bare, equal, less, at_most, greater, at_least, tilde, caret, Simple, RangeTree, empty, hyphen, simples, SetTree}
+use Rattle.semver_texts.specs.Versions.{numbers, PlainVersion}
+use Rattle.semver_ranges.specs.Partials.{stated, states_nothing, filled, zero_filled, zero_version, leading_place, fits_u64}
+use Rattle.semver_ranges.specs.Terms.{Term, of_simple, of_nothing, sides, terms}
+
+-- a comparator: an operator and the version that it compares with
+pub record PlainComparator : Type 0 where
+  pub op : Op
+  pub version : PlainVersion
+
+-- a range: its comparators and its mode
+pub record PlainRange : Type 0 where
+  pub comparators : List PlainComparator
+  pub compat : Compat
+
+-- a range set: its ranges and its mode
+pub record PlainSet : Type 0 where
+  pub ranges : List PlainRange
+  pub compat : Compat
+
+-- a cell of the table, where z is the zero-filled version and up(k) the first k stated numbers, the last of them raised
+pub data Cell : Type 0 where
+  from_zero : Cell  -- `>=0.0.0`
+  below_zero : Cell  -- `<0.0.0`
+  against : Op → Cell  -- the operator and z
+  below : ℕ → Cell  -- `<up(k)`
+  between : ℕ → Cell  -- `>=z <up(k)`
+
+-- the column where nothing is stated
+abbrev pub nothing_stated : Form → Cell
+nothing_stated less = below_zero
+nothing_stated greater = below_zero
+nothing_stated _ = from_zero
+
+-- the column where one or two numbers are stated
+abbrev pub some_stated : Form → List ℕ → Cell
+some_stated bare s = between (length s)
+some_stated equal s = between (length s)
+some_stated less s = against Lt
+some_stated at_most s = below (length s)
+some_stated greater s = against Gt
+some_stated at_least s = against Gte
+some_stated tilde s = between (length s)
+some_stated caret s = between (leading_place s)
+
+-- the column where three numbers are stated; the mode decides the bare row here, and nothing else
+abbrev pub three_stated : Compat → Form → List ℕ → Cell
+three_stated Cargo bare s = between (leading_place s)
+three_stated Npm bare s = against Eq
+three_stated mode equal s = against Eq
+three_stated mode less s = against Lt
+three_stated mode at_most s = against Lte
+three_stated mode greater s = against Gt
+three_stated mode at_least s = against Gte
+three_stated mode tilde s = between 2
+three_stated mode caret s = between (leading_place s)
+
+-- the table
+abbrev pub cell : Compat → Form → List ℕ → Cell
+cell mode form [] = nothing_stated form
+cell mode form (a ∷ []) = some_stated form (a ∷ [])
+cell mode form (a ∷ b ∷ []) = some_stated form (a ∷ b ∷ [])
+cell mode form (a ∷ b ∷ c ∷ rest) = three_stated mode form (a ∷ b ∷ c ∷ rest)
+
+-- the first k numbers, the last of them raised by one
+abbrev pub raised : ℕ → List ℕ → List ℕ
+raised zero s = []
+raised (suc k) [] = []
+raised (suc zero) (n ∷ rest) = (n + 1) ∷ []
+raised (suc (suc k)) (n ∷ rest) = n ∷ raised (suc k) rest
+
+-- up(k): the raised numbers, filled with zeros, without pre-release
+abbrev pub up : ℕ → List ℕ → PlainVersion
+up k s = filled (raised k s) []
+
+-- a comparator of an operator and a version
+abbrev pub comparator : Op → PlainVersion → PlainComparator
+comparator op v = record { op = op; version = v }
+
+-- the comparators of a cell
+abbrev pub cell_comparators : Cell → List ℕ → PlainVersion → List PlainComparator
+cell_comparators from_zero s z = comparator Gte zero_version ∷ []
+cell_comparators below_zero s z = comparator Lt zero_version ∷ []
+cell_comparators (against op) s z = comparator op z ∷ []
+cell_comparators (below k) s z = comparator Lt (up k s) ∷ []
+cell_comparators (between k) s z = comparator Gte z ∷ comparator Lt (up k s) ∷ []
+
+-- the raised bound of a cell, where it has one
+abbrev pub cell_raised : Cell → List ℕ → Option PlainVersion
+cell_raised (below k) s = Some (up k s)
+cell_raised (between k) s = Some (up k s)
+cell_raised _ s = None
+
+-- the comparators of a simple
+abbrev pub simple_comparators : Compat → Simple → List PlainComparator
+simple_comparators mode s = cell_comparators (cell mode s.form (stated s.partial)) (stated s.partial) (zero_filled s.partial)
+
+-- the comparators of a range: those of its simples or sides in order; `>=0.0.0` where it is empty or both sides state nothing
+abbrev pub range_comparators : Compat → RangeTree → List PlainComparator
+range_comparators mode empty = comparator Gte zero_version ∷ []
+range_comparators mode (hyphen left right) =
+    if states_nothing left && states_nothing right then comparator Gte zero_version ∷ []
+    else flat_map (simple_comparators mode) (sides left right)
+range_comparators mode (simples first others) = flat_map (simple_comparators mode) (first ∷ others)
+
+-- the set that a tree is rewritten to: the comparators of its ranges in order, with the mode in the set and in each range
+abbrev pub rewritten : Compat → SetTree → PlainSet
+rewritten mode tree = record { ranges = map (λ r. record { comparators = range_comparators mode r; compat = mode }) tree; compat = mode }
+
+-- the raised bound of a term, where its row has one
+abbrev pub raised_bound : Compat → Term → Option PlainVersion
+raised_bound mode (of_simple s) = cell_raised (cell mode s.form (stated s.partial)) (stated s.partial)
+raised_bound mode of_nothing = None
+
+-- whether the numbers of a raised bound are at most 2^64 - 1
+abbrev pub bound_fits : Option PlainVersion → Bool
+bound_fits None = true
+bound_fits (Some bound) = list_all fits_u64 (numbers bound)
+
+-- whether the numbers that a term states, and those of its raised bound, are at most 2^64 - 1
+abbrev pub term_fits : Compat → Term → Bool
+term_fits mode (of_simple s) = list_all fits_u64 (stated s.partial) && bound_fits (raised_bound mode (of_simple s))
+term_fits mode of_nothing = true
+
+-- whether a tree fits: each of its terms does
+abbrev pub fits : Compat → SetTree → Bool
+fits mode tree = list_all (λ range. list_all (term_fits mode) (terms range)) tree

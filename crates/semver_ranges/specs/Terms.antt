@@ -1,0 +1,30 @@
+-- The terms of a range: what a version has to meet one by one.
+use Rattle.std.specs.Prelude.{◌&&◌, not, if◌then◌else◌, List, [], ◌∷◌, map}
+use Rattle.semver_ranges.specs.RangeTree.{at_most, at_least, PartialTree, Simple, RangeTree, empty, hyphen, simples}
+use Rattle.semver_ranges.specs.Partials.{states_nothing}
+
+-- a term: a simple, or an empty range
+pub data Term : Type 0 where
+  of_simple : Simple → Term
+  of_nothing : Term
+
+-- `>=` of a left side
+abbrev pub left_side : PartialTree → Simple
+left_side p = record { form = at_least; partial = p }
+
+-- `<=` of a right side
+abbrev pub right_side : PartialTree → Simple
+right_side p = record { form = at_most; partial = p }
+
+-- the sides of a hyphen range; one that states nothing is left out if the other states something
+abbrev pub sides : PartialTree → PartialTree → List Simple
+sides left right =
+    if states_nothing left && not (states_nothing right) then right_side right ∷ []
+    else (if states_nothing right && not (states_nothing left) then left_side left ∷ []
+    else left_side left ∷ right_side right ∷ [])
+
+-- the terms of a range: its simples, its sides, or the empty range itself
+abbrev pub terms : RangeTree → List Term
+terms empty = of_nothing ∷ []
+terms (hyphen left right) = map of_simple (sides left right)
+terms (simples first others) = map of_simple (first ∷ others)

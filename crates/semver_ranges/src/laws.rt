@@ -1,0 +1,48 @@
+//! Laws over the definitions: each is the contract of a function that does nothing.
+ghost use Rattle.std.specs.Prelude.{◌≡◌, ◌↔◌, [], IsTrue};
+ghost use Rattle.std.specs.Cmp.{IsTotalOrder};
+ghost use Rattle.std.specs.declared.cmp.Ordering.TheVariants.{Equal};
+ghost use Rattle.semver_ranges.specs.declared.range_set.Compat.{Compat};
+ghost use Rattle.semver_texts.specs.Texts.{Text};
+ghost use Rattle.semver_ranges.specs.RangeTree.{SetTree, Spells};
+ghost use Rattle.semver_texts.specs.Versions.{PlainVersion};
+ghost use Rattle.semver_ranges.specs.Precedence.{precedence};
+ghost use Rattle.semver_ranges.specs.OwnMeaning.{meets_tree};
+ghost use Rattle.semver_ranges.specs.RewritingTable.{PlainSet, fits, rewritten};
+ghost use Rattle.semver_ranges.specs.Meeting.{meets_set, meets_tree_or_bounds};
+ghost use Rattle.semver_ranges.specs.PrintedRanges.{IsPrintableSet, set_text};
+
+/// No range text has two trees.
+pub fn one_tree()
+    ensures same_tree { (tree tree' : SetTree) (text : Text) → Spells tree text → Spells tree' text → tree ≡ tree' }
+{}
+
+/// A version meets the comparators of a range text exactly if, in some range, it meets each term or is a
+/// pre-release of the term's raised bound.
+pub fn meanings_agree()
+    ensures exact { (mode : Compat) (tree : SetTree) (v : PlainVersion) →
+        meets_set v (rewritten mode tree) ≡ meets_tree_or_bounds mode tree v }
+    // What meets the text's own meaning meets the comparators.
+    ensures implied { (mode : Compat) (tree : SetTree) (v : PlainVersion) →
+        IsTrue (meets_tree mode tree v) → IsTrue (meets_set v (rewritten mode tree)) }
+    // On releases both are equal.
+    ensures releases { (mode : Compat) (tree : SetTree) (v : PlainVersion) → v.pre ≡ [] →
+        meets_set v (rewritten mode tree) ≡ meets_tree mode tree v }
+{}
+
+/// Precedence is a total order, and two versions are equal in it exactly if they are the same.
+pub fn precedence_is_total()
+    ensures total { IsTotalOrder precedence }
+    ensures same { (v w : PlainVersion) → (precedence v w ≡ Equal) ↔ (v ≡ w) }
+{}
+
+/// The text of a printable set is spelled by a tree that fits and is rewritten to the set.
+pub fn printed_sets_read_back()
+    ensures read_back { (s : PlainSet) → IsPrintableSet s → (tree : SetTree) × Spells tree (set_text s)
+        × IsTrue (fits s.compat tree) × (rewritten s.compat tree ≡ s) }
+{}
+
+/// What a tree that spells a text and fits is rewritten to is printable.
+pub fn answered_sets_are_printable()
+    ensures printable { (mode : Compat) (tree : SetTree) (text : Text) → Spells tree text → IsTrue (fits mode tree) → IsPrintableSet (rewritten mode tree) }
+{}

@@ -1,0 +1,11 @@
+//! Range texts as plain data: a `RangeSet` of plain comparators.
+#![tactic(auto)]
+
+mod grammar;
+pub mod laws;
+mod partial;
+mod range;
+mod range_set;
+
+pub use range::{Comparator, Identifier, Op, Range};
+pub use range_set::{Compat, RangeError, RangeSet};

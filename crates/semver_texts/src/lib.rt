@@ -1,0 +1,5 @@
+//! What version texts and range texts share: lists of printed values, written one after the other; and, in `specs/`, texts as
+//! their bytes, identifiers and versions without where they lie in memory, and their printed texts.
+#![tactic(auto)]
+
+pub mod printing;

@@ -1,0 +1,17 @@
+pub mod Cuts
+pub mod FirstToken
+pub mod IdentifierSteps
+pub mod IdentifierTexts
+pub mod LexerSteps
+pub mod Numbers
+pub mod OneVersion
+pub mod ParseFacts
+pub mod ParserSteps
+pub mod ReadingSteps
+pub mod TokenLists
+pub mod VersionExamples
+pub mod VersionSteps
+pub mod VersionTaking
+pub mod ZeroOne
+pub mod VersionTokens
+pub mod WholeText

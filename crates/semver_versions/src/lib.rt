@@ -1,0 +1,7 @@
+//! Version texts as plain data: tokens, a parser of one token ahead, and a `Version` that prints again.
+#![tactic(auto)]
+
+pub mod laws;
+pub mod lexer;
+pub mod parser;
+pub mod version;
