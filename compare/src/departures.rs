@@ -19,6 +19,9 @@ const DIGIT_FIRST: &str = "a part that begins with a digit and is no canonical d
 const NUMBER: &str = "a panic at a number past 64 bits";
 const BOUND: &str = "a panic at a raised bound past 64 bits";
 
+/// What parts the words of a range text.
+const SEPARATORS: [char; 3] = [' ', '\t', '|'];
+
 /// What the answer here has to be, and the departures for which it isn't the crate's.
 pub struct Expected {
     pub answer: String,
@@ -82,8 +85,8 @@ fn undone(text: &str) -> Undone {
     let longest = text.split(|c| c != 'm').map(str::len).max().unwrap_or_default();
     let mark = "m".repeat(longest + 1);
     let mut undone = Undone { text: String::new(), mark: String::new(), departures: Vec::new() };
-    for piece in text.split_inclusive(|c| matches!(c, ' ' | '\t' | '|')) {
-        let word = piece.trim_end_matches(|c| matches!(c, ' ' | '\t' | '|'));
+    for piece in text.split_inclusive(SEPARATORS) {
+        let word = piece.trim_end_matches(SEPARATORS);
         undone.push_word(word, &mark);
         undone.text.push_str(&piece[word.len()..]);
     }
@@ -95,7 +98,7 @@ fn undone(text: &str) -> Undone {
 impl Undone {
     /// Adds a word. One whose qualifier isn't in the grammar, or doesn't stand behind three components, is left as it is.
     fn push_word(&mut self, word: &str, mark: &str) {
-        let at = word.find(|c| matches!(c, '-' | '+')).unwrap_or(word.len());
+        let at = word.find(['-', '+']).unwrap_or(word.len());
         let (numbers, qualifier) = word.split_at(at);
         let (pre, build) = match qualifier.split_once('+') {
             Some((pre, build)) => (pre, Some(build)),
