@@ -1,68 +1,120 @@
-//! The answers of the real crate, in the words of the report.
+//! The answers of the real crate, as the program of this repository prints its own.
 
-use semver_parser::{parser, version, Compat, Identifier, Op, RangeSet};
-use std::panic::catch_unwind;
+use crate::cases::{Case, Kind};
+use crate::ranges;
+use semver_parser::lexer::{self, Lexer, Token};
+use semver_parser::parser::{Error, Parser};
+use semver_parser::version::{self, Identifier, Version};
+use semver_parser::Compat;
 
-/// The three lines and the status of a text.
-pub fn lines(text: &str) -> String {
-    let lines = [version_line(text), range_line(text, Compat::Cargo), range_line(text, Compat::Npm)];
-    let is_fault = |line: &String| line.starts_with(|c: char| c.is_ascii_alphabetic());
-    let status = u8::from(lines.iter().all(is_fault));
-    let [version, cargo, npm] = lines;
-    format!("version: {version}; cargo: {cargo}; npm: {npm}; status {status}")
-}
+/// What stands behind the tokens where the crate gives the lexer's error again at two further calls.
+pub const ERROR_AGAIN: &str = "and again";
 
-fn version_line(text: &str) -> String {
-    match version::parse(text) {
-        Ok(version) => version.to_string(),
-        Err(parser::Error::UnexpectedEnd) => "unexpected-end".to_string(),
-        Err(parser::Error::UnexpectedToken(_)) => "unexpected-token".to_string(),
-        Err(parser::Error::Lexer(_)) => "unexpected-char".to_string(),
-        Err(parser::Error::MoreInput(_)) => "more-input".to_string(),
-        Err(parser::Error::EmptyPredicate) => "empty-predicate".to_string(),
-        Err(parser::Error::EmptyRange) => "empty-range".to_string(),
+/// What the crate answers to a case.
+pub fn answer(case: &Case) -> String {
+    match case.kind {
+        Kind::Tokens => lexed(&case.text),
+        Kind::Steps => stepped(&case.text, &case.steps),
+        Kind::Versions => or_fault(version::parse(&case.text), |version| fields(&version)),
+        Kind::Cargo => ranges::read(&case.text, Compat::Cargo).text(),
+        Kind::Npm => ranges::read(&case.text, Compat::Npm).text(),
     }
 }
 
-/// It panics at a number or a bound past 64 bits, once the grammar is decided.
-fn range_line(text: &str, compat: Compat) -> String {
-    match catch_unwind(|| RangeSet::parse(text, compat)) {
-        Ok(Ok(set)) => printed(&set),
-        Ok(Err(_)) => "not-a-range".to_string(),
-        Err(_) => "number-too-large".to_string(),
+/// The items up to the end or the first error, and then what two further calls give.
+fn lexed(text: &str) -> String {
+    let mut lexer = Lexer::new(text);
+    let mut items = Vec::new();
+    let mut bad = None;
+    while bad.is_none() {
+        match lexer.next() {
+            Some(Ok(token)) => items.push(token_text(&token)),
+            Some(Err(lexer::Error::UnexpectedChar(character))) => bad = Some(character),
+            None => break,
+        }
+    }
+    let further = [lexer.next(), lexer.next()];
+    let all_are = |wanted: &Option<Result<Token, lexer::Error>>| further.iter().all(|item| item == wanted);
+    match bad {
+        Some(character) => {
+            items.push(format!("UnexpectedChar({character})"));
+            let is_again = all_are(&Some(Err(lexer::Error::UnexpectedChar(character))));
+            items.push(if is_again { ERROR_AGAIN } else { "and then something else" }.to_string());
+        }
+        None => items.push(if all_are(&None) { "end" } else { "more" }.to_string()),
+    }
+    items.join(" ")
+}
+
+/// What a parser of the text answers to each call, one after the other.
+fn stepped(text: &str, steps: &[&str]) -> String {
+    let mut parser = match Parser::new(text) {
+        Ok(parser) => parser,
+        Err(error) => return error_text(&error),
+    };
+    let answers: Vec<String> = steps.iter().map(|step| step_answer(&mut parser, step)).collect();
+    answers.join("; ")
+}
+
+fn step_answer(parser: &mut Parser, step: &str) -> String {
+    match step {
+        "component" => or_fault(parser.component(), component_text),
+        "numeric" => or_fault(parser.numeric(), |number| number.to_string()),
+        "dot_component" => {
+            or_fault(parser.dot_component(), |(component, is_wildcard)| format!("{} {is_wildcard}", component_text(component)))
+        }
+        "dot_numeric" => or_fault(parser.dot_numeric(), |number| number.to_string()),
+        "is_eof" => parser.is_eof().to_string(),
+        "tail" => or_fault(parser.tail(), |tokens| format!("[{}]", tokens_text(&tokens))),
+        "identifier" => or_fault(parser.identifier(), |identifier| identifier_text(&identifier)),
+        "version" => or_fault(parser.version(), |version| fields(&version)),
+        _ => unreachable!("a step of a parser"),
     }
 }
 
-fn printed(set: &RangeSet) -> String {
-    let ranges: Vec<String> = set
-        .ranges
-        .iter()
-        .map(|range| {
-            let comparators: Vec<String> = range
-                .comparator_set
-                .iter()
-                .map(|comparator| {
-                    let op = match comparator.op {
-                        Op::Lt => "<",
-                        Op::Lte => "<=",
-                        Op::Gt => ">",
-                        Op::Gte => ">=",
-                        Op::Eq => "=",
-                    };
-                    let pre: Vec<String> = comparator.pre.iter().map(identifier).collect();
-                    let mark = if pre.is_empty() { "" } else { "-" };
-                    format!("{op}{}.{}.{}{mark}{}", comparator.major, comparator.minor, comparator.patch, pre.join("."))
-                })
-                .collect();
-            comparators.join(" ")
-        })
-        .collect();
-    ranges.join(" || ")
+fn or_fault<T>(answer: Result<T, Error>, text: impl FnOnce(T) -> String) -> String {
+    match answer {
+        Ok(value) => text(value),
+        Err(error) => error_text(&error),
+    }
 }
 
-fn identifier(identifier: &Identifier) -> String {
+fn component_text(component: Option<u64>) -> String {
+    component.map_or_else(|| "wildcard or none".to_string(), |number| number.to_string())
+}
+
+fn error_text(error: &Error) -> String {
+    match error {
+        Error::UnexpectedToken(token) => format!("UnexpectedToken({})", token_text(token)),
+        Error::Lexer(lexer::Error::UnexpectedChar(character)) => format!("Lexer({character})"),
+        Error::MoreInput(tokens) => format!("MoreInput({})", tokens_text(tokens)),
+        Error::UnexpectedEnd | Error::EmptyPredicate | Error::EmptyRange => format!("{error:?}"),
+    }
+}
+
+fn tokens_text(tokens: &[Token]) -> String {
+    let texts: Vec<String> = tokens.iter().map(token_text).collect();
+    texts.join(" ")
+}
+
+fn token_text(token: &Token) -> String {
+    match token {
+        Token::Whitespace(first, after) => format!("Whitespace({first},{after})"),
+        Token::AlphaNumeric(word) => format!("AlphaNumeric({word})"),
+        other => format!("{other:?}"),
+    }
+}
+
+/// The numbers of a version, and each identifier by its kind and value.
+fn fields(version: &Version) -> String {
+    let part = |identifiers: &[Identifier]| identifiers.iter().map(identifier_text).collect::<Vec<_>>().join(" ");
+    let (major, minor, patch) = (version.major, version.minor, version.patch);
+    format!("{major} {minor} {patch} pre[{}] build[{}]", part(&version.pre), part(&version.build))
+}
+
+fn identifier_text(identifier: &Identifier) -> String {
     match identifier {
-        Identifier::Numeric(number) => number.to_string(),
-        Identifier::AlphaNumeric(text) => text.clone(),
+        Identifier::Numeric(number) => format!("Numeric({number})"),
+        Identifier::AlphaNumeric(word) => format!("AlphaNumeric({word})"),
     }
 }

@@ -1,47 +1,62 @@
-//! Random texts: versions and range sets from their grammars, some of them with a character changed.
+//! Random cases: texts from the grammars of versions and ranges, most of them with something changed, and lists of tokens.
 
-/// A small generator of numbers, whose whole state is its seed.
-pub struct Random(u64);
+use crate::cases::{Case, Kind, STEPS};
+use crate::random::Random;
 
-impl Random {
-    pub fn new(seed: u64) -> Random {
-        Random(seed.wrapping_mul(0x9e37_79b9_7f4a_7c15) | 1)
+/// A number of 40 digits.
+const LONG: &str = "1000000000000000000000000000000000000007";
+
+/// A case of a kind.
+pub fn case(kind: Kind, random: &mut Random) -> Case {
+    let mut text = match kind {
+        Kind::Tokens => match random.below(3) {
+            0 => version(random),
+            1 => set(random),
+            _ => tokens(random),
+        },
+        Kind::Steps => match random.below(4) {
+            0 => tokens(random),
+            1 => identifiers(random),
+            _ => version(random),
+        },
+        Kind::Versions => version(random),
+        Kind::Cargo | Kind::Npm => set(random),
+    };
+    if random.one_in(100) {
+        text = many_hyphens(random, &text);
     }
-
-    fn below(&mut self, limit: usize) -> usize {
-        self.0 ^= self.0 << 13;
-        self.0 ^= self.0 >> 7;
-        self.0 ^= self.0 << 17;
-        (self.0 >> 11) as usize % limit
+    match random.below(4) {
+        0 => {}
+        1 => change(random, &mut text),
+        2 => (0..=random.below(3)).for_each(|_| change(random, &mut text)),
+        _ => move_a_piece(random, &mut text),
     }
-
-    fn one_in(&mut self, n: usize) -> bool {
-        self.below(n) == 0
-    }
-
-    fn pick<'a>(&mut self, from: &[&'a str]) -> &'a str {
-        from[self.below(from.len())]
-    }
+    let steps = if kind == Kind::Steps { steps(random) } else { Vec::new() };
+    Case { kind, text, steps }
 }
 
-/// A version or a range set, with up to three characters changed in every other one.
-pub fn text(random: &mut Random) -> String {
-    let mut text = if random.one_in(3) { version(random) } else { set(random) };
-    if random.one_in(2) {
-        for _ in 0..=random.below(3) {
-            change(random, &mut text);
-        }
+/// Calls of a parser: some at random, some in the order that a version has.
+fn steps(random: &mut Random) -> Vec<&'static str> {
+    let mut steps = match random.below(3) {
+        0 => vec!["numeric", "dot_numeric", "dot_component"],
+        1 => vec!["version"],
+        _ => Vec::new(),
+    };
+    steps.truncate(random.below(4));
+    for _ in 0..=random.below(6) {
+        steps.push(STEPS[random.below(STEPS.len())]);
     }
-    text
+    steps
 }
 
+/// Takes a character out, or puts a few in.
 fn change(random: &mut Random, text: &mut String) {
     const NEW: &[&str] = &[
-        "", " ", "\t", "\n", "\r", ".", "-", "+", "|", "||", "0", "1", "01", "x", "X", "*", "a", "<", ">", "=", "~", "^", ",", "/",
-        "v", "é", "\u{a0}", "18446744073709551615", "18446744073709551616",
+        "", " ", "\t", "\n", "\r", ".", "-", "+", "|", "||", "0", "1", "01", "x", "X", "*", "a", "<", ">", "=", "~", "^", ",", ", ",
+        "/", "\\", "\u{0}", "\u{b}", "\u{c}", "\u{85}", "\u{2028}", "v", "_", "é", "\u{a0}", "\u{ff11}", "1.2.3", "-0", "-01", "+a",
+        "-a+a", ".0a", "~>", "<=", "> ", " - ", "18446744073709551615", "18446744073709551616", "99999999999999999999",
     ];
-    let places: Vec<usize> = text.char_indices().map(|(i, _)| i).chain([text.len()]).collect();
-    let start = places[random.below(places.len())];
+    let start = place(random, text);
     let end = text[start..].chars().next().map_or(start, |c| start + c.len_utf8());
     let new = random.pick(NEW);
     if random.one_in(2) {
@@ -49,6 +64,39 @@ fn change(random: &mut Random, text: &mut String) {
     } else {
         text.insert_str(start, new);
     }
+}
+
+/// Takes a piece of the text, and puts it somewhere else or there twice.
+fn move_a_piece(random: &mut Random, text: &mut String) {
+    let (one, other) = (place(random, text), place(random, text));
+    let (start, end) = (one.min(other), one.max(other));
+    let piece = text[start..end].to_string();
+    if random.one_in(2) {
+        text.replace_range(start..end, "");
+    }
+    let at = place(random, text);
+    text.insert_str(at, &piece);
+}
+
+/// A place between two characters.
+fn place(random: &mut Random, text: &str) -> usize {
+    let places: Vec<usize> = text.char_indices().map(|(i, _)| i).chain([text.len()]).collect();
+    places[random.below(places.len())]
+}
+
+/// The text with an identifier of hundreds of runs behind it.
+fn many_hyphens(random: &mut Random, text: &str) -> String {
+    let runs = vec![random.pick(&["a", "0", "1", "01"]); 250 + random.below(20)];
+    format!("{text}{}{}", random.pick(&["", "-", "-", "+", "."]), runs.join("-"))
+}
+
+/// Signs, runs and white space in any order.
+fn tokens(random: &mut Random) -> String {
+    const PIECES: &[&str] = &[
+        "=", ">", "<", "<=", ">=", "^", "~", "*", ".", ",", "-", "+", "||", "|", " ", "\t\r\n ", "0", "1", "7", "42", "00", "01", "1a", "a1",
+        "x", "X", "xX", "alpha", "18446744073709551615", "18446744073709551616", "018446744073709551615", "/", "é", "\u{a0}", "_",
+    ];
+    (0..random.below(12)).map(|_| random.pick(PIECES)).collect()
 }
 
 fn blanks(random: &mut Random) -> &'static str {
@@ -64,14 +112,17 @@ fn number(random: &mut Random) -> String {
         0..=3 => random.below(3).to_string(),
         4..=7 => random.below(100).to_string(),
         8 => "18446744073709551614".to_string(),
-        9 => "18446744073709551615".to_string(),
-        10 => if random.one_in(4) { "18446744073709551616" } else { "0" }.to_string(),
+        9 => random.pick(&["18446744073709551615", "0", "10"]).to_string(),
+        10 => random.pick(&["18446744073709551616", "99999999999999999999", LONG, "0", "00", "01"]).to_string(),
         _ => random.below(1_000_000).to_string(),
     }
 }
 
 fn identifiers(random: &mut Random) -> String {
-    const PIECES: &[&str] = &["alpha", "beta", "rc", "a", "0", "1", "42", "01", "1a", "a1", "x", "18446744073709551616", "a-b", "1-2", "pre"];
+    const PIECES: &[&str] = &[
+        "alpha", "beta", "rc", "a", "0", "1", "42", "01", "00", "1a", "0a", "a1", "x", "m", "mm1", "18446744073709551615", "18446744073709551616",
+        "018446744073709551615", "a-b", "1-2", "0-0", "a--b", "-a", "a-", "-", "pre",
+    ];
     let mut all = random.pick(PIECES).to_string();
     while random.one_in(2) {
         all.push('.');
@@ -86,7 +137,7 @@ fn qualifier(random: &mut Random) -> String {
         qualifier.push('-');
         qualifier.push_str(&identifiers(random));
     }
-    if random.one_in(6) {
+    if random.one_in(4) {
         qualifier.push('+');
         qualifier.push_str(&identifiers(random));
     }
@@ -139,6 +190,7 @@ fn range(random: &mut Random) -> String {
         _ => {
             let mut range = simple(random);
             while random.one_in(3) {
+                range.push_str(random.pick(&["", "", "", "", "", "", "", ","]));
                 range.push_str(some_blanks(random));
                 range.push_str(&simple(random));
             }

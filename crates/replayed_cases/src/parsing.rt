@@ -63,6 +63,10 @@ fn write_step<W: Write>(
             Ok(identifier) => versions::write_identifier(&identifier, out),
             Err(error) => write_error(&error, out),
         },
+        "version" => match parser.version(alloc) {
+            Ok(version) => versions::write_fields(&version, out),
+            Err(error) => write_error(&error, out),
+        },
         _ => write!(out, "no such step"),
     }
 }

@@ -2,7 +2,7 @@
 
 use super::parsing;
 use semver_parser::version;
-use semver_parser::version::Identifier;
+use semver_parser::version::{Identifier, Version};
 use std::alloc::Global;
 use std::io;
 use std::io::Write;
@@ -10,16 +10,19 @@ use std::io::Write;
 /// Writes the fields of the version that a text is, or its fault.
 pub fn write_version<W: Write>(alloc: Global, text: &str, out: &mut W) -> io::Result<()> {
     match version::parse(alloc, text) {
-        Ok(version) => {
-            let (major, minor, patch) = (version.major, version.minor, version.patch);
-            write!(out, "{major} {minor} {patch} pre[")?;
-            write_identifiers(version.pre.as_slice(), out)?;
-            write!(out, "] build[")?;
-            write_identifiers(version.build.as_slice(), out)?;
-            write!(out, "]")
-        }
+        Ok(version) => write_fields(&version, out),
         Err(error) => parsing::write_error(&error, out),
     }
+}
+
+/// Writes the fields of a version.
+pub fn write_fields<W: Write>(version: &Version, out: &mut W) -> io::Result<()> {
+    let (major, minor, patch) = (version.major, version.minor, version.patch);
+    write!(out, "{major} {minor} {patch} pre[")?;
+    write_identifiers(version.pre.as_slice(), out)?;
+    write!(out, "] build[")?;
+    write_identifiers(version.build.as_slice(), out)?;
+    write!(out, "]")
 }
 
 /// Writes what the version prints, or its fault.

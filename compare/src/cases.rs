@@ -1,0 +1,96 @@
+//! What is compared: a call, its text, and for a parser its steps.
+
+use std::fmt;
+
+/// Which call a case makes.
+#[derive(Clone, Copy, PartialEq, Eq)]
+pub enum Kind {
+    /// The tokens of a text.
+    Tokens,
+    /// Calls of one parser, one after the other.
+    Steps,
+    /// A whole text as a version.
+    Versions,
+    /// A whole text as a range set in Cargo mode.
+    Cargo,
+    /// The same in npm mode.
+    Npm,
+}
+
+impl Kind {
+    pub const ALL: [Kind; 5] = [Kind::Tokens, Kind::Steps, Kind::Versions, Kind::Cargo, Kind::Npm];
+
+    /// Its name in what is printed.
+    pub fn name(self) -> &'static str {
+        match self {
+            Kind::Tokens => "tokens",
+            Kind::Steps => "parser calls",
+            Kind::Versions => "versions",
+            Kind::Cargo => "ranges in Cargo mode",
+            Kind::Npm => "ranges in npm mode",
+        }
+    }
+
+    /// Its name in a line of `replayed_cases`.
+    pub fn call(self) -> &'static str {
+        match self {
+            Kind::Tokens => "lex",
+            Kind::Steps => "parser",
+            Kind::Versions => "version",
+            Kind::Cargo => "cargo",
+            Kind::Npm => "npm",
+        }
+    }
+}
+
+/// The calls of a parser, by their names in a line of `replayed_cases`.
+pub const STEPS: [&str; 8] =
+    ["component", "numeric", "dot_component", "dot_numeric", "is_eof", "tail", "identifier", "version"];
+
+/// One case.
+#[derive(Clone)]
+pub struct Case {
+    pub kind: Kind,
+    pub text: String,
+    /// The calls of a parser; none for the other kinds.
+    pub steps: Vec<&'static str>,
+}
+
+impl Case {
+    /// The cases with a step or a piece of the text less, longer pieces first.
+    pub fn smaller(&self) -> Vec<Case> {
+        let mut all = Vec::new();
+        for step in 0..self.steps.len() {
+            let mut case = self.clone();
+            case.steps.remove(step);
+            all.push(case);
+        }
+        let places: Vec<usize> = self.text.char_indices().map(|(at, _)| at).chain([self.text.len()]).collect();
+        for length in (0..12).rev().map(|power| 1 << power).chain([3, 5, 6, 7]) {
+            for (start, end) in places.iter().zip(places.iter().skip(length)) {
+                let mut case = self.clone();
+                case.text.replace_range(start..end, "");
+                all.push(case);
+            }
+        }
+        all.retain(|case| case.kind != Kind::Steps || !case.steps.is_empty());
+        all
+    }
+
+    /// Its line for `replayed_cases`.
+    pub fn line(&self) -> String {
+        let text = self.text.replace('\\', "\\\\").replace('\n', "\\n").replace('\r', "\\r").replace('\t', "\\t");
+        let steps = if self.steps.is_empty() { String::new() } else { format!("\t{}", self.steps.join(",")) };
+        format!("-\t{}\t{text}{steps}\n", self.kind.call())
+    }
+}
+
+impl fmt::Display for Case {
+    fn fmt(&self, f: &mut fmt::Formatter<'_>) -> fmt::Result {
+        write!(f, "{:?}", self.text)?;
+        if !self.steps.is_empty() {
+            write!(f, " by {}", self.steps.join(", "))?;
+        }
+        Ok(())
+    }
+}
