@@ -84,7 +84,9 @@ pub fn write_structs(rt: &impl Print, alloc: Global) -> io::Result<()> {
             sets.push(set)?;
         }
     }
-    if let Some(range) = sets.first().and_then(|set| set.ranges.first()) {
+    if let Some(set) = sets.first()
+        && let Some(range) = set.ranges.first()
+    {
         write_order(rt, "Comparator", &range.comparator_set)?;
         if let Some(last) = range.comparator_set.last() {
             write_order(rt, "Identifier", &last.pre)?;
@@ -96,9 +98,11 @@ pub fn write_structs(rt: &impl Print, alloc: Global) -> io::Result<()> {
 /// Writes how many values there are, and whether each is below the next.
 fn write_order<T: Ord>(rt: &impl Print, name: &str, values: &[T]) -> io::Result<()> {
     let count = values.len();
-    let are_ascending = values
-        .iter()
-        .zip(values.iter().skip(1))
-        .all(|(lower, upper)| lower < upper);
+    let mut are_ascending = true;
+    for (lower, upper) in values.iter().zip(values.iter().skip(1)) {
+        if lower >= upper {
+            are_ascending = false;
+        }
+    }
     println!(rt; "{count} of {name} in order: {are_ascending}")
 }

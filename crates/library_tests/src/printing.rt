@@ -1,6 +1,5 @@
 //! Printed values at a writer that refuses.
 use super::writers::{Limited, Refusal};
-use semver_parser::lexer::{self, Token};
 use semver_parser::parser::{Error, Parser};
 use semver_parser::{Comparator, Compat, Range, RangeError, RangeSet, version};
 use std::alloc::Global;
@@ -10,9 +9,10 @@ use std::{fmt, io};
 /// Writes which identifiers and versions print.
 pub fn write_versions(rt: &impl Print, alloc: Global) -> io::Result<()> {
     for text in ["0", "7", "beta", "01", "a-b-1"] {
-        match Parser::new(text).and_then(|mut parser| parser.identifier(alloc)) {
-            Ok(identifier) => write_printed(rt, alloc, &identifier, text)?,
-            Err(error) => println!(rt; "{error}")?,
+        if let Ok(mut parser) = Parser::new(text)
+            && let Ok(identifier) = parser.identifier(alloc)
+        {
+            write_printed(rt, alloc, &identifier, text)?;
         }
     }
     for text in [
@@ -78,47 +78,53 @@ fn write_comparator(
     let version = text.trim_start_matches(['<', '>', '=']);
     let operator = text.strip_suffix(version).unwrap_or(text);
     write_printed(rt, alloc, &comparator.op, operator)?;
-    let pre = text.split_once('-').map_or("", |(_, pre)| pre);
-    for (identifier, text) in comparator.pre.iter().zip(pre.split('.')) {
-        write_printed(rt, alloc, identifier, text)?;
+    if let Some((_, pre)) = text.split_once('-') {
+        for (identifier, text) in comparator.pre.iter().zip(pre.split('.')) {
+            write_printed(rt, alloc, identifier, text)?;
+        }
     }
     Ok(())
 }
 
-/// Writes which errors print.
+/// Writes which errors print: those that reading a version answers, and those that are made by hand.
 pub fn write_errors(rt: &impl Print, alloc: Global) -> io::Result<()> {
-    let tokens = vec![in alloc; Token::AlphaNumeric("a"), Token::Whitespace(1, 3)]?;
-    for (error, text) in [
-        (Error::UnexpectedEnd, "expected more input"),
+    for (text, sentence) in [
+        ("1.2", "expected more input"),
+        ("a.b.c", "encountered unexpected token: AlphaNumeric(\"a\")"),
+        ("1é", "lexer error: UnexpectedChar('é')"),
         (
-            Error::UnexpectedToken(Token::Numeric(7)),
-            "encountered unexpected token: Numeric(7)",
+            "1.2.3 a 7",
+            "expected end of input, but got: [AlphaNumeric(\"a\"), Whitespace(7, 8), Numeric(7)]",
         ),
-        (
-            Error::Lexer(lexer::Error::UnexpectedChar('é')),
-            "lexer error: UnexpectedChar('é')",
-        ),
-        (
-            Error::MoreInput(tokens),
-            "expected end of input, but got: [AlphaNumeric(\"a\"), Whitespace(1, 3)]",
-        ),
-        (Error::EmptyPredicate, "encountered empty predicate"),
-        (Error::EmptyRange, "encountered empty range"),
-        (Error::OutOfMemory, "out of memory"),
     ] {
-        write_printed(rt, alloc, &error, text)?;
-        if error.text(alloc)?.as_str() != text {
-            println!(rt; "{text} isn't the text of the error")?;
+        if let Err(error) = version::parse(alloc, text) {
+            write_error(rt, alloc, &error, sentence)?;
         }
     }
-    for (error, text) in [
-        (RangeError::NotARange, "not a range"),
-        (RangeError::NumberTooLarge, "number too large"),
-        (RangeError::OutOfMemory, "out of memory"),
-    ] {
-        write_printed(rt, alloc, &error, text)?;
+    write_error(
+        rt,
+        alloc,
+        &Error::EmptyPredicate,
+        "encountered empty predicate",
+    )?;
+    write_error(rt, alloc, &Error::EmptyRange, "encountered empty range")?;
+    write_error(rt, alloc, &Error::OutOfMemory, "out of memory")?;
+    write_printed(rt, alloc, &RangeError::NotARange, "not a range")?;
+    write_printed(rt, alloc, &RangeError::NumberTooLarge, "number too large")?;
+    write_printed(rt, alloc, &RangeError::OutOfMemory, "out of memory")
+}
+
+/// Writes whether the sentence of the error is what it prints, and what its text is.
+fn write_error(
+    rt: &impl Print,
+    alloc: Global,
+    error: &Error<'_>,
+    sentence: &str,
+) -> io::Result<()> {
+    if error.text(alloc)?.as_str() != sentence {
+        println!(rt; "[{sentence}] is not the text of the error")?;
     }
-    Ok(())
+    write_printed(rt, alloc, error, sentence)
 }
 
 /// Writes the text, and whether the value prints as that.
