@@ -53,7 +53,7 @@ pub fn write_enums(rt: &impl Print, alloc: Global) -> io::Result<()> {
 /// Writes how many versions and sets are in order, and their parts.
 pub fn write_structs(rt: &impl Print, alloc: Global) -> io::Result<()> {
     let mut versions: Vec<Version> = Vec::new(alloc);
-    // Each but the last has a 0 in one field: the earlier the field, the lower the version.
+    // The first five have a 0 in one field each: the earlier the field, the lower the version.
     for text in [
         "0.1.1-1+1",
         "1.0.1-1+1",

@@ -35,10 +35,10 @@ pub fn write_printed<W: Write>(alloc: Global, text: &str, out: &mut W) -> io::Re
 pub fn write_error_text<W: Write>(alloc: Global, text: &str, out: &mut W) -> io::Result<()> {
     match version::parse(alloc, text) {
         Ok(_) => write!(out, "no error"),
-        Err(error) => {
-            let text = error.text(alloc)?;
-            write!(out, "{text}")
-        }
+        Err(error) => match error.text(alloc) {
+            Ok(text) => write!(out, "{text}"),
+            Err(_) => write!(out, "OutOfMemory"),
+        },
     }
 }
 
