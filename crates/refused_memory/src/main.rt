@@ -67,9 +67,10 @@ fn tell(rt: &impl Print, endings: &[(&'static str, Ending)]) -> io::Result<()> {
 }
 
 /// How each call on tokens, versions and their identifiers ends.
-fn of_versions(alloc: Global) -> [(&'static str, Ending); 12] {
+fn of_versions(alloc: Global) -> [(&'static str, Ending); 13] {
     [
         ("identifier", parsers::identifier(alloc)),
+        ("parser_version", parsers::version(alloc)),
         ("tail", parsers::tail(alloc)),
         ("bad_character", parsers::tail_before_a_bad_character(alloc)),
         ("tail_of_nothing", parsers::tail_of_nothing(alloc)),

@@ -1,6 +1,7 @@
 //! Calls of a parser.
 
 use super::Ending;
+use super::versions::prints_as;
 use semver_parser::lexer;
 use semver_parser::lexer::Token;
 use semver_parser::parser::{Error, Parser};
@@ -18,6 +19,20 @@ pub fn identifier(alloc: Global) -> Ending {
         }
         Err(Error::OutOfMemory) => Ending::refused_if(leads_to_a_slash(&mut parser, 7)),
         _ => Ending::Wrong,
+    }
+}
+
+/// `version` on `1.2.3-a-b.c+d 4/`: refused, it leaves an end part of the tokens, and the bad character behind them.
+pub fn version(alloc: Global) -> Ending {
+    let Ok(mut parser) = Parser::new("1.2.3-a-b.c+d 4/") else {
+        return Ending::Wrong;
+    };
+    match parser.version(alloc) {
+        Ok(version) => Ending::full_if(
+            prints_as(&version, "1.2.3-a-b.c+d") && leads_to_a_slash(&mut parser, 1),
+        ),
+        Err(Error::OutOfMemory) => Ending::refused_if(leads_to_a_slash(&mut parser, 15)),
+        Err(_) => Ending::Wrong,
     }
 }
 

@@ -70,7 +70,7 @@ pub fn clone(alloc: Global) -> Ending {
 }
 
 /// The version prints as the text.
-fn prints_as(version: &Version, text: &str) -> bool {
+pub fn prints_as(version: &Version, text: &str) -> bool {
     let mut out = Fixed::new();
     write!(out, "{version}").is_ok() && out.as_bytes() == text.as_bytes()
 }

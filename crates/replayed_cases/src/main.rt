@@ -1,8 +1,10 @@
 //! Replays a table of cases. Each line of standard input has a name, a call and a text, parted by tabs, and for the
-//! calls of a parser its steps, for those of the filter the versions; the line of standard output begins with the name and tells what the call answered.
+//! calls of a parser its steps, for those of the filter the versions, for `concat` what is added; the line of standard output begins with the name and
+//! tells what the call answered. Of a call behind `sum-of-` it tells the length and the checksum of that.
 //! What is expected stands in the file beside this crate's input: it comes from the published rows and from the Rust crate.
 #![tactic(auto)]
 
+mod checksum;
 mod filtering;
 mod lexing;
 mod parsing;
@@ -11,7 +13,8 @@ mod reporting;
 mod text;
 mod versions;
 
-use semver_parser::Compat;
+use checksum::Checksum;
+use semver_parser::{Compat, version};
 use std::alloc::Global;
 use std::io;
 use std::io::{BufRead, BufReader, BufWriter, Write};
@@ -34,12 +37,18 @@ fn replay<W: Write>(alloc: Global, line: &str, out: &mut W) -> io::Result<()> {
     let Some((call, rest)) = rest.split_once('\t') else {
         return write!(out, "no call");
     };
-    let (escaped, steps) = rest.split_once('\t').unwrap_or((rest, ""));
-    let Some(text) = text::expanded(alloc, escaped)? else {
+    let (text, steps) = rest.split_once('\t').unwrap_or((rest, ""));
+    let (Some(text), Some(steps)) = (text::expanded(alloc, text)?, text::expanded(alloc, steps)?)
+    else {
         return write!(out, "no text");
     };
     write!(out, "{name}: ")?;
-    answer(alloc, call, text.as_str(), steps, out)
+    let Some(call) = call.strip_prefix("sum-of-") else {
+        return answer(alloc, call, text.as_str(), steps.as_str(), out);
+    };
+    let mut sum = Checksum::new();
+    answer(alloc, call, text.as_str(), steps.as_str(), &mut sum)?;
+    write!(out, "{sum}")
 }
 
 /// Writes what a call answers for a text.
@@ -53,18 +62,15 @@ fn answer<W: Write>(
     match call {
         "lex" => lexing::write_lexed(text, out),
         "parser" => parsing::write_steps(alloc, text, steps, out),
-        "version" => versions::write_version(alloc, text, out),
+        "version" => versions::write_version(&version::parse(alloc, text), out),
         "version-text" => versions::write_printed(alloc, text, out),
-        "version-lengths" => versions::write_lengths(alloc, text, out),
+        "error-text" => versions::write_error_text(alloc, text, out),
+        "concat" => versions::write_joined(alloc, text, steps, out),
         "cargo" => ranges::write_set(alloc, text, Compat::Cargo, out),
         "npm" => ranges::write_set(alloc, text, Compat::Npm, out),
         "cargo-text" => ranges::write_printed(alloc, text, Compat::Cargo, out),
         "npm-text" => ranges::write_printed(alloc, text, Compat::Npm, out),
         "from-str" => ranges::write_from_str(alloc, text, out),
-        "cargo-counts" => ranges::write_counts(alloc, text, Compat::Cargo, out),
-        "npm-counts" => ranges::write_counts(alloc, text, Compat::Npm, out),
-        "cargo-lengths" => ranges::write_lengths(alloc, text, Compat::Cargo, out),
-        "npm-lengths" => ranges::write_lengths(alloc, text, Compat::Npm, out),
         "filter-cargo" => filtering::write_kept(alloc, text, Compat::Cargo, steps, out),
         "filter-npm" => filtering::write_kept(alloc, text, Compat::Npm, steps, out),
         "report" => reporting::write_report(alloc, text, out),

@@ -63,10 +63,7 @@ fn write_step<W: Write>(
             Ok(identifier) => versions::write_identifier(&identifier, out),
             Err(error) => write_error(&error, out),
         },
-        "version" => match parser.version(alloc) {
-            Ok(version) => versions::write_fields(&version, out),
-            Err(error) => write_error(&error, out),
-        },
+        "version" => versions::write_version(&parser.version(alloc), out),
         _ => write!(out, "no such step"),
     }
 }

@@ -67,66 +67,6 @@ pub fn write_from_str<W: Write>(alloc: Global, text: &str, out: &mut W) -> io::R
     }
 }
 
-/// Writes how many ranges the set has, and how many comparators each of them has where all have as many and are `>=0.0.0`.
-pub fn write_counts<W: Write>(
-    alloc: Global,
-    text: &str,
-    compat: Compat,
-    out: &mut W,
-) -> io::Result<()> {
-    let set = match RangeSet::parse(alloc, text, compat) {
-        Ok(set) => set,
-        Err(error) => return write!(out, "{error}"),
-    };
-    let ranges = set.ranges.len();
-    let each = set
-        .ranges
-        .first()
-        .map_or(0, |range| range.comparator_set.len());
-    let alike = set.ranges.iter().all(|range| {
-        range.comparator_set.len() == each
-            && range.comparator_set.iter().all(|comparator| {
-                comparator.op == semver_parser::Op::Gte
-                    && comparator.major == 0
-                    && comparator.minor == 0
-                    && comparator.patch == 0
-                    && comparator.pre.is_empty()
-            })
-    });
-    if alike {
-        write!(out, "{ranges} ranges of {each}")
-    } else {
-        write!(out, "ranges that differ")
-    }
-}
-
-/// Writes the lengths of the texts of all identifiers.
-pub fn write_lengths<W: Write>(
-    alloc: Global,
-    text: &str,
-    compat: Compat,
-    out: &mut W,
-) -> io::Result<()> {
-    let set = match RangeSet::parse(alloc, text, compat) {
-        Ok(set) => set,
-        Err(error) => return write!(out, "{error}"),
-    };
-    for range in set.ranges.iter() {
-        for comparator in range.comparator_set.iter() {
-            for identifier in comparator.pre.iter() {
-                match identifier {
-                    Identifier::Numeric(number) => write!(out, "Numeric({number}) ")?,
-                    Identifier::AlphaNumeric(word) => {
-                        let len = word.len();
-                        write!(out, "{len} ")?;
-                    }
-                }
-            }
-        }
-    }
-    write!(out, "end")
-}
-
 fn write_identifiers<W: Write>(identifiers: &[Identifier], out: &mut W) -> io::Result<()> {
     for (i, identifier) in identifiers.iter().enumerate() {
         if i > 0 {

@@ -1,4 +1,5 @@
-//! Texts of the table, where `\n`, `\r`, `\t` and `\\` stand for characters, and `\(3,a,-)` for `a-a-a`.
+//! Texts of the table, where `\n`, `\r`, `\t` and `\\` stand for characters, and `\(3,a,-)` for `a-a-a`. In a unit that is so
+//! repeated `\#` stands for its place: `\(3,a\#,.)` is `a0.a1.a2`.
 
 use std::alloc::{AllocError, Global};
 
@@ -17,7 +18,7 @@ pub fn expanded(alloc: Global, escaped: &str) -> Result<Option<String>, AllocErr
             }
             plain
         };
-        if !push_unescaped(&mut text, plain)? {
+        if !push_unescaped(&mut text, plain, None)? {
             return Ok(None);
         }
     }
@@ -35,34 +36,37 @@ fn push_repeated(text: &mut String, repeated: &str) -> Result<bool, AllocError> 
     let Ok(count) = count.parse::<u32>() else {
         return Ok(false);
     };
-    for i in 0..count {
-        if i > 0 && !push_unescaped(text, joiner)? {
+    for place in 0..count {
+        if place > 0 && !push_unescaped(text, joiner, None)? {
             return Ok(false);
         }
-        if !push_unescaped(text, unit)? {
+        if !push_unescaped(text, unit, Some(place))? {
             return Ok(false);
         }
     }
     Ok(true)
 }
 
-/// Appends a text without repetitions. False where an escape isn't known.
-fn push_unescaped(text: &mut String, escaped: &str) -> Result<bool, AllocError> {
+/// Appends a text without repetitions, which stands at a place of a list or at none. False where an escape isn't known.
+fn push_unescaped(
+    text: &mut String,
+    escaped: &str,
+    place: Option<u32>,
+) -> Result<bool, AllocError> {
     let mut is_escape = false;
     for character in escaped.chars() {
         if !is_escape && character == '\\' {
             is_escape = true;
             continue;
         }
-        let meant = if is_escape {
-            escape(character)
-        } else {
-            Some(character)
-        };
-        let Some(meant) = meant else {
-            return Ok(false);
-        };
-        text.push(meant)?;
+        match (is_escape, character, place) {
+            (false, _, _) => text.push(character)?,
+            (true, '#', Some(place)) => write!(text, "{place}")?,
+            _ => match escape(character) {
+                Some(meant) => text.push(meant)?,
+                None => return Ok(false),
+            },
+        }
         is_escape = false;
     }
     Ok(!is_escape)

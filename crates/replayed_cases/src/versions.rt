@@ -1,28 +1,26 @@
 //! Versions, by their fields and as they print.
 
 use super::parsing;
+use semver_parser::parser::{Error, Parser};
 use semver_parser::version;
 use semver_parser::version::{Identifier, Version};
 use std::alloc::Global;
 use std::io;
 use std::io::Write;
 
-/// Writes the fields of the version that a text is, or its fault.
-pub fn write_version<W: Write>(alloc: Global, text: &str, out: &mut W) -> io::Result<()> {
-    match version::parse(alloc, text) {
-        Ok(version) => write_fields(&version, out),
-        Err(error) => parsing::write_error(&error, out),
+/// Writes the fields of a version, or the fault that stands in its place.
+pub fn write_version<W: Write>(answer: &Result<Version, Error<'_>>, out: &mut W) -> io::Result<()> {
+    match answer {
+        Ok(version) => {
+            let (major, minor, patch) = (version.major, version.minor, version.patch);
+            write!(out, "{major} {minor} {patch} pre[")?;
+            write_identifiers(version.pre.as_slice(), out)?;
+            write!(out, "] build[")?;
+            write_identifiers(version.build.as_slice(), out)?;
+            write!(out, "]")
+        }
+        Err(error) => parsing::write_error(error, out),
     }
-}
-
-/// Writes the fields of a version.
-pub fn write_fields<W: Write>(version: &Version, out: &mut W) -> io::Result<()> {
-    let (major, minor, patch) = (version.major, version.minor, version.patch);
-    write!(out, "{major} {minor} {patch} pre[")?;
-    write_identifiers(version.pre.as_slice(), out)?;
-    write!(out, "] build[")?;
-    write_identifiers(version.build.as_slice(), out)?;
-    write!(out, "]")
 }
 
 /// Writes what the version prints, or its fault.
@@ -33,16 +31,31 @@ pub fn write_printed<W: Write>(alloc: Global, text: &str, out: &mut W) -> io::Re
     }
 }
 
-/// Writes the lengths of the identifiers' texts, or the fault.
-pub fn write_lengths<W: Write>(alloc: Global, text: &str, out: &mut W) -> io::Result<()> {
+/// Writes the text of the error that reading a version answers.
+pub fn write_error_text<W: Write>(alloc: Global, text: &str, out: &mut W) -> io::Result<()> {
     match version::parse(alloc, text) {
-        Ok(version) => {
-            write!(out, "pre")?;
-            write_each_length(version.pre.as_slice(), out)?;
-            write!(out, " build")?;
-            write_each_length(version.build.as_slice(), out)
-        }
-        Err(error) => parsing::write_error(&error, out),
+        Ok(_) => write!(out, "no error"),
+        Err(error) => match error.text(alloc) {
+            Ok(text) => write!(out, "{text}"),
+            Err(_) => write!(out, "OutOfMemory"),
+        },
+    }
+}
+
+/// Writes the identifier that a text is and another text are joined to.
+pub fn write_joined<W: Write>(
+    alloc: Global,
+    text: &str,
+    added: &str,
+    out: &mut W,
+) -> io::Result<()> {
+    let identifier = match Parser::new(text).and_then(|mut parser| parser.identifier(alloc)) {
+        Ok(identifier) => identifier,
+        Err(error) => return parsing::write_error(&error, out),
+    };
+    match identifier.concat(alloc, added) {
+        Ok(joined) => write_identifier(&joined, out),
+        Err(_) => write!(out, "OutOfMemory"),
     }
 }
 
@@ -62,17 +75,4 @@ pub fn write_identifier<W: Write>(identifier: &Identifier, out: &mut W) -> io::R
         Identifier::Numeric(number) => write!(out, "Numeric({number})"),
         Identifier::AlphaNumeric(word) => write!(out, "AlphaNumeric({word})"),
     }
-}
-
-fn write_each_length<W: Write>(identifiers: &[Identifier], out: &mut W) -> io::Result<()> {
-    for identifier in identifiers {
-        match identifier {
-            Identifier::Numeric(number) => write!(out, " Numeric({number})")?,
-            Identifier::AlphaNumeric(word) => {
-                let len = word.len();
-                write!(out, " {len}")?;
-            }
-        }
-    }
-    Ok(())
 }

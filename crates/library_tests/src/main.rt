@@ -1,0 +1,23 @@
+//! Tests of the library that need more than data: the derived orders, values made by hand, and writers that refuse.
+//! It writes what it found. What it has to be stands in the file beside this crate: it comes from the written rules and
+//! from the declarations of the Rust crate.
+#![tactic(auto)]
+
+mod made;
+mod orders;
+mod printing;
+mod reports;
+mod writers;
+
+use std::io;
+
+fn main(rt: HostRuntime) -> io::Result<()> {
+    orders::write_enums(&rt, rt.alloc())?;
+    orders::write_structs(&rt, rt.alloc())?;
+    made::write_versions(&rt, rt.alloc())?;
+    made::write_sets(&rt, rt.alloc())?;
+    printing::write_versions(&rt, rt.alloc())?;
+    printing::write_sets(&rt, rt.alloc())?;
+    printing::write_errors(&rt, rt.alloc())?;
+    reports::write_report(&rt, rt.alloc())
+}
