@@ -1,4 +1,6 @@
+pub mod CutIdentifiers
 pub mod Cuts
+pub mod DecimalSteps
 pub mod FirstToken
 pub mod IdentifierSteps
 pub mod IdentifierTexts
@@ -8,8 +10,10 @@ pub mod OneVersion
 pub mod ParseFacts
 pub mod ParserSteps
 pub mod ReadingSteps
+pub mod SpelledParts
 pub mod TokenLists
 pub mod VersionExamples
+pub mod VersionMemory
 pub mod VersionSteps
 pub mod VersionTaking
 pub mod ZeroOne

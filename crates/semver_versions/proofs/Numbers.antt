@@ -1,14 +1,15 @@
 -- Runs of letters and digits, and the numbers that they spell.
 use Rattle.std.proofs.Common.{◌≡◌, ℕ, ◌^◌, ◌<◌, ◌≢◌, Bool, true, false, List, [], ◌∷◌, length, get_or, Ok, Err, sym, refl, ap, ◌∙◌, subst, ⊎_elim, arith, decimal, ◌⊎◌}
-use Rattle.std.specs.Char.{is_ascii_alphanumeric}
+use Rattle.std.specs.Char.{is_ascii_digit}
 use Rattle.std.specs.Str.{all_ascii_digits}
 use Rattle.std.specs.Str.Parse.{digits_value, ParsesUnsigned}
 use Rattle.std.proofs.lemmas.Str.Parse.{parse_plain}
-use Rattle.std.proofs.lemmas.Fmt.{digits_decimal, digits_value-decimal, decimal-digits_value, decimal_digit, first_decimal}
+use Rattle.std.proofs.lemmas.Fmt.{digits_decimal, digits_value-decimal, decimal-digits_value, decimal_digit, decimal_nonempty, first_decimal}
+use Rattle.std.proofs.lemmas.Bool.{and_parts}
 use Rattle.std.proofs.lemmas.Grind.{common_steps}
 use Rattle.semver_texts.proofs.Numerals.{own}
-use Rattle.semver_versions.specs.Tokens.{Numeric, AlphaNumeric, IsRun, IsNumber}
-use Rattle.semver_versions.specs.Scanning.{component, is_number}
+use Rattle.semver_versions.specs.Tokens.{Numeric, AlphaNumeric, IsNumber}
+use Rattle.semver_versions.specs.Scanning.{begins_number, component, is_number}
 
 -- what makes a run a number
 pub record IsCanonical (run : List ℕ) : Type 0 where
@@ -60,23 +61,58 @@ component_other run other =
     elim_bool true t f = t refl
     elim_bool false t f = f refl
 
--- a run doesn't begin with a plus
-pub no_plus : (run : List ℕ) → IsRun run → get_or run 0 0 ≢ 43
-no_plus [] h e = omega (arith, h.0)
-no_plus (b ∷ bs) h e = let f : is_ascii_alphanumeric b ≡ true = h.1.0 in let g : is_ascii_alphanumeric 43 ≡ true = ap is_ascii_alphanumeric (sym e) ∙ f in cc
+-- ---- what `parse` reads
 
-module _ (run : List ℕ) (is_run : IsRun run) (no_leading_zero : get_or run 0 0 ≡ 48 → length run ≡ 1) where
-  -- what `parse` reads is the run's token
-  pub component_at_ok : (n : ℕ) → ParsesUnsigned {E = Unit {0}} 64 10 run (Ok n) → Numeric n ≡ component run
-  component_at_ok n h =
-      let p = parse_plain own {E = Unit {0}} 64 run (Ok n) h (no_plus run is_run) in
-      ap Numeric p.1 ∙ sym (component_number run (record { digits = p.0.0; no_leading_zero = no_leading_zero; small = p.0.2 }))
+begins : (bs : List ℕ) → 0 < length bs → is_ascii_digit (get_or bs 0 0) ≡ true → (get_or bs 0 0 ≡ 48 → length bs ≡ 1) → begins_number bs ≡ true
+begins [] some digit no_zero = absurd (omega (arith, some))
+begins (b ∷ []) some digit no_zero = digit
+begins (b ∷ c ∷ bs) some digit no_zero = grind (arith, common_steps)
 
-  pub component_at_err : ParsesUnsigned {E = Unit {0}} 64 10 run (Err tt) → AlphaNumeric run ≡ component run
-  component_at_err h =
-      let p = parse_plain own {E = Unit {0}} 64 run (Err tt) h (no_plus run is_run) in
-      sym (component_other run (λ c. p (c.digits, is_run.0, c.small)))
+begins_digit : (bs : List ℕ) → begins_number bs ≡ true → is_ascii_digit (get_or bs 0 0) ≡ true
+begins_digit [] e = cc
+begins_digit (b ∷ []) e = e
+begins_digit (b ∷ c ∷ bs) e = (and_parts (is_ascii_digit b) _ e).0
 
--- a leading zero with more behind it
-pub component_leading_zero : (run : List ℕ) → 1 < length run → get_or run 0 0 ≡ 48 → AlphaNumeric run ≡ component run
-component_leading_zero run long zero = sym (component_other run (λ c. omega (arith, c.no_leading_zero zero)))
+begins_no_zero : (bs : List ℕ) → begins_number bs ≡ true → get_or bs 0 0 ≡ 48 → length bs ≡ 1
+begins_no_zero [] e zero = cc
+begins_no_zero (b ∷ []) e zero = refl
+begins_no_zero (b ∷ c ∷ bs) e zero = grind (arith, common_steps)
+
+no_plus : (bs : List ℕ) → begins_number bs ≡ true → get_or bs 0 0 ≢ 43
+no_plus bs e plus = let d : is_ascii_digit 43 ≡ true = ap is_ascii_digit (sym plus) ∙ begins_digit bs e in cc
+
+-- a number begins with a digit, which is no zero where more follows
+pub number_begins : (bs : List ℕ) → begins_number bs ≡ false → ¬ (IsNumber bs)
+number_begins bs e number =
+    let c = canonical_from_IsNumber bs number in
+    let yes : begins_number bs ≡ true = begins bs (number_some bs number) (first_digit bs (number_some bs number) c.digits) c.no_leading_zero in cc
+  where
+    number_some : (bs : List ℕ) → IsNumber bs → 0 < length bs
+    number_some bs number = subst (λ (l : List ℕ). 0 < length l) (sym number.2) (decimal_nonempty number.0 number.1)
+
+    first_digit : (bs : List ℕ) → 0 < length bs → all_ascii_digits bs ≡ true → is_ascii_digit (get_or bs 0 0) ≡ true
+    first_digit [] some all = absurd (omega (arith, some))
+    first_digit (b ∷ bs) some all = (and_parts (is_ascii_digit b) (all_ascii_digits bs) all).0
+
+pub parsed_number : (bs : List ℕ) (n : ℕ) → begins_number bs ≡ true → ParsesUnsigned {E = Unit {0}} 64 10 bs (Ok n) → (n < 2 ^ 64) × (bs ≡ decimal n)
+parsed_number bs n e h =
+    let p = parse_plain own {E = Unit {0}} 64 bs (Ok n) h (no_plus bs e) in
+    let c : IsCanonical bs = record { digits = p.0.0; no_leading_zero = begins_no_zero bs e; small = p.0.2 } in
+    (subst (λ k. k < 2 ^ 64) (sym p.1) p.0.2, sym (ap decimal p.1 ∙ decimal_canonical bs p.0.1 c))
+
+pub parsed_other : (bs : List ℕ) → begins_number bs ≡ true → ParsesUnsigned {E = Unit {0}} 64 10 bs (Err tt) → ¬ (IsNumber bs)
+parsed_other bs e h number =
+    let c = canonical_from_IsNumber bs number in
+    parse_plain own {E = Unit {0}} 64 bs (Err tt) h (no_plus bs e) (c.digits, begins_some bs e, c.small)
+  where
+    begins_some : (bs : List ℕ) → begins_number bs ≡ true → 0 < length bs
+    begins_some [] e = cc
+    begins_some (b ∷ bs) e = omega arith
+
+-- ---- the token of a run
+
+pub component_decimal : (run : List ℕ) (n : ℕ) → n < 2 ^ 64 → run ≡ decimal n → Numeric n ≡ component run
+component_decimal run n small same = ap Numeric (sym (digits_value_number run n small same)) ∙ sym (component_number run (canonical_from_IsNumber run (n, small, same)))
+
+pub component_text : (run : List ℕ) → 0 < length run → ¬ (IsNumber run) → AlphaNumeric run ≡ component run
+component_text run some other = sym (component_other run (λ c. other (IsNumber-from_canonical run some c)))

@@ -42,7 +42,7 @@ run_passes bs all = passes_more is_ascii_alphanumeric is_part_byte (λ b h. rw h
 abbrev pub IsPartText : List ℕ → Type 0
 IsPartText text = (0 < length text) × Passes is_part_byte text
 
-joined_runs : (runs : List (List ℕ)) → 0 < length runs → AllByRecursion IsRun runs → IsPartText (join_with_byte 45 runs)
+pub joined_runs : (runs : List (List ℕ)) → 0 < length runs → AllByRecursion IsRun runs → IsPartText (join_with_byte 45 runs)
 joined_runs [] some each = absurd (omega (arith, some))
 joined_runs (r ∷ []) some each = (each.0.0, run_passes r each.0.1)
 joined_runs (r ∷ next ∷ runs) some each =
@@ -118,7 +118,7 @@ is_pre_byte b = is_part_byte b || eqb b 46
 abbrev is_build_byte : ℕ → Bool
 is_build_byte b = is_part_byte b || (eqb b 46 || eqb b 43)
 
-dotted_bytes : (p : ℕ → Bool) → ((b : ℕ) → is_part_byte b ≡ true → p b ≡ true) → p 46 ≡ true → (xs : List (List ℕ)) → AllByRecursion IsPartText xs → Passes p (join_with_byte 46 xs)
+pub dotted_bytes : (p : ℕ → Bool) → ((b : ℕ) → is_part_byte b ≡ true → p b ≡ true) → p 46 ≡ true → (xs : List (List ℕ)) → AllByRecursion IsPartText xs → Passes p (join_with_byte 46 xs)
 dotted_bytes p more dot [] all = tt
 dotted_bytes p more dot (x ∷ []) all = passes_more is_part_byte p more x all.0.1
 dotted_bytes p more dot (x ∷ y ∷ xs) all = passes_append p x (46 ∷ join_with_byte 46 (y ∷ xs)) (passes_more is_part_byte p more x all.0.1) (dot, dotted_bytes p more dot (y ∷ xs) all.1)

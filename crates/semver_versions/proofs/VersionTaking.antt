@@ -367,7 +367,7 @@ behind_sign sign _ _ in_the_build is_sign (Numeric n ∷ ts) q e ok = record { b
 behind_sign sign _ _ in_the_build is_sign (AlphaNumeric n ∷ ts) q e ok = record { before = []; sign = sign; component = AlphaNumeric n; after = ts; split = refl; is_sign = is_sign; is_run = refl }
 behind_sign sign _ _ in_the_build is_sign (_ ∷ ts) q e ok = absurd (none-some q e)
 
-holds_later : (t : TokenValue) (ts : List TokenValue) → HoldsIdentifierRun ts → HoldsIdentifierRun (t ∷ ts)
+pub holds_later : (t : TokenValue) (ts : List TokenValue) → HoldsIdentifierRun ts → HoldsIdentifierRun (t ∷ ts)
 holds_later t ts h = record { before = t ∷ h.before; sign = h.sign; component = h.component; after = h.after; split = ap (λ (l : List TokenValue). t ∷ l) h.split; is_sign = h.is_sign; is_run = h.is_run }
 
 holds_longer : (ts us : List TokenValue) → HoldsIdentifierRun ts → HoldsIdentifierRun (ts ++ us)

@@ -1,5 +1,5 @@
 -- What reading a whole text answers, by the texts and the grammar.
-use Rattle.std.proofs.Common.{◌≡◌, ℕ, zero, suc, ◌+◌, ◌-◌, ◌<◌, ◌^◌, Bool, true, false, eqb, ◌||◌, List, [], ◌∷◌, ◌++◌, length, drop, map, Some, None, Option, Result, Ok, Err, sym, refl, ap, ◌∙◌, subst, inr, ⊎_elim, arith, append_assoc, append-nil, length-append, codes, decimal, IsUtf8}
+use Rattle.std.proofs.Common.{◌≡◌, ℕ, zero, suc, ◌+◌, ◌-◌, ◌<◌, ◌^◌, Bool, true, false, eqb, ◌||◌, List, [], ◌∷◌, ◌++◌, length, drop, map, Some, None, Option, Result, Ok, Err, sym, refl, ap, ◌∙◌, subst, inr, inl, ⊎_elim, arith, append_assoc, append-nil, length-append, codes, decimal, IsUtf8}
 use Rattle.std.specs.Prelude.{slice_index, slice_get, chars, flat_map, encode_utf8_all}
 use Rattle.std.specs.Str.{IsAscii, IsCharBoundary}
 use Rattle.std.specs.List.{AllByRecursion, AllZip, join_by, join_with_byte}
@@ -260,7 +260,7 @@ space_plain b h = rw h (or_true (is_ascii_alphanumeric b || eqb b 46))
 number_plain : (n : ℕ) → n < 2 ^ 64 → Passes is_plain_byte (decimal n)
 number_plain n small = passes_more is_ascii_alphanumeric is_plain_byte run_plain (decimal n) (decimal_is_run n small).1
 
-behind : (p : ℕ → Bool) (xs : List ℕ) (y : ℕ) (ys : List ℕ) → Passes p (xs ++ y ∷ ys) → p y ≡ true
+pub behind : (p : ℕ → Bool) (xs : List ℕ) (y : ℕ) (ys : List ℕ) → Passes p (xs ++ y ∷ ys) → p y ≡ true
 behind p [] y ys all = all.0
 behind p (x ∷ xs) y ys all = behind p xs y ys all.1
 
@@ -268,7 +268,7 @@ without : (a b c : List ℕ) → a ++ b ++ [] ++ [] ++ c ≡ a ++ (b ++ c)
 without a b c = simp (append_assoc, append-nil)
 
 module _ (v : VersionValue) (text : List ℕ) (spells : SpellsVersion v text) where
-  has : HasTokens v text
+  pub has : HasTokens v text
   has = version_tokens v text spells
 
   -- all its tokens are the longest front
@@ -296,6 +296,27 @@ module _ (v : VersionValue) (text : List ℕ) (spells : SpellsVersion v text) wh
       go (Err e) w =
           let same = front_is o.start o.state w.front w.rest w.longest in
           absurd (w.answer.0 (subst IsVersionShape same.0 has.shape, inr (no_pending text o.start o.state (sym (state_is o.start o.state).1))))
+
+  -- the state of the text, and its outcome
+  abbrev at_start : ParserState
+  at_start = record { remaining = has.ts; pending = None }
+
+  is_start : IsStateOf text at_start
+  is_start = ([], has.tokens, ap (λ (cs : List ℕ). slice_get cs 0) (sym chars-nil))
+
+  pub spelled_outcome : IsOutcomeOf text (Ok v)
+  spelled_outcome = record {
+    start = at_start;
+    answer = Ok v;
+    end = record { remaining = []; pending = None };
+    state = is_start;
+    reads = record { front = has.ts; rest = []; longest = all_longest; answer = ((has.shape, inr refl), has.spells, refl); pending = refl };
+    whole = refl;
+  }
+
+  -- where its tokens hold a run of an identifier, memory is asked for
+  pub spelled_may_run_out : HoldsIdentifierRun has.ts → TextMayRunOut text
+  spelled_may_run_out holds = record { start = at_start; front = has.ts; rest = []; state = is_start; longest = all_longest; why = inl holds }
 
   -- without pre-release and build no memory is asked for
   pub plain_has_memory : v.plain.pre ≡ [] → v.build ≡ [] → ¬ (TextMayRunOut text)

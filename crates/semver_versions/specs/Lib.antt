@@ -6,6 +6,7 @@ pub mod ParserViews
 pub mod VersionGrammar
 pub mod VersionReading
 pub mod VersionViews
+pub mod Cutting
 pub mod Taking
 pub use Rattle.semver_texts.specs.Texts
 pub use Rattle.semver_texts.specs.Versions

@@ -1,8 +1,8 @@
 -- The tokens of a text found one after another, from the left. This is how the lexer goes, and a means of proof:
 -- `Tokens` says what the tokens of a text are, and the public clauses speak of that.
-use Rattle.std.specs.Prelude.{ℕ, zero, suc, ◌+◌, ◌^◌, Bool, ◌&&◌, ◌||◌, not, ◌==◌, nat_lt, if◌then◌else◌, List, [], ◌∷◌, length, drop, Option, Some, None, slice_index, slice_get, chars, take_while}
+use Rattle.std.specs.Prelude.{ℕ, zero, suc, ◌+◌, ◌^◌, Bool, false, ◌&&◌, ◌||◌, not, ◌==◌, nat_lt, if◌then◌else◌, List, [], ◌∷◌, length, drop, Option, Some, None, slice_index, slice_get, chars, take_while}
 use Rattle.std.specs.List.{prefix_len}
-use Rattle.std.specs.Char.{is_ascii_alphanumeric}
+use Rattle.std.specs.Char.{is_ascii_alphanumeric, is_ascii_digit}
 use Rattle.std.specs.Str.{all_ascii_digits}
 use Rattle.std.specs.Str.Parse.{digits_value}
 use Rattle.semver_versions.specs.Tokens.{TokenValue, Eq, Gt, Lt, LtEq, GtEq, Caret, Tilde, Star, Dot, Comma, Hyphen, Plus, Or, Whitespace, Numeric, AlphaNumeric, is_space}
@@ -11,6 +11,12 @@ use Rattle.semver_versions.specs.ParserState.{ParserState}
 -- the run is the canonical decimal of a number below 2^64
 abbrev pub is_number : List ℕ → Bool
 is_number run = (all_ascii_digits run && (length run == 1 || not (slice_index run 0 == 48))) && nat_lt (digits_value 10 run) (2 ^ 64)
+
+-- a digit at the front, which is no zero where more follows
+abbrev pub begins_number : List ℕ → Bool
+begins_number [] = false
+begins_number (b ∷ []) = is_ascii_digit b
+begins_number (b ∷ c ∷ bs) = is_ascii_digit b && not (b == 48)
 
 -- the token of a run
 unfoldable pub component : List ℕ → TokenValue

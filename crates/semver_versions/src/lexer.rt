@@ -12,6 +12,7 @@ ghost use Rattle.semver_versions.specs.Tokens.{is_space, IsRun, is_whitespace};
 ghost use Rattle.semver_versions.specs.Scanning.{component, sign, first_token};
 ghost use Rattle.semver_versions.specs.Views.{token_value};
 
+use crate::decimals::whole_number;
 use std::marker::Model;
 
 /// A token. Those of two characters are taken before those of one: `<=` is `LtEq`, and never `Lt` and `Eq`.
@@ -140,12 +141,9 @@ fn component<'input>(run: &'input str) -> Token<'input>
     requires { IsRun run.now }
     ensures { token_value result ≡ component run.now }
 {
-    if run.len() > 1 && run.as_bytes()[0] == b'0' {
-        return Token::AlphaNumeric(run);
-    }
-    match run.parse::<u64>() {
-        Ok(number) => Token::Numeric(number),
-        Err(_) => Token::AlphaNumeric(run),
+    match whole_number(run) {
+        Some(number) => Token::Numeric(number),
+        None => Token::AlphaNumeric(run),
     }
 }
 

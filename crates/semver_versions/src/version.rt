@@ -13,6 +13,7 @@ ghost use Rattle.semver_versions.specs.VersionReading.{IsOutcomeOf, TextMayRunOu
 ghost use Rattle.semver_versions.specs.VersionViews.{identifier_value, version_value};
 ghost use Rattle.semver_versions.specs.ParserViews.{answer_of, UnlessOutOfMemory, IfOutOfMemory};
 
+use crate::from_bytes;
 use crate::parser::{self, Parser};
 use semver_texts::printing::write_part;
 use std::alloc::{AllocError, Global};
@@ -128,6 +129,10 @@ impl fmt::Display for Version {
 ///   it: `a/` gives `Lexer(UnexpectedChar('/'))`. Behind a whole version it goes before `MoreInput`.
 /// - `OutOfMemory`: a growth was refused. Memory is taken for each identifier that isn't a number, for the lists of identifiers, and for
 ///   the tokens of `MoreInput`; so a text that spells a version without pre-release and build is always answered.
+///
+/// There are two ways to the answer: a text without white space round it is first read straight from its bytes, and where no version
+/// is found so, the tokens decide. Both answer the same, since what the bytes give is proved to be the version that the text spells, and no
+/// text spells two; a growth that was refused is the answer, and isn't asked for again.
 pub fn parse(alloc: Global, input: &str) -> Result<Version, parser::Error<'_>>
     // Unless memory ran out, the answer is a version exactly where the text spells it.
     ensures exact { (v : VersionValue) →
@@ -144,6 +149,21 @@ pub fn parse(alloc: Global, input: &str) -> Result<Version, parser::Error<'_>>
     // Unless memory ran out, the answer is the outcome of the text.
     ensures outcome { UnlessOutOfMemory result (IsOutcomeOf input.now (answer_of version_value result)) }
     // Memory runs out only where an identifier's run was read, or in place of `MoreInput`.
+    ensures out_of_memory { IfOutOfMemory result (TextMayRunOut input.now) }
+{
+    let Some(read) = from_bytes::version(alloc, input) else {
+        return by_tokens(alloc, input);
+    };
+    match read {
+        Ok(version) => Ok(version),
+        Err(_) => Err(parser::Error::OutOfMemory),
+    }
+}
+
+// What `parse` answers, token by token.
+#[inline(always)]
+fn by_tokens(alloc: Global, input: &str) -> Result<Version, parser::Error<'_>>
+    ensures outcome { UnlessOutOfMemory result (IsOutcomeOf input.now (answer_of version_value result)) }
     ensures out_of_memory { IfOutOfMemory result (TextMayRunOut input.now) }
 {
     let mut parser = Parser::new(input)?;

@@ -1,71 +1,15 @@
-use Rattle.std.proofs.Common.{◌≡◌, ℕ, refl, sym, ap, ◌∙◌, Ok, Err, Result, List, [], map}
-use Rattle.std.proofs.lemmas.Result.{err_from_is_err_and}
-use Rattle.semver_versions.specs.ParserState.{ParserState, tail}
-use Rattle.semver_versions.specs.Views.{token_value}
-use Rattle.semver_versions.specs.ParserViews.{fault_of, answer_of, UnlessOutOfMemory, IfOutOfMemory}
-use Rattle.semver_versions.specs.VersionReading.{IsOutcomeOf, TextMayRunOut}
+use Rattle.std.proofs.Common.{Ok, Err}
 use Rattle.semver_versions.specs.VersionViews.{version_value}
-use Rattle.semver_versions.specs.declared.version.Version.{Version}
-use Rattle.semver_versions.specs.declared.parser.Error.{Error}
 use Rattle.semver_versions.specs.declared.parser.Error.TheVariants as error
-use Rattle.semver_versions.proofs.IdentifierTexts.{unless_out_of_memory, unless_err, if_err}
-use Rattle.semver_versions.proofs.ParseFacts.{all_of, at_bad_start, lexer_has_memory, at_fault, at_refusal, at_end, at_tail, at_tail_fault, at_tail_refusal}
+use Rattle.semver_versions.proofs.WholeText.{spelled_outcome}
+use Rattle.semver_versions.proofs.ParseFacts.{all_of}
 use Rattle.semver_versions.proofs.version.parse.Goals as goal
-use Rattle.semver_versions.proofs.version.parse.Goals.{Else-is_eof}
 
-abbrev Answer : Type 0
-Answer = Result Version Error
+pub returns-in_default : goal.returns-in_default
+returns-in_default c = all_of c.args.input.now c.utf8.input c.by_tokens.result c.by_tokens.ensures.outcome c.by_tokens.ensures.out_of_memory
 
-pub returns-in_err-parser : goal.returns-in_err-parser
-returns-in_err-parser c =
-    let text : List ℕ = c.args.input.now in
-    let r : Answer = c.from_residual.result in
-    let p = err_from_is_err_and c.from_residual.result c.from_residual.ensures.1 in
-    let bad = c.in_err-parser.ensures.lexer in
-    let outcome : UnlessOutOfMemory r (IsOutcomeOf text (answer_of version_value r)) = unless_out_of_memory r (rw (p.1, p.2) (at_bad_start text c.in_err-parser.field-0.0 bad)) in
-    let memory : IfOutOfMemory r (TextMayRunOut text) = rw (p.1, p.2) (lexer_has_memory _ c.in_err-parser.field-0.0 bad.0 bad.1) in
-    all_of text c.utf8.input r outcome memory
+pub returns-in-Ok : goal.returns-in-Ok
+returns-in-Ok c = all_of c.args.input.now c.utf8.input (Ok c.in-Ok.version) (spelled_outcome (version_value c.in-Ok.version) c.args.input.now (rw c.in-Ok.is at c.in-Some.ensures)) tt
 
-pub returns-in_err-version : goal.returns-in_err-version
-returns-in_err-version c =
-    let text : List ℕ = c.args.input.now in
-    let r : Answer = c.from_residual-in_err-version.result in
-    let p = err_from_is_err_and c.from_residual-in_err-version.result c.from_residual-in_err-version.ensures.1 in
-    let e : Error = c.in_err-version.field-0.0 in
-    let state = c.in_ok-parser.ensures.ok in
-    let outcome : UnlessOutOfMemory r (IsOutcomeOf text (answer_of version_value r)) = rw (p.1, p.2) (unless_err e (at_fault text c.in_ok-parser.parser c.version.new.self (fault_of e) state) c.in_err-version.ensures.answer) in
-    let memory : IfOutOfMemory r (TextMayRunOut text) = rw (p.1, p.2) (if_err e (at_refusal text c.in_ok-parser.parser c.version.new.self state) c.in_err-version.ensures.out_of_memory) in
-    all_of text c.utf8.input r outcome memory
-
-pub returns-then-is_eof : goal.returns-then-is_eof
-returns-then-is_eof c =
-    let text : List ℕ = c.args.input.now in
-    all_of text c.utf8.input (Ok c.in_ok-version.version) (at_end text c.in_ok-parser.parser c.version.new.self (version_value c.in_ok-version.version) c.in_ok-parser.ensures.ok c.in_ok-version.ensures.answer (c.if-is_eof.ensures.answer.0 refl)) tt
-
--- some token is left
-some_left : (c : Else-is_eof) → ¬ (c.version.new.self.remaining ≡ [])
-some_left c = λ none. let e = c.if-is_eof.ensures.answer.1 none in cc
-
-pub returns-in_err-rest : goal.returns-in_err-rest
-returns-in_err-rest c =
-    let text : List ℕ = c.args.input.now in
-    let r : Answer = c.from_residual-in_err-rest.result in
-    let p = err_from_is_err_and c.from_residual-in_err-rest.result c.from_residual-in_err-rest.ensures.1 in
-    let e : Error = c.in_err-rest.field-0.0 in
-    let s : ParserState = c.in_ok-parser.parser in
-    let t : ParserState = c.version.new.self in
-    let some = some_left (goal.at.returns-in_err-rest c).Else-is_eof in
-    let same : c.is_eof.new.self ≡ t = c.is_eof.ensures.after in
-    let fault = at_tail_fault text s t (version_value c.in_ok-version.version) c.in_ok-parser.ensures.ok c.in_ok-version.ensures.answer some (fault_of e) c.tail.new.self in
-    let refusal = at_tail_refusal text s t (version_value c.in_ok-version.version) c.in_ok-parser.ensures.ok c.in_ok-version.ensures.answer some in
-    let outcome : UnlessOutOfMemory r (IsOutcomeOf text (answer_of version_value r)) = rw (p.1, p.2) (unless_err e (λ d. fault (d ∙ ap tail same)) c.in_err-rest.ensures.answer) in
-    let memory : IfOutOfMemory r (TextMayRunOut text) = rw (p.1, p.2) (if_err e (λ d. refusal (sym (ap (λ (z : ParserState). z.pending) same) ∙ d.1)) c.in_err-rest.ensures.out_of_memory) in
-    all_of text c.utf8.input r outcome memory
-
-pub returns : goal.returns
-returns c =
-    let text : List ℕ = c.args.input.now in
-    let some = some_left (goal.at.returns c).Else-is_eof in
-    let outcome = at_tail text c.in_ok-parser.parser c.version.new.self (version_value c.in_ok-version.version) c.in_ok-parser.ensures.ok c.in_ok-version.ensures.answer some (map token_value c.in_ok-rest.rest.items) c.tail.new.self
-    (c.in_ok-rest.ensures.answer ∙ ap tail c.is_eof.ensures.after) in
-    all_of text c.utf8.input (Err (error.MoreInput c.in_ok-rest.rest)) outcome tt
+pub returns-in-Err : goal.returns-in-Err
+returns-in-Err c = all_of c.args.input.now c.utf8.input (Err error.OutOfMemory) tt (rw c.in-Err.is at c.in-Some.ensures)
