@@ -1,4 +1,4 @@
-//! What has to hold before anything is timed: the same texts are read on each side, with the same answers.
+//! What has to hold before anything is timed: each side reads the same texts, and its calls answer the same numbers.
 
 use crate::calls::{here_filter, semver_filter, Call, REFUSED};
 use crate::files::File;
