@@ -1,15 +1,22 @@
 //! Calls for measuring speed from outside. Each takes bytes and answers a number that depends on all that was read.
+//!
+//! The caller promises that the bytes are UTF-8, so what is timed is the library's work alone, and no check of the bytes.
+//! Only a crate that measures does so: the calls that it measures take a `&str`.
 #![tactic(auto)]
 
+ghost use Rattle.std.specs.Prelude.{IsUtf8};
+
+use release_filter::filter_text;
+use semver_parser::version::Version;
 use semver_parser::{Compat, RangeSet, version};
 use std::alloc::Global;
 
-/// The count of identifiers of the version that the bytes are, and its numbers; `u64::MAX` where they are none.
+/// The sum of the numbers and of the counts of identifiers of the version that the text is; `u64::MAX` where it is none.
 #[unsafe(no_mangle)]
-pub extern "C" fn speed_version(alloc: Global, text: &[u8]) -> u64 {
-    let Ok(text) = std::str::from_utf8(text) else {
-        return u64::MAX;
-    };
+pub extern "C" fn speed_version(alloc: Global, text: &[u8]) -> u64
+    requires { IsUtf8 text.now }
+{
+    let text = unsafe { std::str::from_utf8_unchecked(text) };
     match version::parse(alloc, text) {
         Ok(version) => {
             let identifiers = version.pre.len().wrapping_add(version.build.len());
@@ -23,12 +30,12 @@ pub extern "C" fn speed_version(alloc: Global, text: &[u8]) -> u64 {
     }
 }
 
-/// The count of comparators of the set that the bytes are in Cargo mode; `u64::MAX` where they are none.
+/// The count of comparators of the set that the text is in Cargo mode; `u64::MAX` where it is none.
 #[unsafe(no_mangle)]
-pub extern "C" fn speed_range(alloc: Global, text: &[u8]) -> u64 {
-    let Ok(text) = std::str::from_utf8(text) else {
-        return u64::MAX;
-    };
+pub extern "C" fn speed_range(alloc: Global, text: &[u8]) -> u64
+    requires { IsUtf8 text.now }
+{
+    let text = unsafe { std::str::from_utf8_unchecked(text) };
     match RangeSet::parse(alloc, text, Compat::Cargo) {
         Ok(set) => {
             let mut comparators = 0u64;
@@ -39,4 +46,36 @@ pub extern "C" fn speed_range(alloc: Global, text: &[u8]) -> u64 {
         }
         Err(_) => u64::MAX,
     }
+}
+
+/// Reads the versions, and filters them by each of the ranges in Cargo mode: how many are kept in all. Each version and
+/// each range is a line. `u64::MAX` where a line isn't read.
+#[unsafe(no_mangle)]
+pub extern "C" fn speed_filter(alloc: Global, ranges: &[u8], versions: &[u8]) -> u64
+    requires ranges_are_text { IsUtf8 ranges.now }
+    requires versions_are_text { IsUtf8 versions.now }
+{
+    let ranges = unsafe { std::str::from_utf8_unchecked(ranges) };
+    let versions = unsafe { std::str::from_utf8_unchecked(versions) };
+    let Some(versions) = read_versions(alloc, versions) else {
+        return u64::MAX;
+    };
+    let mut kept = 0u64;
+    for range in ranges.lines() {
+        match filter_text(alloc, range, Compat::Cargo, &versions) {
+            Ok(releases) => kept = kept.wrapping_add(releases.len() as u64),
+            Err(_) => return u64::MAX,
+        }
+    }
+    kept
+}
+
+// The versions of the lines, if each line is one.
+fn read_versions(alloc: Global, lines: &str) -> Option<Vec<Version>> {
+    let mut versions = Vec::new(alloc);
+    for line in lines.lines() {
+        let version = version::parse(alloc, line).ok()?;
+        versions.push(version).ok()?;
+    }
+    Some(versions)
 }

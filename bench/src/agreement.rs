@@ -1,0 +1,42 @@
+//! What has to hold before anything is timed: each side reads the same texts, and its calls answer the same numbers.
+
+use crate::calls::{here_filter, semver_filter, Call, REFUSED};
+use crate::files::File;
+
+/// Fails unless here and the crate `semver-parser` answer alike on each text of a file, and read each, or none where the
+/// file's texts are to be refused.
+pub fn check_file(file: &File, texts: &[&str]) -> Result<(), String> {
+    for text in texts {
+        let (here, parser) = ((file.here)(text), (file.parser)(text));
+        if here != parser || (here == REFUSED) != file.is_refused {
+            let (here, parser) = (answer(here), answer(parser));
+            return Err(format!("{}: {text:?}: {here} here, {parser} by semver-parser", file.name));
+        }
+    }
+    Ok(())
+}
+
+/// Fails unless each range alone keeps as many of the versions here as by the crate `semver`.
+pub fn check_filter(ranges: &str, versions: &str) -> Result<(), String> {
+    for range in ranges.lines() {
+        let (here, semver) = (here_filter(range, versions), semver_filter(range, versions));
+        if here != semver || here == REFUSED {
+            let (here, semver) = (answer(here), answer(semver));
+            return Err(format!("filters: {range:?}: {here} here, {semver} by semver"));
+        }
+    }
+    Ok(())
+}
+
+/// How many of the texts a call reads.
+pub fn count_read(call: Call, texts: &[&str]) -> usize {
+    texts.iter().filter(|text| call(text) != REFUSED).count()
+}
+
+fn answer(number: u64) -> String {
+    if number == REFUSED {
+        "refused".to_string()
+    } else {
+        number.to_string()
+    }
+}

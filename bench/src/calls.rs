@@ -1,0 +1,79 @@
+//! The calls that are compared. Each answers a number that depends on all that was read, and `REFUSED` where a text isn't read.
+
+use semver::{Version, VersionReq};
+use semver_parser::{version, Compat, RangeSet};
+
+/// The answer where a text isn't read.
+pub const REFUSED: u64 = u64::MAX;
+
+/// Reads one text.
+pub type Call = fn(&str) -> u64;
+
+extern "C" {
+    fn speed_version(text: *const u8, len: usize) -> u64;
+    fn speed_range(text: *const u8, len: usize) -> u64;
+    fn speed_filter(ranges: *const u8, ranges_len: usize, versions: *const u8, versions_len: usize) -> u64;
+}
+
+/// A version here: the sum of its numbers and of the counts of its identifiers.
+pub fn here_version(text: &str) -> u64 {
+    unsafe { speed_version(text.as_ptr(), text.len()) }
+}
+
+/// A version of the crate `semver-parser`: the same sum.
+pub fn parser_version(text: &str) -> u64 {
+    version::parse(text).map_or(REFUSED, |version| {
+        let identifiers = (version.pre.len() + version.build.len()) as u64;
+        sum([version.major, version.minor, version.patch, identifiers])
+    })
+}
+
+/// A version of the crate `semver`, which keeps a pre-release as one text, and a build too: the sum of its numbers and of
+/// the lengths of both.
+pub fn semver_version(text: &str) -> u64 {
+    Version::parse(text).map_or(REFUSED, |version| {
+        let bytes = (version.pre.len() + version.build.len()) as u64;
+        sum([version.major, version.minor, version.patch, bytes])
+    })
+}
+
+/// A range set here, in Cargo mode: how many comparators it has.
+pub fn here_range(text: &str) -> u64 {
+    unsafe { speed_range(text.as_ptr(), text.len()) }
+}
+
+/// A range set of the crate `semver-parser`, in Cargo mode: the same count.
+pub fn parser_range(text: &str) -> u64 {
+    RangeSet::parse(text, Compat::Cargo)
+        .map_or(REFUSED, |set| set.ranges.iter().map(|range| range.comparator_set.len() as u64).sum())
+}
+
+/// A requirement of the crate `semver`: how many comparators it has, before any rewriting.
+pub fn semver_range(text: &str) -> u64 {
+    VersionReq::parse(text).map_or(REFUSED, |requirement| requirement.comparators.len() as u64)
+}
+
+/// Versions read and filtered by each of the ranges here, a line each: how many are kept in all.
+pub fn here_filter(ranges: &str, versions: &str) -> u64 {
+    unsafe { speed_filter(ranges.as_ptr(), ranges.len(), versions.as_ptr(), versions.len()) }
+}
+
+/// The same work by the crate `semver`.
+pub fn semver_filter(ranges: &str, versions: &str) -> u64 {
+    read_and_filter(ranges, versions).unwrap_or(REFUSED)
+}
+
+fn read_and_filter(ranges: &str, versions: &str) -> Result<u64, semver::Error> {
+    let versions = versions.lines().map(Version::parse).collect::<Result<Vec<Version>, _>>()?;
+    let mut kept = 0;
+    for range in ranges.lines() {
+        let requirement = VersionReq::parse(range)?;
+        let releases: Vec<&Version> = versions.iter().filter(|version| requirement.matches(version)).collect();
+        kept += releases.len() as u64;
+    }
+    Ok(kept)
+}
+
+fn sum(numbers: [u64; 4]) -> u64 {
+    numbers.iter().fold(0, |sum, number| sum.wrapping_add(*number))
+}
