@@ -6,7 +6,7 @@
 //!
 //! On `.x.01`, `dot_component` answers `(None, true)`; then `dot_numeric` answers `UnexpectedToken(AlphaNumeric("01"))`,
 //! and no token remains.
-ghost use Rattle.std.specs.Prelude.{◌≡◌, ◌+◌, ◌↔◌, [], Some, None, IfOk, IfSome, string_bytes, IfErr, IsErr, ℕ, IsTrue, option_map, map, length, ◌<◌, ◌≤◌, ◌++◌, ◌∷◌, vec_len, vec_capacity};
+ghost use Rattle.std.specs.Prelude.{◌≡◌, true, ◌+◌, ◌↔◌, [], Some, None, IfOk, IfSome, string_bytes, IfErr, IsErr, ℕ, IsTrue, option_map, map, length, ◌<◌, ◌≤◌, ◌++◌, ◌∷◌, vec_len, vec_capacity};
 ghost use Rattle.semver_versions.specs.Tokens.{IsBadStart};
 ghost use Rattle.std.specs.Bool.{MatchBool};
 ghost use Rattle.semver_versions.specs.Tokens as spec_token;
@@ -305,17 +305,14 @@ impl<'input> Parser<'input> {
         Ok(Identifier::AlphaNumeric(kept))
     }
 
-    // Takes what comes next and an identifier behind it, and so on at each dot; nothing where `more` is false.
-    fn identifiers(
-        &mut self,
-        alloc: Global,
-        mut more: bool,
-    ) -> Result<Vec<Identifier>, Error<'input>>
+    // Takes what comes next and an identifier behind it, and so on at each dot.
+    fn some_identifiers(&mut self, alloc: Global) -> Result<Vec<Identifier>, Error<'input>>
         ensures answer { UnlessOutOfMemory result
-            (TakesPart more self.old (step_of (λ ids. map identifier_value ids.items) result self.new).0 self.new) }
-        ensures out_of_memory { IfOutOfMemory result (PartMayRunOut more self.old self.new) }
+            (TakesPart true self.old (step_of (λ ids. map identifier_value ids.items) result self.new).0 self.new) }
+        ensures out_of_memory { IfOutOfMemory result (PartMayRunOut true self.old self.new) }
     {
         let mut identifiers = Vec::new(alloc);
+        let mut more = true;
         while more {
             self.pop()?;
             let identifier = self.identifier(alloc)?;
@@ -325,6 +322,19 @@ impl<'input> Parser<'input> {
             more = self.at_dot();
         }
         Ok(identifiers)
+    }
+
+    // The same where `more` is true, and else nothing.
+    #[inline(always)]
+    fn identifiers(&mut self, alloc: Global, more: bool) -> Result<Vec<Identifier>, Error<'input>>
+        ensures answer { UnlessOutOfMemory result
+            (TakesPart more self.old (step_of (λ ids. map identifier_value ids.items) result self.new).0 self.new) }
+        ensures out_of_memory { IfOutOfMemory result (PartMayRunOut more self.old self.new) }
+    {
+        if !more {
+            return Ok(Vec::new(alloc));
+        }
+        self.some_identifiers(alloc)
     }
 
     // Takes white space, if it comes next.

@@ -1,10 +1,10 @@
-use Rattle.std.proofs.Common.{length, map}
+use Rattle.std.proofs.Common.{true, length, map}
 use Rattle.semver_versions.specs.VersionViews.{identifier_value}
 use Rattle.semver_versions.proofs.VersionTaking.{IsPartTaken}
-use Rattle.semver_versions.proofs.parser.Parser.identifiers.Given as goal
+use Rattle.semver_versions.proofs.parser.Parser.some_identifiers.Given as goal
 
 abbrev pub invariant-loop-more : goal.invariant-loop-more
-invariant-loop-more l = IsPartTaken l.fn.more l.fn.self (map identifier_value l.identifiers.items) l.more l.self
+invariant-loop-more l = IsPartTaken true l.fn.self (map identifier_value l.identifiers.items) l.more l.self
 
 abbrev pub decreases-loop-more : goal.decreases-loop-more
 decreases-loop-more l = length l.self.remaining
