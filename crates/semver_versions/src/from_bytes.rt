@@ -3,7 +3,7 @@
 //! What is found here is what the text spells. Where nothing is found the text may spell a version all the same, as between white space:
 //! its tokens decide that.
 ghost use Rattle.std.specs.Prelude.{◌≡◌, ◌==◌, ◌||◌, ◌<◌, ◌≤◌, ◌++◌, [], ◌∷◌, length, map, take, codes, decimal, IfOk, IfErr, IfSome, MatchResult};
-ghost use Rattle.std.specs.List.{AllByRecursion, AllZip, slice_split, join_with_byte};
+ghost use Rattle.std.specs.List.{AllByRecursion, AllZip, count_by, slice_split, join_with_byte};
 ghost use Rattle.semver_texts.specs.Texts.{marked};
 ghost use Rattle.semver_versions.specs.VersionGrammar.{IsIdentifierText, SpellsIdentifier, SpellsVersion};
 ghost use Rattle.semver_versions.specs.VersionReading.{TextMayRunOut};
@@ -91,7 +91,9 @@ fn identifier(alloc: Global, text: &str) -> Result<Identifier, AllocError>
 
 // How many dots the bytes have.
 #[inline(always)]
-fn count_dots(bytes: &[u8]) -> usize {
+fn count_dots(bytes: &[u8]) -> usize
+    ensures { result ≡ count_by is_dot bytes.now }
+{
     bytes.iter().filter(|&&byte| byte == b'.').count()
 }
 

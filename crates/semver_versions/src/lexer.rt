@@ -155,13 +155,13 @@ fn front_token<'input>(rest: &'input str, start: usize) -> Option<(Token<'input>
 {
     let bytes = rest.as_bytes();
     let first = *bytes.first()?;
-    if is_space(first) {
-        let len = space_len(bytes);
-        return Some((Token::Whitespace(start, start + len), len));
-    }
     if first.is_ascii_alphanumeric() {
         let len = run_len(bytes);
         return Some((component(&rest[..len]), len));
+    }
+    if is_space(first) {
+        let len = space_len(bytes);
+        return Some((Token::Whitespace(start, start + len), len));
     }
     let second = if bytes.len() > 1 { bytes[1] } else { 0 };
     sign(first, second)
