@@ -8,6 +8,7 @@ pub mod Meeting
 pub mod PrintedRanges
 pub mod RangeViews
 pub mod Reader
+pub mod Reading
 pub mod Answers
 pub mod Pieces
 pub mod PieceViews
