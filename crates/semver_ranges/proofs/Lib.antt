@@ -9,6 +9,7 @@ pub mod PrecedenceLaws
 pub mod PrintedLaws
 pub mod ReaderComplete
 pub mod ReaderSound
+pub mod ReadingPieces
 pub mod ReadingSteps
 pub mod Rows
 pub mod Runs

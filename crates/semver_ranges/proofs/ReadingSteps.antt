@@ -1,129 +1,32 @@
 -- How the reader's counted loops go on, without the count; and that what is left of a text is shorter.
-use Rattle.std.proofs.Common.{◌≡◌, ℕ, zero, suc, ◌<◌, ◌≤◌, Bool, true, false, ◌&&◌, ◌||◌, ◌==◌, if◌then◌else◌, List, [], ◌∷◌, length, refl, ap, subst, inl, inr, Option, Some, None, arith}
+use Rattle.std.proofs.Common.{◌≡◌, ℕ, zero, suc, ◌<◌, ◌≤◌, Bool, true, false, ◌&&◌, ◌==◌, if◌then◌else◌, List, [], ◌∷◌, length, refl, ap, subst, inl, inr, Option, Some, None, arith, length-append}
 use Rattle.std.proofs.lemmas.Bool.{cases_Bool}
-use Rattle.std.specs.Char.{is_ascii_digit}
-use Rattle.std.specs.List.{list_all, slice_split}
-use Rattle.semver_ranges.specs.RangeTree.{PartialTree, Form, Simple, RangeTree, SetTree, is_blank, is_wildcard, is_part}
+use Rattle.semver_ranges.specs.RangeTree.{PartialTree, Simple, RangeTree, SetTree, is_blank}
 use Rattle.semver_texts.specs.Texts.{Text}
-use Rattle.semver_ranges.specs.Reading.{front, back, behind_blanks, begins_with, is_bar, ends_range, ends_word, component, is_dot, in_parts, parts, with_build, behind_pre, with_pre, behind_three, with_third, behind_two, with_second, behind_one, with_first, whole_word, partial, after_less, after_greater, after_tilde, operator, with_form, simple, put_before, behind_simple, some_simples, all_simples, range_end, right_side, is_bare, with_right, with_others, behind_first, range_here, range, behind_bars, onto, more_ranges, behind_range, some_ranges, read}
+use Rattle.semver_ranges.proofs.ReadingPieces.{front-back, WordAt, partial_sound, partial_begins, SimpleAt, simple_sound}
+use Rattle.semver_ranges.specs.Reading.{back, behind_blanks, begins_with, is_bar, ends_range, parts, partial, simple, put_before, behind_simple, some_simples, all_simples, range_end, right_side, is_bare, with_right, with_others, behind_first, range_here, range, behind_bars, onto, more_ranges, behind_range, some_ranges, read}
 
 -- what is left behind an answer is at most so long
 abbrev Leaves : {X : Type 0} → ℕ → Option (X × Text) → Type 0
 Leaves n None = Unit {0}
 Leaves n (Some found) = length found.1 ≤ n
 
-of_two : {X : Type 0} (n : ℕ) (b : Bool) (o o' : Option (X × Text)) → Leaves n o → Leaves n o' → Leaves n (if b then o else o')
-of_two n true o o' h h' = h
-of_two n false o o' h h' = h'
-
-of_one : {X : Type 0} (n : ℕ) (b : Bool) (o : Option (X × Text)) → Leaves n o → Leaves n (if b then o else None)
-of_one n b o h = of_two n b o None h tt
-
 back_shorter : (p : ℕ → Bool) (t : Text) → length (back p t) ≤ length t
-back_shorter p [] = omega arith
-back_shorter p (b ∷ t) = let h = back_shorter p t in elim (cases_Bool (p b)) [
-  | inl e ↦ rw e (omega arith)
-  | inr e ↦ rw e (omega arith)
-]
+back_shorter p t = omega (arith, simp length-append at (ap length (front-back p t)))
 
--- a partial leaves less than its text
-component_leaves : (n : ℕ) (t : Text) → length t ≤ suc n → Leaves n (component t)
-component_leaves n [] h = tt
-component_leaves n (b ∷ t) h = let k = back_shorter is_ascii_digit t in
-    of_two n (is_wildcard (b ∷ []) || (b == 48)) (Some (b ∷ [], t)) _ (omega arith) (of_one n (is_ascii_digit b) (Some (b ∷ front is_ascii_digit t, back is_ascii_digit t)) (omega arith))
-
-parts_leave : (n : ℕ) (t : Text) → length t ≤ n → Leaves n (parts t)
-parts_leave n t h = let k = back_shorter in_parts t in
-    of_one n (list_all is_part (slice_split is_dot (front in_parts t))) (Some (slice_split is_dot (front in_parts t), back in_parts t)) (omega arith)
-
-build_leaves : (n : ℕ) (a b c : Text) (pre : List Text) (o : Option (List Text × Text)) → Leaves n o → Leaves n (with_build a b c pre o)
-build_leaves n a b c pre None h = tt
-build_leaves n a b c pre (Some found) h = h
-
-behind_pre_leaves : (n : ℕ) (a b c : Text) (pre : List Text) (t : Text) → length t ≤ n → Leaves n (behind_pre a b c pre t)
-behind_pre_leaves n a b c pre [] h = h
-behind_pre_leaves n a b c pre (mark ∷ t) h = of_two n (mark == 43) _ _ (build_leaves n a b c pre (parts t) (parts_leave n t (omega arith))) h
-
-pre_leaves : (n : ℕ) (a b c : Text) (o : Option (List Text × Text)) → Leaves n o → Leaves n (with_pre a b c o)
-pre_leaves n a b c None h = tt
-pre_leaves n a b c (Some found) h = behind_pre_leaves n a b c found.0 found.1 h
-
-behind_three_leaves : (n : ℕ) (a b c t : Text) → length t ≤ n → Leaves n (behind_three a b c t)
-behind_three_leaves n a b c [] h = h
-behind_three_leaves n a b c (mark ∷ t) h =
-    of_two n (mark == 45) _ _ (pre_leaves n a b c (parts t) (parts_leave n t (omega arith))) (behind_pre_leaves n a b c [] (mark ∷ t) h)
-
-third_leaves : (n : ℕ) (a b : Text) (o : Option (Text × Text)) → Leaves n o → Leaves n (with_third a b o)
-third_leaves n a b None h = tt
-third_leaves n a b (Some found) h = behind_three_leaves n a b found.0 found.1 h
-
-behind_two_leaves : (n : ℕ) (a b t : Text) → length t ≤ n → Leaves n (behind_two a b t)
-behind_two_leaves n a b [] h = h
-behind_two_leaves n a b (dot ∷ t) h = of_two n (dot == 46) _ _ (third_leaves n a b (component t) (component_leaves n t (omega arith))) h
-
-second_leaves : (n : ℕ) (a : Text) (o : Option (Text × Text)) → Leaves n o → Leaves n (with_second a o)
-second_leaves n a None h = tt
-second_leaves n a (Some found) h = behind_two_leaves n a found.0 found.1 h
-
-behind_one_leaves : (n : ℕ) (a t : Text) → length t ≤ n → Leaves n (behind_one a t)
-behind_one_leaves n a [] h = h
-behind_one_leaves n a (dot ∷ t) h = of_two n (dot == 46) _ _ (second_leaves n a (component t) (component_leaves n t (omega arith))) h
-
-first_leaves : (n : ℕ) (o : Option (Text × Text)) → Leaves n o → Leaves n (with_first o)
-first_leaves n None h = tt
-first_leaves n (Some found) h = behind_one_leaves n found.0 found.1 h
-
-word_leaves : (n : ℕ) (o : Option (PartialTree × Text)) → Leaves n o → Leaves n (whole_word o)
-word_leaves n None h = tt
-word_leaves n (Some found) h = of_one n (ends_word found.1) (Some found) h
-
-partial_leaves : (n : ℕ) (t : Text) → length t ≤ suc n → Leaves n (partial t)
-partial_leaves n t h = word_leaves n (with_first (component t)) (first_leaves n (component t) (component_leaves n t h))
-
--- so does a simple
-less_shorter : (t : Text) → length (after_less t).1 ≤ length t
-less_shorter [] = omega arith
-less_shorter (b ∷ t) = let h = back_shorter is_blank t in let k = back_shorter is_blank (b ∷ t) in elim (cases_Bool (b == 61)) [
-  | inl e ↦ rw e (omega arith)
-  | inr e ↦ rw e k
-]
-
-greater_shorter : (t : Text) → length (after_greater t).1 ≤ length t
-greater_shorter [] = omega arith
-greater_shorter (b ∷ t) = let h = back_shorter is_blank t in let k = back_shorter is_blank (b ∷ t) in elim (cases_Bool (b == 61)) [
-  | inl e ↦ rw e (omega arith)
-  | inr e ↦ rw e k
-]
-
-tilde_shorter : (t : Text) → length (after_tilde t).1 ≤ length t
-tilde_shorter [] = omega arith
-tilde_shorter (b ∷ t) = let h = back_shorter is_blank t in let k = back_shorter is_blank (b ∷ t) in elim (cases_Bool (b == 62)) [
-  | inl e ↦ rw e (omega arith)
-  | inr e ↦ rw e k
-]
-
--- the longer of two outcomes of a test
-most : (n : ℕ) (b : Bool) (x y : Form × Text) → length x.1 ≤ n → length y.1 ≤ n → length (if b then x else y).1 ≤ n
-most n true x y h k = h
-most n false x y h k = k
-
-operator_shorter : (t : Text) → length (operator t).1 ≤ length t
-operator_shorter [] = omega arith
-operator_shorter (b ∷ t) =
-    let n : ℕ = suc (length t) in
-    let blanks = back_shorter is_blank t in
-    let less = less_shorter t in
-    let greater = greater_shorter t in
-    let tilde = tilde_shorter t in
-    most n (b == 61) _ _ (omega arith) (most n (b == 60) _ _ (omega arith) (most n (b == 62) _ _ (omega arith)
-    (most n (b == 126) _ _ (omega arith) (most n (b == 94) _ _ (omega arith) (omega arith)))))
-
-form_leaves : (n : ℕ) (f : Form) (o : Option (PartialTree × Text)) → Leaves n o → Leaves n (with_form f o)
-form_leaves n f None h = tt
-form_leaves n f (Some found) h = let k = back_shorter is_blank found.1 in omega arith
+partial_leaves : (n : ℕ) (t : Text) → length t ≤ n → Leaves n (partial t)
+partial_leaves n t h = left (partial t) (partial_sound t) where
+  left : (o : Option (PartialTree × Text)) → WordAt t o → Leaves n o
+  left None k = tt
+  left (Some found) (w, spelled, text, ends) = omega (arith, simp length-append at (ap length text))
 
 simple_leaves : (n : ℕ) (t : Text) → length t ≤ suc n → Leaves n (simple t)
-simple_leaves n t h = let k = operator_shorter t in form_leaves n (operator t).0 (partial (operator t).1) (partial_leaves n (operator t).1 (omega arith))
+simple_leaves n t h = left (simple t) (simple_sound t) where
+  left : (o : Option (Simple × Text)) → SimpleAt t o → Leaves n o
+  left None k = tt
+  left (Some found) (w, gap, (sign, text, form, spelled, whole), parts, e) =
+      let some = partial_begins found.0.partial text spelled in
+      omega (arith, simp length-append at (ap length e), simp length-append at (ap length whole), ap length some.whole)
 
 pub shorter_simple : (t u : Text) (s : Simple) → simple t ≡ Some (s, u) → length u < length t
 shorter_simple [] u s e = cc
