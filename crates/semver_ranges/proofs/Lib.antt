@@ -10,6 +10,7 @@ pub mod PrintedLaws
 pub mod ReaderComplete
 pub mod ReaderSound
 pub mod ReadingPieces
+pub mod ReadingSound
 pub mod ReadingSteps
 pub mod Rows
 pub mod Runs
