@@ -173,29 +173,30 @@ partial_sound t = word_sound t (with_first (component t)) (first_sound t (compon
 abbrev pub is_component_byte : ℕ → Bool
 is_component_byte b = is_ascii_digit b || is_wildcard (b ∷ [])
 
-pub record Begins (t : Text) : Type 0 where
-  pub byte : ℕ
-  pub others : Text
-  pub whole : t ≡ byte ∷ others
-  pub component : is_component_byte byte ≡ true
+abbrev pub starts : (ℕ → Bool) → Text → Bool
+starts p [] = false
+starts p (b ∷ t) = p b
 
-pub component_begins : (b : ℕ) (t : Text) → is_component (b ∷ t) ≡ true → is_component_byte b ≡ true
-component_begins b [] e = elim (or_cases (is_wildcard (b ∷ [])) (is_number (b ∷ [])) e) [
+pub starts-append : (p : ℕ → Bool) (t u : Text) → starts p t ≡ true → starts p (t ++ u) ≡ true
+starts-append p [] u e = cc
+starts-append p (b ∷ t) u e = e
+
+component_starts : (t : Text) → is_component t ≡ true → starts is_component_byte t ≡ true
+component_starts [] e = cc
+component_starts (b ∷ []) e = elim (or_cases (is_wildcard (b ∷ [])) (is_number (b ∷ [])) e) [
   | inl wildcard ↦ or_right (is_ascii_digit b) (is_wildcard (b ∷ [])) wildcard
   | inr number ↦ or_left (is_ascii_digit b) (is_wildcard (b ∷ [])) (and_parts (is_ascii_digit b) true (and_parts (all_ascii_digits (b ∷ [])) _ number).0).0
 ]
-component_begins b (c ∷ t) e = or_left (is_ascii_digit b) (is_wildcard (b ∷ [])) (and_parts (is_ascii_digit b) (all_ascii_digits (c ∷ t)) (and_parts (all_ascii_digits (b ∷ c ∷ t)) _ e).0).0
+component_starts (b ∷ c ∷ t) e = or_left (is_ascii_digit b) (is_wildcard (b ∷ [])) (and_parts (is_ascii_digit b) (all_ascii_digits (c ∷ t)) (and_parts (all_ascii_digits (b ∷ c ∷ t)) _ e).0).0
 
-begins : (a more t : Text) → is_component a ≡ true → t ≡ a ++ more → Begins t
-begins [] more t c e = cc
-begins (b ∷ a) more t c e = record { byte = b; others = a ++ more; whole = e; component = component_begins b a c }
-
-pub partial_begins : (p : PartialTree) (t : Text) → SpellsPartial p t → Begins t
-partial_begins (one a) t (h, k, e) = begins a [] t (and_parts (is_component a) true h).0 e
-partial_begins (two a b) t (h, k, e) = begins a ((46 ∷ b) ++ []) t (and_parts (is_component a) (is_component b && true) h).0 (e ∙ append_assoc a (46 ∷ b) [])
-partial_begins (three a b c pre build) t (h, k, e) =
+pub partial_starts : (p : PartialTree) (t : Text) → SpellsPartial p t → starts is_component_byte t ≡ true
+partial_starts (one a) t (h, k, e) = rw e (starts-append is_component_byte a [] (component_starts a (and_parts (is_component a) true h).0))
+partial_starts (two a b) t (h, k, e) =
+    rw (e, append_assoc a (46 ∷ b) []) (starts-append is_component_byte a ((46 ∷ b) ++ []) (component_starts a (and_parts (is_component a) (is_component b && true) h).0))
+partial_starts (three a b c pre build) t (h, k, e) =
+    let more = (46 ∷ (b ++ (46 ∷ c))) in
     let q = marked (codes "-") pre ++ marked (codes "+") build in
-    begins a ((46 ∷ (b ++ (46 ∷ c))) ++ q) t (and_parts (is_component a) (is_component b && (is_component c && true)) h).0 (e ∙ append_assoc a (46 ∷ (b ++ (46 ∷ c))) q)
+    rw (e, append_assoc a more q) (starts-append is_component_byte a (more ++ q) (component_starts a (and_parts (is_component a) (is_component b && (is_component c && true)) h).0))
 
 -- an operator: its sign, and the blanks behind it
 abbrev FormAt : Text → Form × Text → Type 0

@@ -3,7 +3,7 @@ use Rattle.std.proofs.Common.{◌≡◌, ℕ, zero, suc, ◌<◌, ◌≤◌, Boo
 use Rattle.std.proofs.lemmas.Bool.{cases_Bool}
 use Rattle.semver_ranges.specs.RangeTree.{PartialTree, Simple, RangeTree, SetTree, is_blank}
 use Rattle.semver_texts.specs.Texts.{Text}
-use Rattle.semver_ranges.proofs.ReadingPieces.{front-back, WordAt, partial_sound, partial_begins, SimpleAt, simple_sound}
+use Rattle.semver_ranges.proofs.ReadingPieces.{front-back, WordAt, partial_sound, starts, is_component_byte, partial_starts, SimpleAt, simple_sound}
 use Rattle.semver_ranges.specs.Reading.{back, behind_blanks, begins_with, is_bar, ends_range, parts, partial, simple, put_before, behind_simple, some_simples, all_simples, range_end, right_side, is_bare, with_right, with_others, behind_first, range_here, range, behind_bars, onto, more_ranges, behind_range, some_ranges, read}
 
 -- what is left behind an answer is at most so long
@@ -13,6 +13,10 @@ Leaves n (Some found) = length found.1 ≤ n
 
 back_shorter : (p : ℕ → Bool) (t : Text) → length (back p t) ≤ length t
 back_shorter p t = omega (arith, simp length-append at (ap length (front-back p t)))
+
+some_bytes : (p : ℕ → Bool) (t : Text) → starts p t ≡ true → 0 < length t
+some_bytes p [] e = cc
+some_bytes p (b ∷ t) e = omega arith
 
 partial_leaves : (n : ℕ) (t : Text) → length t ≤ n → Leaves n (partial t)
 partial_leaves n t h = left (partial t) (partial_sound t) where
@@ -25,8 +29,8 @@ simple_leaves n t h = left (simple t) (simple_sound t) where
   left : (o : Option (Simple × Text)) → SimpleAt t o → Leaves n o
   left None k = tt
   left (Some found) (w, gap, (sign, text, form, spelled, whole), parts, e) =
-      let some = partial_begins found.0.partial text spelled in
-      omega (arith, simp length-append at (ap length e), simp length-append at (ap length whole), ap length some.whole)
+      let some = some_bytes is_component_byte text (partial_starts found.0.partial text spelled) in
+      omega (arith, simp length-append at (ap length e), simp length-append at (ap length whole))
 
 pub shorter_simple : (t u : Text) (s : Simple) → simple t ≡ Some (s, u) → length u < length t
 shorter_simple [] u s e = cc
