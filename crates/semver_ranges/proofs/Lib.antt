@@ -9,6 +9,7 @@ pub mod PrecedenceLaws
 pub mod PrintedLaws
 pub mod ReaderComplete
 pub mod ReaderSound
+pub mod ReadingComplete
 pub mod ReadingPieces
 pub mod ReadingSound
 pub mod ReadingSteps
