@@ -19,3 +19,4 @@ pub mod SizedRanges
 pub mod Slices
 pub mod Tests
 pub mod Vectors
+pub mod WrittenPieces

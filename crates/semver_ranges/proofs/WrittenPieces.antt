@@ -1,0 +1,204 @@
+-- Each written piece, before a text that ends it, is read back: components, parts, partials, operators and simples.
+use Rattle.std.proofs.Common.{◌≡◌, ℕ, Bool, true, false, not, ◌&&◌, ◌||◌, ◌==◌, List, [], ◌∷◌, ◌++◌, codes, refl, sym, ap, ◌∙◌, inl, inr, Some, All, append_assoc, append-nil}
+use Rattle.std.proofs.lemmas.Bool.{cases_Bool, or_left, or_parts, or_cases, and_parts, and_from, not-true, not_from_false, eqb-true, false_from_ne_true, true≢false}
+use Rattle.std.proofs.lemmas.List.Elements.{All-nil, All-cons}
+use Rattle.std.proofs.lemmas.List.Folds.{list_all-append}
+use Rattle.std.proofs.lemmas.List.Splits.{slice_split_none, slice_split_at}
+use Rattle.std.specs.Char.{is_ascii_digit}
+use Rattle.std.specs.Str.{all_ascii_digits}
+use Rattle.std.specs.List.{list_all, slice_split, join_with_byte}
+use Rattle.semver_ranges.specs.RangeTree.{PartialTree, one, two, three, Form, bare, equal, less, at_most, greater, at_least, tilde, caret, Simple, is_blank, is_wildcard, is_number, is_component, is_part, AreBlanks, SpellsPartial, SpellsForm, SpellsSimple}
+use Rattle.semver_texts.specs.Texts.{is_part_byte, Text, is_empty, marked}
+use Rattle.semver_ranges.specs.Reading.{front, back, behind_blanks, is_bar, ends_word, component, is_dot, in_parts, parts, behind_pre, with_pre, behind_three, with_third, behind_two, with_second, behind_one, with_first, whole_word, partial, after_less, after_greater, after_tilde, operator, with_form, simple}
+use Rattle.semver_ranges.proofs.Tests.{list_all-weaker}
+use Rattle.semver_ranges.proofs.ReadingPieces.{starts, starts-append, is_component_byte, partial_starts}
+
+-- a text at which a run of such bytes stops
+abbrev pub stops : (ℕ → Bool) → Text → Bool
+stops p [] = true
+stops p (b ∷ t) = not (p b)
+
+pub front-append : (p : ℕ → Bool) (a r : Text) → list_all p a ≡ true → stops p r ≡ true → front p (a ++ r) ≡ a
+front-append p [] [] e s = refl
+front-append p [] (b ∷ r) e s = rw (not-true (p b) s) refl
+front-append p (x ∷ a) r e s = let parts = and_parts (p x) (list_all p a) e in rw parts.0 (ap (λ t. x ∷ t) (front-append p a r parts.1 s))
+
+pub back-append : (p : ℕ → Bool) (a r : Text) → list_all p a ≡ true → stops p r ≡ true → back p (a ++ r) ≡ r
+back-append p [] [] e s = refl
+back-append p [] (b ∷ r) e s = rw (not-true (p b) s) refl
+back-append p (x ∷ a) r e s = let parts = and_parts (p x) (list_all p a) e in rw parts.0 (back-append p a r parts.1 s)
+
+-- a byte of a class isn't a byte outside of it
+pub apart : (p : ℕ → Bool) (b c : ℕ) → p b ≡ true → p c ≡ false → (b == c) ≡ false
+apart p b c within without = false_from_ne_true (b == c) (λ e. true≢false (sym within ∙ ap p (eqb-true b c e) ∙ without))
+
+-- where a word ends, no run of other bytes goes on
+word_stops : (p : ℕ → Bool) → p 32 ≡ false → p 9 ≡ false → p 124 ≡ false → (t : Text) → ends_word t ≡ true → stops p t ≡ true
+word_stops p space tab bar [] e = refl
+word_stops p space tab bar (b ∷ t) e = elim (or_cases (is_blank b) (is_bar b) e) [
+  | inl blank ↦ elim (or_cases (b == 32) (b == 9) blank) [
+    | inl h ↦ rw (eqb-true b 32 h) (not_from_false (p 32) space)
+    | inr h ↦ rw (eqb-true b 9 h) (not_from_false (p 9) tab)
+  ]
+  | inr h ↦ rw (eqb-true b 124 h) (not_from_false (p 124) bar)
+]
+
+-- a component, before what isn't a digit
+digit_bytes : (t : Text) → all_ascii_digits t ≡ true → list_all is_ascii_digit t ≡ true
+digit_bytes [] e = refl
+digit_bytes (b ∷ t) e = let p = and_parts (is_ascii_digit b) (all_ascii_digits t) e in and_from _ _ p.0 (digit_bytes t p.1)
+
+digit_found : (b : ℕ) (t u : Text) → is_ascii_digit b ≡ true → (b == 48) ≡ false → all_ascii_digits t ≡ true → stops is_ascii_digit u ≡ true → component ((b ∷ t) ++ u) ≡ Some (b ∷ t, u)
+digit_found b t u e other h s =
+    let bytes = digit_bytes t h in
+    rw (apart is_ascii_digit b 120 e refl, apart is_ascii_digit b 88 e refl, apart is_ascii_digit b 42 e refl, other, e, front-append is_ascii_digit t u bytes s, back-append is_ascii_digit t u bytes s) refl
+
+component_read : (t u : Text) → is_component t ≡ true → stops is_ascii_digit u ≡ true → component (t ++ u) ≡ Some (t, u)
+component_read [] u e s = cc
+component_read (b ∷ []) u e s = elim (cases_Bool (is_wildcard (b ∷ []) || (b == 48))) [
+  | inl alone ↦ rw alone refl
+  | inr other ↦
+      let none = or_parts (is_wildcard (b ∷ [])) (b == 48) other in
+      let number : is_number (b ∷ []) ≡ true = rw none.0 at e in
+      digit_found b [] u (and_parts (is_ascii_digit b) true (and_parts (all_ascii_digits (b ∷ [])) _ number).0).0 none.1 refl s
+]
+component_read (b ∷ c ∷ t) u e s =
+    let number = and_parts (all_ascii_digits (b ∷ c ∷ t)) (not (b == 48)) e in
+    let digits = and_parts (is_ascii_digit b) (all_ascii_digits (c ∷ t)) number.0 in
+    digit_found b (c ∷ t) u digits.0 (not-true (b == 48) number.1) digits.1 s
+
+-- parts that are joined by dots come back where the text is cut at its dots
+part_bytes : (t : Text) → is_part t ≡ true → list_all is_part_byte t ≡ true
+part_bytes t e = (and_parts (not (is_empty t)) (list_all is_part_byte t) e).1
+
+no_dot : (t : Text) → list_all is_part_byte t ≡ true → All (λ b. is_dot b ≡ false) t
+no_dot [] e = All-nil (λ b. is_dot b ≡ false)
+no_dot (b ∷ t) e =
+    let p = and_parts (is_part_byte b) (list_all is_part_byte t) e in
+    All-cons (λ b. is_dot b ≡ false) b t (apart is_part_byte b 46 p.0 refl) (no_dot t p.1)
+
+slice_split-join : (x : Text) (xs : List Text) → list_all is_part (x ∷ xs) ≡ true → slice_split is_dot (join_with_byte 46 (x ∷ xs)) ≡ x ∷ xs
+slice_split-join x [] e = slice_split_none is_dot x (no_dot x (part_bytes x (and_parts (is_part x) true e).0))
+slice_split-join x (y ∷ ys) e =
+    let p = and_parts (is_part x) (list_all is_part (y ∷ ys)) e in
+    slice_split_at is_dot x 46 (join_with_byte 46 (y ∷ ys)) (no_dot x (part_bytes x p.0)) refl ∙ ap (λ l. x ∷ l) (slice_split-join y ys p.1)
+
+in_part : (t : Text) → is_part t ≡ true → list_all in_parts t ≡ true
+in_part t e = list_all-weaker is_part_byte in_parts (λ b h. or_left (is_part_byte b) (is_dot b) h) t (part_bytes t e)
+
+in_joined : (x : Text) (xs : List Text) → list_all is_part (x ∷ xs) ≡ true → list_all in_parts (join_with_byte 46 (x ∷ xs)) ≡ true
+in_joined x [] e = in_part x (and_parts (is_part x) true e).0
+in_joined x (y ∷ ys) e =
+    let p = and_parts (is_part x) (list_all is_part (y ∷ ys)) e in
+    list_all-append in_parts x (46 ∷ join_with_byte 46 (y ∷ ys)) ∙ and_from _ _ (in_part x p.0) (in_joined y ys p.1)
+
+parts_read : (x : Text) (xs : List Text) (u : Text) → list_all is_part (x ∷ xs) ≡ true → stops in_parts u ≡ true → parts (join_with_byte 46 (x ∷ xs) ++ u) ≡ Some (x ∷ xs, u)
+parts_read x xs u e s =
+    let text = join_with_byte 46 (x ∷ xs) in
+    rw (front-append in_parts text u (in_joined x xs e) s, back-append in_parts text u (in_joined x xs e) s, slice_split-join x xs e, e) refl
+
+-- a partial, up to the end of its word: its build, its pre-release, its components
+behind_pre_read : (a b c : Text) (pre build : List Text) (u : Text) → list_all is_part build ≡ true → ends_word u ≡ true
+    → behind_pre a b c pre (marked (codes "+") build ++ u) ≡ Some (three a b c pre build, u)
+behind_pre_read a b c pre [] [] h e = refl
+behind_pre_read a b c pre [] (mark ∷ u) h e = rw (not-true (mark == 43) (word_stops (λ b. b == 43) refl refl refl (mark ∷ u) e)) refl
+behind_pre_read a b c pre (x ∷ xs) u h e = rw (parts_read x xs u h (word_stops in_parts refl refl refl u e)) refl
+
+stops_at_build : (build : List Text) (u : Text) → ends_word u ≡ true → stops in_parts (marked (codes "+") build ++ u) ≡ true
+stops_at_build [] u e = word_stops in_parts refl refl refl u e
+stops_at_build (x ∷ xs) u e = refl
+
+behind_three_read : (a b c : Text) (pre build : List Text) (u : Text) → list_all is_part pre ≡ true → list_all is_part build ≡ true → ends_word u ≡ true
+    → behind_three a b c (marked (codes "-") pre ++ (marked (codes "+") build ++ u)) ≡ Some (three a b c pre build, u)
+behind_three_read a b c [] [] [] p q e = refl
+behind_three_read a b c [] [] (mark ∷ u) p q e =
+    rw (not-true (mark == 45) (word_stops (λ b. b == 45) refl refl refl (mark ∷ u) e)) (behind_pre_read a b c [] [] (mark ∷ u) refl e)
+behind_three_read a b c [] (x ∷ xs) u p q e = behind_pre_read a b c [] (x ∷ xs) u q e
+behind_three_read a b c (y ∷ ys) build u p q e =
+    ap (with_pre a b c) (parts_read y ys (marked (codes "+") build ++ u) p (stops_at_build build u e)) ∙ behind_pre_read a b c (y ∷ ys) build u q e
+
+behind_two_read : (a b u : Text) → ends_word u ≡ true → behind_two a b u ≡ Some (two a b, u)
+behind_two_read a b [] e = refl
+behind_two_read a b (dot ∷ u) e = rw (not-true (dot == 46) (word_stops (λ b. b == 46) refl refl refl (dot ∷ u) e)) refl
+
+behind_one_read : (a u : Text) → ends_word u ≡ true → behind_one a u ≡ Some (one a, u)
+behind_one_read a [] e = refl
+behind_one_read a (dot ∷ u) e = rw (not-true (dot == 46) (word_stops (λ b. b == 46) refl refl refl (dot ∷ u) e)) refl
+
+stops_at_qualifier : (pre build : List Text) (u : Text) → ends_word u ≡ true → stops is_ascii_digit (marked (codes "-") pre ++ (marked (codes "+") build ++ u)) ≡ true
+stops_at_qualifier [] [] u e = word_stops is_ascii_digit refl refl refl u e
+stops_at_qualifier [] (x ∷ xs) u e = refl
+stops_at_qualifier (y ∷ ys) build u e = refl
+
+first_read : (p : PartialTree) (w u : Text) → SpellsPartial p w → ends_word u ≡ true → with_first (component (w ++ u)) ≡ Some (p, u)
+first_read (one a) w u (h, k, text) e =
+    ap (λ x. with_first (component (x ++ u))) (text ∙ append-nil a)
+    ∙ ap with_first (component_read a u (and_parts (is_component a) true h).0 (word_stops is_ascii_digit refl refl refl u e)) ∙ behind_one_read a u e
+first_read (two a b) w u (h, k, text) e =
+    let p = and_parts (is_component a) (is_component b && true) h in
+    ap (λ x. with_first (component (x ++ u))) (text ∙ append-nil (a ++ (46 ∷ b))) ∙ ap (λ x. with_first (component x)) (append_assoc a (46 ∷ b) u)
+    ∙ ap with_first (component_read a (46 ∷ (b ++ u)) p.0 refl)
+    ∙ ap (with_second a) (component_read b u (and_parts (is_component b) true p.1).0 (word_stops is_ascii_digit refl refl refl u e)) ∙ behind_two_read a b u e
+first_read (three a b c pre build) w u (h, k, text) e =
+    let p = and_parts (is_component a) (is_component b && (is_component c && true)) h in
+    let q = and_parts (is_component b) (is_component c && true) p.1 in
+    let rest = marked (codes "-") pre ++ (marked (codes "+") build ++ u) in
+    let whole : w ++ u ≡ a ++ (46 ∷ (b ++ (46 ∷ (c ++ rest)))) = ap (λ x. x ++ u) text ∙ simp append_assoc in
+    ap (λ x. with_first (component x)) whole ∙ ap with_first (component_read a (46 ∷ (b ++ (46 ∷ (c ++ rest)))) p.0 refl)
+    ∙ ap (with_second a) (component_read b (46 ∷ (c ++ rest)) q.0 refl)
+    ∙ ap (with_third a b) (component_read c rest (and_parts (is_component c) true q.1).0 (stops_at_qualifier pre build u e)) ∙ behind_three_read a b c pre build u k.0 k.1 e
+
+pub partial_read : (p : PartialTree) (w u : Text) → SpellsPartial p w → ends_word u ≡ true → partial (w ++ u) ≡ Some (p, u)
+partial_read p w u h e = ap whole_word (first_read p w u h e) ∙ rw e refl
+
+-- an operator, before a component
+pub blanks_behind : (blanks t : Text) → AreBlanks blanks → stops is_blank t ≡ true → behind_blanks (blanks ++ t) ≡ t
+blanks_behind blanks t h s = back-append is_blank blanks t h s
+
+-- blanks before a component begin with no such byte
+no_sign : (sign : ℕ) → is_blank sign ≡ false → is_component_byte sign ≡ false → (blanks t : Text) → AreBlanks blanks → starts is_component_byte t ≡ true → stops (λ b. b == sign) (blanks ++ t) ≡ true
+no_sign sign blank other [] [] h k = cc
+no_sign sign blank other [] (b ∷ t) h k = not_from_false (b == sign) (apart is_component_byte b sign k other)
+no_sign sign blank other (b ∷ blanks) t h k = not_from_false (b == sign) (apart is_blank b sign (and_parts (is_blank b) (list_all is_blank blanks) h).0 blank)
+
+less_alone : (t : Text) → stops (λ b. b == 61) t ≡ true → after_less t ≡ (less, behind_blanks t)
+less_alone [] s = refl
+less_alone (b ∷ t) s = rw (not-true (b == 61) s) refl
+
+greater_alone : (t : Text) → stops (λ b. b == 61) t ≡ true → after_greater t ≡ (greater, behind_blanks t)
+greater_alone [] s = refl
+greater_alone (b ∷ t) s = rw (not-true (b == 61) s) refl
+
+tilde_alone : (t : Text) → stops (λ b. b == 62) t ≡ true → after_tilde t ≡ (tilde, behind_blanks t)
+tilde_alone [] s = refl
+tilde_alone (b ∷ t) s = rw (not-true (b == 62) s) refl
+
+pub no_blank : (t : Text) → starts is_component_byte t ≡ true → stops is_blank t ≡ true
+no_blank [] e = cc
+no_blank (b ∷ t) e = rw (apart is_component_byte b 32 e refl, apart is_component_byte b 9 e refl) refl
+
+bare_read : (t : Text) → starts is_component_byte t ≡ true → operator t ≡ (bare, t)
+bare_read [] e = cc
+bare_read (b ∷ t) e = rw (apart is_component_byte b 61 e refl, apart is_component_byte b 60 e refl, apart is_component_byte b 62 e refl, apart is_component_byte b 126 e refl, apart is_component_byte b 94 e refl) refl
+
+operator_read : (f : Form) (sign t : Text) → SpellsForm f sign → starts is_component_byte t ≡ true → operator (sign ++ t) ≡ (f, t)
+operator_read bare sign t h e = rw h (bare_read t e)
+operator_read equal sign t (blanks, h, text) e = rw text (ap (λ x. (equal, x)) (blanks_behind blanks t h (no_blank t e)))
+operator_read less sign t (blanks, h, text) e =
+    rw text (less_alone (blanks ++ t) (no_sign 61 refl refl blanks t h e) ∙ ap (λ x. (less, x)) (blanks_behind blanks t h (no_blank t e)))
+operator_read at_most sign t (blanks, h, text) e = rw text (ap (λ x. (at_most, x)) (blanks_behind blanks t h (no_blank t e)))
+operator_read greater sign t (blanks, h, text) e =
+    rw text (greater_alone (blanks ++ t) (no_sign 61 refl refl blanks t h e) ∙ ap (λ x. (greater, x)) (blanks_behind blanks t h (no_blank t e)))
+operator_read at_least sign t (blanks, h, text) e = rw text (ap (λ x. (at_least, x)) (blanks_behind blanks t h (no_blank t e)))
+operator_read tilde sign t (inl (blanks, h, text)) e =
+    rw text (tilde_alone (blanks ++ t) (no_sign 62 refl refl blanks t h e) ∙ ap (λ x. (tilde, x)) (blanks_behind blanks t h (no_blank t e)))
+operator_read tilde sign t (inr (blanks, h, text)) e = rw text (ap (λ x. (tilde, x)) (blanks_behind blanks t h (no_blank t e)))
+operator_read caret sign t (blanks, h, text) e = rw text (ap (λ x. (caret, x)) (blanks_behind blanks t h (no_blank t e)))
+
+-- a simple, and the blanks behind it
+pub simple_read : (s : Simple) (w gap u : Text) → SpellsSimple s w → AreBlanks gap → ends_word (gap ++ u) ≡ true → stops is_blank u ≡ true → simple (w ++ (gap ++ u)) ≡ Some (s, u)
+simple_read s w gap u (sign, text, form, spelled, whole) blanks ends first =
+    let begins = starts-append is_component_byte text (gap ++ u) (partial_starts s.partial text spelled) in
+    ap (λ x. simple (x ++ (gap ++ u))) whole ∙ ap simple (append_assoc sign text (gap ++ u))
+    ∙ ap (λ (x : Form × Text). with_form x.0 (partial x.1)) (operator_read s.form sign (text ++ (gap ++ u)) form begins)
+    ∙ ap (with_form s.form) (partial_read s.partial text (gap ++ u) spelled ends) ∙ ap (λ x. Some (s, x)) (blanks_behind gap u blanks first)
