@@ -246,10 +246,10 @@ operator_sound (b ∷ t) = elim (cases_Bool (b == 61)) [
 ]
 
 -- a gap parts what stands before it from what follows: it has a blank, or the range ends there
-abbrev pub Parts : Text → Text → Type 0
-Parts gap t = AreBlanks gap × ((is_empty gap ≡ false) ⊎ (ends_range t ≡ true))
+abbrev pub IsGap : Text → Text → Type 0
+IsGap gap t = AreBlanks gap × ((is_empty gap ≡ false) ⊎ (ends_range t ≡ true))
 
-gap_parts : (t : Text) → ends_word t ≡ true → Parts (front is_blank t) (behind_blanks t)
+gap_parts : (t : Text) → ends_word t ≡ true → IsGap (front is_blank t) (behind_blanks t)
 gap_parts [] e = (refl, inr refl)
 gap_parts (b ∷ t) e = elim (cases_Bool (is_blank b)) [
   | inl blank ↦ rw blank (and_from _ _ blank (front_all is_blank t), inl refl)
@@ -259,7 +259,7 @@ gap_parts (b ∷ t) e = elim (cases_Bool (is_blank b)) [
 -- a simple, and the gap behind it
 abbrev pub SimpleAt : Text → Option (Simple × Text) → Type 0
 SimpleAt t None = Unit {0}
-SimpleAt t (Some found) = (w : Text) × (gap : Text) × SpellsSimple found.0 w × Parts gap found.1 × (t ≡ w ++ (gap ++ found.1))
+SimpleAt t (Some found) = (w : Text) × (gap : Text) × SpellsSimple found.0 w × IsGap gap found.1 × (t ≡ w ++ (gap ++ found.1))
 
 form_sound : (t : Text) (found : Form × Text) (o : Option (PartialTree × Text)) → FormAt t found → WordAt found.1 o → SimpleAt t (with_form found.0 o)
 form_sound t found None h k = tt

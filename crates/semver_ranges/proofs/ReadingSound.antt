@@ -4,7 +4,7 @@ use Rattle.std.proofs.lemmas.Bool.{cases_Bool, and_parts, and_from, eqb-true, bo
 use Rattle.semver_ranges.specs.RangeTree.{PartialTree, Form, bare, equal, less, at_most, greater, at_least, tilde, caret, Simple, RangeTree, SetTree, is_blank, AreBlanks, AreSomeBlanks, SpellsPartial, SpellsSimple, SpellsSimples, SpellsRange, SpellsPadded, Spells}
 use Rattle.semver_texts.specs.Texts.{Text, is_empty}
 use Rattle.semver_ranges.specs.Reading.{front, behind_blanks, begins_with, is_bar, ends_range, partial, simple, put_before, behind_simple, some_simples, all_simples, range_end, right_side, is_bare, with_right, with_others, behind_first, range_here, range, behind_bars, onto, more_ranges, behind_range, some_ranges, read}
-use Rattle.semver_ranges.proofs.ReadingPieces.{front-back, front_all, WordAt, partial_sound, Parts, SimpleAt, simple_sound}
+use Rattle.semver_ranges.proofs.ReadingPieces.{front-back, front_all, WordAt, partial_sound, IsGap, SimpleAt, simple_sound}
 
 -- a first simple and the others that are found behind it and its gap
 abbrev SimplesAt : Simple → Text → Option (List Simple × Text) → Type 0
@@ -12,7 +12,7 @@ SimplesAt s t None = Unit {0}
 SimplesAt s t (Some found) = (inner : Text) × (after : Text) × SpellsSimples s found.0 inner × AreBlanks after × (t ≡ inner ++ (after ++ found.1))
 
 -- a gap that parts two simples
-some_blanks : (gap t : Text) → Parts gap t → ends_range t ≡ false → AreSomeBlanks gap
+some_blanks : (gap t : Text) → IsGap gap t → ends_range t ≡ false → AreSomeBlanks gap
 some_blanks gap t (blanks, inl some) e = (not_from_false (is_empty gap) some, blanks)
 some_blanks gap t (blanks, inr ends) e = absurd (both_ways (ends_range t) e ends)
 
@@ -22,13 +22,13 @@ put_sound s next w gap t (Some found) spelled blanks (inner, after, more, ends, 
     ((w ++ gap) ++ inner, after, (w, gap, inner, spelled, blanks, more, refl), ends, ap (λ x. w ++ (gap ++ x)) text ∙ simp append_assoc)
 
 next_sound : (s : Simple) (w gap t : Text) (f : Text → Option (List Simple × Text)) (o : Option (Simple × Text))
-    → ((s : Simple) (w gap t : Text) → SpellsSimple s w → Parts gap t → SimplesAt s (w ++ (gap ++ t)) (f t))
+    → ((s : Simple) (w gap t : Text) → SpellsSimple s w → IsGap gap t → SimplesAt s (w ++ (gap ++ t)) (f t))
     → SpellsSimple s w → AreSomeBlanks gap → SimpleAt t o → SimplesAt s (w ++ (gap ++ t)) (behind_simple f o)
 next_sound s w gap t f None h spelled blanks found = tt
 next_sound s w gap t f (Some (next, u)) h spelled blanks (w', gap', spelled', parts, text) =
     put_sound s next w gap t (f u) spelled blanks (subst (λ x. SimplesAt next x (f u)) (sym text) (h next w' gap' u spelled' parts))
 
-simples_sound : (n : ℕ) (s : Simple) (w gap t : Text) → SpellsSimple s w → Parts gap t → SimplesAt s (w ++ (gap ++ t)) (some_simples n t)
+simples_sound : (n : ℕ) (s : Simple) (w gap t : Text) → SpellsSimple s w → IsGap gap t → SimplesAt s (w ++ (gap ++ t)) (some_simples n t)
 simples_sound zero s w gap t spelled parts = tt
 simples_sound (suc n) s w gap t spelled parts = elim (cases_Bool (ends_range t)) [
   | inl e ↦ rw e (w, gap, spelled, parts.0, refl)

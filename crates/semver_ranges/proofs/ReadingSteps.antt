@@ -4,7 +4,7 @@ use Rattle.std.proofs.lemmas.Bool.{cases_Bool}
 use Rattle.semver_ranges.specs.RangeTree.{PartialTree, Simple, RangeTree, SetTree, is_blank}
 use Rattle.semver_texts.specs.Texts.{Text}
 use Rattle.semver_ranges.proofs.ReadingPieces.{front-back, WordAt, partial_sound, starts, is_component_byte, partial_starts, SimpleAt, simple_sound}
-use Rattle.semver_ranges.specs.Reading.{back, behind_blanks, begins_with, is_bar, ends_range, parts, partial, simple, put_before, behind_simple, some_simples, all_simples, range_end, right_side, is_bare, with_right, with_others, behind_first, range_here, range, behind_bars, onto, more_ranges, behind_range, some_ranges, read}
+use Rattle.semver_ranges.specs.Reading.{back, behind_blanks, begins_with, is_bar, ends_range, partial, simple, put_before, behind_simple, some_simples, all_simples, range_end, right_side, is_bare, with_right, with_others, behind_first, range_here, range, behind_bars, onto, more_ranges, behind_range, some_ranges, read}
 
 -- what is left behind an answer is at most so long
 abbrev Leaves : {X : Type 0} → ℕ → Option (X × Text) → Type 0
@@ -28,7 +28,7 @@ simple_leaves : (n : ℕ) (t : Text) → length t ≤ suc n → Leaves n (simple
 simple_leaves n t h = left (simple t) (simple_sound t) where
   left : (o : Option (Simple × Text)) → SimpleAt t o → Leaves n o
   left None k = tt
-  left (Some found) (w, gap, (sign, text, form, spelled, whole), parts, e) =
+  left (Some found) (w, gap, (sign, text, form, spelled, whole), gapped, e) =
       let some = some_bytes is_component_byte text (partial_starts found.0.partial text spelled) in
       omega (arith, simp length-append at (ap length e), simp length-append at (ap length whole))
 
