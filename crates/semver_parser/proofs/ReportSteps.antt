@@ -9,12 +9,12 @@ use Rattle.semver_ranges.specs.declared.range_set.RangeError.TheVariants.{NotARa
 use Rattle.semver_texts.specs.Texts.{Text}
 use Rattle.semver_texts.specs.Versions.{VersionValue}
 use Rattle.semver_texts.specs.PrintedText.{version_text}
-use Rattle.semver_versions.specs.ParserViews.{fault_of, answer_of, UnlessOutOfMemory, IfOutOfMemory}
-use Rattle.semver_versions.specs.VersionViews.{version_value}
-use Rattle.semver_versions.specs.VersionReading.{IsOutcomeOf, TextMayRunOut}
-use Rattle.semver_versions.specs.declared.parser.Error.{Error}
-use Rattle.semver_versions.specs.declared.parser.Error.TheVariants as error
-use Rattle.semver_versions.specs.declared.version.Version.{Version}
+use Rattle.semver_steps.specs.ParserViews.{fault_of, answer_of, UnlessOutOfMemory, IfOutOfMemory}
+use Rattle.semver_texts.specs.VersionViews.{version_value}
+use Rattle.semver_steps.specs.VersionReading.{IsOutcomeOf, TextMayRunOut}
+use Rattle.semver_steps.specs.declared.parser.Error.{Error}
+use Rattle.semver_steps.specs.declared.parser.Error.TheVariants as error
+use Rattle.semver_texts.specs.declared.version.Version.{Version}
 use Rattle.semver_ranges.specs.RangeTree.{SetTree, Spells}
 use Rattle.semver_ranges.specs.RewritingTable.{PlainSet, fits, rewritten}
 use Rattle.semver_ranges.specs.PrintedRanges.{set_text}

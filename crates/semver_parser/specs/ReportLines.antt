@@ -8,9 +8,9 @@ use Rattle.semver_ranges.specs.declared.range_set.RangeError.TheVariants.{NotARa
 use Rattle.semver_texts.specs.Texts.{Text}
 use Rattle.semver_texts.specs.Versions.{VersionValue}
 use Rattle.semver_texts.specs.PrintedText.{version_text}
-use Rattle.semver_versions.specs.ParserState as fault
-use Rattle.semver_versions.specs.ParserState.{Fault}
-use Rattle.semver_versions.specs.VersionReading.{IsOutcomeOf, TextMayRunOut}
+use Rattle.semver_tokens.specs.ParserState as fault
+use Rattle.semver_tokens.specs.ParserState.{Fault}
+use Rattle.semver_steps.specs.VersionReading.{IsOutcomeOf, TextMayRunOut}
 use Rattle.semver_ranges.specs.RangeTree.{SetTree, Spells}
 use Rattle.semver_ranges.specs.RewritingTable.{fits, rewritten}
 use Rattle.semver_ranges.specs.PrintedRanges.{set_text}

@@ -3,14 +3,15 @@ ghost use Rattle.std.specs.Prelude.{[], ◌∷◌, true, false, codes};
 ghost use Rattle.semver_ranges.specs.declared.range_set.Compat.{Compat};
 ghost use Rattle.semver_ranges.specs.declared.range_set.Compat.TheVariants.{Cargo, Npm};
 ghost use Rattle.semver_texts.specs.Versions.{VersionValue, numeric, alphanumeric};
-ghost use Rattle.semver_versions.specs.VersionGrammar.{SpellsVersion};
+ghost use Rattle.semver_steps.specs.VersionGrammar.{SpellsVersion};
 ghost use Rattle.semver_parser.specs.Examples.{IsMet, release, version};
 
 pub use semver_ranges::laws::{
     answered_sets_are_printable, meanings_agree, one_tree, precedence_is_total,
     printed_sets_read_back,
 };
-pub use semver_versions::laws::{one_outcome, one_token_list, one_version};
+pub use semver_tokens::laws::one_token_list;
+pub use semver_versions::laws::{one_outcome, one_version};
 
 /// What some versions meet: first by the text's own meaning, and then by its comparators.
 pub fn row_facts()

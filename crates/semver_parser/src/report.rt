@@ -4,13 +4,13 @@ ghost use Rattle.semver_parser.specs.Writing.{WritesOrBegins};
 ghost use Rattle.semver_parser.specs.ReportLines.{VersionLine, RangeLine, version_fault_word, range_fault_word, line, lines, WritesLines, status_of};
 ghost use Rattle.semver_ranges.specs.RangeViews.{set_of};
 ghost use Rattle.semver_ranges.specs.PrintedRanges.{set_text};
-ghost use Rattle.semver_versions.specs.ParserViews.{fault_of};
-ghost use Rattle.semver_versions.specs.VersionViews.{version_value};
+ghost use Rattle.semver_steps.specs.ParserViews.{fault_of};
+ghost use Rattle.semver_texts.specs.VersionViews.{version_value};
 ghost use Rattle.semver_texts.specs.PrintedText.{version_text};
 ghost use Rattle.semver_parser.specs.Shown.{shown_text, is_value_of};
 
 use semver_ranges::{Compat, RangeError, RangeSet};
-use semver_versions::parser;
+use semver_steps::parser;
 use semver_versions::version::{self, Version};
 use std::alloc::Global;
 use std::io::{self, ErrorKind, Write};

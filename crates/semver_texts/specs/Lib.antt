@@ -1,3 +1,4 @@
 pub mod Texts
 pub mod Versions
 pub mod PrintedText
+pub mod VersionViews

@@ -13,8 +13,8 @@ use Rattle.std.proofs.lemmas.Str.Ascii.{IsAscii-from_all}
 use Rattle.std.proofs.lemmas.List.Elements.{All-nil, All-cons}
 use Rattle.semver_texts.specs.Texts.{Text, marked, is_part_byte}
 use Rattle.semver_texts.specs.Versions.{IdentifierValue}
-use Rattle.semver_versions.specs.Tokens.{IsRun}
-use Rattle.semver_versions.specs.VersionGrammar.{IsIdentifierText, SpellsIdentifier}
+use Rattle.semver_tokens.specs.Tokens.{IsRun}
+use Rattle.semver_steps.specs.VersionGrammar.{IsIdentifierText, SpellsIdentifier}
 use Rattle.semver_versions.specs.Cutting.{is_dot, cut_at_dots, AreIdentifiers}
 use Rattle.semver_versions.proofs.OneVersion.{Passes, IsPartText, joined_runs, dotted_bytes}
 

@@ -7,11 +7,11 @@ use Rattle.std.proofs.lemmas.List.{take_at, drop_at}
 use Rattle.std.proofs.lemmas.Fmt.{decimal_injective}
 use Rattle.std.proofs.lemmas.Bool.Decides.{nat_tests}
 use Rattle.semver_texts.specs.Texts.{marked, is_part_byte}
-use Rattle.semver_versions.specs.Tokens.{IsRun, is_space}
+use Rattle.semver_tokens.specs.Tokens.{IsRun, is_space}
 use Rattle.semver_texts.specs.Versions.{IdentifierValue, numeric, alphanumeric, VersionValue, numbers}
-use Rattle.semver_versions.specs.VersionGrammar.{SpellsIdentifier, SpellsPart, SpellsVersion}
-use Rattle.semver_versions.proofs.FirstToken.{run_is_no_space, space_is_no_run}
-use Rattle.semver_versions.proofs.TokenLists.{prefix_is, decimal_is_run}
+use Rattle.semver_steps.specs.VersionGrammar.{SpellsIdentifier, SpellsPart, SpellsVersion}
+use Rattle.semver_tokens.proofs.FirstToken.{run_is_no_space, space_is_no_run}
+use Rattle.semver_tokens.proofs.TokenLists.{prefix_is, decimal_is_run}
 
 -- each byte passes the test
 abbrev pub Passes : (ℕ → Bool) → List ℕ → Type 0

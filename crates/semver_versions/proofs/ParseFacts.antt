@@ -1,20 +1,20 @@
 -- What a call of `parse` answers, from the outcome of the text.
 use Rattle.std.proofs.Common.{◌≡◌, ℕ, List, [], ◌∷◌, Some, None, Option, Result, Ok, Err, sym, refl, ap, ◌∙◌, subst, inl, inr, IsUtf8, IfOk, ◌↔◌}
-use Rattle.semver_versions.specs.Tokens.{TokenValue}
+use Rattle.semver_tokens.specs.Tokens.{TokenValue}
 use Rattle.semver_texts.specs.Versions.{VersionValue}
 use Rattle.semver_texts.specs.PrintedText.{version_text}
-use Rattle.semver_versions.specs.VersionGrammar.{SpellsVersion, IsTrimmed, IsPrintableVersion}
-use Rattle.semver_versions.specs.ParserState as fault
-use Rattle.semver_versions.specs.ParserState.{ParserState, Fault, Step, IsStateOf, tail_of}
-use Rattle.semver_versions.specs.VersionReading.{IsVersionShape, ReadsVersion, IsOutcomeOf, whole_answer, MayRunOutInVersion, TextMayRunOut}
-use Rattle.semver_versions.specs.VersionViews.{version_value}
-use Rattle.semver_versions.specs.ParserViews.{fault_of, answer_of, UnlessOutOfMemory, IfOutOfMemory}
-use Rattle.semver_versions.specs.declared.version.Version.{Version}
-use Rattle.semver_versions.specs.declared.parser.Error.{Error}
-use Rattle.semver_versions.specs.declared.parser.Error.TheVariants as error
-use Rattle.semver_versions.specs.Taking.{step, accepts, start}
-use Rattle.semver_versions.proofs.VersionSteps.{version_is_read}
-use Rattle.semver_versions.proofs.ReadingSteps.{reads_nothing}
+use Rattle.semver_steps.specs.VersionGrammar.{SpellsVersion, IsTrimmed, IsPrintableVersion}
+use Rattle.semver_tokens.specs.ParserState as fault
+use Rattle.semver_tokens.specs.ParserState.{ParserState, Fault, Step, IsStateOf, tail_of}
+use Rattle.semver_steps.specs.VersionReading.{IsVersionShape, ReadsVersion, IsOutcomeOf, whole_answer, MayRunOutInVersion, TextMayRunOut}
+use Rattle.semver_texts.specs.VersionViews.{version_value}
+use Rattle.semver_steps.specs.ParserViews.{fault_of, answer_of, UnlessOutOfMemory, IfOutOfMemory}
+use Rattle.semver_texts.specs.declared.version.Version.{Version}
+use Rattle.semver_steps.specs.declared.parser.Error.{Error}
+use Rattle.semver_steps.specs.declared.parser.Error.TheVariants as error
+use Rattle.semver_steps.specs.Taking.{step, accepts, start}
+use Rattle.semver_steps.proofs.VersionSteps.{version_is_read}
+use Rattle.semver_steps.proofs.ReadingSteps.{reads_nothing}
 use Rattle.semver_versions.proofs.WholeText.{trimmed, printable, printed_spells, accepted_spells, outcome_spelled, plain_has_memory}
 
 -- ---- from the outcome to the clauses

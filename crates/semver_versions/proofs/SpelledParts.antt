@@ -7,11 +7,11 @@ use Rattle.std.proofs.lemmas.List.Splits.{length-slice_split}
 use Rattle.std.proofs.lemmas.Bool.{cases_Bool}
 use Rattle.semver_texts.specs.Texts.{Text, marked}
 use Rattle.semver_texts.specs.Versions.{IdentifierValue, numeric, alphanumeric}
-use Rattle.semver_versions.specs.Scanning.{is_number}
-use Rattle.semver_versions.specs.VersionGrammar.{IsIdentifierText, SpellsIdentifier, SpellsVersion}
-use Rattle.semver_versions.specs.VersionReading.{TextMayRunOut}
+use Rattle.semver_tokens.specs.Scanning.{is_number}
+use Rattle.semver_steps.specs.VersionGrammar.{IsIdentifierText, SpellsIdentifier, SpellsVersion}
+use Rattle.semver_steps.specs.VersionReading.{TextMayRunOut}
 use Rattle.semver_versions.specs.Cutting.{is_dot, cut_at_dots, AreIdentifiers}
-use Rattle.semver_versions.proofs.Numbers.{is_number_true, canonical_from_is_number, canonical_from_IsNumber, IsNumber-from_canonical}
+use Rattle.semver_tokens.proofs.Numbers.{is_number_true, canonical_from_is_number, canonical_from_IsNumber, IsNumber-from_canonical}
 use Rattle.semver_versions.proofs.CutIdentifiers.{identifier_part, some_cut}
 use Rattle.semver_versions.proofs.VersionMemory.{may_run_out}
 

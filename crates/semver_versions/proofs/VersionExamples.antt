@@ -4,25 +4,25 @@ use Rattle.std.specs.Prelude.{IsTrue, Bool, ◌&&◌}
 use Rattle.std.specs.Prelude.{codes}
 use Rattle.std.specs.Str.{chars}
 use Rattle.std.proofs.lemmas.Fmt.{decimal_digit}
-use Rattle.semver_versions.specs.Tokens as token
-use Rattle.semver_versions.specs.Tokens.{TokenValue, AreTokensOf, IsRun}
-use Rattle.semver_versions.specs.ParserState as state
-use Rattle.semver_versions.specs.ParserState.{IsStateOf}
-use Rattle.semver_versions.specs.Scanning.{scan, first_token, component, sign, is_number}
+use Rattle.semver_tokens.specs.Tokens as token
+use Rattle.semver_tokens.specs.Tokens.{TokenValue, AreTokensOf, IsRun}
+use Rattle.semver_tokens.specs.ParserState as state
+use Rattle.semver_tokens.specs.ParserState.{IsStateOf}
+use Rattle.semver_tokens.specs.Scanning.{scan, first_token, component, sign, is_number}
 use Rattle.semver_texts.specs.PrintedText.{version_text}
-use Rattle.semver_versions.specs.VersionGrammar as grammar
+use Rattle.semver_steps.specs.VersionGrammar as grammar
 use Rattle.semver_texts.specs.Versions.{numeric, alphanumeric}
 use Rattle.semver_texts.specs.Versions.{VersionValue}
-use Rattle.semver_versions.specs.VersionReading.{IsVersionShape, IsOutcomeOf}
+use Rattle.semver_steps.specs.VersionReading.{IsVersionShape, IsOutcomeOf}
 use Rattle.std.specs.Fmt.{digits}
 use Rattle.std.specs.List.{AllByRecursion, list_all, join_with_byte}
 use Rattle.std.specs.Char.{is_ascii_alphanumeric}
-use Rattle.semver_versions.proofs.Numbers.{is_number_true, canonical_from_IsNumber}
-use Rattle.semver_versions.proofs.FirstToken.{never}
-use Rattle.semver_versions.proofs.TokenLists.{scan_finds}
-use Rattle.semver_versions.proofs.ReadingSteps.{reads_value, reads_unexpected, reads_end, reads_pending}
-use Rattle.semver_versions.specs.Taking.{step, accepts, start, in_pre, end}
-use Rattle.semver_versions.proofs.VersionSteps.{version_is_read}
+use Rattle.semver_tokens.proofs.Numbers.{is_number_true, canonical_from_IsNumber}
+use Rattle.semver_tokens.proofs.FirstToken.{never}
+use Rattle.semver_tokens.proofs.TokenLists.{scan_finds}
+use Rattle.semver_steps.proofs.ReadingSteps.{reads_value, reads_unexpected, reads_end, reads_pending}
+use Rattle.semver_steps.specs.Taking.{step, accepts, start, in_pre, end}
+use Rattle.semver_steps.proofs.VersionSteps.{version_is_read}
 use Rattle.semver_versions.proofs.WholeText.{outcome_spelled}
 
 -- tokens that are found are the tokens

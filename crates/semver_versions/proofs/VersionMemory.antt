@@ -7,14 +7,14 @@ use Rattle.std.proofs.lemmas.Option.{none-some}
 use Rattle.std.proofs.lemmas.Bool.Decides.{nat_tests}
 use Rattle.semver_texts.specs.Texts.{Text, marked}
 use Rattle.semver_texts.specs.Versions.{IdentifierValue, VersionValue, numbers}
-use Rattle.semver_versions.specs.Tokens.{TokenValue, LtEq, GtEq, Or, Hyphen, Plus, Whitespace, Numeric, AlphaNumeric, IsTokenAt, AreInPlace, token_text}
-use Rattle.semver_versions.specs.VersionGrammar.{SpellsIdentifier, SpellsPart, SpellsVersion}
-use Rattle.semver_versions.specs.VersionReading.{HoldsIdentifierRun, TextMayRunOut, inner_text, inner_texts}
-use Rattle.semver_versions.specs.Taking.{run, Place, start, after_patch, in_pre, after_pre, in_build, after_build, step, accepts}
-use Rattle.semver_versions.proofs.TokenLists.{decimal_is_run}
+use Rattle.semver_tokens.specs.Tokens.{TokenValue, LtEq, GtEq, Or, Hyphen, Plus, Whitespace, Numeric, AlphaNumeric, IsTokenAt, AreInPlace, token_text}
+use Rattle.semver_steps.specs.VersionGrammar.{SpellsIdentifier, SpellsPart, SpellsVersion}
+use Rattle.semver_steps.specs.VersionReading.{HoldsIdentifierRun, TextMayRunOut, inner_text, inner_texts}
+use Rattle.semver_steps.specs.Taking.{run, Place, start, after_patch, in_pre, after_pre, in_build, after_build, step, accepts}
+use Rattle.semver_tokens.proofs.TokenLists.{decimal_is_run}
 use Rattle.semver_versions.proofs.OneVersion.{Passes, passes_more, passes_append}
-use Rattle.semver_versions.proofs.VersionSteps.{version_is_read}
-use Rattle.semver_versions.proofs.VersionTaking.{holds_later}
+use Rattle.semver_steps.proofs.VersionSteps.{version_is_read}
+use Rattle.semver_steps.proofs.VersionTaking.{holds_later}
 use Rattle.semver_versions.proofs.WholeText.{has, behind, spelled_may_run_out}
 
 -- a byte that is no mark of a pre-release or a build

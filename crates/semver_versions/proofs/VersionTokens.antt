@@ -5,16 +5,16 @@ use Rattle.std.specs.List.{AllByRecursion, AllZip, join_with_byte}
 use Rattle.std.specs.Char.{is_ascii_alphanumeric}
 use Rattle.std.proofs.lemmas.List.{take_at, drop_at, drop-drop}
 use Rattle.semver_texts.specs.Texts.{marked}
-use Rattle.semver_versions.specs.Tokens.{TokenValue, Dot, Hyphen, Plus, Whitespace, Numeric, token_text, IsRun, IsTokenAt, AreTokensFrom, AreTokensOf, is_space, is_component, is_whitespace}
-use Rattle.semver_versions.specs.Scanning.{component, is_number}
+use Rattle.semver_tokens.specs.Tokens.{TokenValue, Dot, Hyphen, Plus, Whitespace, Numeric, token_text, IsRun, IsTokenAt, AreTokensFrom, AreTokensOf, is_space, is_component, is_whitespace}
+use Rattle.semver_tokens.specs.Scanning.{component, is_number}
 use Rattle.semver_texts.specs.Versions.{IdentifierValue, numeric, alphanumeric, VersionValue}
-use Rattle.semver_versions.specs.VersionGrammar.{SpellsIdentifier, SpellsPart, SpellsVersion}
-use Rattle.semver_versions.specs.VersionReading.{IsVersionShape, inner_text, inner_texts}
-use Rattle.semver_versions.specs.Taking.{run, Place, start, major, after_major, minor, after_minor, patch, after_patch, in_pre, after_pre, in_build, after_build, end, step, accepts, AreRunPlaces, in_pre_release, in_the_build}
-use Rattle.semver_versions.proofs.FirstToken.{IsFound, goes_on, continues-component, token_text-component, IsTokenAt-component, by_test, never}
-use Rattle.semver_versions.proofs.TokenLists.{tokens_cons, shows_kind, decimal_is_run}
-use Rattle.semver_versions.proofs.Numbers.{component_number, component_other, is_number_true, canonical_from_is_number}
-use Rattle.semver_versions.proofs.VersionSteps.{version_is_read}
+use Rattle.semver_steps.specs.VersionGrammar.{SpellsIdentifier, SpellsPart, SpellsVersion}
+use Rattle.semver_steps.specs.VersionReading.{IsVersionShape, inner_text, inner_texts}
+use Rattle.semver_steps.specs.Taking.{run, Place, start, major, after_major, minor, after_minor, patch, after_patch, in_pre, after_pre, in_build, after_build, end, step, accepts, AreRunPlaces, in_pre_release, in_the_build}
+use Rattle.semver_tokens.proofs.FirstToken.{IsFound, goes_on, continues-component, token_text-component, IsTokenAt-component, by_test, never}
+use Rattle.semver_tokens.proofs.TokenLists.{tokens_cons, shows_kind, decimal_is_run}
+use Rattle.semver_tokens.proofs.Numbers.{component_number, component_other, is_number_true, canonical_from_is_number}
+use Rattle.semver_steps.proofs.VersionSteps.{version_is_read}
 use Rattle.semver_versions.proofs.OneVersion.{Passes, regroup, no_run_behind_build, no_run_behind_pre, no_run_behind_patch, no_space_follows}
 
 -- what stands at each place where this text begins: its tokens, which lead from the place p to one where a version may end, and their text without white space

@@ -11,17 +11,17 @@ use Rattle.std.proofs.lemmas.Option.{none-some}
 use Rattle.std.proofs.lemmas.Grind.{flat_map-append}
 use Rattle.std.proofs.lemmas.Bool.Decides.{nat_tests}
 use Rattle.semver_texts.specs.Texts.{marked, is_part_byte}
-use Rattle.semver_versions.specs.Tokens.{TokenValue, Dot, Hyphen, Plus, Whitespace, Numeric, token_text, tokens_text, IsTokenAt, AreInPlace, AreTokensOf, is_space}
+use Rattle.semver_tokens.specs.Tokens.{TokenValue, Dot, Hyphen, Plus, Whitespace, Numeric, token_text, tokens_text, IsTokenAt, AreInPlace, AreTokensOf, is_space}
 use Rattle.semver_texts.specs.Versions.{IdentifierValue, numeric, alphanumeric, VersionValue, numbers}
 use Rattle.semver_texts.specs.PrintedText.{identifier_text, version_text}
-use Rattle.semver_versions.specs.VersionGrammar.{SpellsIdentifier, SpellsPart, SpellsVersion, IsTrimmed, IsPrintableIdentifier, IsPrintableVersion}
-use Rattle.semver_versions.specs.ParserState.{ParserState, Fault, IsStateOf}
-use Rattle.semver_versions.specs.VersionReading.{IsIdentifierShape, IsPartShape, IsOuterShape, IsVersionShape, IsLongestFront, ReadsVersion, IsOutcomeOf, whole_answer, HoldsIdentifierRun, TextMayRunOut, inner_text, inner_texts}
-use Rattle.semver_versions.proofs.Cuts.{IsAscii-token_text, cut_after_ascii}
-use Rattle.semver_versions.proofs.TokenLists.{same_tokens, decimal_is_run}
-use Rattle.semver_versions.proofs.ReadingSteps.{same_front, reads_once}
-use Rattle.semver_versions.proofs.IdentifierSteps.{identifier_is_read}
-use Rattle.semver_versions.proofs.IdentifierTexts.{pieces, pieces_text, behind_in_place}
+use Rattle.semver_steps.specs.VersionGrammar.{SpellsIdentifier, SpellsPart, SpellsVersion, IsTrimmed, IsPrintableIdentifier, IsPrintableVersion}
+use Rattle.semver_tokens.specs.ParserState.{ParserState, Fault, IsStateOf}
+use Rattle.semver_steps.specs.VersionReading.{IsIdentifierShape, IsPartShape, IsOuterShape, IsVersionShape, IsLongestFront, ReadsVersion, IsOutcomeOf, whole_answer, HoldsIdentifierRun, TextMayRunOut, inner_text, inner_texts}
+use Rattle.semver_tokens.proofs.Cuts.{IsAscii-token_text, cut_after_ascii}
+use Rattle.semver_tokens.proofs.TokenLists.{same_tokens, decimal_is_run}
+use Rattle.semver_steps.proofs.ReadingSteps.{same_front, reads_once}
+use Rattle.semver_steps.proofs.IdentifierSteps.{identifier_is_read}
+use Rattle.semver_steps.proofs.IdentifierTexts.{pieces, pieces_text, behind_in_place}
 use Rattle.semver_versions.proofs.OneVersion.{Passes, passes_more, passes_append, run_passes, part_passes, one_version}
 use Rattle.semver_versions.proofs.VersionTokens.{HasTokens, version_tokens}
 

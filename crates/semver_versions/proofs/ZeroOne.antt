@@ -2,7 +2,7 @@
 use Rattle.std.proofs.Common.{[], ◌∷◌, codes, refl, arith}
 use Rattle.std.specs.Fmt.{digits}
 use Rattle.semver_texts.specs.Versions.{alphanumeric}
-use Rattle.semver_versions.specs.VersionGrammar.{SpellsVersion}
+use Rattle.semver_steps.specs.VersionGrammar.{SpellsVersion}
 use Rattle.semver_versions.proofs.VersionExamples.{zero_one_is_printable}
 
 pub zero_one_spelled : SpellsVersion (record { plain = record { major = 1; minor = 2; patch = 3; pre = alphanumeric (codes "01") ∷ [] }; build = [] }) (codes "1.2.3-01")

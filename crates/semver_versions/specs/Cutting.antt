@@ -3,7 +3,7 @@
 use Rattle.std.specs.Prelude.{ℕ, Bool, ◌==◌, List, [], ◌∷◌}
 use Rattle.std.specs.List.{AllByRecursion, slice_split}
 use Rattle.semver_texts.specs.Texts.{Text}
-use Rattle.semver_versions.specs.VersionGrammar.{IsIdentifierText}
+use Rattle.semver_steps.specs.VersionGrammar.{IsIdentifierText}
 
 abbrev pub is_dot : ℕ → Bool
 is_dot b = b == 46

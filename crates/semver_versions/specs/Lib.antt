@@ -1,13 +1,1 @@
-pub mod Tokens
-pub mod ParserState
-pub mod Scanning
-pub mod Views
-pub mod ParserViews
-pub mod VersionGrammar
-pub mod VersionReading
-pub mod VersionViews
 pub mod Cutting
-pub mod Taking
-pub use Rattle.semver_texts.specs.Texts
-pub use Rattle.semver_texts.specs.Versions
-pub use Rattle.semver_texts.specs.PrintedText

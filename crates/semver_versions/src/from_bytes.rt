@@ -5,13 +5,13 @@
 ghost use Rattle.std.specs.Prelude.{◌≡◌, ◌==◌, ◌||◌, ◌<◌, ◌≤◌, ◌++◌, [], ◌∷◌, length, map, take, codes, decimal, IfOk, IfErr, IfSome, MatchResult};
 ghost use Rattle.std.specs.List.{AllByRecursion, AllZip, count_by, slice_split, join_with_byte};
 ghost use Rattle.semver_texts.specs.Texts.{marked};
-ghost use Rattle.semver_versions.specs.VersionGrammar.{IsIdentifierText, SpellsIdentifier, SpellsVersion};
-ghost use Rattle.semver_versions.specs.VersionReading.{TextMayRunOut};
-ghost use Rattle.semver_versions.specs.VersionViews.{identifier_value, version_value};
+ghost use Rattle.semver_steps.specs.VersionGrammar.{IsIdentifierText, SpellsIdentifier, SpellsVersion};
+ghost use Rattle.semver_steps.specs.VersionReading.{TextMayRunOut};
+ghost use Rattle.semver_texts.specs.VersionViews.{identifier_value, version_value};
 ghost use Rattle.semver_versions.specs.Cutting.{is_dot, cut_at_dots, AreIdentifiers};
 
-use crate::decimals::{numbers, whole_number};
-use crate::version::{Identifier, Version};
+use semver_texts::version::{Identifier, Version};
+use semver_tokens::decimals::{numbers, whole_number};
 use std::alloc::{AllocError, Global};
 
 // A hyphen or a dot.

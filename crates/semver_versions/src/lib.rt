@@ -1,9 +1,6 @@
-//! Version texts as plain data: tokens, a parser of one token ahead, and a `Version` that prints again.
+//! Version texts as plain data: a text is read as a `Version`, straight from its bytes or token by token.
 #![tactic(auto)]
 
-mod decimals;
 mod from_bytes;
 pub mod laws;
-pub mod lexer;
-pub mod parser;
 pub mod version;

@@ -1,4 +1,4 @@
-use Rattle.semver_versions.specs.VersionViews.{version_value}
+use Rattle.semver_texts.specs.VersionViews.{version_value}
 use Rattle.semver_parser.proofs.ReportSteps.{shows_version, shows_fault}
 use Rattle.semver_parser.proofs.report.version_shown.Goals as goal
 

@@ -1,8 +1,8 @@
 use Rattle.std.proofs.Common.{◌∷◌, [], get_or, map, sym, subst, ap, arith}
 use Rattle.std.proofs.lemmas.List.{map-append}
 use Rattle.semver_texts.specs.Texts.{Text}
-use Rattle.semver_versions.specs.VersionGrammar.{IsIdentifierText, SpellsIdentifier}
-use Rattle.semver_versions.specs.VersionViews.{identifier_value}
+use Rattle.semver_steps.specs.VersionGrammar.{IsIdentifierText, SpellsIdentifier}
+use Rattle.semver_texts.specs.VersionViews.{identifier_value}
 use Rattle.semver_versions.proofs.CutIdentifiers.{cut_anywhere, no_dot_cut, piece_is, last_is, dot_cut, all_cut, dot_there, no_dot_there}
 use Rattle.semver_versions.proofs.from_bytes.cut_identifiers.Goals as goal
 

@@ -1,5 +1,5 @@
 use Rattle.std.proofs.Common.{map}
-use Rattle.semver_versions.specs.VersionViews.{identifier_value}
+use Rattle.semver_texts.specs.VersionViews.{identifier_value}
 use Rattle.semver_versions.proofs.CutIdentifiers.{AreCut}
 use Rattle.semver_versions.proofs.from_bytes.cut_identifiers.Given as goal
 

@@ -1,5 +1,5 @@
 use Rattle.std.proofs.Common.{sym, ◌∙◌, ap, map, arith}
-use Rattle.semver_versions.specs.VersionViews.{identifier_value}
+use Rattle.semver_texts.specs.VersionViews.{identifier_value}
 use Rattle.semver_versions.proofs.SpelledParts.{spells_numbers}
 use Rattle.semver_versions.proofs.from_bytes.version.Goals as goal
 

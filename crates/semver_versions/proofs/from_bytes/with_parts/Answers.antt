@@ -1,7 +1,7 @@
 use Rattle.std.proofs.Common.{◌≡◌, ◌++◌, ◌∷◌, [], ◌∙◌, sym, map, inl, inr, decimal, codes}
 use Rattle.std.specs.List.{join_with_byte}
 use Rattle.semver_texts.specs.Texts.{Text, marked}
-use Rattle.semver_versions.specs.VersionViews.{identifier_value}
+use Rattle.semver_texts.specs.VersionViews.{identifier_value}
 use Rattle.semver_versions.specs.Cutting.{cut_at_dots}
 use Rattle.semver_versions.proofs.SpelledParts.{left_at_end, spells_version, parts_may_run_out}
 use Rattle.semver_versions.proofs.from_bytes.with_parts.Goals as goal

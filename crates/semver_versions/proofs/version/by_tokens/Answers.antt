@@ -1,13 +1,13 @@
 use Rattle.std.proofs.Common.{◌≡◌, ℕ, refl, sym, ap, ◌∙◌, Result, List, [], map}
 use Rattle.std.proofs.lemmas.Result.{err_from_is_err_and}
-use Rattle.semver_versions.specs.ParserState.{ParserState, tail}
-use Rattle.semver_versions.specs.Views.{token_value}
-use Rattle.semver_versions.specs.ParserViews.{fault_of, answer_of, UnlessOutOfMemory, IfOutOfMemory}
-use Rattle.semver_versions.specs.VersionReading.{IsOutcomeOf, TextMayRunOut}
-use Rattle.semver_versions.specs.VersionViews.{version_value}
-use Rattle.semver_versions.specs.declared.version.Version.{Version}
-use Rattle.semver_versions.specs.declared.parser.Error.{Error}
-use Rattle.semver_versions.proofs.IdentifierTexts.{unless_out_of_memory, unless_err, if_err}
+use Rattle.semver_tokens.specs.ParserState.{ParserState, tail}
+use Rattle.semver_tokens.specs.Views.{token_value}
+use Rattle.semver_steps.specs.ParserViews.{fault_of, answer_of, UnlessOutOfMemory, IfOutOfMemory}
+use Rattle.semver_steps.specs.VersionReading.{IsOutcomeOf, TextMayRunOut}
+use Rattle.semver_texts.specs.VersionViews.{version_value}
+use Rattle.semver_texts.specs.declared.version.Version.{Version}
+use Rattle.semver_steps.specs.declared.parser.Error.{Error}
+use Rattle.semver_steps.proofs.IdentifierTexts.{unless_out_of_memory, unless_err, if_err}
 use Rattle.semver_versions.proofs.ParseFacts.{at_bad_start, lexer_has_memory, at_fault, at_refusal, at_end, at_tail, at_tail_fault, at_tail_refusal}
 use Rattle.semver_versions.proofs.version.by_tokens.Goals as goal
 use Rattle.semver_versions.proofs.version.by_tokens.Goals.{Else-is_eof}

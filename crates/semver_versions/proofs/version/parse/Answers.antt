@@ -1,6 +1,6 @@
 use Rattle.std.proofs.Common.{Ok, Err}
-use Rattle.semver_versions.specs.VersionViews.{version_value}
-use Rattle.semver_versions.specs.declared.parser.Error.TheVariants as error
+use Rattle.semver_texts.specs.VersionViews.{version_value}
+use Rattle.semver_steps.specs.declared.parser.Error.TheVariants as error
 use Rattle.semver_versions.proofs.WholeText.{spelled_outcome}
 use Rattle.semver_versions.proofs.ParseFacts.{all_of}
 use Rattle.semver_versions.proofs.version.parse.Goals as goal

@@ -1,0 +1,4 @@
+pub mod ParserViews
+pub mod VersionGrammar
+pub mod VersionReading
+pub mod Taking

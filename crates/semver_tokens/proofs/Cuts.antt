@@ -1,0 +1,83 @@
+-- A text may be cut where a token ends.
+use Rattle.std.proofs.Common.{◌≡◌, ℕ, zero, suc, ◌+◌, ◌-◌, ◌<◌, ◌≤◌, Bool, true, List, [], ◌∷◌, ◌++◌, length, get_or, take, drop, sym, refl, ap, ◌∙◌, subst, arith, IsUtf8, length-drop, length-append, length-take-le, take-append-drop, zero-add, get_or-drop, Some}
+use Rattle.std.specs.Prelude.{IsTrue, IsCharBoundary}
+use Rattle.std.specs.Str.{IsAscii}
+use Rattle.std.specs.List.{prefix_len, AllByRecursion}
+use Rattle.std.specs.Char.{is_ascii_alphanumeric}
+use Rattle.std.proofs.lemmas.List.Sums.{prefix_len-le-length}
+use Rattle.std.proofs.lemmas.List.{get_or_append_left}
+use Rattle.std.proofs.lemmas.Str.{IsCharBoundary-start, IsCharBoundary-after_ascii, IsCharBoundary-from_rest}
+use Rattle.std.proofs.lemmas.Str.Ascii.{IsAscii-cons, IsAscii-nil}
+use Rattle.std.proofs.lemmas.Fmt.{IsAscii-decimal}
+use Rattle.semver_tokens.specs.Tokens.{TokenValue, Eq, Gt, Lt, LtEq, GtEq, Caret, Tilde, Star, Dot, Comma, Hyphen, Plus, Or, Whitespace, Numeric, AlphaNumeric, token_text, is_space, IsTokenAt}
+use Rattle.semver_tokens.specs.Scanning.{first_token}
+use Rattle.semver_tokens.proofs.FirstToken.{all_of_prefix, IsFound, first_token-found, run_ascii, space_ascii}
+
+ascii_from : (p : ℕ → Bool) → ((b : ℕ) → p b ≡ true → b < 128) → (bs : List ℕ) → AllByRecursion (λ b. IsTrue (p b)) bs → IsAscii bs
+ascii_from p small [] all = IsAscii-nil
+ascii_from p small (b ∷ bs) all = IsAscii-cons b bs (small b all.0) (ascii_from p small bs all.1)
+
+one : (b : ℕ) → b < 128 → IsAscii (b ∷ [])
+one b small = IsAscii-cons b [] small IsAscii-nil
+
+two : (b c : ℕ) → b < 128 → c < 128 → IsAscii (b ∷ c ∷ [])
+two b c small small' = IsAscii-cons b (c ∷ []) small (one c small')
+
+-- a token's text is ASCII
+pub IsAscii-token_text : (text : List ℕ) (place : ℕ) (t : TokenValue) → IsTokenAt text place t → IsAscii (token_text text t)
+IsAscii-token_text text place (Whitespace first after) w = ascii_from is_space space_ascii _ w.3
+IsAscii-token_text text place (Numeric n) small = IsAscii-decimal n small
+IsAscii-token_text text place (AlphaNumeric s) w = ascii_from is_ascii_alphanumeric run_ascii s w.0.1
+IsAscii-token_text text place Eq w = one 61 (omega arith)
+IsAscii-token_text text place Gt w = one 62 (omega arith)
+IsAscii-token_text text place Lt w = one 60 (omega arith)
+IsAscii-token_text text place LtEq w = two 60 61 (omega arith) (omega arith)
+IsAscii-token_text text place GtEq w = two 62 61 (omega arith) (omega arith)
+IsAscii-token_text text place Caret w = one 94 (omega arith)
+IsAscii-token_text text place Tilde w = one 126 (omega arith)
+IsAscii-token_text text place Star w = one 42 (omega arith)
+IsAscii-token_text text place Dot w = one 46 (omega arith)
+IsAscii-token_text text place Comma w = one 44 (omega arith)
+IsAscii-token_text text place Hyphen w = one 45 (omega arith)
+IsAscii-token_text text place Plus w = one 43 (omega arith)
+IsAscii-token_text text place Or w = two 124 124 (omega arith) (omega arith)
+
+-- a text may be cut behind ASCII
+pub cut_after_ascii : (text : List ℕ) (place : ℕ) (xs more : List ℕ) → IsUtf8 text → drop place text ≡ xs ++ more → 0 < length xs → IsAscii xs → IsCharBoundary text (place + length xs)
+cut_after_ascii text place xs more utf8 e some ascii =
+    let last : ℕ = length xs - 1 in
+    let room : length text - place ≡ length xs + length more = sym (length-drop place text) ∙ ap length e ∙ length-append xs more in
+    let byte : get_or text (place + last) 0 ≡ get_or xs last 0 = sym (get_or-drop place text last 0) ∙ ap (λ (l : List ℕ). get_or l last 0) e ∙ get_or_append_left xs more 0 last (omega arith) in
+    let small : get_or text (place + last) 0 < 128 = subst (λ (b : ℕ). b < 128) (sym byte) (ascii last) in
+    let after : place + last + 1 ≡ place + length xs = omega arith in
+    subst (IsCharBoundary text) after (IsCharBoundary-after_ascii text (place + last) utf8 (omega arith) small)
+
+-- and behind the first token of what stands at a place
+pub cut_after_token : (text : List ℕ) (place : ℕ) (t : TokenValue) (n : ℕ) → place ≤ length text → IsUtf8 (drop place text) → first_token place (drop place text) ≡ Some (t, n) → IsCharBoundary text (place + n)
+cut_after_token text place t n within utf8 e =
+    let f : IsFound text place (drop place text) t n = first_token-found text place (drop place text) t n refl e in
+    let cut : IsCharBoundary (drop place text) (0 + length (token_text text t)) = cut_after_ascii (drop place text) 0 (token_text text t) (drop n (drop place text)) utf8 f.front.spelled (subst (λ (m : ℕ). 0 < m) (sym f.len) f.positive) (IsAscii-token_text text place t f.front.is_token) in
+    IsCharBoundary-from_rest text place n within (subst (IsCharBoundary (drop place text)) (zero-add (length (token_text text t)) ∙ f.len) cut)
+
+-- and behind the longest front of bytes that pass a test, where these are ASCII
+module _ (p : ℕ → Bool) (small : (b : ℕ) → p b ≡ true → b < 128) where
+  cut_after_some : (bs : List ℕ) → IsUtf8 bs → 0 < prefix_len p bs → IsCharBoundary bs (prefix_len p bs)
+  cut_after_some bs utf8 some =
+      let n : ℕ = prefix_len p bs in
+      let len : length (take n bs) ≡ n = length-take-le n bs (prefix_len-le-length p bs) in
+      subst (IsCharBoundary bs) (zero-add (length (take n bs)) ∙ len)
+      (cut_after_ascii bs 0 (take n bs) (drop n bs) utf8 (sym (take-append-drop n bs)) (omega arith) (ascii_from p small (take n bs) (all_of_prefix p bs)))
+
+  pub cut_after_prefix : (bs : List ℕ) → IsUtf8 bs → IsCharBoundary bs (prefix_len p bs)
+  cut_after_prefix bs utf8 = at_len (prefix_len p bs) refl
+    where
+      at_len : (n : ℕ) → n ≡ prefix_len p bs → IsCharBoundary bs n
+      at_len zero e = IsCharBoundary-start bs utf8
+      at_len (suc n) e = subst (IsCharBoundary bs) (sym e) (cut_after_some bs utf8 (omega (arith, e)))
+
+-- so behind the longest front of letters and digits
+pub cut_after_run : (bs : List ℕ) → IsUtf8 bs → IsCharBoundary bs (prefix_len is_ascii_alphanumeric bs)
+cut_after_run bs utf8 = cut_after_prefix is_ascii_alphanumeric run_ascii bs utf8
+
+pub prefix_some : (p : ℕ → Bool) (b : ℕ) (bs : List ℕ) → p b ≡ true → 0 < prefix_len p (b ∷ bs)
+prefix_some p b bs h = rw h (omega arith)

@@ -1,0 +1,4 @@
+pub mod Tokens
+pub mod ParserState
+pub mod Scanning
+pub mod Views

@@ -1,0 +1,281 @@
+//! The tokens of a text: its signs, its white space, and its runs of ASCII letters and digits.
+//!
+//! The text is read by bytes, from the left; a character past ASCII is decoded only to be named in an error.
+//! Nothing here takes memory: each token that has a text borrows it from the input.
+//!
+//! `foo / *` has the tokens `AlphaNumeric("foo")` and `Whitespace(3, 4)`; then comes the error `UnexpectedChar('/')`,
+//! and then nothing.
+ghost use Rattle.std.specs.Prelude.{◌^◌, [], ◌≡◌, ℕ, ◌+◌, ◌<◌, ◌≤◌, length, drop, option_map};
+ghost use Rattle.std.specs.List.{prefix_len};
+ghost use Rattle.std.specs.Char.{is_ascii_alphanumeric};
+ghost use Rattle.semver_tokens.specs.Tokens.{is_space, IsRun, is_whitespace};
+ghost use Rattle.semver_tokens.specs.Scanning.{component, sign, first_token};
+ghost use Rattle.semver_tokens.specs.Views.{token_value};
+ghost use Rattle.semver_tokens.specs.ParserState.{IsStateFrom};
+
+use crate::decimals::whole_number;
+use std::marker::Model;
+
+/// A token. Those of two characters are taken before those of one: `<=` is `LtEq`, and never `Lt` and `Eq`.
+#[derive(Debug, PartialEq, Eq, PartialOrd, Ord, Drop)]
+pub enum Token<'input> {
+    /// `=`
+    Eq,
+    /// `>`
+    Gt,
+    /// `<`
+    Lt,
+    /// `<=`
+    LtEq,
+    /// `>=`
+    GtEq,
+    /// `^`
+    Caret,
+    /// `~`
+    Tilde,
+    /// `*`
+    Star,
+    /// `.`
+    Dot,
+    /// `,`
+    Comma,
+    /// `-`
+    Hyphen,
+    /// `+`
+    Plus,
+    /// `||`
+    Or,
+    /// A longest run of spaces, tabs, line feeds and carriage returns: the byte where it begins, and the byte behind it.
+    Whitespace(usize, usize),
+    /// A longest run of ASCII letters and digits that is the canonical decimal of a number up to 2^64 - 1:
+    /// `0`, or digits that don't begin with `0`.
+    Numeric(u64),
+    /// Any other longest run of ASCII letters and digits, as the slice of the input: `beta2`, `01`, `18446744073709551616`.
+    AlphaNumeric(&'input str),
+}
+
+impl<'input> Token<'input> {
+    ghost use Rattle.semver_tokens.specs.ParserState.{is_wildcard};
+
+    /// Whether the token is white space, of any length.
+    ///
+    /// `Whitespace(0, 2)` is; `Dot` isn't.
+    #[inline(always)]
+    pub fn is_whitespace(&self) -> bool
+        ensures white_space { result ≡ is_whitespace (token_value self.now) }
+    {
+        matches!(self, Token::Whitespace(_, _))
+    }
+
+    /// Whether the token is a wildcard: `*`, `x` or `X`.
+    ///
+    /// `Star` and `AlphaNumeric("x")` are; `AlphaNumeric("xx")` isn't.
+    #[inline(always)]
+    pub fn is_wildcard(&self) -> bool
+        ensures wildcard { result ≡ is_wildcard (token_value self.now) }
+    {
+        matches!(self, Token::Star | Token::AlphaNumeric("x" | "X"))
+    }
+}
+
+/// Why a text has no further token.
+#[derive(Debug, PartialEq, Eq, PartialOrd, Ord, Drop)]
+pub enum Error {
+    /// A character that opens no token; also a `|` that no second `|` follows.
+    UnexpectedChar(char),
+}
+
+#[inline(always)]
+fn is_space(byte: u8) -> bool
+    ensures { result ≡ is_space byte }
+{
+    matches!(byte, b' ' | b'\t' | b'\n' | b'\r')
+}
+
+// How many bytes at the front are white space.
+#[inline(always)]
+fn space_len(bytes: &[u8]) -> usize
+    ensures { result ≡ prefix_len is_space bytes.now }
+{
+    bytes.iter().take_while(|&&byte| is_space(byte)).count()
+}
+
+// How many bytes at the front are letters and digits.
+#[inline(always)]
+fn run_len(bytes: &[u8]) -> usize
+    ensures { result ≡ prefix_len is_ascii_alphanumeric bytes.now }
+{
+    bytes
+        .iter()
+        .take_while(|byte| byte.is_ascii_alphanumeric())
+        .count()
+}
+
+// The sign that two bytes begin with, and its length.
+#[inline(always)]
+#[tactic(auto, unfolding(crate::specs::Scanning::sign))]
+fn sign<'input>(first: u8, second: u8) -> Option<(Token<'input>, usize)>
+    ensures { option_map (λ x. (token_value x.0, x.1)) result ≡ sign first second }
+{
+    match (first, second) {
+        (b'=', _) => Some((Token::Eq, 1)),
+        (b'>', b'=') => Some((Token::GtEq, 2)),
+        (b'>', _) => Some((Token::Gt, 1)),
+        (b'<', b'=') => Some((Token::LtEq, 2)),
+        (b'<', _) => Some((Token::Lt, 1)),
+        (b'^', _) => Some((Token::Caret, 1)),
+        (b'~', _) => Some((Token::Tilde, 1)),
+        (b'*', _) => Some((Token::Star, 1)),
+        (b'.', _) => Some((Token::Dot, 1)),
+        (b',', _) => Some((Token::Comma, 1)),
+        (b'-', _) => Some((Token::Hyphen, 1)),
+        (b'+', _) => Some((Token::Plus, 1)),
+        (b'|', b'|') => Some((Token::Or, 2)),
+        _ => None,
+    }
+}
+
+// The token of a run of letters and digits.
+#[inline(always)]
+#[tactic(auto, unfolding(crate::specs::Scanning::component))]
+fn component<'input>(run: &'input str) -> Token<'input>
+    requires { IsRun run.now }
+    ensures { token_value result ≡ component run.now }
+{
+    match whole_number(run) {
+        Some(number) => Token::Numeric(number),
+        None => Token::AlphaNumeric(run),
+    }
+}
+
+// The token at the front of what is left of a text from `start` on, if one is there, and its length.
+#[inline(always)]
+fn front_token<'input>(rest: &'input str, start: usize) -> Option<(Token<'input>, usize)>
+    requires { start + length rest.now < 2 ^ 64 }
+    ensures { option_map (λ x. (token_value x.0, x.1)) result ≡ first_token start rest.now }
+{
+    let bytes = rest.as_bytes();
+    let first = *bytes.first()?;
+    if first.is_ascii_alphanumeric() {
+        let len = run_len(bytes);
+        return Some((component(&rest[..len]), len));
+    }
+    if is_space(first) {
+        let len = space_len(bytes);
+        return Some((Token::Whitespace(start, start + len), len));
+    }
+    let second = if bytes.len() > 1 { bytes[1] } else { 0 };
+    sign(first, second)
+}
+
+/// Gives the tokens of a text one after the other, then at most one error, and then nothing for good.
+///
+/// It holds the text, the byte where it stands, and whether its error was given.
+#[derive(Debug, Drop)]
+pub struct Lexer<'input> {
+    input: &'input str,
+    position: usize,
+    failed: bool,
+}
+
+impl<'input> Model for Lexer<'input> {
+    ghost use Rattle.std.specs.Prelude.{IsCharBoundary};
+    ghost use Rattle.semver_tokens.specs.ParserState.{ParserState};
+    ghost use Rattle.semver_tokens.specs.Scanning.{state_left};
+
+    ghost Value = { ParserState };
+
+    ghost view = { λ l. state_left l.input.now l.position l.failed };
+
+    ghost invariant = { λ l. IsCharBoundary l.input.now l.position };
+}
+
+impl<'input> Lexer<'input> {
+    ghost use Rattle.semver_tokens.specs.ParserState.{IsStateOf};
+
+    /// A lexer at the start of the text. Any text will do.
+    #[inline(always)]
+    pub fn new(input: &'input str) -> Lexer<'input>
+        ensures state { IsStateOf input.now result }
+    {
+        Lexer {
+            input,
+            position: 0,
+            failed: false,
+        }
+    }
+}
+
+impl<'input> Iterator for Lexer<'input> {
+    ghost use Rattle.std.specs.Iterator.{YieldsFirstBy, item_count};
+    ghost use Rattle.semver_tokens.specs.Views.{item_value, items_left};
+
+    type Item = Result<Token<'input>, Error>;
+
+    ghost next_gives = { YieldsFirstBy item_value items_left };
+
+    ghost remaining = { item_count items_left };
+
+    /// The next token; where no token begins, the error that names the character there, once; at the end, and after the
+    /// error, `None`. It takes no memory.
+    ///
+    /// On `1é2` it gives `Ok(Numeric(1))`, `Err(UnexpectedChar('é'))`, and then `None` each time.
+    #[inline(always)]
+    fn next(&mut self) -> Option<Result<Token<'input>, Error>> {
+        if self.failed {
+            return None;
+        }
+        let rest = &self.input[self.position..];
+        if let Some((token, len)) = front_token(rest, self.position) {
+            self.position += len;
+            return Some(Ok(token));
+        }
+        let character = rest.chars().next()?;
+        self.failed = true;
+        Some(Err(Error::UnexpectedChar(character)))
+    }
+}
+
+/// A lexer that has the same items left.
+#[inline(always)]
+pub fn copy<'input>(lexer: &Lexer<'input>) -> Lexer<'input>
+    ensures same { result ≡ lexer.now }
+    ensures small { length lexer.now.remaining < 2 ^ 63 }
+{
+    Lexer {
+        input: lexer.input,
+        position: lexer.position,
+        failed: lexer.failed,
+    }
+}
+
+/// The text from the first token that is left on; nothing once the error was given.
+///
+/// Of `1.2` it is `.2` behind the first token.
+#[inline(always)]
+pub fn rest<'input>(lexer: &Lexer<'input>) -> &'input str
+    ensures { IsStateFrom result.now lexer.now }
+{
+    if lexer.failed {
+        return "";
+    }
+    &lexer.input[lexer.position..]
+}
+
+/// How many tokens are left, and a lexer behind the last of them: on `1.2/` these are 3, and a lexer whose next item is the error.
+pub fn count_tokens<'input>(lexer: &Lexer<'input>) -> (usize, Lexer<'input>)
+    ensures count { result.0 ≡ length lexer.now.remaining }
+    ensures small { result.0 < 2 ^ 63 }
+    ensures end { result.1 ≡ record { remaining = []; pending = lexer.now.pending } }
+{
+    let mut end = copy(lexer);
+    let mut count = 0;
+    loop {
+        let mut ahead = copy(&end);
+        let Some(Ok(_)) = ahead.next() else {
+            return (count, end);
+        };
+        end = ahead;
+        count += 1;
+    }
+}

@@ -1,5 +1,0 @@
-use Rattle.semver_versions.proofs.TokenLists.{same_tokens}
-use Rattle.semver_versions.proofs.laws.one_token_list.Goals as goal
-
-pub returns : goal.returns
-returns c = record { same_tokens = λ text ts us rest other a b. same_tokens text 0 ts us rest other a b }
