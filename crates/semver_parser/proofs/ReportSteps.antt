@@ -1,8 +1,8 @@
 -- What the report writes, from what its lines show.
 use Rattle.std.proofs.Common.{◌≡◌, ◌↔◌, Bool, true, false, List, ℕ, Option, Result, Ok, Err, IfOk, IsTrue, codes, refl, sym, ap, ◌∙◌, subst}
 use Rattle.std.specs.Prelude.{◌||◌}
-use Rattle.semver_ranges.specs.declared.range_set.Compat.{Compat}
-use Rattle.semver_ranges.specs.declared.range_set.Compat.TheVariants.{Cargo, Npm}
+use Rattle.semver_ranges.specs.declared.range.Compat.{Compat}
+use Rattle.semver_ranges.specs.declared.range.Compat.TheVariants.{Cargo, Npm}
 use Rattle.semver_ranges.specs.declared.range_set.RangeSet.{RangeSet}
 use Rattle.semver_ranges.specs.declared.range_set.RangeError.{RangeError}
 use Rattle.semver_ranges.specs.declared.range_set.RangeError.TheVariants.{NotARange, NumberTooLarge, OutOfMemory}

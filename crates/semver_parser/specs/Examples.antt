@@ -3,8 +3,8 @@ use Rattle.std.specs.Prelude.{◌≡◌, ℕ, Bool, true, false, ◌&&◌, List,
 use Rattle.std.proofs.Common.{inr}
 use Rattle.std.specs.Fmt.{digits}
 use Rattle.std.specs.Ordering.{is_lt}
-use Rattle.semver_ranges.specs.declared.range_set.Compat.{Compat}
-use Rattle.semver_ranges.specs.declared.range_set.Compat.TheVariants.{Cargo, Npm}
+use Rattle.semver_ranges.specs.declared.range.Compat.{Compat}
+use Rattle.semver_ranges.specs.declared.range.Compat.TheVariants.{Cargo, Npm}
 use Rattle.semver_ranges.specs.RangeTree.{PartialTree, one, three, Form, bare, equal, at_most, greater, tilde, caret, empty, hyphen, simples, SetTree, SpellsPartial, SpellsForm, Spells}
 use Rattle.semver_texts.specs.Texts.{Text}
 use Rattle.semver_ranges.specs.Precedence.{precedence}

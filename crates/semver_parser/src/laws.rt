@@ -1,7 +1,7 @@
 //! Laws over the definitions: each is the contract of a function that does nothing.
 ghost use Rattle.std.specs.Prelude.{[], ◌∷◌, true, false, codes};
-ghost use Rattle.semver_ranges.specs.declared.range_set.Compat.{Compat};
-ghost use Rattle.semver_ranges.specs.declared.range_set.Compat.TheVariants.{Cargo, Npm};
+ghost use Rattle.semver_ranges.specs.declared.range.Compat.{Compat};
+ghost use Rattle.semver_ranges.specs.declared.range.Compat.TheVariants.{Cargo, Npm};
 ghost use Rattle.semver_texts.specs.Versions.{VersionValue, numeric, alphanumeric};
 ghost use Rattle.semver_steps.specs.VersionGrammar.{SpellsVersion};
 ghost use Rattle.semver_parser.specs.Examples.{IsMet, release, version};

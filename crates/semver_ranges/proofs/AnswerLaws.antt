@@ -3,7 +3,7 @@ use Rattle.std.proofs.Common.{◌≡◌, ◌↔◌, ◌⊎◌, true, false, [], 
 use Rattle.std.proofs.lemmas.Bool.{both_ways}
 use Rattle.std.specs.Prelude.{IfOk}
 use Rattle.std.specs.Result.{IsOkAnd}
-use Rattle.semver_ranges.specs.declared.range_set.Compat.{Compat}
+use Rattle.semver_ranges.specs.declared.range.Compat.{Compat}
 use Rattle.semver_ranges.specs.declared.range_set.RangeSet.{RangeSet}
 use Rattle.semver_ranges.specs.declared.range_set.RangeError.{RangeError}
 use Rattle.semver_ranges.specs.declared.range_set.RangeError.TheVariants.{NotARange, NumberTooLarge, OutOfMemory}
@@ -14,12 +14,11 @@ use Rattle.semver_ranges.specs.OwnMeaning.{meets_tree}
 use Rattle.semver_ranges.specs.RewritingTable.{PlainSet, fits, rewritten}
 use Rattle.semver_ranges.specs.Meeting.{meets_set, meets_tree_or_bounds}
 use Rattle.semver_ranges.specs.PrintedRanges.{IsPrintableSet, set_text}
-use Rattle.semver_ranges.specs.Reader.{read}
+use Rattle.semver_ranges.specs.Reading.{read}
 use Rattle.semver_ranges.specs.RangeViews.{set_of}
 use Rattle.semver_ranges.specs.Answers.{IsAnswer}
-use Rattle.semver_ranges.specs.PartialViews.{IsSized}
-use Rattle.semver_ranges.proofs.ReaderComplete.{tree_read}
-use Rattle.semver_ranges.proofs.ReaderSound.{read_sound}
+use Rattle.semver_ranges.proofs.ReadingComplete.{tree_read}
+use Rattle.semver_ranges.proofs.ReadingSound.{read_sound}
 use Rattle.semver_ranges.proofs.Meanings.{some_agrees, own_meaning_meets, agree_on_releases}
 use Rattle.semver_ranges.proofs.PrintedLaws.{printed_again}
 use Rattle.semver_ranges.proofs.AnsweredLaws.{rewritten_printable}
@@ -89,16 +88,3 @@ reads_back t mode r h s p m e =
       go (Err NotARange) h tree spelled fit again = absurd (none_read t tree h spelled)
       go (Err NumberTooLarge) h tree spelled fit again = absurd (both_ways (fits mode tree) (sym (ap (fits mode) (read_one t h.0 tree h.1 spelled)) ∙ h.2) fit)
       go (Err OutOfMemory) h tree spelled fit again = inl refl
-
--- what the runs over a text say of the answer
-pub answer_none : (t : Text) (mode : Compat) (r : Result RangeSet RangeError) (e : RangeError) → r ≡ Err e → e ≡ NotARange → read t ≡ None → IsAnswer t mode r
-answer_none t mode r e is why none = subst (IsAnswer t mode) (sym (is ∙ ap (λ (x : RangeError). Err x) why)) none
-
-pub answer_sized : {A : Type 0} (t : Text) (mode : Compat) (good : SetTree → A → Type 0) (memory : Type 0) (r : Result RangeSet RangeError) (e e' : RangeError)
-    → (tree : SetTree) × (read t ≡ Some tree) → (memory → (tree : SetTree) × (read t ≡ Some tree) × IsTrue (fits mode tree))
-    → IsSized {A = A} (fits mode) good memory (read t) (Err e) → r ≡ Err e' → e' ≡ e → IsAnswer t mode r
-answer_sized {A = A} t mode good memory r e e' found fit h is same = subst (IsAnswer t mode) (sym (is ∙ ap (λ (x : RangeError). Err x) same)) (go e h) where
-  go : (e : RangeError) → IsSized {A = A} (fits mode) good memory (read t) (Err e) → IsAnswer t mode (Err e)
-  go NotARange h = h
-  go NumberTooLarge h = (found.0, found.1, h found.0 found.1)
-  go OutOfMemory h = fit h

@@ -29,20 +29,6 @@ part_some : (t : Text) → is_part t ≡ true → 0 < length t
 part_some [] e = absurd (true≢false (sym e))
 part_some (b ∷ t) e = omega arith
 
-number_digits : (t : Text) → is_number t ≡ true → all_ascii_digits t ≡ true
-number_digits [] e = refl
-number_digits (b ∷ t) e = (and_parts (all_ascii_digits (b ∷ t)) _ e).0
-
-number_some : (t : Text) → is_number t ≡ true → 0 < length t
-number_some [] e = absurd (true≢false (sym e))
-number_some (b ∷ t) e = omega arith
-
-number_plus : (t : Text) → is_number t ≡ true → get_or t 0 0 ≡ 43 → ⊥
-number_plus [] e p = absurd (true≢false (sym e))
-number_plus (b ∷ t) e p =
-    let digit : is_ascii_digit b ≡ true = (and_parts (is_ascii_digit b) (all_ascii_digits t) (number_digits (b ∷ t) e)).0 in
-    let no : is_ascii_digit 43 ≡ true = ap is_ascii_digit (sym p) ∙ digit in cc
-
 pub kept_number : (t : Text) (n : ℕ) → is_part t ≡ true → ParsesUnsigned {E = Unit {0}} 64 10 t (Ok n) → numeric n ≡ kept t
 kept_number t n e h =
     let p = parse_plain own {E = Unit {0}} 64 t (Ok n) h (part_plus t e) in
@@ -55,17 +41,4 @@ kept_text t e h =
     elim (cases_Bool (all_ascii_digits t && fits_u64 (digits_value 10 t))) [
       | inl y ↦ let parts = and_parts (all_ascii_digits t) (fits_u64 (digits_value 10 t)) y in absurd (p (parts.0, part_some t e, fits_small (digits_value 10 t) parts.1))
       | inr n ↦ sym (ap (λ (b : Bool). if b then numeric (digits_value 10 t) else alphanumeric t) n)
-    ]
-
-pub number_fits : (t : Text) (n : ℕ) → is_number t ≡ true → ParsesUnsigned {E = Unit {0}} 64 10 t (Ok n) → Some n ≡ (if fits_u64 (digits_value 10 t) then Some (digits_value 10 t) else None)
-number_fits t n e h =
-    let p = parse_plain own {E = Unit {0}} 64 t (Ok n) h (number_plus t e) in
-    ap (λ (m : ℕ). Some m) p.1 ∙ sym (ap (λ (b : Bool). if b then Some (digits_value 10 t) else None) (small_fits (digits_value 10 t) p.0.2))
-
-pub number_large : (t : Text) → is_number t ≡ true → ParsesUnsigned {E = Unit {0}} 64 10 t (Err tt) → None ≡ (if fits_u64 (digits_value 10 t) then Some (digits_value 10 t) else None)
-number_large t e h =
-    let p = parse_plain own {E = Unit {0}} 64 t (Err tt) h (number_plus t e) in
-    elim (cases_Bool (fits_u64 (digits_value 10 t))) [
-      | inl y ↦ absurd (p (number_digits t e, number_some t e, fits_small (digits_value 10 t) y))
-      | inr n ↦ sym (ap (λ (b : Bool). if b then Some (digits_value 10 t) else None) n)
     ]

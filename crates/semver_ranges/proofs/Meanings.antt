@@ -5,7 +5,7 @@ use Rattle.semver_ranges.proofs.Tests.{list_all-weaker, list_any-weaker, list_al
 use Rattle.std.proofs.lemmas.List.Folds.{list_all-append}
 use Rattle.std.specs.List.{list_all, flat_map}
 use Rattle.std.specs.Ordering.{is_ge}
-use Rattle.semver_ranges.specs.declared.range_set.Compat.{Compat}
+use Rattle.semver_ranges.specs.declared.range.Compat.{Compat}
 use Rattle.semver_ranges.specs.RangeTree.{is_wildcard, PartialTree, one, two, three, at_most, at_least, Simple, RangeTree, empty, hyphen, simples, SetTree}
 use Rattle.semver_texts.specs.Texts.{is_empty}
 use Rattle.semver_ranges.specs.Precedence.{precedence}

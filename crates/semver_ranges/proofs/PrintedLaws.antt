@@ -10,14 +10,14 @@ use Rattle.std.specs.Str.Parse.{digits_value}
 use Rattle.std.specs.Char.{is_ascii_digit}
 use Rattle.semver_ranges.specs.declared.range.Op.{Op}
 use Rattle.semver_ranges.specs.declared.range.Op.TheVariants.{Lt, Lte, Gt, Gte, Eq}
-use Rattle.semver_ranges.specs.declared.range_set.Compat.{Compat}
+use Rattle.semver_ranges.specs.declared.range.Compat.{Compat}
 use Rattle.semver_ranges.specs.RangeTree.{PartialTree, three, Form, equal, less, at_most, greater, at_least, Simple, RangeTree, empty, simples, SetTree, is_blank, is_number, is_wildcard, is_component, is_part, SpellsPartial, SpellsForm, SpellsSimple, SpellsSimples, SpellsRange, Spells}
 use Rattle.semver_texts.specs.Texts.{is_part_byte, Text, is_empty, marked, joined}
 use Rattle.semver_texts.specs.Versions.{numbers, IdentifierValue, numeric, alphanumeric, PlainVersion}
 use Rattle.semver_ranges.specs.Partials.{fits_u64, kept, stated, pre_release, filled}
 use Rattle.semver_ranges.specs.RewritingTable.{PlainComparator, PlainRange, PlainSet, simple_comparators, range_comparators, cell, cell_comparators, cell_raised, bound_fits, rewritten, fits, term_fits, comparator}
 use Rattle.semver_ranges.specs.Terms.{of_simple, terms}
-use Rattle.semver_ranges.proofs.ReaderComplete.{apart}
+use Rattle.semver_ranges.proofs.WrittenPieces.{apart}
 use Rattle.semver_ranges.specs.PrintedRanges.{op_text, comparator_text, range_text, set_text, is_kept, is_printable_version, IsPrintableRange, IsPrintableSet}
 use Rattle.semver_texts.specs.PrintedText.{identifier_text, plain_text}
 

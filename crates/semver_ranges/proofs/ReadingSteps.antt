@@ -66,9 +66,6 @@ some_simples_stop (suc k) n t h = elim (cases_Bool (ends_range t)) [
 all_simples_stop : (n : ℕ) (t : Text) → length t ≤ n → Stops n (all_simples t)
 all_simples_stop n t h = some_simples_stop (suc (length t)) n t h
 
-pub shorter_simples : (t u : Text) (ss : List Simple) → all_simples t ≡ Some (ss, u) → length u ≤ length t
-shorter_simples t u ss e = (stopped_found (length t) ss u (all_simples t) (all_simples_stop (length t) t (omega arith)) e).short
-
 pub simples_stop : (t u : Text) (ss : List Simple) → all_simples t ≡ Some (ss, u) → ends_range u ≡ true
 simples_stop t u ss e = (stopped_found (length t) ss u (all_simples t) (all_simples_stop (length t) t (omega arith)) e).ends
 
@@ -117,9 +114,6 @@ range_stopped n t h = let k = back_shorter is_blank t in range_here_stops n (beh
 
 pub shorter_range : (t u : Text) (r : RangeTree) → range t ≡ Some (r, u) → length u ≤ length t
 shorter_range t u r e = (stopped_found (length t) r u (range t) (range_stopped (length t) t (omega arith)) e).short
-
-pub range_stops : (t u : Text) (r : RangeTree) → range t ≡ Some (r, u) → ends_range u ≡ true
-range_stops t u r e = (stopped_found (length t) r u (range t) (range_stopped (length t) t (omega arith)) e).ends
 
 -- two readers of the rest that agree on shorter texts agree behind a simple
 agree_simples : (f g : Text → Option (List Simple × Text)) (t : Text) → ((u : Text) → length u < length t → f u ≡ g u) → (o : Option (Simple × Text)) → simple t ≡ o → behind_simple f o ≡ behind_simple g o

@@ -7,8 +7,8 @@ use Rattle.std.specs.Cmp.Lexicographic.{slice_cmp}
 use Rattle.std.specs.declared.cmp.Ordering.{Ordering}
 use Rattle.std.specs.declared.cmp.Ordering.TheVariants.{Less, Equal, Greater}
 use Rattle.semver_ranges.specs.declared.range.Op.{Op}
-use Rattle.semver_ranges.specs.declared.range_set.Compat.{Compat}
-use Rattle.semver_ranges.specs.declared.range_set.Compat.TheVariants.{Cargo, Npm}
+use Rattle.semver_ranges.specs.declared.range.Compat.{Compat}
+use Rattle.semver_ranges.specs.declared.range.Compat.TheVariants.{Cargo, Npm}
 use Rattle.semver_ranges.specs.RangeTree.{Form, bare, equal, less, at_most, greater, at_least, tilde, caret}
 use Rattle.semver_texts.specs.Texts.{is_empty}
 use Rattle.semver_ranges.specs.Precedence.{precedence, pre_cmp}
@@ -77,10 +77,6 @@ abbrev compared : Ordering → Ordering → Ordering → Ordering → Ordering
 compared o o' o'' o4 = ordering_then o (ordering_then o' (ordering_then o'' o4))
 
 -- a test with what comes of an `and` at the end of a list, and of an `or` with what can't be
-same-true : (x : Bool) → (x && true) ≡ x
-same-true true = refl
-same-true false = refl
-
 pub alone : (x : Bool) → (x && true) ≡ (x || false)
 alone true = refl
 alone false = refl
@@ -173,10 +169,6 @@ between_third Step.level higher c release o4 = refl
 between_third Step.level higher c pre o4 = refl
 between_third higher b c release o4 = refl
 between_third higher b c pre o4 = refl
-
--- one comparator against z
-against_z : (op : Op) (o : Ordering) → (op_holds op o && true) ≡ (op_holds op o || false)
-against_z op o = alone (op_holds op o)
 
 -- the stated lists are of none to three numbers
 pub data Shape : List ℕ → Type 0 where

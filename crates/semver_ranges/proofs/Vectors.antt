@@ -1,13 +1,13 @@
 -- The crate's own cases and the worked texts, answered by the definitions: each by computation.
 use Rattle.std.specs.Prelude.{◌≡◌, ℕ, Option, Some, None, if◌then◌else◌, [], ◌∷◌, codes, refl}
 use Rattle.std.specs.Fmt.{digits}
-use Rattle.semver_ranges.specs.declared.range_set.Compat.{Compat}
-use Rattle.semver_ranges.specs.declared.range_set.Compat.TheVariants.{Cargo, Npm}
+use Rattle.semver_ranges.specs.declared.range.Compat.{Compat}
+use Rattle.semver_ranges.specs.declared.range.Compat.TheVariants.{Cargo, Npm}
 use Rattle.semver_ranges.specs.RangeTree.{SetTree}
 use Rattle.semver_texts.specs.Texts.{Text}
 use Rattle.semver_ranges.specs.RewritingTable.{fits, rewritten}
 use Rattle.semver_ranges.specs.PrintedRanges.{set_text}
-use Rattle.semver_ranges.specs.Reader.{read}
+use Rattle.semver_ranges.specs.Reading.{read}
 
 abbrev pub of_tree : Compat → Option SetTree → Text
 of_tree mode None = codes "not-a-range"

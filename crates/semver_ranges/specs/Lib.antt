@@ -7,12 +7,11 @@ pub mod RewritingTable
 pub mod Meeting
 pub mod PrintedRanges
 pub mod RangeViews
-pub mod Reader
 pub mod Reading
 pub mod Answers
-pub mod Pieces
-pub mod PieceViews
 pub mod PartialViews
+pub mod CursorViews
+pub mod BoundsViews
 pub use Rattle.semver_texts.specs.Texts
 pub use Rattle.semver_texts.specs.Versions
 pub use Rattle.semver_texts.specs.PrintedText

@@ -3,8 +3,8 @@ use Rattle.std.specs.Prelude.{ℕ, Bool, ◌&&◌, ◌==◌, if◌then◌else◌
 use Rattle.std.specs.List.{list_any, list_all, starts_with}
 use Rattle.std.specs.Ordering.{nat_cmp, is_eq, is_lt, is_gt, is_le, is_ge}
 use Rattle.std.specs.Cmp.Lexicographic.{slice_cmp}
-use Rattle.semver_ranges.specs.declared.range_set.Compat.{Compat}
-use Rattle.semver_ranges.specs.declared.range_set.Compat.TheVariants.{Cargo, Npm}
+use Rattle.semver_ranges.specs.declared.range.Compat.{Compat}
+use Rattle.semver_ranges.specs.declared.range.Compat.TheVariants.{Cargo, Npm}
 use Rattle.semver_ranges.specs.RangeTree.{Form, bare, equal, less, at_most, greater, at_least, tilde, caret, SetTree}
 use Rattle.semver_texts.specs.Texts.{is_empty}
 use Rattle.semver_ranges.specs.Precedence.{precedence}

@@ -1,24 +1,24 @@
--- A means of proof, which no public clause cites: what private contracts see of the numbers of a partial, and of the comparators that are made of it.
-use Rattle.std.specs.Prelude.{◌≡◌, ℕ, Bool, true, false, Option, Some, None, Result, Ok, Err, List, [], ◌∷◌, length, map, unwrap_or}
-use Rattle.std.specs.List.{list_all, flat_map}
+-- A means of proof, which no public clause cites: what private contracts see of components and partials.
+use Rattle.std.specs.Prelude.{◌≡◌, ℕ, Bool, true, false, Option, Some, None, List, [], ◌∷◌, map}
+use Rattle.std.specs.List.{list_all, slice_split}
+use Rattle.std.specs.Str.Parse.{digits_value}
+use Rattle.semver_ranges.specs.declared.partial.Component.{Component}
+use Rattle.semver_ranges.specs.declared.partial.Component.TheVariants.{Wildcard, Number}
 use Rattle.semver_ranges.specs.declared.partial.Partial.{Partial}
 use Rattle.semver_ranges.specs.declared.partial.PartialKind.{PartialKind}
 use Rattle.semver_ranges.specs.declared.partial.PartialKind.TheVariants.{XRangeOnly, MajorOnly, MajorMinor, MajorMinorPatch}
-use Rattle.semver_ranges.specs.declared.range.Bound.{Bound}
-use Rattle.semver_ranges.specs.declared.range.Bounds.{Bounds}
-use Rattle.semver_ranges.specs.declared.range_set.Compat.{Compat}
-use Rattle.semver_ranges.specs.declared.range_set.RangeError.{RangeError}
-use Rattle.semver_ranges.specs.declared.range_set.RangeError.TheVariants.{NotARange, NumberTooLarge, OutOfMemory}
-use Rattle.semver_ranges.specs.RangeTree.{PartialTree, Simple, RangeTree, hyphen}
+use Rattle.semver_ranges.specs.declared.partial.Place.{Place}
+use Rattle.semver_ranges.specs.declared.partial.Place.TheVariants.{Major, Minor, Patch}
+use Rattle.semver_ranges.specs.RangeTree.{PartialTree, is_wildcard, is_part}
+use Rattle.semver_texts.specs.Texts.{Text}
 use Rattle.semver_texts.specs.Versions.{PlainVersion}
 use Rattle.semver_ranges.specs.Partials.{fits_u64, kept, stated, zero_filled}
-use Rattle.semver_ranges.specs.Terms.{of_simple, terms}
-use Rattle.semver_ranges.specs.RewritingTable.{PlainComparator, PlainRange, comparator, Cell, up, cell_raised, cell_comparators, bound_fits, simple_comparators, range_comparators, term_fits}
-use Rattle.semver_ranges.specs.Pieces.{parts}
+use Rattle.semver_ranges.specs.Reading.{is_dot}
 
--- a number, or 0 where it is missing
-abbrev pub number_of : Option ℕ → ℕ
-number_of o = unwrap_or o 0
+-- the parts of a slice between dots; none where it is empty
+abbrev pub parts_of : Text → List Text
+parts_of [] = []
+parts_of (b ∷ t) = slice_split is_dot (b ∷ t)
 
 -- the numbers that are stated
 abbrev pub stated_at : PartialKind → ℕ → ℕ → ℕ → List ℕ
@@ -28,79 +28,38 @@ stated_at MajorMinor a b c = a ∷ b ∷ []
 stated_at MajorMinorPatch a b c = a ∷ b ∷ c ∷ []
 
 abbrev pub stated_of : Partial → List ℕ
-stated_of p = stated_at p.kind (number_of p.major) (number_of p.minor) (number_of p.patch)
+stated_of p = stated_at p.kind p.major p.minor p.patch
 
 -- the zero-filled version
 abbrev pub version_of : Partial → PlainVersion
-version_of p = record { major = number_of p.major; minor = number_of p.minor; patch = number_of p.patch; pre = map kept (parts p.pre) }
+version_of p = record { major = p.major; minor = p.minor; patch = p.patch; pre = map kept (parts_of p.pre.now) }
 
--- the numbers that are stated fit
-abbrev pub IsSmall : Partial → Type 0
-IsSmall p = list_all fits_u64 (stated_of p) ≡ true
+-- the place of a number, from 1
+abbrev pub place_number : Place → ℕ
+place_number Major = 1
+place_number Minor = 2
+place_number Patch = 3
 
--- a comparator that isn't built yet, and one or two of them
-abbrev pub bound_of : Bound → PlainComparator
-bound_of b = comparator b.op (version_of b.partial)
+-- the value of a number, which is none where it is above 2^64 - 1
+abbrev pub IsValue : ℕ → Option ℕ → Type 0
+IsValue n None = fits_u64 n ≡ false
+IsValue n (Some v) = (fits_u64 n ≡ true) × (v ≡ n)
 
-abbrev pub second_of : Option Bound → List PlainComparator
-second_of None = []
-second_of (Some b) = bound_of b ∷ []
+-- the component that a text is
+abbrev pub IsComponentOf : Text → Component → Type 0
+IsComponentOf t Wildcard = is_wildcard t ≡ true
+IsComponentOf t (Number value) = (is_wildcard t ≡ false) × IsValue (digits_value 10 t) value
 
-abbrev pub bounds_of : Bounds → List PlainComparator
-bounds_of b = bound_of b.first ∷ second_of b.second
+-- whether a kind states no number
+abbrev pub states_none : PartialKind → Bool
+states_none XRangeOnly = true
+states_none _ = false
 
--- the numbers of a partial, where they fit
-abbrev pub IsParsed : PartialTree → Option Partial → Type 0
-IsParsed t None = list_all fits_u64 (stated t) ≡ false
-IsParsed t (Some p) = (list_all fits_u64 (stated t) ≡ true) × (stated_of p ≡ stated t) × (version_of p ≡ zero_filled t)
+-- the parts of a pre-release are parts
+abbrev pub PartsPass : Partial → Type 0
+PartsPass p = list_all is_part (parts_of p.pre.now) ≡ true
 
--- the first k numbers with the last of them raised, where it fits
-abbrev pub IsUp : ℕ → Partial → Option Partial → Type 0
-IsUp k p None = bound_fits (Some (up k (stated_of p))) ≡ false
-IsUp k p (Some q) = (bound_fits (Some (up k (stated_of p))) ≡ true) × (version_of q ≡ up k (stated_of p))
-
--- the comparators of a cell, where its raised bound fits
-abbrev pub IsCell : Cell → Partial → Option Bounds → Type 0
-IsCell x p None = bound_fits (cell_raised x (stated_of p)) ≡ false
-IsCell x p (Some b) = (bound_fits (cell_raised x (stated_of p)) ≡ true) × (bounds_of b ≡ cell_comparators x (stated_of p) (version_of p))
-
--- the comparators of a simple, where it fits
-abbrev pub IsRow : Compat → Simple → Option Bounds → Type 0
-IsRow mode s None = term_fits mode (of_simple s) ≡ false
-IsRow mode s (Some b) = (term_fits mode (of_simple s) ≡ true) × (bounds_of b ≡ simple_comparators mode s)
-
--- whether the terms of a range fit
-abbrev pub range_fits : Compat → RangeTree → Bool
-range_fits mode r = list_all (term_fits mode) (terms r)
-
-abbrev pub simple_fits : Compat → Simple → Bool
-simple_fits mode s = term_fits mode (of_simple s)
-
--- a range in a mode, as it is rewritten
-abbrev pub range_for : Compat → RangeTree → PlainRange
-range_for mode r = record { comparators = range_comparators mode r; compat = mode }
-
--- the comparators of a hyphen range, where it fits
-abbrev pub AreSides : PartialTree → PartialTree → Option Bounds → Type 0
-AreSides l r None = (mode : Compat) → range_fits mode (hyphen l r) ≡ false
-AreSides l r (Some b) = (mode : Compat) → (range_fits mode (hyphen l r) ≡ true) × (bounds_of b ≡ range_comparators mode (hyphen l r))
-
--- how many comparators a range has, and how many simples have
-abbrev pub comparator_count : Compat → RangeTree → ℕ
-comparator_count mode r = length (range_comparators mode r)
-
-abbrev pub simples_count : Compat → List Simple → ℕ
-simples_count mode ss = length (flat_map (simple_comparators mode) ss)
-
--- how many the last range has
-abbrev pub last_count : Compat → List RangeTree → ℕ
-last_count mode [] = 0
-last_count mode (r ∷ []) = comparator_count mode r
-last_count mode (r ∷ s ∷ tree) = last_count mode (s ∷ tree)
-
--- what is read and fits, or why there is nothing; where memory runs out no more is said than this
-abbrev pub IsSized : {X A : Type 0} → (X → Bool) → (X → A → Type 0) → Type 0 → Option X → Result A RangeError → Type 0
-IsSized {X = X} fit good memory o (Ok a) = (x : X) × (o ≡ Some x) × (fit x ≡ true) × good x a
-IsSized {X = X} fit good memory o (Err NotARange) = o ≡ None
-IsSized {X = X} fit good memory o (Err NumberTooLarge) = (x : X) → o ≡ Some x → fit x ≡ false
-IsSized {X = X} fit good memory o (Err OutOfMemory) = memory
+-- what a partial states: some number that doesn't fit, or these numbers and this pre-release
+abbrev pub IsPartialOf : PartialTree → Partial → Type 0
+IsPartialOf t p = (list_all fits_u64 (stated t) ≡ p.fits) × (p.fits ≡ true → (stated_of p ≡ stated t) × (version_of p ≡ zero_filled t))
+    × (p.fits ≡ false → states_none p.kind ≡ false) × PartsPass p

@@ -211,3 +211,19 @@ some_ranges (suc n) t = behind_range (some_ranges n) (range t)
 -- the tree that a text spells
 abbrev pub read : Text → Option SetTree
 read t = some_ranges (suc (length t)) t
+
+abbrev pub range_at : Option Text → Option (RangeTree × Text)
+range_at None = None
+range_at (Some t) = range t
+
+abbrev pub read_at : Option Text → Option SetTree
+read_at None = None
+read_at (Some t) = read t
+
+-- the range behind two bars, and all that is left behind a range
+abbrev pub range_behind : Text → Option (RangeTree × Text)
+range_behind t = range_at (behind_bars t)
+
+abbrev pub read_rest : Text → Option SetTree
+read_rest [] = Some []
+read_rest (b ∷ t) = read_at (behind_bars (b ∷ t))

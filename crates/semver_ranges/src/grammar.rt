@@ -1,18 +1,18 @@
-//! Range texts as borrowed pieces: a cursor that yields the ranges of a text one after the other, and the simples of a range.
+//! Range texts as they are read: a cursor over the bytes of a text, from the left to the right, that yields its ranges and their simples.
 //!
-//! Nothing here takes memory, and each byte is looked at a fixed number of times.
+//! Nothing here takes memory, and a call looks at each byte a fixed number of times. What can't be read is `None`.
 
-ghost use Rattle.std.specs.Prelude.{◌≡◌, ◌<◌, ◌≤◌, true, false, [], ◌∷◌, List, length, option_and_then, option_map, IfSome, MatchOption, MatchResult, IsTrue, codes};
-ghost use Rattle.std.specs.List.{prefix_len, slice_split, list_all};
+ghost use Rattle.std.specs.Prelude.{◌≡◌, ◌||◌, ◌<◌, ◌≤◌, ◌+◌, ◌-◌, ◌*◌, ◌^◌, ◌++◌, ℕ, Some, None, [], ◌∷◌, length, take, drop, false, true, List, MatchOption, IfSome};
+ghost use Rattle.std.specs.List.{list_all, slice_split};
+ghost use Rattle.std.specs.Str.Parse.{digits_value};
 ghost use Rattle.std.specs.Char.{is_ascii_digit};
-ghost use Rattle.semver_ranges.specs.RangeTree.{three, is_component, is_number, is_part, is_wildcard, is_blank as blank};
-ghost use Rattle.semver_texts.specs.Texts.{is_part_byte as part_byte, Text};
-ghost use Rattle.semver_ranges.specs.Reader.{front, back, is_component_byte as component_byte, is_dot, is_hyphen, not_plus, onto, read, read_build, read_form, read_hyphen, read_partial, read_qualifier, read_range, read_simples, with_form, words};
-ghost use Rattle.semver_ranges.specs.Pieces.{behind, not_bar, not_blank, parts, text_of};
-ghost use Rattle.semver_ranges.specs.PieceViews.{form_of, partial_of, simple_of, read_of, HasWords, read_after, rest_len, IsReadAs, IsReadable, IsCounted};
+ghost use Rattle.semver_texts.specs.Texts.{Text, is_part_byte as part_byte};
+ghost use Rattle.semver_ranges.specs.RangeTree.{Simple as SimpleTree, PartialTree, one, two, three, hyphen, is_blank as blank, is_part};
+ghost use Rattle.semver_ranges.specs.Reading.{back, begins_with, ends_range, ends_word, component, partial, operator, simple, all_simples, right_side, with_right, behind_first, with_second, with_third, behind_three, with_first, range, range_behind, behind_bars, in_parts, front, is_dot, behind_blanks};
+ghost use Rattle.semver_ranges.specs.PartialViews.{parts_of, IsValue, IsComponentOf, IsPartialOf};
+ghost use Rattle.semver_ranges.specs.CursorViews.{form_of, marked_parts, Finds, IsSimpleOf, IsFrontOf, AreSidesOf};
 
-use crate::partial::PartialText;
-use crate::range_set::RangeError;
+use crate::partial::{Component, Partial};
 
 /// What stands before a partial: nothing, or an operator.
 #[derive(Clone, Copy)]
@@ -31,406 +31,385 @@ pub(crate) enum Form {
 #[derive(Clone, Copy)]
 pub(crate) struct Simple<'input> {
     pub(crate) form: Form,
-    pub(crate) partial: PartialText<'input>,
+    pub(crate) partial: Partial<'input>,
 }
 
-/// A range: nothing, a hyphen range, or a text of one or more simples.
+/// A range as far as its second simple, and the text from there on. A hyphen range is the simples of its sides: `>=` of the left one
+/// and `<=` of the right one. An empty range is a bare wildcard.
 #[derive(Clone, Copy)]
-pub(crate) enum RangeText<'input> {
-    Empty,
-    Hyphen(PartialText<'input>, PartialText<'input>),
-    Simples(&'input str),
+pub(crate) struct RangeText<'input> {
+    pub(crate) first: Simple<'input>,
+    pub(crate) second: Option<Simple<'input>>,
+    pub(crate) others: &'input [u8],
 }
 
-/// How many ranges a text has.
-pub(crate) fn count_ranges(input: &str) -> Result<usize, RangeError>
-    ensures { IsCounted (read input.now) result }
-{
-    let mut count = 0;
-    let mut rest = Some(input);
-    while let Some(text) = rest {
-        let (range, behind) = next_range(text)?;
-        check_range(range)?;
-        count += 1;
-        rest = behind;
-    }
-    Ok(count)
-}
-
-/// Whether a range is in the grammar.
-fn check_range(range: RangeText<'_>) -> Result<(), RangeError>
-    ensures { IsReadable (read_of range.entry) result }
-{
-    match range {
-        RangeText::Empty | RangeText::Hyphen(_, _) => Ok(()),
-        RangeText::Simples(text) => check_simples(text),
-    }
-}
-
-/// Whether a text is simples.
-fn check_simples(text: &str) -> Result<(), RangeError>
-    ensures { IsReadable (read_simples (words text.now)) result }
-{
-    let mut rest = text;
-    while let Some((_, behind)) = next_simple(rest)? {
-        rest = behind;
-    }
-    Ok(())
-}
-
-/// The first range of a text, and what stands behind the bars that follow it.
+/// The range behind two bars; none where there are no bars, as at the end, or where what follows them isn't a range.
 #[inline(always)]
-pub(crate) fn next_range(text: &str) -> Result<(RangeText<'_>, Option<&str>), RangeError>
-    ensures { MatchResult result
-        (λ found. (read text.now ≡ onto (read_of found.0) (read_after found.1)) × HasWords found.0 × (rest_len found.1 ≤ length text.now))
-        (λ e. (e ≡ RangeError.NotARange) × (read text.now ≡ None)) }
+pub(crate) fn next_range(rest: &[u8]) -> Option<RangeText<'_>>
+    ensures front { IsFrontOf (range_behind rest.now) result }
+    ensures bars { IfSome result (λ _. (text : Text) × (behind_bars rest.now ≡ Some text)) }
 {
-    let (piece, rest) = text.split_at(range_len(text));
-    let range = read_range(piece)?;
-    if rest.is_empty() {
-        return Ok((range, None));
-    }
-    match after_bars(rest) {
-        Some(behind) => Ok((range, Some(behind))),
-        None => Err(RangeError::NotARange),
-    }
+    read_range(after_byte(after_byte(rest, b'|')?, b'|')?)
 }
 
-/// What follows two bars, where the text begins with them.
+/// The range at the front of a text; none where there is none.
 #[inline(always)]
-fn after_bars(text: &str) -> Option<&str>
-    ensures { text_of result ≡ option_and_then (behind 124) (behind 124 text.now) }
+pub(crate) fn read_range(text: &[u8]) -> Option<RangeText<'_>>
+    ensures { IsFrontOf (range text.now) result }
 {
-    after_byte(after_byte(text, b'|')?, b'|')
+    let text = behind_blanks(text);
+    if ends_range(text) {
+        return Some(RangeText {
+            first: Simple {
+                form: Form::Bare,
+                partial: Partial::new(),
+            },
+            second: None,
+            others: text,
+        });
+    }
+    let (first, rest) = front_simple(text)?;
+    if ends_range(rest) {
+        return Some(RangeText {
+            first,
+            second: None,
+            others: rest,
+        });
+    }
+    read_second(first, rest)
 }
 
-/// What a text without bars is, by its first two words: the simples of a range aren't read here.
-#[inline(always)]
-fn read_range(text: &str) -> Result<RangeText<'_>, RangeError>
-    ensures { IsReadAs (read_range text.now) result }
+/// The range of a first simple and what follows it.
+#[inline(never)]
+fn read_second<'input>(first: Simple<'input>, rest: &'input [u8]) -> Option<RangeText<'input>>
+    requires goes_on { ends_range rest.now ≡ false }
+    requires room { length rest.now + 1 < 2 ^ 63 }
+    ensures { (s : SimpleTree) → IsSimpleOf s first.entry → IsFrontOf (behind_first (Some (s, rest.now))) result }
 {
-    let Some((first, rest)) = next_word(text) else {
-        return Ok(RangeText::Empty);
-    };
-    let Some((second, behind)) = next_word(rest) else {
-        return Ok(RangeText::Simples(text));
-    };
-    if is_hyphen(second) {
+    if let Some(behind) = after_byte(rest, b'-') {
         return read_hyphen_range(first, behind);
     }
-    Ok(RangeText::Simples(text))
-}
-
-/// A hyphen range, by its first word and what stands behind the hyphen.
-fn read_hyphen_range<'input>(
-    first: &'input str,
-    behind: &'input str,
-) -> Result<RangeText<'input>, RangeError>
-    ensures { IsReadAs (read_hyphen (first.now ∷ codes "-" ∷ words behind.now)) result }
-{
-    let Some((third, rest)) = next_word(behind) else {
-        return Err(RangeError::NotARange);
-    };
-    if next_word(rest).is_some() {
-        return Err(RangeError::NotARange);
-    }
-    match (read_partial(first), read_partial(third)) {
-        (Some(left), Some(right)) => Ok(RangeText::Hyphen(left, right)),
-        _ => Err(RangeError::NotARange),
-    }
-}
-
-/// The first simple of a text, and what follows it; none where only blanks are left.
-#[inline(always)]
-pub(crate) fn next_simple(text: &str) -> Result<Option<(Simple<'_>, &str)>, RangeError>
-    ensures { MatchResult result
-        (λ o. MatchOption o (read_simples (words text.now) ≡ Some [])
-        (λ found. (read_simples (words text.now) ≡ onto (Some (simple_of found.0)) (read_simples (words found.1.now))) × (length found.1.now < length text.now)))
-        (λ e. (e ≡ RangeError.NotARange) × (read_simples (words text.now) ≡ None)) }
-{
-    let Some((word, rest)) = next_word(text) else {
-        return Ok(None);
-    };
-    let (form, behind) = split_operator(word);
-    let operand = if behind.is_empty() {
-        match next_word(rest) {
-            Some(found) => found,
-            None => return Err(RangeError::NotARange),
-        }
-    } else {
-        (behind, rest)
-    };
-    match read_simple(form, operand.0) {
-        Some(simple) => Ok(Some((simple, operand.1))),
-        None => Err(RangeError::NotARange),
-    }
-}
-
-/// A word as the partial behind this form.
-#[inline(always)]
-fn read_simple(form: Form, word: &str) -> Option<Simple<'_>>
-    ensures { option_map simple_of result ≡ with_form (form_of form) (read_partial word.now) }
-{
-    let partial = read_partial(word)?;
-    Some(Simple { form, partial })
-}
-
-/// The operator at the front of a word, and what follows it.
-#[inline(always)]
-fn split_operator(word: &str) -> (Form, &str)
-    ensures { (form_of result.0, result.1.now) ≡ read_form word.now }
-{
-    if let Some(rest) = after_byte(word, b'=') {
-        (Form::Equal, rest)
-    } else if let Some(rest) = after_byte(word, b'<') {
-        with_second(rest, b'=', Form::AtMost, Form::Less)
-    } else if let Some(rest) = after_byte(word, b'>') {
-        with_second(rest, b'=', Form::AtLeast, Form::Greater)
-    } else if let Some(rest) = after_byte(word, b'~') {
-        with_second(rest, b'>', Form::Tilde, Form::Tilde)
-    } else if let Some(rest) = after_byte(word, b'^') {
-        (Form::Caret, rest)
-    } else {
-        (Form::Bare, word)
-    }
-}
-
-/// The form by whether a second sign follows, and what follows that.
-#[inline(always)]
-fn with_second(rest: &str, second: u8, with: Form, without: Form) -> (Form, &str)
-    requires { second < 128 }
-    ensures { MatchOption (behind second rest.now) (result ≡ (without, rest.entry)) (λ t. (result.0 ≡ with) × (result.1.now ≡ t)) }
-{
-    match after_byte(rest, second) {
-        Some(behind) => (with, behind),
-        None => (without, rest),
-    }
-}
-
-/// A word as a partial.
-#[inline(always)]
-fn read_partial(word: &str) -> Option<PartialText<'_>>
-    ensures { option_map partial_of result ≡ read_partial word.now }
-{
-    let (major, rest) = split_component(word)?;
-    if rest.is_empty() {
-        return Some(PartialText {
-            major,
-            minor: None,
-            patch: None,
-            pre: None,
-            build: None,
-        });
-    }
-    let (minor, rest) = split_component(after_byte(rest, b'.')?)?;
-    if rest.is_empty() {
-        return Some(PartialText {
-            major,
-            minor: Some(minor),
-            patch: None,
-            pre: None,
-            build: None,
-        });
-    }
-    let (patch, rest) = split_component(after_byte(rest, b'.')?)?;
-    let (pre, build) = read_qualifier(rest)?;
-    Some(PartialText {
-        major,
-        minor: Some(minor),
-        patch: Some(patch),
-        pre,
-        build,
+    let (second, others) = front_simple(rest)?;
+    Some(RangeText {
+        first,
+        second: Some(second),
+        others,
     })
 }
 
-/// A component at the front of a text, and what follows it.
-#[inline(always)]
-fn split_component(text: &str) -> Option<(&str, &str)>
-    ensures { MatchOption result (is_component (front component_byte text.now) ≡ false)
-        (λ s. (is_component s.0.now ≡ true) × (s.0.now ≡ front component_byte text.now) × (s.1.now ≡ back component_byte text.now)) }
+/// The hyphen range of a left side, which has to be bare, and what follows the hyphen.
+#[inline(never)]
+fn read_hyphen_range<'input>(
+    left: Simple<'input>,
+    behind: &'input [u8],
+) -> Option<RangeText<'input>>
+    ensures { (s : SimpleTree) → IsSimpleOf s left.entry → IsFrontOf (with_right s (right_side (45 ∷ behind.now))) result }
 {
-    let (component, rest) = text.split_at(component_len(text));
-    if is_component(component) {
-        Some((component, rest))
-    } else {
-        None
-    }
-}
-
-/// The pre-release and the build behind three components.
-#[inline(always)]
-fn read_qualifier(text: &str) -> Option<(Option<&str>, Option<&str>)>
-    ensures value { (a b c : Text) → option_map (λ q. three a b c (parts q.0) (parts q.1)) result ≡ read_qualifier a b c text.now }
-    ensures parts_pass { IfSome result (λ q. IsTrue (list_all is_part (parts q.0))) }
-{
-    let Some(behind) = after_byte(text, b'-') else {
-        return Some((None, read_build(text)?));
-    };
-    let (pre, rest) = behind.split_at(pre_len(behind));
-    if !are_parts(pre) {
+    let Form::Bare = left.form else {
         return None;
-    }
-    Some((Some(pre), read_build(rest)?))
+    };
+    let (right, others) = read_right_side(behind)?;
+    let (first, second) = sides(left.partial, right);
+    Some(RangeText {
+        first,
+        second,
+        others,
+    })
 }
 
-/// A build, if one is there, up to the end of a text.
+/// The simples of the sides of a hyphen range: one that states nothing is left out, but for the left where neither states a number.
 #[inline(always)]
-fn read_build(text: &str) -> Option<Option<&str>>
-    ensures { (a b c : Text) (pre : List Text) → option_map (λ o. three a b c pre (parts o)) result ≡ read_build a b c pre text.now }
+fn sides<'input>(
+    left: Partial<'input>,
+    right: Partial<'input>,
+) -> (Simple<'input>, Option<Simple<'input>>)
+    ensures { (l r : PartialTree) → IsPartialOf l left.entry → IsPartialOf r right.entry → AreSidesOf (hyphen l r) result.0 result.1 }
 {
-    if text.is_empty() {
-        return Some(None);
+    let lower = Simple {
+        form: Form::AtLeast,
+        partial: left,
+    };
+    let upper = Simple {
+        form: Form::AtMost,
+        partial: right,
+    };
+    if right.states_nothing() {
+        (lower, None)
+    } else if left.states_nothing() {
+        (upper, None)
+    } else {
+        (lower, Some(upper))
     }
-    let build = after_byte(text, b'+')?;
-    if are_parts(build) {
-        Some(Some(build))
+}
+
+/// The right side of a hyphen range behind its hyphen, up to the end of the range, and what follows it.
+#[inline(always)]
+fn read_right_side(behind: &[u8]) -> Option<(Partial<'_>, &[u8])>
+    ensures { Finds IsPartialOf (right_side (45 ∷ behind.now)) result }
+{
+    let text = behind_blank(behind)?;
+    let (right, rest) = read_partial(behind_blanks(text))?;
+    let rest = behind_blanks(rest);
+    if ends_range(rest) {
+        Some((right, rest))
     } else {
         None
     }
 }
 
-/// Whether a text is parts joined by dots.
-fn are_parts(text: &str) -> bool
-    ensures { result ≡ list_all is_part (slice_split is_dot text.now) }
+/// The simple at the front of a text, and what follows it and the blanks behind it; none where there is none.
+#[inline(never)]
+pub(crate) fn read_simple(text: &[u8]) -> Option<(Simple<'_>, &[u8])>
+    ensures { Finds IsSimpleOf (simple text.now) result }
+{
+    front_simple(text)
+}
+
+/// As `read_simple`, and always inlined: for the first simples of a range.
+#[inline(always)]
+pub(crate) fn front_simple(text: &[u8]) -> Option<(Simple<'_>, &[u8])>
+    ensures { Finds IsSimpleOf (simple text.now) result }
+{
+    let (form, rest) = read_operator(text);
+    let (partial, rest) = read_partial(rest)?;
+    Some((Simple { form, partial }, behind_blanks(rest)))
+}
+
+/// The operator at the front of a text, and what follows it and its blanks.
+#[inline(always)]
+fn read_operator(text: &[u8]) -> (Form, &[u8])
+    ensures { (form_of result.0, result.1.now) ≡ operator text.now }
+{
+    match text {
+        [b'^', rest @ ..] => (Form::Caret, behind_blanks(rest)),
+        [b'>', b'=', rest @ ..] => (Form::AtLeast, behind_blanks(rest)),
+        [b'>', rest @ ..] => (Form::Greater, behind_blanks(rest)),
+        [b'<', b'=', rest @ ..] => (Form::AtMost, behind_blanks(rest)),
+        [b'<', rest @ ..] => (Form::Less, behind_blanks(rest)),
+        [b'~', b'>', rest @ ..] => (Form::Tilde, behind_blanks(rest)),
+        [b'~', rest @ ..] => (Form::Tilde, behind_blanks(rest)),
+        [b'=', rest @ ..] => (Form::Equal, behind_blanks(rest)),
+        _ => (Form::Bare, text),
+    }
+}
+
+/// The partial at the front of a text, up to the end of its word, and what follows it.
+#[inline(always)]
+fn read_partial(text: &[u8]) -> Option<(Partial<'_>, &[u8])>
+    ensures { Finds IsPartialOf (partial text.now) result }
+{
+    let (partial, rest) = read_first(text)?;
+    if ends_word(rest) {
+        Some((partial, rest))
+    } else {
+        None
+    }
+}
+
+/// A partial from its first component on.
+#[inline(always)]
+fn read_first(text: &[u8]) -> Option<(Partial<'_>, &[u8])>
+    ensures { Finds IsPartialOf (with_first (component text.now)) result }
+{
+    let (major, rest) = read_component(text)?;
+    let partial = Partial::new().with_major(major);
+    match after_byte(rest, b'.') {
+        Some(behind) => read_minor(partial, behind),
+        None => Some((partial, rest)),
+    }
+}
+
+/// A partial from its second component on.
+#[inline(always)]
+fn read_minor<'input>(
+    partial: Partial<'input>,
+    text: &'input [u8],
+) -> Option<(Partial<'input>, &'input [u8])>
+    ensures { (a : Text) → IsPartialOf (one a) partial.entry → Finds IsPartialOf (with_second a (component text.now)) result }
+{
+    let (minor, rest) = read_component(text)?;
+    let partial = partial.with_minor(minor);
+    match after_byte(rest, b'.') {
+        Some(behind) => read_patch(partial, behind),
+        None => Some((partial, rest)),
+    }
+}
+
+/// A partial from its third component on.
+#[inline(always)]
+fn read_patch<'input>(
+    partial: Partial<'input>,
+    text: &'input [u8],
+) -> Option<(Partial<'input>, &'input [u8])>
+    ensures { (a b : Text) → IsPartialOf (two a b) partial.entry → Finds IsPartialOf (with_third a b (component text.now)) result }
+{
+    let (patch, rest) = read_component(text)?;
+    let partial = partial.with_patch(patch);
+    if begins_qualifier(rest) {
+        read_qualifier(partial, rest)
+    } else {
+        Some((partial, rest))
+    }
+}
+
+/// Whether a pre-release or a build follows.
+#[inline(always)]
+fn begins_qualifier(text: &[u8]) -> bool
+    ensures { result ≡ (begins_with 45 text.now || begins_with 43 text.now) }
+{
+    matches!(text, [b'-' | b'+', ..])
+}
+
+/// A partial of three components from its pre-release and its build on, each where it is there.
+#[inline(never)]
+fn read_qualifier<'input>(
+    partial: Partial<'input>,
+    text: &'input [u8],
+) -> Option<(Partial<'input>, &'input [u8])>
+    ensures { (a b c : Text) → IsPartialOf (three a b c [] []) partial.entry → Finds IsPartialOf (behind_three a b c text.now) result }
+{
+    let (pre, rest) = read_parts(text, b'-')?;
+    let (_, rest) = read_parts(rest, b'+')?;
+    Some((partial.with_pre(pre), rest))
+}
+
+/// The parts behind a mark, and what follows them; nothing where the text doesn't begin with the mark.
+#[inline(always)]
+fn read_parts(text: &[u8], mark: u8) -> Option<(&[u8], &[u8])>
+    ensures found { MatchOption result (marked_parts mark text.now ≡ None) (λ f. marked_parts mark text.now ≡ Some (parts_of f.0.now, f.1.now)) }
+    ensures parts_pass { IfSome result (λ f. list_all is_part (parts_of f.0.now) ≡ true) }
+{
+    let Some(behind) = after_byte(text, mark) else {
+        return Some((&[], text));
+    };
+    let len = parts_len(behind)?;
+    Some(behind.split_at(len))
+}
+
+/// How many bytes at the front are parts joined by dots; none where they aren't parts.
+fn parts_len(bytes: &[u8]) -> Option<usize>
+    ensures { MatchOption result (list_all is_part (slice_split is_dot (front in_parts bytes.now)) ≡ false)
+        (λ len. (list_all is_part (slice_split is_dot (front in_parts bytes.now)) ≡ true) × (len ≤ length bytes.now)
+        × (take len bytes.now ≡ front in_parts bytes.now) × (drop len bytes.now ≡ back in_parts bytes.now)) }
 {
     let mut begun = false;
-    for byte in text.as_bytes() {
-        if *byte == b'.' {
+    for at in 0..bytes.len() {
+        let byte = bytes[at];
+        if byte == b'.' {
             if !begun {
-                return false;
+                return None;
             }
             begun = false;
-        } else if is_part_byte(*byte) {
+        } else if is_part_byte(byte) {
             begun = true;
         } else {
-            return false;
+            return begun.then_some(at);
         }
     }
-    begun
+    begun.then_some(bytes.len())
 }
 
-/// The first word of a text, and what follows it.
+/// The component at the front of a text, and what follows it.
 #[inline(always)]
-fn next_word(text: &str) -> Option<(&str, &str)>
-    ensures { MatchOption result (words text.now ≡ [])
-        (λ found. (words text.now ≡ found.0.now ∷ words found.1.now) × (length found.1.now < length text.now)) }
+fn read_component(text: &[u8]) -> Option<(Component, &[u8])>
+    ensures { Finds IsComponentOf (component text.now) result }
 {
-    let (_, text) = text.split_at(blank_len(text));
-    if text.is_empty() {
-        return None;
-    }
-    Some(text.split_at(word_len(text)))
-}
-
-/// What follows this byte, where the text begins with it.
-#[inline(always)]
-fn after_byte(text: &str, byte: u8) -> Option<&str>
-    requires { byte < 128 }
-    ensures { text_of result ≡ behind byte text.now }
-{
-    match text.as_bytes().first() {
-        Some(first) if *first == byte => Some(&text[1..]),
+    match text {
+        [b'x' | b'X' | b'*', rest @ ..] => Some((Component::Wildcard, rest)),
+        [b'0', rest @ ..] => Some((Component::Number(Some(0)), rest)),
+        [first, ..] if first.is_ascii_digit() => {
+            let (number, rest) = read_digits(text);
+            Some((Component::Number(number), rest))
+        }
         _ => None,
     }
 }
 
-/// Whether a word is a hyphen.
+/// The value of the digits at the front of a text, and what follows them.
 #[inline(always)]
-fn is_hyphen(word: &str) -> bool
-    ensures { result ≡ is_hyphen word.now }
+fn read_digits(text: &[u8]) -> (Option<u64>, &[u8])
+    ensures value { IsValue (digits_value 10 (front is_ascii_digit text.now)) result.0 }
+    ensures rest { result.1.now ≡ back is_ascii_digit text.now }
 {
-    matches!(word, "-")
+    let mut value = Some(0);
+    for at in 0..text.len() {
+        let digit = text[at];
+        if !digit.is_ascii_digit() {
+            return (value, &text[at..]);
+        }
+        value = with_digit(value, digit - b'0');
+    }
+    (value, &text[text.len()..])
 }
 
-/// Whether a text is a wildcard.
-#[inline(always)]
-pub(crate) fn is_wildcard(text: &str) -> bool
-    ensures { result ≡ is_wildcard text.now }
-{
-    matches!(text, "x" | "X" | "*")
-}
+// What is below this may be multiplied by ten and a digit added.
+const LIMIT: u64 = 1_000_000_000_000_000_000;
 
-/// Whether a text is a wildcard or a number.
+/// The value of a number with one digit more.
 #[inline(always)]
-fn is_component(text: &str) -> bool
-    ensures { result ≡ is_component text.now }
+fn with_digit(value: Option<u64>, digit: u8) -> Option<u64>
+    requires { digit < 10 }
+    ensures { (n : ℕ) → IsValue n value → IsValue (n * 10 + digit) result }
 {
-    is_wildcard(text) || is_number(text)
-}
-
-/// Whether a text is a number of any size, without leading zeros.
-#[inline(always)]
-fn is_number(text: &str) -> bool
-    ensures { result ≡ is_number text.now }
-{
-    match text.as_bytes() {
-        [] => false,
-        [b'0', rest @ ..] => rest.is_empty(),
-        bytes => are_digits(bytes),
+    match value {
+        Some(value) if value < LIMIT => Some(value * 10 + u64::from(digit)),
+        Some(value) => value.checked_mul(10)?.checked_add(u64::from(digit)),
+        None => None,
     }
 }
 
-/// Whether bytes are digits.
+/// What follows the blanks at the front of a text.
 #[inline(always)]
-fn are_digits(bytes: &[u8]) -> bool
-    ensures { result ≡ list_all is_ascii_digit bytes.now }
+fn behind_blanks(text: &[u8]) -> &[u8]
+    ensures { result.now ≡ behind_blanks text.now }
 {
-    bytes.iter().all(|byte| byte.is_ascii_digit())
+    for at in 0..text.len() {
+        if !is_blank(text[at]) {
+            return &text[at..];
+        }
+    }
+    &text[text.len()..]
 }
 
-/// How many bytes at the front stand before a bar.
+/// What follows one blank, where the text begins with it.
 #[inline(always)]
-fn range_len(text: &str) -> usize
-    ensures { result ≡ prefix_len not_bar text.now }
+fn behind_blank(text: &[u8]) -> Option<&[u8]>
+    ensures { MatchOption result ((b : ℕ) (t : Text) → text.now ≡ b ∷ t → blank b ≡ false) (λ rest. (b : ℕ) × (blank b ≡ true) × (text.now ≡ b ∷ rest.now)) }
 {
-    text.as_bytes()
-        .iter()
-        .take_while(|&&byte| byte != b'|')
-        .count()
+    match text {
+        [first, rest @ ..] if is_blank(*first) => Some(rest),
+        _ => None,
+    }
 }
 
-/// How many bytes at the front are blanks.
+/// What follows this byte, where the text begins with it.
 #[inline(always)]
-fn blank_len(text: &str) -> usize
-    ensures { result ≡ prefix_len blank text.now }
+fn after_byte(text: &[u8], byte: u8) -> Option<&[u8]>
+    ensures { MatchOption result (begins_with byte text.now ≡ false) (λ rest. text.now ≡ byte ∷ rest.now) }
 {
-    text.as_bytes()
-        .iter()
-        .take_while(|&&byte| is_blank(byte))
-        .count()
+    match text {
+        [first, rest @ ..] if *first == byte => Some(rest),
+        _ => None,
+    }
 }
 
-/// How many bytes at the front are no blanks.
+/// Whether a range ends here: at the end of the text, or at a bar.
 #[inline(always)]
-fn word_len(text: &str) -> usize
-    ensures { result ≡ prefix_len not_blank text.now }
+pub(crate) fn ends_range(text: &[u8]) -> bool
+    ensures { result ≡ ends_range text.now }
 {
-    text.as_bytes()
-        .iter()
-        .take_while(|&&byte| !is_blank(byte))
-        .count()
+    matches!(text, [] | [b'|', ..])
 }
 
-/// How many bytes at the front are those of components.
+/// Whether a word ends here: at the end of the text, at a blank, or at a bar.
 #[inline(always)]
-fn component_len(text: &str) -> usize
-    ensures { result ≡ prefix_len component_byte text.now }
+fn ends_word(text: &[u8]) -> bool
+    ensures { result ≡ ends_word text.now }
 {
-    text.as_bytes()
-        .iter()
-        .take_while(|&&byte| is_component_byte(byte))
-        .count()
-}
-
-/// How many bytes at the front stand before a plus.
-#[inline(always)]
-fn pre_len(text: &str) -> usize
-    ensures { result ≡ prefix_len not_plus text.now }
-{
-    text.as_bytes()
-        .iter()
-        .take_while(|&&byte| byte != b'+')
-        .count()
+    match text {
+        [] => true,
+        [first, ..] => is_blank(*first) || *first == b'|',
+    }
 }
 
 #[inline(always)]
@@ -438,13 +417,6 @@ fn is_blank(byte: u8) -> bool
     ensures { result ≡ blank byte }
 {
     byte == b' ' || byte == b'\t'
-}
-
-#[inline(always)]
-fn is_component_byte(byte: u8) -> bool
-    ensures { result ≡ component_byte byte }
-{
-    matches!(byte, b'0'..=b'9' | b'x' | b'X' | b'*')
 }
 
 #[inline(always)]

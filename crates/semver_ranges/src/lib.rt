@@ -6,6 +6,7 @@ pub mod laws;
 mod partial;
 mod range;
 mod range_set;
+mod rewriting;
 
-pub use range::{Comparator, Identifier, Op, Range};
-pub use range_set::{Compat, RangeError, RangeSet};
+pub use range::{Comparator, Compat, Identifier, Op, Range};
+pub use range_set::{RangeError, RangeSet};

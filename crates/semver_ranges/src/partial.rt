@@ -1,19 +1,24 @@
-//! Partials: their slices, and the numbers that they state.
-ghost use Rattle.std.specs.Prelude.{IsTrue};
-ghost use Rattle.std.specs.List.{list_all};
-ghost use Rattle.semver_ranges.specs.RangeTree.{components, is_component, is_part};
-ghost use Rattle.semver_ranges.specs.Pieces.{parts, tree};
+//! Partials: the numbers that one states, and its pre-release as a slice of the text.
 
-/// The slices of a partial: its components, its pre-release and its build. The last two stand without their mark.
+ghost use Rattle.std.specs.Prelude.{◌≡◌, ◌+◌, ◌-◌, ◌^◌, ◌<◌, ◌≤◌, Some, true, List, [], map, length, IsTrue, IfOk};
+ghost use Rattle.std.specs.List.{count_by, list_all, slice_split};
+ghost use Rattle.std.specs.Str.{IsUtf8};
+ghost use Rattle.semver_texts.specs.Texts.{Text};
+ghost use Rattle.semver_ranges.specs.RangeTree.{PartialTree, one, two, three, is_part};
+ghost use Rattle.semver_ranges.specs.Partials.{kept, leading_place};
+ghost use Rattle.semver_ranges.specs.Reading.{is_dot};
+ghost use Rattle.semver_ranges.specs.RewritingTable.{comparator, up, bound_fits};
+ghost use Rattle.semver_ranges.specs.RangeViews.{comparator_of, identifier_of};
+ghost use Rattle.semver_ranges.specs.PartialViews.{parts_of, states_none, stated_of, version_of, place_number, IsComponentOf, IsPartialOf, PartsPass};
+
+use crate::range::{Comparator, Identifier, Op};
+use std::alloc::{AllocError, Global};
+
+/// A component: a wildcard, or a number, whose value is none above 2^64 - 1.
 #[derive(Clone, Copy)]
-pub(crate) struct PartialText<'input> {
-    pub(crate) major: &'input str,
-    pub(crate) minor: Option<&'input str>,
-    pub(crate) patch: Option<&'input str>,
-    pub(crate) pre: Option<&'input str>,
-    pub(crate) build: Option<&'input str>,
-    ghost components_pass: { IsTrue (list_all is_component (components (tree major.now minor patch (parts pre) (parts build)))) },
-    ghost parts_pass: { IsTrue (list_all is_part (parts pre)) },
+pub(crate) enum Component {
+    Wildcard,
+    Number(Option<u64>),
 }
 
 /// How many numbers a partial states.
@@ -29,13 +34,306 @@ pub(crate) enum PartialKind {
     MajorMinorPatch,
 }
 
-/// The numbers that a partial states, and its pre-release as a slice of the text.
+/// One of the three numbers.
+#[derive(Clone, Copy, PartialEq, Eq)]
+pub(crate) enum Place {
+    Major,
+    Minor,
+    Patch,
+}
+
+/// The numbers that a partial states, with zeros for the others, and its pre-release behind three, as a slice of the text.
 #[derive(Clone, Copy)]
 pub(crate) struct Partial<'input> {
-    pub(crate) major: Option<u64>,
-    pub(crate) minor: Option<u64>,
-    pub(crate) patch: Option<u64>,
-    pub(crate) pre: Option<&'input str>,
-    pub(crate) kind: PartialKind,
-    ghost parts_pass: { IsTrue (list_all is_part (parts pre)) },
+    major: u64,
+    minor: u64,
+    patch: u64,
+    pre: &'input [u8],
+    kind: PartialKind,
+    fits: bool,
+}
+
+impl<'input> Partial<'input> {
+    /// Nothing stated.
+    #[inline(always)]
+    pub(crate) fn new() -> Partial<'input>
+        ensures numbers { version_of result ≡ record { major = 0; minor = 0; patch = 0; pre = [] } }
+        ensures kind { result.kind ≡ PartialKind.XRangeOnly }
+        ensures fits { result.fits ≡ true }
+        ensures parts_pass { PartsPass result }
+    {
+        Partial {
+            major: 0,
+            minor: 0,
+            patch: 0,
+            pre: &[],
+            kind: PartialKind::XRangeOnly,
+            fits: true,
+        }
+    }
+
+    /// How many numbers are stated.
+    #[inline(always)]
+    pub(crate) fn kind(&self) -> PartialKind
+        ensures { result ≡ self.now.kind }
+    {
+        self.kind
+    }
+
+    /// Whether no number is stated.
+    #[inline(always)]
+    pub(crate) fn states_nothing(&self) -> bool
+        ensures { result ≡ states_none self.now.kind }
+    {
+        matches!(self.kind, PartialKind::XRangeOnly)
+    }
+
+    /// Whether the numbers that are stated are at most 2^64 - 1.
+    #[inline(always)]
+    pub(crate) fn fits(&self) -> bool
+        ensures { result ≡ self.now.fits }
+    {
+        self.fits
+    }
+
+    /// With a first component.
+    #[inline(always)]
+    pub(crate) fn with_major(mut self, component: Component) -> Partial<'input>
+        requires kind { self.kind ≡ PartialKind.XRangeOnly }
+        requires fits { self.fits ≡ true }
+        requires numbers { version_of self ≡ record { major = 0; minor = 0; patch = 0; pre = [] } }
+        requires parts_pass { PartsPass self }
+        ensures { (a : Text) → IsComponentOf a component → IsPartialOf (one a) result }
+    {
+        let Component::Number(number) = component else {
+            return self;
+        };
+        self.kind = PartialKind::MajorOnly;
+        match number {
+            Some(number) => self.major = number,
+            None => self.fits = false,
+        }
+        self
+    }
+
+    /// With a second component.
+    #[inline(always)]
+    pub(crate) fn with_minor(mut self, component: Component) -> Partial<'input>
+        ensures { (a b : Text) → IsPartialOf (one a) self.entry → IsComponentOf b component → IsPartialOf (two a b) result }
+    {
+        let Component::Number(number) = component else {
+            return self;
+        };
+        if self.kind != PartialKind::MajorOnly {
+            return self;
+        }
+        self.kind = PartialKind::MajorMinor;
+        match number {
+            Some(number) => self.minor = number,
+            None => self.fits = false,
+        }
+        self
+    }
+
+    /// With a third component.
+    #[inline(always)]
+    pub(crate) fn with_patch(mut self, component: Component) -> Partial<'input>
+        ensures { (a b c : Text) → IsPartialOf (two a b) self.entry → IsComponentOf c component → IsPartialOf (three a b c [] []) result }
+    {
+        let Component::Number(number) = component else {
+            return self;
+        };
+        if self.kind != PartialKind::MajorMinor {
+            return self;
+        }
+        self.kind = PartialKind::MajorMinorPatch;
+        match number {
+            Some(number) => self.patch = number,
+            None => self.fits = false,
+        }
+        self
+    }
+
+    /// With the parts of a pre-release, which count behind three numbers alone.
+    #[inline(always)]
+    pub(crate) fn with_pre(mut self, pre: &'input [u8]) -> Partial<'input>
+        requires { list_all is_part (parts_of pre.now) ≡ true }
+        ensures { (a b c : Text) (build : List Text) → IsPartialOf (three a b c [] []) self.entry → IsPartialOf (three a b c (parts_of pre.now) build) result }
+    {
+        if self.kind == PartialKind::MajorMinorPatch {
+            self.pre = pre;
+        }
+        self
+    }
+
+    /// The place of the first number that isn't 0, or of the last that is stated.
+    #[inline(always)]
+    pub(crate) fn leading_place(&self) -> Place
+        requires { 1 ≤ length (stated_of self.now) }
+        ensures leading { place_number result ≡ leading_place (stated_of self.now) }
+        ensures stated { place_number result ≤ length (stated_of self.now) }
+    {
+        match self.kind {
+            PartialKind::XRangeOnly | PartialKind::MajorOnly => Place::Major,
+            PartialKind::MajorMinor | PartialKind::MajorMinorPatch if self.major > 0 =>
+                Place::Major,
+            PartialKind::MajorMinor => Place::Minor,
+            PartialKind::MajorMinorPatch if self.minor > 0 => Place::Minor,
+            PartialKind::MajorMinorPatch => Place::Patch,
+        }
+    }
+
+    /// Whether the number at a place is below 2^64 - 1.
+    #[inline(always)]
+    pub(crate) fn may_rise(&self, place: Place) -> bool
+        requires { place_number place ≤ length (stated_of self.now) }
+        ensures { result ≡ bound_fits (Some (up (place_number place) (stated_of self.now))) }
+    {
+        let number = match place {
+            Place::Major => self.major,
+            Place::Minor => self.minor,
+            Place::Patch => self.patch,
+        };
+        number < u64::MAX
+    }
+
+    /// The bound above all versions with these numbers up to a place: that number is raised by one, those behind it are 0, and
+    /// there is no pre-release.
+    #[inline(always)]
+    pub(crate) fn raised(self, place: Place) -> Partial<'input>
+        requires stated { place_number place ≤ length (stated_of self) }
+        requires fits { bound_fits (Some (up (place_number place) (stated_of self))) ≡ true }
+        ensures bound { version_of result ≡ up (place_number place) (stated_of self.entry) }
+        ensures parts_pass { PartsPass result }
+    {
+        match place {
+            Place::Major => self.inc_major().zero_minor().zero_patch().no_pre(),
+            Place::Minor => self.inc_minor().zero_patch().no_pre(),
+            Place::Patch => self.inc_patch().no_pre(),
+        }
+    }
+
+    /// The major raised by one.
+    #[inline(always)]
+    fn inc_major(mut self) -> Partial<'input>
+        requires { self.major < 2 ^ 64 - 1 }
+        ensures { version_of result ≡ record (version_of self.entry) { major = self.entry.major + 1 } }
+    {
+        self.major += 1;
+        self
+    }
+
+    /// The minor raised by one.
+    #[inline(always)]
+    fn inc_minor(mut self) -> Partial<'input>
+        requires { self.minor < 2 ^ 64 - 1 }
+        ensures { version_of result ≡ record (version_of self.entry) { minor = self.entry.minor + 1 } }
+    {
+        self.minor += 1;
+        self
+    }
+
+    /// The patch raised by one.
+    #[inline(always)]
+    fn inc_patch(mut self) -> Partial<'input>
+        requires { self.patch < 2 ^ 64 - 1 }
+        ensures { version_of result ≡ record (version_of self.entry) { patch = self.entry.patch + 1 } }
+    {
+        self.patch += 1;
+        self
+    }
+
+    /// The minor as 0.
+    #[inline(always)]
+    fn zero_minor(mut self) -> Partial<'input>
+        ensures { version_of result ≡ record (version_of self.entry) { minor = 0 } }
+    {
+        self.minor = 0;
+        self
+    }
+
+    /// The patch as 0.
+    #[inline(always)]
+    fn zero_patch(mut self) -> Partial<'input>
+        ensures { version_of result ≡ record (version_of self.entry) { patch = 0 } }
+    {
+        self.patch = 0;
+        self
+    }
+
+    /// Without pre-release.
+    #[inline(always)]
+    fn no_pre(mut self) -> Partial<'input>
+        ensures { version_of result ≡ record (version_of self.entry) { pre = [] } }
+    {
+        self.pre = &[];
+        self
+    }
+
+    /// The comparator of an operator and this partial, with zeros for what isn't stated.
+    #[inline(always)]
+    pub(crate) fn as_comparator(&self, alloc: Global, op: Op) -> Result<Comparator, AllocError>
+        requires { PartsPass self.now }
+        ensures { IfOk result (λ c. comparator_of c ≡ comparator op (version_of self.now)) }
+    {
+        let pre = if self.pre.is_empty() {
+            Vec::new(alloc)
+        } else {
+            read_identifiers(alloc, text_of(self.pre))?
+        };
+        Ok(Comparator {
+            op,
+            major: self.major,
+            minor: self.minor,
+            patch: self.patch,
+            pre,
+        })
+    }
+}
+
+/// The bytes of parts and dots, which are ASCII, as a text.
+#[inline(always)]
+fn text_of(pre: &[u8]) -> &str
+    requires { list_all is_part (slice_split is_dot pre.now) ≡ true }
+    ensures { result.now ≡ pre.now }
+{
+    std::str::from_utf8(pre).unwrap_or("")
+}
+
+/// The identifiers of a pre-release.
+fn read_identifiers(alloc: Global, pre: &str) -> Result<Vec<Identifier>, AllocError>
+    requires { IsTrue (list_all is_part (slice_split is_dot pre.now)) }
+    ensures { IfOk result (λ v. map identifier_of v.items ≡ map kept (slice_split is_dot pre.now)) }
+{
+    let mut identifiers = Vec::with_capacity(alloc, count_parts(pre.as_bytes()))?;
+    for part in pre.split('.') {
+        identifiers.push(read_identifier(alloc, part)?)?;
+    }
+    Ok(identifiers)
+}
+
+/// How many parts a pre-release has.
+fn count_parts(pre: &[u8]) -> usize
+    ensures { result ≡ length (slice_split is_dot pre.now) }
+{
+    count_dots(pre) + 1
+}
+
+/// How many dots bytes have.
+#[inline(always)]
+fn count_dots(bytes: &[u8]) -> usize
+    ensures { result ≡ count_by is_dot bytes.now }
+{
+    bytes.iter().filter(|&&byte| byte == b'.').count()
+}
+
+/// A part as it is kept.
+fn read_identifier(alloc: Global, part: &str) -> Result<Identifier, AllocError>
+    requires { is_part part.now ≡ true }
+    ensures { IfOk result (λ i. identifier_of i ≡ kept part.now) }
+{
+    match part.parse::<u64>() {
+        Ok(number) => Ok(Identifier::Numeric(number)),
+        Err(_) => Ok(Identifier::AlphaNumeric(String::from_str(alloc, part)?)),
+    }
 }

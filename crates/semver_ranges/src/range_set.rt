@@ -1,21 +1,25 @@
 //! Range sets: the ranges of a text in one of two modes, and their printed text.
 
-ghost use Rattle.std.specs.Prelude.{Some, ◌≡◌, ◌↔◌, ◌⊎◌, ◌++◌, false, [], map, IsTrue, IfOk, IsOkAnd};
-ghost use Rattle.semver_ranges.specs.RangeTree.{SetTree, Spells};
+ghost use Rattle.std.specs.Prelude.{Some, None, ◌≡◌, ◌↔◌, ◌⊎◌, ◌++◌, ◌∷◌, false, true, [], List, length, map, IsTrue, IfOk, IfSome, IsOkAnd, MatchOption};
+ghost use Rattle.std.specs.List.{list_all, flat_map};
+ghost use Rattle.semver_ranges.specs.RangeTree.{Simple as SimpleTree, SetTree, Spells, simples};
+ghost use Rattle.semver_texts.specs.Texts.{Text};
 ghost use Rattle.semver_texts.specs.Versions.{PlainVersion};
 ghost use Rattle.semver_ranges.specs.OwnMeaning.{meets_tree};
-ghost use Rattle.semver_ranges.specs.RewritingTable.{PlainSet, fits, rewritten};
+ghost use Rattle.semver_ranges.specs.RewritingTable.{PlainSet, fits, rewritten, simple_comparators};
 ghost use Rattle.semver_ranges.specs.Meeting.{meets_set, meets_tree_or_bounds};
 ghost use Rattle.semver_ranges.specs.PrintedRanges.{IsPrintableSet, set_text};
 ghost use Rattle.semver_ranges.specs.RangeViews.{range_of, set_of};
-ghost use Rattle.semver_ranges.specs.Reader.{read};
+ghost use Rattle.semver_ranges.specs.Reading.{read, read_rest};
 ghost use Rattle.semver_ranges.specs.Answers.{IsAnswer};
-ghost use Rattle.semver_ranges.specs.PartialViews.{range_for, last_count, IsSized};
+ghost use Rattle.semver_ranges.specs.CursorViews.{Has, simple_fits};
+ghost use Rattle.semver_ranges.specs.BoundsViews.{bounds_of, bounds_fit, range_for, IsBuildable, Fits, RestFits};
 
-use crate::grammar::{count_ranges, next_range};
-use crate::range::{Range, build_range, count_comparators};
+use crate::grammar::{RangeText, ends_range, front_simple, next_range, read_range};
+use crate::range::{Compat, Range};
+use crate::rewriting::{Bounds, Size, rewritten};
 use semver_texts::printing::write_joined;
-use std::alloc::Global;
+use std::alloc::{AllocError, Global};
 use std::fmt;
 use thiserror::Error;
 
@@ -26,15 +30,6 @@ pub struct RangeSet {
     pub ranges: Vec<Range>,
     /// The mode in which the text was read.
     pub compat: Compat,
-}
-
-/// How a bare version of three numbers is read.
-#[derive(Clone, Copy, PartialEq, Eq, PartialOrd, Ord, Hash, Debug)]
-pub enum Compat {
-    /// As with a caret: `1.2.3` is `>=1.2.3 <2.0.0`.
-    Cargo,
-    /// As this version alone: `1.2.3` is `=1.2.3`.
-    Npm,
 }
 
 /// Why a text gives no range set.
@@ -131,52 +126,144 @@ impl RangeSet {
     }
 }
 
-/// Reads a text three times: for the grammar, for the sizes, and to build.
+/// The range set of a text, or why there is none.
 fn read_set(alloc: Global, input: &str, compat: Compat) -> Result<RangeSet, RangeError>
     ensures { IsAnswer input.now compat result }
 {
-    let count = count_ranges(input)?;
-    let last = check_sizes(input, compat)?;
-    let Ok(mut ranges) = Vec::with_capacity(alloc, count) else {
-        return Err(RangeError::OutOfMemory);
+    let text = input.as_bytes();
+    let Some(bounds) = read_only_simple(text, compat) else {
+        return read_ranges(alloc, text, compat);
     };
-    push_ranges(alloc, &mut ranges, input, compat, last)?;
+    match build_only_simple(alloc, bounds, compat) {
+        Ok(set) => Ok(set),
+        Err(_) => Err(RangeError::OutOfMemory),
+    }
+}
+
+/// The comparators of a text that is one simple from its first byte on, and that fits. What it doesn't find, the reader of ranges decides.
+#[inline(always)]
+fn read_only_simple(text: &[u8], compat: Compat) -> Option<Bounds<'_>>
+    ensures { IfSome result (λ bounds. (s : SimpleTree) × (read text.now ≡ Some (simples s [] ∷ [])) × (simple_fits compat s ≡ true)
+        × IsBuildable bounds × (bounds_fit bounds ≡ true) × (bounds_of bounds ≡ simple_comparators compat s)) }
+{
+    let (simple, rest) = front_simple(text)?;
+    if !rest.is_empty() {
+        return None;
+    }
+    let bounds = rewritten(&simple, compat);
+    if bounds.fits() { Some(bounds) } else { None }
+}
+
+/// The set of one range that has these comparators.
+#[inline(always)]
+fn build_only_simple(
+    alloc: Global,
+    bounds: Bounds<'_>,
+    compat: Compat,
+) -> Result<RangeSet, AllocError>
+    requires buildable { IsBuildable bounds }
+    requires fits { bounds_fit bounds ≡ true }
+    ensures { IfOk result (λ set. set_of set ≡ record { ranges = record { comparators = bounds_of bounds.entry; compat = compat } ∷ []; compat = compat }) }
+{
+    let mut ranges = Vec::with_capacity(alloc, 1)?;
+    let mut comparator_set = Vec::with_capacity(alloc, bounds.count())?;
+    bounds.push(alloc, &mut comparator_set)?;
+    ranges.push(Range {
+        comparator_set,
+        compat,
+    })?;
     Ok(RangeSet { ranges, compat })
 }
 
-/// Whether the numbers and the raised bounds of all ranges fit, and how many comparators the last range has.
-fn check_sizes(input: &str, compat: Compat) -> Result<usize, RangeError>
-    ensures { IsSized (fits compat) (λ tree n. n ≡ last_count compat tree) ⊥ (read input.now) result }
+/// The range set of a text of any ranges: first all of it is read, for the grammar and the sizes, and then it is built.
+#[inline(never)]
+fn read_ranges(alloc: Global, text: &[u8], compat: Compat) -> Result<RangeSet, RangeError>
+    ensures { IsAnswer text.now compat result }
 {
-    let mut rest = Some(input);
-    let mut last = 0;
-    while let Some(text) = rest {
-        let (range, behind) = next_range(text)?;
-        last = count_comparators(range, compat)?;
-        rest = behind;
+    let Some(first) = read_range(text) else {
+        return Err(RangeError::NotARange);
+    };
+    let size = first.size(compat);
+    let Some(others) = survey(size.rest, compat) else {
+        return Err(RangeError::NotARange);
+    };
+    if !(size.fits && others.fit) {
+        return Err(RangeError::NumberTooLarge);
     }
-    Ok(last)
+    match build_ranges(alloc, &first, &size, &others, compat) {
+        Ok(ranges) => Ok(RangeSet { ranges, compat }),
+        Err(_) => Err(RangeError::OutOfMemory),
+    }
 }
 
-/// Adds the ranges of a text whose last range has `last` comparators. The others are counted once more.
+/// What there is to know of the ranges behind a first before they are built.
+#[derive(Clone, Copy)]
+struct Others {
+    count: usize,
+    fit: bool,
+}
+
+/// The ranges from the end of a first one on, where all that is left is ranges: how many, and whether they fit.
+fn survey(rest: &[u8], compat: Compat) -> Option<Others>
+    ensures { MatchOption result (read_rest rest.now ≡ None)
+        (λ others. (tree : SetTree) × (read_rest rest.now ≡ Some tree) × (others.count ≡ length tree) × (others.fit ≡ fits compat tree)) }
+{
+    let mut rest = rest;
+    let mut count = 0;
+    let mut fit = true;
+    while let Some(range) = next_range(rest) {
+        let size = range.size(compat);
+        if !ends_range(size.rest) {
+            return None;
+        }
+        count += 1;
+        fit = fit && size.fits;
+        rest = size.rest;
+    }
+    if rest.is_empty() {
+        Some(Others { count, fit })
+    } else {
+        None
+    }
+}
+
+/// The ranges of a text: the first as it was read, and the others as they stand behind it.
+#[inline(always)]
+fn build_ranges<'input>(
+    alloc: Global,
+    first: &RangeText<'input>,
+    size: &Size<'input>,
+    others: &Others,
+    compat: Compat,
+) -> Result<Vec<Range>, AllocError>
+    requires first { Fits compat first.now }
+    requires others { RestFits compat (read_rest size.now.rest.now) }
+    ensures { IfOk result (λ ranges. (ss : List SimpleTree) (end : Text) (tree : SetTree) → Has first.now ss end → list_all (simple_fits compat) ss ≡ true
+        → read_rest size.now.rest.now ≡ Some tree
+        → map range_of ranges.items ≡ record { comparators = flat_map (simple_comparators compat) ss; compat = compat } ∷ map (range_for compat) tree) }
+{
+    let mut ranges = Vec::with_capacity(alloc, others.count.saturating_add(1))?;
+    ranges.push(first.build(alloc, size.count, compat)?)?;
+    push_ranges(alloc, &mut ranges, size.rest, compat)?;
+    Ok(ranges)
+}
+
+/// Adds the ranges from the end of a first one on.
 fn push_ranges(
     alloc: Global,
     ranges: &mut Vec<Range>,
-    input: &str,
+    rest: &[u8],
     compat: Compat,
-    last: usize,
-) -> Result<(), RangeError>
-    ensures { IsSized (fits compat) (λ tree u. map range_of ranges.new.items ≡ map range_of ranges.old.items ++ map (range_for compat) tree) (Unit {0}) (read input.now) result }
+) -> Result<(), AllocError>
+    requires { RestFits compat (read_rest rest.now) }
+    ensures { IfOk result (λ _. (tree : SetTree) → read_rest rest.now ≡ Some tree
+        → map range_of ranges.new.items ≡ map range_of ranges.old.items ++ map (range_for compat) tree) }
 {
-    let mut rest = Some(input);
-    while let Some(text) = rest {
-        let (range, behind) = next_range(text)?;
-        let count = behind.is_none().then_some(last);
-        let built = build_range(alloc, range, compat, count)?;
-        let Ok(()) = ranges.push(built) else {
-            return Err(RangeError::OutOfMemory);
-        };
-        rest = behind;
+    let mut rest = rest;
+    while let Some(range) = next_range(rest) {
+        let size = range.size(compat);
+        ranges.push(range.build(alloc, size.count, compat)?)?;
+        rest = size.rest;
     }
     Ok(())
 }

@@ -1,26 +1,37 @@
-use Rattle.std.proofs.Common.{◌≡◌, ◌∷◌, List, Option, sym, ◌∙◌, ap, subst, codes}
-use Rattle.semver_ranges.specs.RangeTree.{RangeTree}
-use Rattle.semver_texts.specs.Texts.{Text, is_empty}
-use Rattle.semver_ranges.specs.Reader.{as_range, read_simples, read_words, words}
-use Rattle.semver_ranges.specs.PieceViews.{IsReadAs}
-use Rattle.semver_ranges.proofs.Cursor.{hyphen_is, hyphen_words, other_words}
+use Rattle.std.proofs.Common.{◌≡◌, ◌∷◌, [], codes, Some, None, true, refl, sym, ◌∙◌, arith}
+use Rattle.semver_ranges.specs.declared.grammar.Form.TheVariants.{Bare}
+use Rattle.semver_ranges.specs.RangeTree.{Simple, bare, one, empty, simples}
+use Rattle.semver_texts.specs.Texts.{Text}
+use Rattle.semver_ranges.specs.Reading.{ends_range, range}
+use Rattle.semver_ranges.proofs.ReadingSteps.{shorter_simple}
+use Rattle.semver_ranges.proofs.RangeFronts.{front_ended, made_of_nothing, made_of_simples, is_nothing, range_begins, range_empty, behind_end}
 use Rattle.semver_ranges.proofs.grammar.read_range.Goals as goal
-use Rattle.semver_ranges.proofs.grammar.read_range.Goals.{After-is_hyphen}
 
--- the first two words
-first_words : (c : After-is_hyphen) → words c.args.text.now ≡ c.in-Some.first.now ∷ c.in-Some-next_word.second.now ∷ words c.in-Some-next_word.behind.now
-first_words c = c.in-Some.ensures.0 ∙ ap (λ ws. c.in-Some.first.now ∷ ws) c.in-Some-next_word.ensures.0
+pub returns-then-ends_range : goal.returns-then-ends_range
+returns-then-ends_range c =
+    let ends : ends_range c.behind_blanks-text.result.now ≡ true = sym c.ends_range.ensures ∙ c.if-ends_range.true in
+    let nothing : Simple = record { form = bare; partial = one (codes "*") } in
+    front_ended (record { first = record { form = Bare; partial = c.new.result }; second = None; others = c.behind_blanks-text.result }) empty (range c.args.text.now)
+    (nothing ∷ [], ((refl, is_nothing c.new.result c.new.ensures.numbers c.new.ensures.kind c.new.ensures.fits c.new.ensures.parts_pass), refl), made_of_nothing) ends
+    (range_empty c.args.text.now c.behind_blanks-text.result.now c.behind_blanks-text.ensures ends)
 
-pub returns-then-is_hyphen : goal.returns-then-is_hyphen
-returns-then-is_hyphen c =
-    let second : c.in-Some-next_word.second.now ≡ codes "-" = hyphen_is c.in-Some-next_word.second.now (sym c.is_hyphen.ensures ∙ c.if-is_hyphen.true) in
-    let reads = ap read_words (first_words (goal.at.returns-then-is_hyphen c).After-is_hyphen)
-    ∙ ap (λ (d : Text). read_words (c.in-Some.first.now ∷ d ∷ words c.in-Some-next_word.behind.now)) second
-    ∙ hyphen_words c.in-Some.first.now (words c.in-Some-next_word.behind.now) in
-    subst (λ (o : Option RangeTree). IsReadAs o c.read_hyphen_range.result) (sym reads) c.read_hyphen_range.ensures
+pub returns-then-ends_range-2 : goal.returns-then-ends_range-2
+returns-then-ends_range-2 c =
+    let t : Text = c.behind_blanks-text.result.now in
+    let u : Text = c.in_ok-first.rest.now in
+    let found = c.in_ok-first.ensures in
+    let ends : ends_range u ≡ true = sym c.ends_range-2.ensures ∙ c.if-ends_range-2.true in
+    front_ended (record { first = c.in_ok-first.first; second = None; others = c.in_ok-first.rest }) (simples found.0 []) (range c.args.text.now)
+    (found.0 ∷ [], (found.2, refl), made_of_simples found.0 []) ends
+    (range_begins c.args.text.now t (Some (found.0, u)) c.behind_blanks-text.ensures (sym c.ends_range.ensures ∙ c.if-ends_range.false) found.1 ∙ behind_end found.0 u ends)
+
+pub read_second-requires-clause-room : goal.read_second-requires-clause-room
+read_second-requires-clause-room c =
+    let found = c.in_ok-first.ensures in
+    omega (arith, shorter_simple c.behind_blanks-text.result.now c.in_ok-first.rest.now found.0 found.1)
 
 pub returns : goal.returns
 returns c =
-    let found = first_words (goal.at.returns c).After-is_hyphen in
-    let other = other_words c.in-Some.first.now c.in-Some-next_word.second.now (words c.in-Some-next_word.behind.now) (sym c.is_hyphen.ensures ∙ c.if-is_hyphen.false) in
-    (ap (λ (ws : List Text). as_range (read_simples ws)) found ∙ sym other ∙ ap read_words (sym found), ap is_empty found)
+    let found = c.in_ok-first.ensures in
+    rw (range_begins c.args.text.now c.behind_blanks-text.result.now (Some (found.0, c.in_ok-first.rest.now)) c.behind_blanks-text.ensures (sym c.ends_range.ensures ∙ c.if-ends_range.false) found.1)
+    (c.read_second.ensures found.0 found.2)

@@ -1,4 +1,4 @@
-use Rattle.semver_ranges.proofs.ReaderComplete.{same_tree}
+use Rattle.semver_ranges.proofs.ReadingComplete.{same_tree}
 use Rattle.semver_ranges.proofs.laws.one_tree.Goals as goal
 
 pub returns : goal.returns

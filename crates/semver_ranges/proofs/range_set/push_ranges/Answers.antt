@@ -1,34 +1,37 @@
-use Rattle.std.proofs.Common.{◌≡◌, ◌++◌, ◌∷◌, [], ◌∙◌, ap, Option}
-use Rattle.std.proofs.lemmas.Result.{err_from_is_err_and}
-use Rattle.semver_ranges.specs.declared.range.Range.{Range}
-use Rattle.semver_ranges.specs.RangeTree.{RangeTree}
-use Rattle.semver_ranges.specs.Reader.{onto}
+use Rattle.std.proofs.Common.{◌++◌, ◌∷◌, [], Some, sym, ap, ◌∙◌, append_assoc, append-nil}
+use Rattle.std.specs.Prelude.{map}
+use Rattle.semver_ranges.specs.RangeTree.{SetTree}
 use Rattle.semver_ranges.specs.RangeViews.{range_of}
-use Rattle.semver_ranges.specs.PieceViews.{read_after}
-use Rattle.semver_ranges.specs.PartialViews.{range_fits, range_for}
-use Rattle.semver_ranges.proofs.Gathered.{gathered_more, gathered_all, gathered_none}
-use Rattle.semver_ranges.proofs.SizedRanges.{sized_none, set_exit, fits_more, built_more}
+use Rattle.semver_ranges.specs.BoundsViews.{range_for}
+use Rattle.semver_ranges.proofs.RangeSteps.{next_built, range_made, built_more}
 use Rattle.semver_ranges.proofs.range_set.push_ranges.Goals as goal
 
-pub returns-in_err-range : goal.returns-in_err-range
-returns-in_err-range c =
-    let p = err_from_is_err_and c.from_residual.result c.from_residual.ensures.1 in
-    sized_none _ _ _ _ _ p.0 p.1 (p.2 ∙ c.in_err-range.ensures.0) (gathered_none _ _ c.loop-rest.invariant.0 c.loop-rest.invariant.1 (ap read_after c.in-Some.is ∙ c.in_err-range.ensures.1))
+pub loop-range-init : goal.loop-range-init
+loop-range-init c = ([], c.requires.0, c.requires.1, c.requires.1, c.requires.2, sym (append-nil (map range_of c.args.ranges.now.items)))
 
-pub returns-in_err-built : goal.returns-in_err-built
-returns-in_err-built c =
-    let p = err_from_is_err_and c.from_residual-in_err-built.result c.from_residual-in_err-built.ensures.1 in
-    set_exit {A = Range} c.args.compat (λ r built. range_of built ≡ range_for c.args.compat r) _ _ _ _ _ c.loop-rest.invariant.0 _ _ c.in_err-built.field-0.0 p.0 c.loop-rest.invariant.1 (ap read_after c.in-Some.is ∙ c.in_ok-range.ensures.0) c.in_err-built.ensures p.1 p.2
+pub build-requires : goal.build-requires
+build-requires c =
+    let i = c.loop-range.invariant in
+    let bars = c.in-Some.ensures.bars in
+    let next = next_built c.args.compat c.loop-range.rest.now bars.0 i.1 c.in-Some.range c.size-size.result i.3 i.4 bars.1 c.in-Some.ensures.front c.size-size.ensures.size c.size-size.ensures.fault in
+    record { fits = (next.1, next.2, next.4, next.6) }
 
-pub loop-rest-preserved : goal.loop-rest-preserved
-loop-rest-preserved c =
-    let found = c.in_ok-built.ensures in
-    let step = ap read_after c.in-Some.is ∙ c.in_ok-range.ensures.0 ∙ ap (λ (o : Option RangeTree). onto o (read_after c.in_ok-range.behind)) found.1 in (
-      c.loop-rest.invariant.0 ++ found.0 ∷ [],
-      gathered_more _ _ _ c.loop-rest.invariant.0 found.0 c.loop-rest.invariant.1 step,
-      fits_more (range_fits c.args.compat) c.loop-rest.invariant.0 found.0 c.loop-rest.invariant.2 found.2,
-      built_more range_of (range_for c.args.compat) _ c.loop-rest.ranges.items c.push.new.self.items c.in_ok-built.built c.loop-rest.invariant.0 found.0 c.loop-rest.invariant.3 c.in-Ok.ensures.items found.3,
+pub loop-range-smaller : goal.loop-range-smaller
+loop-range-smaller c =
+    let i = c.loop-range.invariant in
+    let bars = c.in-Some.ensures.bars in
+    (next_built c.args.compat c.loop-range.rest.now bars.0 i.1 c.in-Some.range c.size-size.result i.3 i.4 bars.1 c.in-Some.ensures.front c.size-size.ensures.size c.size-size.ensures.fault).10
+
+pub loop-range-preserved : goal.loop-range-preserved
+loop-range-preserved c =
+    let i = c.loop-range.invariant in
+    let bars = c.in-Some.ensures.bars in
+    let next = next_built c.args.compat c.loop-range.rest.now bars.0 i.1 c.in-Some.range c.size-size.result i.3 i.4 bars.1 c.in-Some.ensures.front c.size-size.ensures.size c.size-size.ensures.fault in (
+      i.0 ++ next.0 ∷ [],
+      next.3,
+      i.2 ∙ ap (λ (l : SetTree). Some (i.0 ++ l)) next.7 ∙ ap (λ (l : SetTree). Some l) (sym (append_assoc i.0 (next.0 ∷ []) next.3)),
+      next.8,
+      next.9,
+      built_more range_of (range_for c.args.compat) (map range_of c.args.ranges.now.items) c.loop-range.ranges.items c.push.new.self.items c.in_ok-build.field-0 i.0 next.0 i.5 c.in_ok-push.ensures.items
+          (c.in_ok-build.ensures next.1 next.2 next.4 next.6 ∙ range_made c.args.compat next.0 next.1 next.5),
     )
-
-pub returns : goal.returns
-returns c = (c.loop-rest.invariant.0, gathered_all _ _ c.loop-rest.invariant.0 c.loop-rest.invariant.1 (ap read_after c.in_default.is), c.loop-rest.invariant.2, c.loop-rest.invariant.3)

@@ -1,4 +1,4 @@
-use Rattle.semver_ranges.specs.declared.range_set.Compat.TheVariants.{Cargo}
+use Rattle.semver_ranges.specs.declared.range.Compat.TheVariants.{Cargo}
 use Rattle.semver_ranges.proofs.AnswerLaws.{accepted, as_rewritten, not_a_range, too_large, out_of_memory, meaning, releases, implied, printable, reads_back}
 use Rattle.semver_ranges.proofs.range_set.RangeSet.from_str.Goals as goal
 

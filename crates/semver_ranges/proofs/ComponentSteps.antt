@@ -1,0 +1,68 @@
+-- Components, as they are read byte by byte.
+use Rattle.std.proofs.Common.{◌≡◌, ℕ, ◌+◌, ◌-◌, ◌*◌, ◌<◌, ◌≤◌, true, false, ◌||◌, ◌==◌, [], ◌∷◌, length, get_or, take, drop, Option, Some, refl, sym, ap, ◌∙◌, subst, arith, inl, inr}
+use Rattle.std.specs.Char.{is_ascii_digit, digit_value}
+use Rattle.std.specs.Str.Parse.{digits_value}
+use Rattle.std.proofs.Math.Seq.{take-length}
+use Rattle.std.proofs.lemmas.Bool.{cases_Bool, or_cases, or_left, eqb-true}
+use Rattle.std.proofs.lemmas.Str.{digit_value_digit}
+use Rattle.std.proofs.lemmas.Int.Digits.{digits_value_more}
+use Rattle.semver_ranges.specs.RangeTree.{is_wildcard}
+use Rattle.semver_ranges.specs.Partials.{fits_u64}
+use Rattle.semver_texts.specs.Texts.{Text}
+use Rattle.semver_ranges.specs.Reading.{front, back, component}
+use Rattle.semver_ranges.specs.PartialViews.{IsValue}
+
+-- a first byte and what follows it
+first_apart : (t : Text) → 1 ≤ length t → t ≡ get_or t 0 0 ∷ take (length t - 1) (drop 1 t)
+first_apart [] some = absurd (omega (arith, some))
+first_apart (x ∷ xs) some =
+    let same : length xs ≡ length (x ∷ xs) - 1 = omega arith in
+    ap (λ (t : Text). x ∷ t) (sym (take-length xs)) ∙ ap (λ (k : ℕ). x ∷ take k xs) same
+
+-- a wildcard, and a zero
+one_byte : (b : ℕ) (t : Text) → (is_wildcard (b ∷ []) || (b == 48)) ≡ true → component (b ∷ t) ≡ Some (b ∷ [], t)
+one_byte b t e = rw e refl
+
+pub wildcard_front : (t : Text) → 1 ≤ length t → is_wildcard (get_or t 0 0 ∷ []) ≡ true → (x : Text) × (component t ≡ Some (x, take (length t - 1) (drop 1 t))) × (is_wildcard x ≡ true)
+wildcard_front t some e =
+    (get_or t 0 0 ∷ [], ap component (first_apart t some) ∙ one_byte (get_or t 0 0) _ (or_left (is_wildcard (get_or t 0 0 ∷ [])) (get_or t 0 0 == 48) e), e)
+
+pub zero_front : (t : Text) → 1 ≤ length t → get_or t 0 0 ≡ 48
+    → (x : Text) × (component t ≡ Some (x, take (length t - 1) (drop 1 t))) × (is_wildcard x ≡ false) × (fits_u64 (digits_value 10 x) ≡ true) × (0 ≡ digits_value 10 x)
+zero_front t some e =
+    (48 ∷ [], ap component (first_apart t some ∙ ap (λ (b : ℕ). b ∷ take (length t - 1) (drop 1 t)) e) ∙ one_byte 48 _ refl, refl, refl, refl)
+
+-- digits
+digit_bounds : (b : ℕ) → is_ascii_digit b ≡ true → (48 ≤ b) × (b ≤ 57)
+digit_bounds b e = grind arith
+
+no_wildcard : (b : ℕ) (t : Text) → is_ascii_digit b ≡ true → is_wildcard (b ∷ t) ≡ false
+no_wildcard b [] e = elim (cases_Bool (is_wildcard (b ∷ []))) [
+  | inl y ↦ let range = digit_bounds b e in elim (or_cases ((b == 120) || (b == 88)) (b == 42) y) [
+    | inl h ↦ elim (or_cases (b == 120) (b == 88) h) [
+      | inl x ↦ let same : b ≡ 120 = eqb-true b 120 x in absurd (omega (arith, same, range.1))
+      | inr x ↦ let same : b ≡ 88 = eqb-true b 88 x in absurd (omega (arith, same, range.1))
+    ]
+    | inr x ↦ let same : b ≡ 42 = eqb-true b 42 x in absurd (omega (arith, same, range.0))
+  ]
+  | inr n ↦ n
+]
+no_wildcard b (c ∷ t) e = refl
+
+digit_component : (b : ℕ) (t : Text) → is_ascii_digit b ≡ true → (b == 48) ≡ false → component (b ∷ t) ≡ Some (front is_ascii_digit (b ∷ t), back is_ascii_digit (b ∷ t))
+digit_component b t e other = rw (no_wildcard b [] e, other, e) refl
+
+pub digits_front : (t rest : Text) (value : Option ℕ) → 1 ≤ length t → is_ascii_digit (get_or t 0 0) ≡ true → (get_or t 0 0 == 48) ≡ false
+    → IsValue (digits_value 10 (front is_ascii_digit t)) value → rest ≡ back is_ascii_digit t
+    → (x : Text) × (component t ≡ Some (x, rest)) × ((is_wildcard x ≡ false) × IsValue (digits_value 10 x) value)
+digits_front [] rest value some e other v is = absurd (omega (arith, some))
+digits_front (b ∷ t) rest value some e other v is =
+    (front is_ascii_digit (b ∷ t), digit_component b t e other ∙ ap (λ (u : Text). Some (front is_ascii_digit (b ∷ t), u)) (sym is), (rw e (no_wildcard b (front is_ascii_digit t) e), v))
+
+-- one digit more
+pub value_more : (t : Text) (i : ℕ) (value : Option ℕ) → i < length t → is_ascii_digit (get_or t i 0) ≡ true → IsValue (digits_value 10 (take i t) * 10 + (get_or t i 0 - 48)) value
+    → IsValue (digits_value 10 (take (i + 1) t)) value
+value_more t i value within e v =
+    let range = digit_bounds (get_or t i 0) e in
+    let digit : digit_value (get_or t i 0) ≡ get_or t i 0 - 48 = omega (arith, digit_value_digit (get_or t i 0) range) in
+    subst (λ (n : ℕ). IsValue n value) (sym (digits_value_more 10 t i within ∙ ap (λ (d : ℕ). digits_value 10 (take i t) * 10 + d) digit)) v

@@ -1,0 +1,207 @@
+-- Ranges of a text, one after the other.
+use Rattle.std.proofs.Common.{◌≡◌, ℕ, ◌<◌, ◌+◌, Bool, true, false, ◌&&◌, ◌==◌, List, [], ◌∷◌, ◌++◌, length, Option, Some, None, refl, sym, ap, ◌∙◌, arith, inl, inr, append_assoc, append-nil}
+use Rattle.std.specs.Prelude.{map}
+use Rattle.std.specs.List.{list_all, flat_map}
+use Rattle.std.proofs.lemmas.Bool.{cases_Bool, both_ways, and_parts, or_cases, eqb-true, false_from_ne_true}
+use Rattle.std.proofs.lemmas.List.{length-append}
+use Rattle.std.proofs.lemmas.List.Folds.{list_all-append}
+use Rattle.semver_ranges.specs.declared.grammar.RangeText.{RangeText}
+use Rattle.semver_ranges.specs.declared.rewriting.Size.{Size}
+use Rattle.semver_ranges.specs.declared.range.Compat.{Compat}
+use Rattle.semver_ranges.specs.RangeTree as tree
+use Rattle.semver_ranges.specs.RangeTree.{is_blank}
+use Rattle.semver_texts.specs.Texts.{Text}
+use Rattle.semver_ranges.specs.RewritingTable.{PlainComparator, PlainRange, simple_comparators, fits, rewritten}
+use Rattle.semver_ranges.specs.Reading.{ends_range, simple, all_simples, range, read, read_rest, read_at, range_behind, range_at, behind_range, more_ranges, behind_bars, behind_blanks, onto}
+use Rattle.semver_ranges.specs.CursorViews.{Has, IsMadeOf, GoesOn, IsFrontOf, simple_fits, range_fits}
+use Rattle.semver_ranges.specs.BoundsViews.{IsSize, range_for}
+use Rattle.semver_ranges.proofs.ReadingSteps.{read_step, simples_stop, shorter_range}
+use Rattle.semver_ranges.proofs.KeptLists.{mapped_push}
+use Rattle.semver_ranges.proofs.RangeFronts.{range_begins, behind_end}
+
+none_some : {A : Type 0} (x : A) → None ≡ Some x → ⊥
+none_some x e = cc
+
+-- a text that is one simple
+blank_none : (b : ℕ) (t : Text) → is_blank b ≡ true → simple (b ∷ t) ≡ None
+blank_none b t e = elim (or_cases (b == 32) (b == 9) e) [
+  | inl h ↦ let is : b ≡ 32 = eqb-true b 32 h in rw is refl
+  | inr h ↦ let is : b ≡ 9 = eqb-true b 9 h in rw is refl
+]
+
+ended_none : (t : Text) → ends_range t ≡ true → simple t ≡ None
+ended_none [] e = refl
+ended_none (b ∷ t) e = let is : b ≡ 124 = eqb-true b 124 e in rw is refl
+
+no_blanks : (t u : Text) (s : tree.Simple) → simple t ≡ Some (s, u) → t ≡ behind_blanks t
+no_blanks [] u s e = refl
+no_blanks (b ∷ t) u s e = elim (cases_Bool (is_blank b)) [
+  | inl y ↦ let none : None ≡ Some (s, u) = sym (blank_none b t y) ∙ e in absurd (none_some (s, u) none)
+  | inr n ↦ rw n refl
+]
+
+goes_on : (t u : Text) (s : tree.Simple) → simple t ≡ Some (s, u) → ends_range t ≡ false
+goes_on t u s e = false_from_ne_true (ends_range t) (λ y. let none : None ≡ Some (s, u) = sym (ended_none t y) ∙ e in none_some (s, u) none)
+
+nothing_left : (u : Text) → length u ≡ 0 → u ≡ []
+nothing_left [] e = refl
+nothing_left (b ∷ u) e = absurd (omega arith)
+
+pub only_simple : (t u : Text) (s : tree.Simple) → simple t ≡ Some (s, u) → length u ≡ 0 → read t ≡ Some (tree.simples s [] ∷ [])
+only_simple t u s e end =
+    let left : u ≡ [] = nothing_left u end in
+    let found : simple t ≡ Some (s, []) = e ∙ ap (λ (x : Text). Some (s, x)) left in
+    read_step t ∙ ap (behind_range read) (range_begins t t (Some (s, [])) (no_blanks t u s e) (goes_on t u s e) found ∙ behind_end s [] refl)
+
+-- what is left behind a range
+at_bars : (r : tree.RangeTree) (o : Option Text) → more_ranges read r o ≡ onto r (read_at o)
+at_bars r None = refl
+at_bars r (Some t) = refl
+
+pub read_first : (t u : Text) (r : tree.RangeTree) → range t ≡ Some (r, u) → read t ≡ onto r (read_rest u)
+read_first t u r e = read_step t ∙ ap (behind_range read) e ∙ left u where
+  left : (u : Text) → behind_range read (Some (r, u)) ≡ onto r (read_rest u)
+  left [] = refl
+  left (b ∷ u) = at_bars r (behind_bars (b ∷ u))
+
+pub no_first : (t : Text) → range t ≡ None → read t ≡ None
+no_first t e = read_step t ∙ ap (behind_range read) e
+
+pub rest_bars : (t u : Text) → behind_bars t ≡ Some u → read_rest t ≡ read u
+rest_bars [] u e = cc
+rest_bars (b ∷ t) u e = ap read_at e
+
+pub bars_longer : (t u : Text) → behind_bars t ≡ Some u → length u < length t
+bars_longer [] u e = cc
+bars_longer (b ∷ []) u e = cc
+bars_longer (b ∷ c ∷ t) u e = elim (cases_Bool ((b == 124) && (c == 124))) [
+  | inl y ↦ let some : Some t ≡ Some u = rw y at e in let same : t ≡ u = cc in rw (← same) (omega arith)
+  | inr n ↦ let none : None ≡ Some u = rw n at e in cc
+]
+
+-- no range where a range has not ended
+pub rest_fault : (t : Text) → ends_range t ≡ false → read_rest t ≡ None
+rest_fault [] e = cc
+rest_fault (b ∷ []) e = refl
+rest_fault (b ∷ c ∷ t) e = rw e refl
+
+pub rest_none : (t : Text) → range_behind t ≡ None → (length t ≡ 0 → ⊥) → read_rest t ≡ None
+rest_none [] e some = absurd (some refl)
+rest_none (b ∷ t) e some = at (behind_bars (b ∷ t)) refl where
+  at : (o : Option Text) → behind_bars (b ∷ t) ≡ o → read_rest (b ∷ t) ≡ None
+  at None f = ap read_at f
+  at (Some u) f = ap read_at f ∙ no_first u (sym (ap range_at f) ∙ e)
+
+-- a range that was read and measured: what it is, and where there is none
+pub measured : (mode : Compat) (o : Option (tree.RangeTree × Text)) (r : RangeText) (z : Size) → IsFrontOf o (Some r)
+    → ((ss : List tree.Simple) (end : Text) → Has r ss end → IsSize mode ss end z) → (all_simples r.others.now ≡ None → ends_range z.rest.now ≡ false) → ends_range z.rest.now ≡ true
+    → (x : tree.RangeTree) × (ss : List tree.Simple) × (end : Text) × (o ≡ Some (x, z.rest.now)) × Has r ss end × IsMadeOf x ss × (z.fits ≡ range_fits mode x)
+measured mode o r z (read, room, goes) sized fault ends = at (all_simples r.others.now) refl goes where
+  at : (m : Option (List tree.Simple × Text)) → all_simples r.others.now ≡ m → GoesOn o r m
+      → (x : tree.RangeTree) × (ss : List tree.Simple) × (end : Text) × (o ≡ Some (x, z.rest.now)) × Has r ss end × IsMadeOf x ss × (z.fits ≡ range_fits mode x)
+  at None e h = absurd (both_ways (ends_range z.rest.now) (fault e) ends)
+  at (Some found) e (x, ss, is, has, made) =
+      let size = sized ss found.1 has in
+      (x, ss, found.1, is ∙ ap (λ (u : Text). Some (x, u)) (sym size.2), has, made, size.0 ∙ sym (made mode).0)
+
+pub faulty : (mode : Compat) (o : Option (tree.RangeTree × Text)) (r : RangeText) (z : Size) → IsFrontOf o (Some r)
+    → ((ss : List tree.Simple) (end : Text) → Has r ss end → IsSize mode ss end z) → ends_range z.rest.now ≡ false → o ≡ None
+faulty mode o r z (read, room, goes) sized left = at (all_simples r.others.now) refl goes where
+  at : (m : Option (List tree.Simple × Text)) → all_simples r.others.now ≡ m → GoesOn o r m → o ≡ None
+  at None e h = h
+  at (Some found) e (x, ss, is, has, made) =
+      absurd (both_ways (ends_range z.rest.now) left (ap ends_range (sized ss found.1 has).2 ∙ simples_stop r.others.now found.1 found.0 e))
+
+-- the range behind bars
+pub rest_first : (t u v : Text) (x : tree.RangeTree) → behind_bars t ≡ Some v → range_behind t ≡ Some (x, u) → read_rest t ≡ onto x (read_rest u)
+rest_first t u v x bars e = rest_bars t v bars ∙ read_first v u x (sym (ap range_at bars) ∙ e)
+
+pub rest_shorter : (t u v : Text) (x : tree.RangeTree) → behind_bars t ≡ Some v → range_behind t ≡ Some (x, u) → length u < length t
+rest_shorter t u v x bars e = omega (arith, bars_longer t v bars, shorter_range v u x (sym (ap range_at bars) ∙ e))
+
+pub rest_no_first : (t v : Text) → behind_bars t ≡ Some v → range_behind t ≡ None → read_rest t ≡ None
+rest_no_first t v bars e = rest_bars t v bars ∙ no_first v (sym (ap range_at bars) ∙ e)
+
+-- a tree that begins with a range
+pub onto_some : (x : tree.RangeTree) (o : Option tree.SetTree) (whole : tree.SetTree) → onto x o ≡ Some whole → (left : tree.SetTree) × (o ≡ Some left) × (whole ≡ x ∷ left)
+onto_some x None whole e = absurd (none_some whole e)
+onto_some x (Some left) whole e = (left, refl, cc)
+
+pub rest_goes_on : (mode : Compat) (t v : Text) (left : tree.SetTree) (r : RangeText) (z : Size) → read_rest t ≡ Some left → behind_bars t ≡ Some v → IsFrontOf (range_behind t) (Some r)
+    → ((ss : List tree.Simple) (end : Text) → Has r ss end → IsSize mode ss end z) → ends_range z.rest.now ≡ true
+rest_goes_on mode t v left r z is bars front sized = elim (cases_Bool (ends_range z.rest.now)) [
+  | inl y ↦ y
+  | inr n ↦ absurd (none_some left (sym (rest_no_first t v bars (faulty mode (range_behind t) r z front sized n)) ∙ is))
+]
+
+-- one range more, counted and tested
+pub counted : (mode : Compat) (done : tree.SetTree) (x : tree.RangeTree) (n : ℕ) → n ≡ length done → n + 1 ≡ length (done ++ x ∷ [])
+counted mode done x n e = let all : length (done ++ x ∷ []) ≡ length done + 1 = length-append done (x ∷ []) in omega (arith, all, e)
+
+and_end : (a b : Bool) → (a && (b && true)) ≡ (a && b)
+and_end true true = refl
+and_end true false = refl
+and_end false b = refl
+
+pub tested : (mode : Compat) (done : tree.SetTree) (x : tree.RangeTree) (a b : Bool) → a ≡ fits mode done → b ≡ range_fits mode x → (a && b) ≡ fits mode (done ++ x ∷ [])
+tested mode done x a b e f = ap (λ c. c && b) e ∙ ap (λ c. fits mode done && c) f ∙ sym (list_all-append (range_fits mode) done (x ∷ []) ∙ and_end (fits mode done) (range_fits mode x))
+
+pub rest_empty : (t : Text) → length t ≡ 0 → read_rest t ≡ Some []
+rest_empty [] e = refl
+rest_empty (b ∷ t) e = absurd (omega arith)
+
+-- the next range of those that are there and fit
+pub next_built : (mode : Compat) (t v : Text) (left : tree.SetTree) (r : RangeText) (z : Size) → read_rest t ≡ Some left → fits mode left ≡ true → behind_bars t ≡ Some v → IsFrontOf (range_behind t) (Some r)
+    → ((ss : List tree.Simple) (end : Text) → Has r ss end → IsSize mode ss end z) → (all_simples r.others.now ≡ None → ends_range z.rest.now ≡ false)
+    → (x : tree.RangeTree) × (ss : List tree.Simple) × (end : Text) × (others : tree.SetTree) × Has r ss end × IsMadeOf x ss × (list_all (simple_fits mode) ss ≡ true)
+    × (left ≡ x ∷ others) × (read_rest z.rest.now ≡ Some others) × (fits mode others ≡ true) × (length z.rest.now < length t)
+next_built mode t v left r z is fit bars front sized fault =
+    let ends = rest_goes_on mode t v left r z is bars front sized in
+    let found = measured mode (range_behind t) r z front sized fault ends in
+    let split = onto_some found.0 (read_rest z.rest.now) left (sym (rest_first t z.rest.now v found.0 bars found.3) ∙ is) in
+    let parts = and_parts (range_fits mode found.0) (fits mode split.0) (sym (ap (fits mode) split.2) ∙ fit) in
+    (found.0, found.1, found.2, split.0, found.4, found.5, sym (found.5 mode).0 ∙ parts.0, split.2, split.1, parts.1, rest_shorter t z.rest.now v found.0 bars found.3)
+
+-- a range of its comparators, and one more that was built
+pub range_made : (mode : Compat) (x : tree.RangeTree) (ss : List tree.Simple) → IsMadeOf x ss → record { comparators = flat_map (simple_comparators mode) ss; compat = mode } ≡ range_for mode x
+range_made mode x ss made = ap (λ (l : List PlainComparator). record { comparators = l; compat = mode }) (sym (made mode).1)
+
+pub built_more : {B X Y : Type 0} (view : B → Y) (f : X → Y) (first : List Y) (now new : List B) (b : B) (done : List X) (x : X)
+    → map view now ≡ first ++ map f done → new ≡ now ++ b ∷ [] → view b ≡ f x → map view new ≡ first ++ map f (done ++ x ∷ [])
+built_more view f first now new b done x so_far step is =
+    ap (map view) step ∙ mapped_push view now b ∙ ap (λ l. l ++ view b ∷ []) so_far ∙ append_assoc first (map f done) (view b ∷ [])
+    ∙ ap (λ y. first ++ (map f done ++ y ∷ [])) is ∙ ap (λ l. first ++ l) (sym (mapped_push f done x))
+
+-- a text whose first range was read and measured, by what is left behind that
+pub none_left : (mode : Compat) (t : Text) (r : RangeText) (z : Size) → IsFrontOf (range t) (Some r)
+    → ((ss : List tree.Simple) (end : Text) → Has r ss end → IsSize mode ss end z) → (all_simples r.others.now ≡ None → ends_range z.rest.now ≡ false) → read_rest z.rest.now ≡ None → read t ≡ None
+none_left mode t r z front sized fault none = elim (cases_Bool (ends_range z.rest.now)) [
+  | inl y ↦ let found = measured mode (range t) r z front sized fault y in read_first t z.rest.now found.0 found.3 ∙ ap (onto found.0) none
+  | inr n ↦ no_first t (faulty mode (range t) r z front sized n)
+]
+
+pub tree_left : (mode : Compat) (t : Text) (r : RangeText) (z : Size) (others : tree.SetTree) (b : Bool) → IsFrontOf (range t) (Some r)
+    → ((ss : List tree.Simple) (end : Text) → Has r ss end → IsSize mode ss end z) → (all_simples r.others.now ≡ None → ends_range z.rest.now ≡ false)
+    → read_rest z.rest.now ≡ Some others → b ≡ fits mode others
+    → (x : tree.RangeTree) × (ss : List tree.Simple) × (end : Text) × Has r ss end × IsMadeOf x ss × (read t ≡ Some (x ∷ others)) × (fits mode (x ∷ others) ≡ (z.fits && b)) × (z.fits ≡ list_all (simple_fits mode) ss)
+tree_left mode t r z others b front sized fault is fit =
+    let ends : ends_range z.rest.now ≡ true = elim (cases_Bool (ends_range z.rest.now)) [
+      | inl y ↦ y
+      | inr n ↦ absurd (none_some others (sym (rest_fault z.rest.now n) ∙ is))
+    ] in
+    let found = measured mode (range t) r z front sized fault ends in
+    (found.0, found.1, found.2, found.4, found.5, read_first t z.rest.now found.0 found.3 ∙ ap (onto found.0) is, ap (λ c. c && fits mode others) (sym found.6) ∙ ap (λ c. z.fits && c) (sym fit), found.6 ∙ (found.5 mode).0)
+
+-- the set of a first range and others
+pub set_made : (mode : Compat) (x : tree.RangeTree) (ss : List tree.Simple) (others : tree.SetTree) (ranges : List PlainRange) → IsMadeOf x ss
+    → ranges ≡ record { comparators = flat_map (simple_comparators mode) ss; compat = mode } ∷ map (range_for mode) others → record { ranges = ranges; compat = mode } ≡ rewritten mode (x ∷ others)
+set_made mode x ss others ranges made is =
+    ap (λ (l : List PlainRange). record { ranges = l; compat = mode }) (is ∙ ap (λ (r : PlainRange). r ∷ map (range_for mode) others) (range_made mode x ss made))
+
+-- a set of one simple
+pub one_fits : (mode : Compat) (s : tree.Simple) → simple_fits mode s ≡ true → fits mode (tree.simples s [] ∷ []) ≡ true
+one_fits mode s e = ap (λ (b : Bool). (b && true) && true) e
+
+pub one_made : (mode : Compat) (s : tree.Simple) (comparators : List PlainComparator) → comparators ≡ simple_comparators mode s
+    → record { ranges = record { comparators = comparators; compat = mode } ∷ []; compat = mode } ≡ rewritten mode (tree.simples s [] ∷ [])
+one_made mode s comparators e = ap (λ (l : List PlainComparator). record { ranges = record { comparators = l; compat = mode } ∷ []; compat = mode }) (e ∙ sym (append-nil (simple_comparators mode s)))

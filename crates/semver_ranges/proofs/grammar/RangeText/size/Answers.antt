@@ -1,0 +1,58 @@
+use Rattle.std.proofs.Common.{◌≡◌, ◌∙◌, ◌++◌, ◌&&◌, append-nil, refl, sym, ap, Bool, List}
+use Rattle.semver_ranges.specs.RangeTree.{Simple}
+use Rattle.semver_ranges.specs.CursorViews.{AreFirst}
+use Rattle.semver_ranges.specs.BoundsViews.{bounds_fit}
+use Rattle.semver_ranges.proofs.SizedSimples.{no_others}
+use Rattle.semver_ranges.proofs.SizedRanges.{AreSized, first_of, alone_of, both_of, one_sized, both_sized, resized}
+use Rattle.semver_ranges.proofs.grammar.RangeText.size.Goals as goal
+use Rattle.semver_ranges.proofs.grammar.RangeText.size.Goals.{Joined-self, in-Some, in_default, then-fits, else-fits, then-fits-2, else-fits-2}
+
+pub fits-fits-requires : goal.fits-fits-requires
+fits-fits-requires c =
+    let r = c.args.self.now in
+    let s = first_of c.requires.first.0 r.first r.second c.requires.first.1 in
+    (c.rewritten-first.ensures s.0 s.3).0.1
+
+pub fits-fits-requires-then-fits : goal.fits-fits-requires-then-fits
+fits-fits-requires-then-fits c =
+    let r = c.args.self.now in
+    let s = both_of c.requires.first.0 r.first c.in-Some.second (rw c.in-Some.is at c.requires.first.1) in
+    (c.rewritten-second.ensures s.1 s.4).0.1
+
+front_sized : (c : Joined-self) (front : List Simple) → AreFirst front c.args.self.now.first c.args.self.now.second → AreSized c.args.compat front c.match-self.fits c.match-self.count
+front_sized c front is = elim c.match-self.branch [
+  | in-Some w ↦
+      let s = both_of front c.args.self.now.first w.in-Some.second (rw w.in-Some.is at is) in
+      let first = one_sized c.args.compat s.0 c.rewritten-first.result c.count-count.result (c.rewritten-first.ensures s.0 s.3) c.count-count.ensures.count in
+      let second = one_sized c.args.compat s.1 w.rewritten-second.result w.count.result (w.rewritten-second.ensures s.1 s.4) w.count.ensures.count in
+      let fit : Bool = bounds_fit w.rewritten-second.result in
+      let joined : w.if-fits.fits ≡ (bounds_fit c.rewritten-first.result && fit) = elim w.if-fits.branch [
+        | then-fits v ↦ v.fits-is ∙ v.fits-fits-then-fits.ensures ∙ ap (λ (f : Bool). f && fit) (sym v.if-fits.true ∙ c.fits-fits.ensures)
+        | else-fits v ↦ v.fits-is ∙ v.if-fits.false ∙ ap (λ (f : Bool). f && fit) (sym v.if-fits.false ∙ c.fits-fits.ensures)
+      ] in
+      resized c.args.compat _ front _ _ _ _ (both_sized c.args.compat _ _ _ _ _ _ first second) s.2 (w.fits-is ∙ joined) w.count-is
+  | in_default w ↦
+      let s = alone_of front c.args.self.now.first (rw w.in_default.is at is) in
+      let first = one_sized c.args.compat s.0 c.rewritten-first.result c.count-count.result (c.rewritten-first.ensures s.0 s.2) c.count-count.ensures.count in
+      resized c.args.compat _ front _ _ _ _ first s.1 (w.fits-is ∙ c.fits-fits.ensures) w.count-is
+]
+
+pub returns-then-ends_range-clause-size : goal.returns-then-ends_range-clause-size
+returns-then-ends_range-clause-size c = λ ss end has.
+    let front = front_sized (goal.at.returns-then-ends_range-clause-size c).Joined-self has.0 has.2 in
+    let none = no_others c.args.self.now.others.now end has.1 (sym c.ends_range.ensures ∙ c.if-ends_range.true) has.3 in
+    let all = resized c.args.compat has.0 ss _ _ _ _ front (has.4 ∙ ap (λ (l : List Simple). has.0 ++ l) (sym none.same) ∙ append-nil has.0) refl refl in
+    (all.fits, all.count, none.behind)
+
+pub returns-clause-size : goal.returns-clause-size
+returns-clause-size c = λ ss end has.
+    let front = front_sized (goal.at.returns-clause-size c).Joined-self has.0 has.2 in
+    let size = c.size_of_simples-others.ensures.size has.1 end has.3 in
+    let others : AreSized c.args.compat has.1 c.size_of_simples-others.result.fits c.size_of_simples-others.result.count = record { fits = size.0; count = size.1 } in
+    let fit : Bool = c.size_of_simples-others.result.fits in
+    let joined : c.if-fits-2.result ≡ (c.match-self.fits && fit) = elim c.if-fits-2.branch [
+      | then-fits-2 w ↦ w.result-is ∙ ap (λ (f : Bool). f && fit) (sym w.if-fits-2.true)
+      | else-fits-2 w ↦ w.result-is ∙ w.if-fits-2.false ∙ ap (λ (f : Bool). f && fit) (sym w.if-fits-2.false)
+    ] in
+    let all = resized c.args.compat _ ss _ _ _ _ (both_sized c.args.compat _ _ _ _ _ _ front others) has.4 joined refl in
+    (all.fits, all.count, size.2)

@@ -1,0 +1,10 @@
+use Rattle.std.proofs.Common.{ap, ◌∙◌}
+use Rattle.semver_texts.specs.Versions.{alphanumeric}
+use Rattle.semver_ranges.proofs.KeptParts.{kept_number, kept_text}
+use Rattle.semver_ranges.proofs.partial.read_identifier.Goals as goal
+
+pub returns-in-Ok : goal.returns-in-Ok
+returns-in-Ok c = kept_number c.args.part.now c.in-Ok.number c.requires c.in-Ok.ensures.value.0
+
+pub returns-in_ok-from_str-in-Err : goal.returns-in_ok-from_str-in-Err
+returns-in_ok-from_str-in-Err c = ap alphanumeric c.in_ok-from_str-in-Err.ensures.ok ∙ kept_text c.args.part.now c.requires c.in-Err.ensures.value.0

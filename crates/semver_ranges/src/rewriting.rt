@@ -1,0 +1,288 @@
+//! How simples are rewritten to comparators: which operator compares with which version, and which number is raised for the bound above.
+//!
+//! The rewriting takes no memory and raises nothing: only building does both, once all is known to fit.
+
+ghost use Rattle.std.specs.Prelude.{◌≡◌, ◌+◌, ◌*◌, ◌≤◌, ◌++◌, Some, None, [], ◌∷◌, List, length, map, true, false, IfOk};
+ghost use Rattle.std.specs.List.{list_all, flat_map};
+ghost use Rattle.semver_texts.specs.Texts.{Text};
+ghost use Rattle.semver_ranges.specs.RangeTree.{Simple as SimpleTree};
+ghost use Rattle.semver_ranges.specs.Reading.{ends_range, all_simples};
+ghost use Rattle.semver_ranges.specs.RewritingTable.{nothing_stated, some_stated, three_stated, cell_comparators, simple_comparators};
+ghost use Rattle.semver_ranges.specs.Partials.{zero_version};
+ghost use Rattle.semver_ranges.specs.RangeViews.{comparator_of, range_of};
+ghost use Rattle.semver_ranges.specs.PartialViews.{stated_of, place_number};
+ghost use Rattle.semver_ranges.specs.CursorViews.{form_of, simple_fits, AreRead, Has, HasRoom, IsSimpleOf};
+ghost use Rattle.semver_ranges.specs.BoundsViews.{bounds_of, bounds_fit, IsPlaced, IsBuildable, IsCell, IsRow, IsSize, Fits, SimplesFit};
+
+use crate::grammar::{Form, RangeText, Simple, ends_range, read_simple};
+use crate::partial::{Partial, PartialKind, Place};
+use crate::range::{Comparator, Compat, Op, Range};
+use std::alloc::{AllocError, Global};
+
+/// The one or two comparators of a simple: an operator and its partial, and then below the bound that is raised at a place.
+#[derive(Drop)]
+pub(crate) struct Bounds<'input> {
+    op: Option<Op>,
+    partial: Partial<'input>,
+    raised: Option<Place>,
+}
+
+impl<'input> Bounds<'input> {
+    /// A comparison with a partial.
+    #[inline(always)]
+    fn against(op: Op, partial: Partial<'input>) -> Bounds<'input>
+        ensures op { result.op ≡ Some op }
+        ensures partial { result.partial ≡ partial.entry }
+        ensures raised { result.raised ≡ None }
+    {
+        Bounds {
+            op: Some(op),
+            partial,
+            raised: None,
+        }
+    }
+
+    /// Below the bound that is raised at a place.
+    #[inline(always)]
+    fn below(partial: Partial<'input>, place: Place) -> Bounds<'input>
+        requires { place_number place ≤ length (stated_of partial) }
+        ensures op { result.op ≡ None }
+        ensures partial { result.partial ≡ partial.entry }
+        ensures raised { result.raised ≡ Some place }
+    {
+        Bounds {
+            op: None,
+            partial,
+            raised: Some(place),
+        }
+    }
+
+    /// From a partial on, and below the bound that is raised at a place.
+    #[inline(always)]
+    fn between(partial: Partial<'input>, place: Place) -> Bounds<'input>
+        requires { place_number place ≤ length (stated_of partial) }
+        ensures op { result.op ≡ Some Op.Gte }
+        ensures partial { result.partial ≡ partial.entry }
+        ensures raised { result.raised ≡ Some place }
+    {
+        Bounds {
+            op: Some(Op::Gte),
+            partial,
+            raised: Some(place),
+        }
+    }
+
+    /// Whether the numbers that are stated, and the bound that is raised, are at most 2^64 - 1.
+    #[inline(always)]
+    pub(crate) fn fits(&self) -> bool
+        requires { IsPlaced self.now.raised self.now.partial }
+        ensures { result ≡ bounds_fit self.now }
+    {
+        self.partial.fits()
+            && match self.raised {
+                Some(place) => self.partial.may_rise(place),
+                None => true,
+            }
+    }
+
+    /// How many comparators.
+    #[inline(always)]
+    pub(crate) fn count(&self) -> usize
+        ensures count { result ≡ length (bounds_of self.now) }
+        ensures small { result ≤ 2 }
+    {
+        usize::from(self.op.is_some()) + usize::from(self.raised.is_some())
+    }
+
+    /// Adds the comparators.
+    #[inline(always)]
+    pub(crate) fn push(
+        self,
+        alloc: Global,
+        comparators: &mut Vec<Comparator>,
+    ) -> Result<(), AllocError>
+        requires buildable { IsBuildable self }
+        requires fits { bounds_fit self ≡ true }
+        ensures { IfOk result (λ _. map comparator_of comparators.new.items ≡ map comparator_of comparators.old.items ++ bounds_of self.entry) }
+    {
+        if let Some(op) = self.op {
+            comparators.push(self.partial.as_comparator(alloc, op)?)?;
+        }
+        if let Some(place) = self.raised {
+            comparators.push(self.partial.raised(place).as_comparator(alloc, Op::Lt)?)?;
+        }
+        Ok(())
+    }
+}
+
+/// The comparators of a simple, by the table: its form, how many numbers it states, and the mode.
+#[inline(always)]
+pub(crate) fn rewritten<'input>(simple: &Simple<'input>, compat: Compat) -> Bounds<'input>
+    ensures { (s : SimpleTree) → IsSimpleOf s simple.now → IsRow compat s result }
+{
+    let partial = simple.partial;
+    match partial.kind() {
+        PartialKind::XRangeOnly => with_nothing_stated(simple.form),
+        PartialKind::MajorOnly => with_some_stated(simple.form, partial, Place::Major),
+        PartialKind::MajorMinor => with_some_stated(simple.form, partial, Place::Minor),
+        PartialKind::MajorMinorPatch => with_three_stated(simple.form, partial, compat),
+    }
+}
+
+/// The column where no number is stated.
+#[inline(always)]
+fn with_nothing_stated<'input>(form: Form) -> Bounds<'input>
+    ensures comparators { bounds_of result ≡ cell_comparators (nothing_stated (form_of form)) [] zero_version }
+    ensures fits { bounds_fit result ≡ true }
+    ensures buildable { IsBuildable result }
+{
+    match form {
+        Form::Less | Form::Greater => Bounds::against(Op::Lt, Partial::new()),
+        Form::Bare | Form::Equal | Form::AtMost | Form::AtLeast | Form::Tilde | Form::Caret =>
+            Bounds::against(Op::Gte, Partial::new()),
+    }
+}
+
+/// The column where one or two numbers are stated, the last of them at a place.
+#[inline(always)]
+fn with_some_stated<'input>(form: Form, partial: Partial<'input>, last: Place) -> Bounds<'input>
+    requires some { 1 ≤ length (stated_of partial) }
+    requires last { length (stated_of partial) ≡ place_number last }
+    ensures { IsCell (some_stated (form_of form) (stated_of partial.entry)) partial.entry result }
+{
+    match form {
+        Form::Bare | Form::Equal | Form::Tilde => Bounds::between(partial, last),
+        Form::Less => Bounds::against(Op::Lt, partial),
+        Form::AtMost => Bounds::below(partial, last),
+        Form::Greater => Bounds::against(Op::Gt, partial),
+        Form::AtLeast => Bounds::against(Op::Gte, partial),
+        Form::Caret => Bounds::between(partial, partial.leading_place()),
+    }
+}
+
+/// The column where three numbers are stated: the mode decides what a bare version is, and nothing else.
+#[inline(always)]
+fn with_three_stated<'input>(form: Form, partial: Partial<'input>, compat: Compat) -> Bounds<'input>
+    requires { length (stated_of partial) ≡ 3 }
+    ensures { IsCell (three_stated compat (form_of form) (stated_of partial.entry)) partial.entry result }
+{
+    match form {
+        Form::Bare => match compat {
+            Compat::Cargo => Bounds::between(partial, partial.leading_place()),
+            Compat::Npm => Bounds::against(Op::Eq, partial),
+        },
+        Form::Equal => Bounds::against(Op::Eq, partial),
+        Form::Less => Bounds::against(Op::Lt, partial),
+        Form::AtMost => Bounds::against(Op::Lte, partial),
+        Form::Greater => Bounds::against(Op::Gt, partial),
+        Form::AtLeast => Bounds::against(Op::Gte, partial),
+        Form::Tilde => Bounds::between(partial, Place::Minor),
+        Form::Caret => Bounds::between(partial, partial.leading_place()),
+    }
+}
+
+/// What there is to know of a range before it is built: whether it fits, how many comparators it has, and what follows it.
+#[derive(Clone, Copy)]
+pub(crate) struct Size<'input> {
+    pub(crate) fits: bool,
+    pub(crate) count: usize,
+    pub(crate) rest: &'input [u8],
+}
+
+impl<'input> RangeText<'input> {
+    /// The size of the range. Where something behind its second simple isn't a simple, that is what follows.
+    #[inline(always)]
+    pub(crate) fn size(&self, compat: Compat) -> Size<'input>
+        requires room { HasRoom self.now.others.now }
+        requires first { AreRead self.now }
+        ensures size { (ss : List SimpleTree) (end : Text) → Has self.now ss end → IsSize compat ss end result }
+        ensures fault { all_simples self.now.others.now ≡ None → ends_range result.rest.now ≡ false }
+    {
+        let first = rewritten(&self.first, compat);
+        let mut fits = first.fits();
+        let mut count = first.count();
+        if let Some(second) = &self.second {
+            let second = rewritten(second, compat);
+            fits = fits && second.fits();
+            count += second.count();
+        }
+        if ends_range(self.others) {
+            return Size {
+                fits,
+                count,
+                rest: self.others,
+            };
+        }
+        let others = size_of_simples(self.others, compat);
+        Size {
+            fits: fits && others.fits,
+            count: count + others.count,
+            rest: others.rest,
+        }
+    }
+
+    /// The range in a mode, with its comparators in a vector of their number.
+    #[inline(always)]
+    pub(crate) fn build(
+        &self,
+        alloc: Global,
+        count: usize,
+        compat: Compat,
+    ) -> Result<Range, AllocError>
+        requires fits { Fits compat self.now }
+        ensures { IfOk result (λ built. (ss : List SimpleTree) (end : Text) → Has self.now ss end → list_all (simple_fits compat) ss ≡ true
+            → range_of built ≡ record { comparators = flat_map (simple_comparators compat) ss; compat = compat }) }
+    {
+        let mut comparator_set = Vec::with_capacity(alloc, count)?;
+        rewritten(&self.first, compat).push(alloc, &mut comparator_set)?;
+        if let Some(second) = &self.second {
+            rewritten(second, compat).push(alloc, &mut comparator_set)?;
+        }
+        if !ends_range(self.others) {
+            push_simples(alloc, &mut comparator_set, self.others, compat)?;
+        }
+        Ok(Range {
+            comparator_set,
+            compat,
+        })
+    }
+}
+
+/// The size of the simples at the front of a text, and where they end.
+#[inline(never)]
+fn size_of_simples<'input>(text: &'input [u8], compat: Compat) -> Size<'input>
+    ensures size { (ss : List SimpleTree) (end : Text) → all_simples text.now ≡ Some (ss, end) → IsSize compat ss end result }
+    ensures fault { all_simples text.now ≡ None → ends_range result.rest.now ≡ false }
+    ensures small { result.count ≤ 2 * length text.now }
+{
+    let mut fits = true;
+    let mut count = 0;
+    let mut rest = text;
+    while let Some((simple, behind)) = read_simple(rest) {
+        let bounds = rewritten(&simple, compat);
+        fits = fits && bounds.fits();
+        count += bounds.count();
+        rest = behind;
+    }
+    Size { fits, count, rest }
+}
+
+/// Adds the comparators of the simples at the front of a text.
+#[inline(never)]
+fn push_simples(
+    alloc: Global,
+    comparators: &mut Vec<Comparator>,
+    text: &[u8],
+    compat: Compat,
+) -> Result<(), AllocError>
+    requires { SimplesFit compat (all_simples text.now) }
+    ensures { IfOk result (λ _. (ss : List SimpleTree) (end : Text) → all_simples text.now ≡ Some (ss, end)
+        → map comparator_of comparators.new.items ≡ map comparator_of comparators.old.items ++ flat_map (simple_comparators compat) ss) }
+{
+    let mut rest = text;
+    while let Some((simple, behind)) = read_simple(rest) {
+        rewritten(&simple, compat).push(alloc, comparators)?;
+        rest = behind;
+    }
+    Ok(())
+}
