@@ -1,11 +1,11 @@
 -- Components, as they are read byte by byte.
-use Rattle.std.proofs.Common.{◌≡◌, ℕ, ◌+◌, ◌-◌, ◌*◌, ◌<◌, ◌≤◌, true, false, ◌||◌, ◌==◌, [], ◌∷◌, length, get_or, take, drop, Option, Some, refl, sym, ap, ◌∙◌, subst, arith, inl, inr}
+use Rattle.std.proofs.Common.{◌≡◌, ℕ, suc, ◌+◌, ◌-◌, ◌*◌, ◌<◌, ◌≤◌, true, false, ◌||◌, ◌==◌, [], ◌∷◌, ◌++◌, length, get_or, take, drop, Option, Some, refl, sym, ap, ◌∙◌, subst, arith, inl, inr}
 use Rattle.std.specs.Char.{is_ascii_digit, digit_value}
 use Rattle.std.specs.Str.Parse.{digits_value}
-use Rattle.std.proofs.Math.Seq.{take-length}
+use Rattle.std.proofs.Math.Seq.{take-length, take-suc}
 use Rattle.std.proofs.lemmas.Bool.{cases_Bool, or_cases, or_left, eqb-true}
 use Rattle.std.proofs.lemmas.Str.{digit_value_digit}
-use Rattle.std.proofs.lemmas.Int.Digits.{digits_value_more}
+use Rattle.std.proofs.lemmas.Int.Digits.{digits_value_push}
 use Rattle.semver_ranges.specs.RangeTree.{is_wildcard}
 use Rattle.semver_ranges.specs.Partials.{fits_u64}
 use Rattle.semver_texts.specs.Texts.{Text}
@@ -49,20 +49,30 @@ no_wildcard b [] e = elim (cases_Bool (is_wildcard (b ∷ []))) [
 ]
 no_wildcard b (c ∷ t) e = refl
 
-digit_component : (b : ℕ) (t : Text) → is_ascii_digit b ≡ true → (b == 48) ≡ false → component (b ∷ t) ≡ Some (front is_ascii_digit (b ∷ t), back is_ascii_digit (b ∷ t))
+digit_component : (b : ℕ) (t : Text) → is_ascii_digit b ≡ true → (b == 48) ≡ false → component (b ∷ t) ≡ Some (b ∷ front is_ascii_digit t, back is_ascii_digit t)
 digit_component b t e other = rw (no_wildcard b [] e, other, e) refl
 
-pub digits_front : (t rest : Text) (value : Option ℕ) → 1 ≤ length t → is_ascii_digit (get_or t 0 0) ≡ true → (get_or t 0 0 == 48) ≡ false
-    → IsValue (digits_value 10 (front is_ascii_digit t)) value → rest ≡ back is_ascii_digit t
+pub digits_front : (t rest : Text) (n : ℕ) (value : Option ℕ) → 1 ≤ length t → is_ascii_digit (get_or t 0 0) ≡ true → (get_or t 0 0 == 48) ≡ false → n ≡ get_or t 0 0 - 48
+    → IsValue (digits_value 10 ((48 + n) ∷ front is_ascii_digit (take (length t - 1) (drop 1 t)))) value → rest ≡ back is_ascii_digit (take (length t - 1) (drop 1 t))
     → (x : Text) × (component t ≡ Some (x, rest)) × ((is_wildcard x ≡ false) × IsValue (digits_value 10 x) value)
-digits_front [] rest value some e other v is = absurd (omega (arith, some))
-digits_front (b ∷ t) rest value some e other v is =
-    (front is_ascii_digit (b ∷ t), digit_component b t e other ∙ ap (λ (u : Text). Some (front is_ascii_digit (b ∷ t), u)) (sym is), (rw e (no_wildcard b (front is_ascii_digit t) e), v))
+digits_front t rest n value some e other first v is =
+    let b : ℕ = get_or t 0 0 in
+    let u : Text = take (length t - 1) (drop 1 t) in
+    let range = digit_bounds b e in
+    let same : 48 + n ≡ b = omega (arith, first, range.0) in (
+      b ∷ front is_ascii_digit u,
+      ap component (first_apart t some) ∙ digit_component b u e other ∙ ap (λ (x : Text). Some (b ∷ front is_ascii_digit u, x)) (sym is),
+      (no_wildcard b (front is_ascii_digit u) e, subst (λ (c : ℕ). IsValue (digits_value 10 (c ∷ front is_ascii_digit u)) value) same v),
+    )
 
 -- one digit more
-pub value_more : (t : Text) (i : ℕ) (value : Option ℕ) → i < length t → is_ascii_digit (get_or t i 0) ≡ true → IsValue (digits_value 10 (take i t) * 10 + (get_or t i 0 - 48)) value
-    → IsValue (digits_value 10 (take (i + 1) t)) value
-value_more t i value within e v =
+pub value_more : (c : ℕ) (t : Text) (i : ℕ) (value : Option ℕ) → i < length t → is_ascii_digit (get_or t i 0) ≡ true → IsValue (digits_value 10 (c ∷ take i t) * 10 + (get_or t i 0 - 48)) value
+    → IsValue (digits_value 10 (c ∷ take (i + 1) t)) value
+value_more c t i value within e v =
     let range = digit_bounds (get_or t i 0) e in
     let digit : digit_value (get_or t i 0) ≡ get_or t i 0 - 48 = omega (arith, digit_value_digit (get_or t i 0) range) in
-    subst (λ (n : ℕ). IsValue n value) (sym (digits_value_more 10 t i within ∙ ap (λ (d : ℕ). digits_value 10 (take i t) * 10 + d) digit)) v
+    let next : i + 1 ≡ suc i = omega arith in
+    let more : take (i + 1) t ≡ take i t ++ get_or t i 0 ∷ [] = ap (λ (k : ℕ). take k t) next ∙ take-suc t i 0 within in
+    let whole : digits_value 10 (c ∷ take (i + 1) t) ≡ digits_value 10 (c ∷ take i t) * 10 + (get_or t i 0 - 48) =
+    ap (λ (u : Text). digits_value 10 (c ∷ u)) more ∙ digits_value_push 10 (c ∷ take i t) (get_or t i 0) ∙ ap (λ (d : ℕ). digits_value 10 (c ∷ take i t) * 10 + d) digit in
+    subst (λ (n : ℕ). IsValue n value) (sym whole) v

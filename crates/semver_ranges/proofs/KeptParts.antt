@@ -1,13 +1,12 @@
 -- Numbers and parts, as `parse` of a `u64` reads them.
-use Rattle.std.proofs.Common.{◌≡◌, ℕ, ◌^◌, ◌<◌, Bool, true, ◌&&◌, [], ◌∷◌, length, get_or, Some, None, Ok, Err, if◌then◌else◌, inl, inr, sym, refl, ap, ◌∙◌, arith}
+use Rattle.std.proofs.Common.{◌≡◌, ℕ, ◌^◌, ◌<◌, Bool, true, ◌&&◌, [], ◌∷◌, length, get_or, Ok, Err, if◌then◌else◌, inl, inr, sym, ap, ◌∙◌, arith}
 use Rattle.std.specs.Str.{all_ascii_digits}
 use Rattle.std.specs.Str.Parse.{digits_value, ParsesUnsigned}
-use Rattle.std.specs.Char.{is_ascii_digit}
 use Rattle.std.specs.List.{list_all}
 use Rattle.std.proofs.lemmas.Bool.{and_parts, and_from, cases_Bool, true≢false}
 use Rattle.std.proofs.lemmas.Str.Parse.{parse_plain}
 use Rattle.std.proofs.lemmas.Grind.{common_steps}
-use Rattle.semver_ranges.specs.RangeTree.{is_number, is_part}
+use Rattle.semver_ranges.specs.RangeTree.{is_part}
 use Rattle.semver_texts.specs.Texts.{is_part_byte, Text}
 use Rattle.semver_texts.specs.Versions.{numeric, alphanumeric}
 use Rattle.semver_ranges.specs.Partials.{fits_u64, kept}

@@ -205,3 +205,6 @@ one_fits mode s e = ap (λ (b : Bool). (b && true) && true) e
 pub one_made : (mode : Compat) (s : tree.Simple) (comparators : List PlainComparator) → comparators ≡ simple_comparators mode s
     → record { ranges = record { comparators = comparators; compat = mode } ∷ []; compat = mode } ≡ rewritten mode (tree.simples s [] ∷ [])
 one_made mode s comparators e = ap (λ (l : List PlainComparator). record { ranges = record { comparators = l; compat = mode } ∷ []; compat = mode }) (e ∙ sym (append-nil (simple_comparators mode s)))
+
+pub same_some : {A : Type 0} (x y : A) → Some x ≡ Some y → x ≡ y
+same_some x y e = cc

@@ -6,7 +6,6 @@ use Rattle.std.specs.Ordering.{nat_cmp, ordering_then, is_eq, is_lt, is_gt, is_l
 use Rattle.std.specs.Cmp.Lexicographic.{slice_cmp}
 use Rattle.std.specs.declared.cmp.Ordering.{Ordering}
 use Rattle.std.specs.declared.cmp.Ordering.TheVariants.{Less, Equal, Greater}
-use Rattle.semver_ranges.specs.declared.range.Op.{Op}
 use Rattle.semver_ranges.specs.declared.range.Compat.{Compat}
 use Rattle.semver_ranges.specs.declared.range.Compat.TheVariants.{Cargo, Npm}
 use Rattle.semver_ranges.specs.RangeTree.{Form, bare, equal, less, at_most, greater, at_least, tilde, caret}
@@ -16,7 +15,7 @@ use Rattle.semver_texts.specs.Versions.{numbers, IdentifierValue, PlainVersion}
 use Rattle.semver_ranges.specs.Partials.{filled}
 use Rattle.semver_ranges.specs.OwnMeaning.{meets_stated, agrees}
 use Rattle.semver_ranges.specs.RewritingTable.{cell, up, cell_comparators, cell_raised}
-use Rattle.semver_ranges.specs.Meeting.{op_holds, meets_comparator, is_pre_release_of}
+use Rattle.semver_ranges.specs.Meeting.{meets_comparator, is_pre_release_of}
 
 -- a number of a version against a number that is raised: below it, the same, one above, further above
 -- (the order against it, the order against it raised, whether they are the same, whether it is the raised one)

@@ -80,7 +80,7 @@ pub(crate) fn read_range(text: &[u8]) -> Option<RangeText<'_>>
 }
 
 /// The range of a first simple and what follows it.
-#[inline(never)]
+#[inline(always)]
 fn read_second<'input>(first: Simple<'input>, rest: &'input [u8]) -> Option<RangeText<'input>>
     requires goes_on { ends_range rest.now ≡ false }
     requires room { length rest.now + 1 < 2 ^ 63 }
@@ -89,7 +89,7 @@ fn read_second<'input>(first: Simple<'input>, rest: &'input [u8]) -> Option<Rang
     if let Some(behind) = after_byte(rest, b'-') {
         return read_hyphen_range(first, behind);
     }
-    let (second, others) = front_simple(rest)?;
+    let (second, others) = read_simple(rest)?;
     Some(RangeText {
         first,
         second: Some(second),
@@ -165,7 +165,7 @@ pub(crate) fn read_simple(text: &[u8]) -> Option<(Simple<'_>, &[u8])>
     front_simple(text)
 }
 
-/// As `read_simple`, and always inlined: for the first simples of a range.
+/// As `read_simple`, and always inlined: for the first simple of a range.
 #[inline(always)]
 pub(crate) fn front_simple(text: &[u8]) -> Option<(Simple<'_>, &[u8])>
     ensures { Finds IsSimpleOf (simple text.now) result }
@@ -315,23 +315,24 @@ fn read_component(text: &[u8]) -> Option<(Component, &[u8])>
     ensures { Finds IsComponentOf (component text.now) result }
 {
     match text {
-        [b'x' | b'X' | b'*', rest @ ..] => Some((Component::Wildcard, rest)),
         [b'0', rest @ ..] => Some((Component::Number(Some(0)), rest)),
-        [first, ..] if first.is_ascii_digit() => {
-            let (number, rest) = read_digits(text);
+        [first, rest @ ..] if first.is_ascii_digit() => {
+            let (number, rest) = read_digits(u64::from(*first - b'0'), rest);
             Some((Component::Number(number), rest))
         }
+        [b'x' | b'X' | b'*', rest @ ..] => Some((Component::Wildcard, rest)),
         _ => None,
     }
 }
 
-/// The value of the digits at the front of a text, and what follows them.
+/// The value of a first digit and the digits at the front of a text, and what follows them.
 #[inline(always)]
-fn read_digits(text: &[u8]) -> (Option<u64>, &[u8])
-    ensures value { IsValue (digits_value 10 (front is_ascii_digit text.now)) result.0 }
+fn read_digits(first: u64, text: &[u8]) -> (Option<u64>, &[u8])
+    requires { first < 10 }
+    ensures value { IsValue (digits_value 10 ((48 + first) ∷ front is_ascii_digit text.now)) result.0 }
     ensures rest { result.1.now ≡ back is_ascii_digit text.now }
 {
-    let mut value = Some(0);
+    let mut value = Some(first);
     for at in 0..text.len() {
         let digit = text[at];
         if !digit.is_ascii_digit() {

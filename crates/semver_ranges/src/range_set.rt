@@ -155,7 +155,6 @@ fn read_only_simple(text: &[u8], compat: Compat) -> Option<Bounds<'_>>
 }
 
 /// The set of one range that has these comparators.
-#[inline(always)]
 fn build_only_simple(
     alloc: Global,
     bounds: Bounds<'_>,
@@ -204,7 +203,23 @@ struct Others {
 }
 
 /// The ranges from the end of a first one on, where all that is left is ranges: how many, and whether they fit.
+#[inline(always)]
 fn survey(rest: &[u8], compat: Compat) -> Option<Others>
+    ensures { MatchOption result (read_rest rest.now ≡ None)
+        (λ others. (tree : SetTree) × (read_rest rest.now ≡ Some tree) × (others.count ≡ length tree) × (others.fit ≡ fits compat tree)) }
+{
+    if rest.is_empty() {
+        return Some(Others {
+            count: 0,
+            fit: true,
+        });
+    }
+    survey_ranges(rest, compat)
+}
+
+/// As `survey`, where something is left.
+#[inline(never)]
+fn survey_ranges(rest: &[u8], compat: Compat) -> Option<Others>
     ensures { MatchOption result (read_rest rest.now ≡ None)
         (λ others. (tree : SetTree) × (read_rest rest.now ≡ Some tree) × (others.count ≡ length tree) × (others.fit ≡ fits compat tree)) }
 {
@@ -244,11 +259,15 @@ fn build_ranges<'input>(
 {
     let mut ranges = Vec::with_capacity(alloc, others.count.saturating_add(1))?;
     ranges.push(first.build(alloc, size.count, compat)?)?;
+    if size.rest.is_empty() {
+        return Ok(ranges);
+    }
     push_ranges(alloc, &mut ranges, size.rest, compat)?;
     Ok(ranges)
 }
 
 /// Adds the ranges from the end of a first one on.
+#[inline(never)]
 fn push_ranges(
     alloc: Global,
     ranges: &mut Vec<Range>,

@@ -4,8 +4,8 @@ use Rattle.semver_texts.specs.Texts.{Text}
 use Rattle.semver_ranges.specs.Reading.{ends_range, range_behind, read_rest}
 use Rattle.semver_ranges.proofs.Gathered.{onto_all, onto_all-more, onto_all-none, onto_all-some}
 use Rattle.semver_ranges.proofs.RangeSteps.{measured, faulty, rest_first, rest_shorter, rest_no_first, rest_none, rest_empty, counted, tested}
-use Rattle.semver_ranges.proofs.range_set.survey.Goals as goal
-use Rattle.semver_ranges.proofs.range_set.survey.Goals.{then-fit, else-fit}
+use Rattle.semver_ranges.proofs.range_set.survey_ranges.Goals as goal
+use Rattle.semver_ranges.proofs.range_set.survey_ranges.Goals.{then-fit, else-fit}
 
 pub returns-then-not-ends_range : goal.returns-then-not-ends_range
 returns-then-not-ends_range c =
