@@ -3,6 +3,7 @@ pub mod AnsweredLaws
 pub mod AsciiParts
 pub mod ComponentSteps
 pub mod CursorSteps
+pub mod ExactLaws
 pub mod Fronts
 pub mod Gathered
 pub mod KeptLists

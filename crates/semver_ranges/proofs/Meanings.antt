@@ -15,7 +15,7 @@ use Rattle.semver_ranges.specs.Terms.{Term, of_simple, left_side, right_side, te
 use Rattle.semver_ranges.specs.OwnMeaning.{meets_stated, meets_term, meets_tree}
 use Rattle.semver_ranges.specs.RewritingTable.{cell, cell_raised, raised_bound, simple_comparators, range_comparators, rewritten}
 use Rattle.semver_ranges.specs.Meeting.{meets_comparator, meets_set, is_pre_release_of, meets_term_or_bound, meets_tree_or_bounds}
-use Rattle.semver_ranges.proofs.Rows.{Shape, row}
+use Rattle.semver_ranges.proofs.Rows.{Shape, row, or_false}
 
 -- a partial states none to three numbers
 pub stated_shape : (p : PartialTree) → Shape (stated p)
@@ -52,10 +52,6 @@ simples_agree mode (s ∷ ss) v = list_all-append (meets_comparator v) (simple_c
     ∙ ap (λ b. b && list_all (meets_comparator v) (flat_map (simple_comparators mode) ss)) (simple_agrees mode s v)
     ∙ ap (λ b. meets_term_or_bound mode (of_simple s) v && b) (simples_agree mode ss v)
 
-or_false : (b : Bool) → (b || false) ≡ b
-or_false true = refl
-or_false false = refl
-
 -- a term that states nothing: any version that isn't below 0.0.0
 any_at_least : (mode : Compat) (s : List ℕ) (z v : PlainVersion) → is_empty s ≡ true → (meets_stated mode at_least s z v || is_pre_release_of v (cell_raised (cell mode at_least s) s)) ≡ is_ge (precedence v zero_version)
 any_at_least mode [] z v e = or_false (is_ge (precedence v zero_version))
@@ -65,7 +61,7 @@ any_at_most : (mode : Compat) (s : List ℕ) (z v : PlainVersion) → is_empty s
 any_at_most mode [] z v e = or_false (is_ge (precedence v zero_version))
 any_at_most mode (x ∷ xs) z v e = cc e
 
-twice : (b : Bool) → (b && true) ≡ (b && (b && true))
+pub twice : (b : Bool) → (b && true) ≡ (b && (b && true))
 twice true = refl
 twice false = refl
 

@@ -4,6 +4,7 @@ pub mod Precedence
 pub mod Terms
 pub mod OwnMeaning
 pub mod RewritingTable
+pub mod ExactBounds
 pub mod Meeting
 pub mod PrintedRanges
 pub mod RangeViews

@@ -9,6 +9,7 @@ ghost use Rattle.semver_texts.specs.Versions.{PlainVersion};
 ghost use Rattle.semver_ranges.specs.Precedence.{precedence};
 ghost use Rattle.semver_ranges.specs.OwnMeaning.{meets_tree};
 ghost use Rattle.semver_ranges.specs.RewritingTable.{PlainSet, fits, rewritten};
+ghost use Rattle.semver_ranges.specs.ExactBounds.{rewritten_exactly};
 ghost use Rattle.semver_ranges.specs.Meeting.{meets_set, meets_tree_or_bounds};
 ghost use Rattle.semver_ranges.specs.PrintedRanges.{IsPrintableSet, set_text};
 
@@ -28,6 +29,13 @@ pub fn meanings_agree()
     // On releases both are equal.
     ensures releases { (mode : Compat) (tree : SetTree) (v : PlainVersion) → v.pre ≡ [] →
         meets_set v (rewritten mode tree) ≡ meets_tree mode tree v }
+{}
+
+/// With exact bounds, `<2.0.0-0` for a raised `<2.0.0`, nothing is excepted: a version meets the comparators of a
+/// range text exactly if it meets the text's own meaning.
+pub fn exact_bounds_mean_the_text()
+    ensures exact { (mode : Compat) (tree : SetTree) (v : PlainVersion) →
+        meets_set v (rewritten_exactly mode tree) ≡ meets_tree mode tree v }
 {}
 
 /// Precedence is a total order, and two versions are equal in it exactly if they are the same.
