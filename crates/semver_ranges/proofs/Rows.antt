@@ -85,7 +85,7 @@ floor (numeric (suc n) ∷ xs) = rw (le-ltb (suc n) 0 (omega arith), ne_eqb (suc
 floor (alphanumeric t ∷ xs) = past
 
 -- the order of two versions, from the orders of their parts
-abbrev compared : Ordering → Ordering → Ordering → Ordering → Ordering
+abbrev pub compared : Ordering → Ordering → Ordering → Ordering → Ordering
 compared o o' o'' o4 = ordering_then o (ordering_then o' (ordering_then o'' o4))
 
 -- a test with what comes of an `and` at the end of a list, and of an `or` with what can't be

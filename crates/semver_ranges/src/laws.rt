@@ -1,6 +1,7 @@
 //! Laws over the definitions: each is the contract of a function that does nothing.
-ghost use Rattle.std.specs.Prelude.{◌≡◌, ◌↔◌, [], IsTrue};
+ghost use Rattle.std.specs.Prelude.{◌≡◌, ◌↔◌, ◌&&◌, not, [], IsTrue};
 ghost use Rattle.std.specs.Cmp.{IsTotalOrder};
+ghost use Rattle.std.specs.Ordering.{is_lt};
 ghost use Rattle.std.specs.declared.cmp.Ordering.TheVariants.{Equal};
 ghost use Rattle.semver_ranges.specs.declared.range.Compat.{Compat};
 ghost use Rattle.semver_texts.specs.Texts.{Text};
@@ -9,8 +10,8 @@ ghost use Rattle.semver_texts.specs.Versions.{PlainVersion};
 ghost use Rattle.semver_ranges.specs.Precedence.{precedence};
 ghost use Rattle.semver_ranges.specs.OwnMeaning.{meets_tree};
 ghost use Rattle.semver_ranges.specs.RewritingTable.{PlainSet, fits, rewritten};
-ghost use Rattle.semver_ranges.specs.ExactBounds.{rewritten_exactly};
-ghost use Rattle.semver_ranges.specs.Meeting.{meets_set, meets_tree_or_bounds};
+ghost use Rattle.semver_ranges.specs.ExactBounds.{exact_bound, rewritten_exactly};
+ghost use Rattle.semver_ranges.specs.Meeting.{is_pre_release_of, meets_set, meets_tree_or_bounds};
 ghost use Rattle.semver_ranges.specs.PrintedRanges.{IsPrintableSet, set_text};
 
 /// No range text has two trees.
@@ -36,6 +37,9 @@ pub fn meanings_agree()
 pub fn exact_bounds_mean_the_text()
     ensures exact { (mode : Compat) (tree : SetTree) (v : PlainVersion) →
         meets_set v (rewritten_exactly mode tree) ≡ meets_tree mode tree v }
+    // What is below an exact bound: what is below the bound, but for the pre-releases of the bound.
+    ensures bounds { (bound v : PlainVersion) → bound.pre ≡ [] →
+        is_lt (precedence v (exact_bound bound)) ≡ (is_lt (precedence v bound) && not (is_pre_release_of v (Some bound))) }
 {}
 
 /// Precedence is a total order, and two versions are equal in it exactly if they are the same.

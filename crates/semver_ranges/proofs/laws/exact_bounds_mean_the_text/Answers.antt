@@ -1,5 +1,8 @@
-use Rattle.semver_ranges.proofs.ExactLaws.{some_means}
+use Rattle.semver_ranges.proofs.ExactLaws.{some_means, below_bound}
 use Rattle.semver_ranges.proofs.laws.exact_bounds_mean_the_text.Goals as goal
 
-pub returns : goal.returns
-returns c = record { exact = some_means }
+pub returns-clause-exact : goal.returns-clause-exact
+returns-clause-exact c = some_means
+
+pub returns-clause-bounds : goal.returns-clause-bounds
+returns-clause-bounds c = below_bound
