@@ -18,6 +18,7 @@ pub use Rattle.semver_ranges.specs.Precedence
 pub use Rattle.semver_ranges.specs.Terms
 pub use Rattle.semver_ranges.specs.OwnMeaning
 pub use Rattle.semver_ranges.specs.RewritingTable
+pub use Rattle.semver_ranges.specs.ExactBounds
 pub use Rattle.semver_ranges.specs.Meeting
 pub use Rattle.semver_ranges.specs.PrintedRanges
 pub use Rattle.semver_ranges.specs.RangeViews

@@ -7,8 +7,8 @@ ghost use Rattle.semver_steps.specs.VersionGrammar.{SpellsVersion};
 ghost use Rattle.semver_parser.specs.Examples.{IsMet, release, version};
 
 pub use semver_ranges::laws::{
-    answered_sets_are_printable, meanings_agree, one_tree, precedence_is_total,
-    printed_sets_read_back,
+    answered_sets_are_printable, exact_bounds_mean_the_text, meanings_agree, one_tree,
+    precedence_is_total, printed_sets_read_back,
 };
 pub use semver_tokens::laws::one_token_list;
 pub use semver_versions::laws::{one_outcome, one_version};
