@@ -13,12 +13,13 @@ pub struct File {
 }
 
 /// The files, in the order of the table.
-pub const FILES: [File; 5] = [
+pub const FILES: [File; 6] = [
     versions("plain", "plain versions", false),
     versions("mixed", "versions, plain and with identifiers", false),
     versions("refused", "refused versions", true),
     ranges("simples", "simple ranges"),
     ranges("ranges", "range sets"),
+    ranges("many", "three and more simples or ranges"),
 ];
 
 const fn versions(name: &'static str, title: &'static str, is_refused: bool) -> File {

@@ -1,4 +1,4 @@
-//! Makes those files of texts that are made from the others: `refused`, `released` and `filters`.
+//! Makes those files of texts that are made from the others: `refused`, `released`, `filters` and `many`.
 
 use crate::random::Random;
 use crate::texts;
@@ -33,7 +33,10 @@ pub fn write() -> Result<(), String> {
     let filters: Vec<String> = simples.lines().filter(|text| is_filter(text)).take(101).map(str::to_string).collect();
     texts::write("refused", &refused)?;
     texts::write("released", &released)?;
-    texts::write("filters", &filters)
+    let simples: Vec<&str> = simples.lines().collect();
+    let many: Vec<String> = (0..1_000).map(|_| many(&mut random, &simples)).collect();
+    texts::write("filters", &filters)?;
+    texts::write("many", &many)
 }
 
 /// A version text with one of the faults.
@@ -47,6 +50,27 @@ fn refused(random: &mut Random, mixed: &[&str]) -> String {
         left -= share;
     }
     unreachable!("the shares are a hundred")
+}
+
+/// Three to six simples, or three to six ranges of one to three simples.
+fn many(random: &mut Random, simples: &[&str]) -> String {
+    let count = 3 + random.below(4);
+    if random.below(2) == 0 {
+        return range(random, simples, count);
+    }
+    let ranges: Vec<String> = (0..count)
+        .map(|_| {
+            let count = 1 + random.below(3);
+            range(random, simples, count)
+        })
+        .collect();
+    ranges.join(" || ")
+}
+
+/// A range of so many simples.
+fn range(random: &mut Random, simples: &[&str], count: usize) -> String {
+    let simples: Vec<&str> = (0..count).map(|_| random.pick(simples)).collect();
+    simples.join(" ")
 }
 
 /// A version with numbers as they are in use, and what stands behind the numbers of some text.

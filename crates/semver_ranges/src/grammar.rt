@@ -68,7 +68,7 @@ pub(crate) fn read_range(text: &[u8]) -> Option<RangeText<'_>>
             others: text,
         });
     }
-    let (first, rest) = front_simple(text)?;
+    let (first, rest) = read_simple(text)?;
     if ends_range(rest) {
         return Some(RangeText {
             first,
@@ -89,7 +89,7 @@ fn read_second<'input>(first: Simple<'input>, rest: &'input [u8]) -> Option<Rang
     if let Some(behind) = after_byte(rest, b'-') {
         return read_hyphen_range(first, behind);
     }
-    let (second, others) = read_simple(rest)?;
+    let (second, others) = read_second_simple(rest)?;
     Some(RangeText {
         first,
         second: Some(second),
@@ -158,21 +158,21 @@ fn read_right_side(behind: &[u8]) -> Option<(Partial<'_>, &[u8])>
 }
 
 /// The simple at the front of a text, and what follows it and the blanks behind it; none where there is none.
-#[inline(never)]
-pub(crate) fn read_simple(text: &[u8]) -> Option<(Simple<'_>, &[u8])>
-    ensures { Finds IsSimpleOf (simple text.now) result }
-{
-    front_simple(text)
-}
-
-/// As `read_simple`, and always inlined: for the first simple of a range.
 #[inline(always)]
-pub(crate) fn front_simple(text: &[u8]) -> Option<(Simple<'_>, &[u8])>
+pub(crate) fn read_simple(text: &[u8]) -> Option<(Simple<'_>, &[u8])>
     ensures { Finds IsSimpleOf (simple text.now) result }
 {
     let (form, rest) = read_operator(text);
     let (partial, rest) = read_partial(rest)?;
     Some((Simple { form, partial }, behind_blanks(rest)))
+}
+
+/// As `read_simple`, and never inlined: for the second simple of a range.
+#[inline(never)]
+fn read_second_simple(text: &[u8]) -> Option<(Simple<'_>, &[u8])>
+    ensures { Finds IsSimpleOf (simple text.now) result }
+{
+    read_simple(text)
 }
 
 /// The operator at the front of a text, and what follows it and its blanks.

@@ -15,7 +15,7 @@ ghost use Rattle.semver_ranges.specs.Answers.{IsAnswer};
 ghost use Rattle.semver_ranges.specs.CursorViews.{Has, simple_fits};
 ghost use Rattle.semver_ranges.specs.BoundsViews.{bounds_of, bounds_fit, range_for, IsBuildable, Fits, RestFits};
 
-use crate::grammar::{RangeText, ends_range, front_simple, next_range, read_range};
+use crate::grammar::{RangeText, ends_range, next_range, read_range, read_simple};
 use crate::range::{Compat, Range};
 use crate::rewriting::{Bounds, Size, rewritten};
 use semver_texts::printing::write_joined;
@@ -146,7 +146,7 @@ fn read_only_simple(text: &[u8], compat: Compat) -> Option<Bounds<'_>>
     ensures { IfSome result (λ bounds. (s : SimpleTree) × (read text.now ≡ Some (simples s [] ∷ [])) × (simple_fits compat s ≡ true)
         × IsBuildable bounds × (bounds_fit bounds ≡ true) × (bounds_of bounds ≡ simple_comparators compat s)) }
 {
-    let (simple, rest) = front_simple(text)?;
+    let (simple, rest) = read_simple(text)?;
     if !rest.is_empty() {
         return None;
     }

@@ -1,7 +1,7 @@
 use Rattle.std.proofs.Common.{refl}
 use Rattle.semver_ranges.specs.CursorViews.{form_of}
 use Rattle.semver_ranges.proofs.CursorSteps.{simple_found}
-use Rattle.semver_ranges.proofs.grammar.front_simple.Goals as goal
+use Rattle.semver_ranges.proofs.grammar.read_simple.Goals as goal
 
 pub returns : goal.returns
 returns c =
