@@ -89,8 +89,34 @@ fn of_versions(alloc: Global) -> [(&'static str, Ending); 13] {
 }
 
 /// How each call on ranges and above them ends.
-fn of_ranges(alloc: Global) -> [(&'static str, Ending); 9] {
+fn of_ranges(alloc: Global) -> [(&'static str, Ending); 13] {
     [
+        (
+            "one_simple",
+            ranges::parse_text(alloc, "^1.2.3", ">=1.2.3 <2.0.0", Compat::Npm),
+        ),
+        (
+            "two_simples",
+            ranges::parse_text(
+                alloc,
+                ">=1.2.3 <2.0.0-rc.1",
+                ">=1.2.3 <2.0.0-rc.1",
+                Compat::Npm,
+            ),
+        ),
+        (
+            "hyphen_range",
+            ranges::parse_text(alloc, "1.2 - 2", ">=1.2.0 <3.0.0", Compat::Npm),
+        ),
+        (
+            "three_simples",
+            ranges::parse_text(
+                alloc,
+                ">1 <3 ~2",
+                ">1.0.0 <3.0.0 >=2.0.0 <3.0.0",
+                Compat::Npm,
+            ),
+        ),
         (
             "range_set_in_cargo_mode",
             ranges::parse(alloc, Compat::Cargo),

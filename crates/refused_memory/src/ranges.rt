@@ -12,8 +12,13 @@ const PRINTED: &str = ">=1.2.3-beta.4 <2.0.0 || >=2.0.0 <3.0.0";
 
 /// The set of two ranges, in a mode.
 pub fn parse(alloc: Global, compat: Compat) -> Ending {
-    match RangeSet::parse(alloc, TEXT, compat) {
-        Ok(set) => Ending::full_if(set.compat == compat && prints_as(&set, PRINTED)),
+    parse_text(alloc, TEXT, PRINTED, compat)
+}
+
+/// The set of a text, in a mode, which prints as another.
+pub fn parse_text(alloc: Global, text: &str, printed: &str, compat: Compat) -> Ending {
+    match RangeSet::parse(alloc, text, compat) {
+        Ok(set) => Ending::full_if(set.compat == compat && prints_as(&set, printed)),
         Err(RangeError::OutOfMemory) => Ending::Refused,
         Err(_) => Ending::Wrong,
     }
