@@ -1,6 +1,7 @@
 pub mod AnswerLaws
 pub mod AnsweredLaws
 pub mod AsciiParts
+pub mod CaretPlaces
 pub mod ComponentSteps
 pub mod CursorSteps
 pub mod ExactLaws

@@ -1,5 +1,5 @@
 -- Each row of the table means what its form means, but for pre-releases of its raised bound; with an exact bound, without exception.
-use Rattle.std.proofs.Common.{◌≡◌, ℕ, zero, suc, ◌+◌, ◌<◌, Bool, true, false, not, ◌&&◌, ◌||◌, ◌==◌, nat_eq, if◌then◌else◌, List, [], ◌∷◌, take, refl, ap, ◌∙◌, inl, inr, arith, Option, Some, None}
+use Rattle.std.proofs.Common.{◌≡◌, ℕ, zero, suc, ◌+◌, ◌<◌, Bool, true, false, not, ◌&&◌, ◌||◌, ◌==◌, nat_eq, if◌then◌else◌, List, [], ◌∷◌, take, refl, sym, ap, ◌∙◌, inl, inr, arith, Option, Some, None}
 use Rattle.std.proofs.lemmas.Bool.{cases_order, lt-ltb, le-ltb, eq-eqb, ne_eqb}
 use Rattle.std.specs.List.{list_all}
 use Rattle.std.specs.Ordering.{nat_cmp, ordering_then, is_eq, is_lt, is_gt, is_le, is_ge}
@@ -13,11 +13,12 @@ use Rattle.semver_ranges.specs.RangeTree.{Form, bare, equal, less, at_most, grea
 use Rattle.semver_texts.specs.Texts.{is_empty}
 use Rattle.semver_ranges.specs.Precedence.{precedence, pre_cmp}
 use Rattle.semver_texts.specs.Versions.{numbers, IdentifierValue, numeric, alphanumeric, PlainVersion}
-use Rattle.semver_ranges.specs.Partials.{filled}
-use Rattle.semver_ranges.specs.OwnMeaning.{meets_stated, agrees}
+use Rattle.semver_ranges.specs.Partials.{filled, leading_place}
+use Rattle.semver_ranges.specs.OwnMeaning.{meets_stated, agrees, agrees_past_zeros}
 use Rattle.semver_ranges.specs.RewritingTable.{PlainComparator, Cell, from_zero, below_zero, against, below, between, cell, raised, up, comparator, cell_comparators, cell_raised}
 use Rattle.semver_ranges.specs.ExactBounds.{lowest_pre_release, exact_cell_comparators}
 use Rattle.semver_ranges.specs.Meeting.{meets_comparator, has_pre_release, is_pre_release_of}
+use Rattle.semver_ranges.proofs.CaretPlaces.{same_agreement}
 
 -- a number of a version against a number that is raised: below it, the same, one above, further above
 -- (the order against it, the order against it raised, whether they are the same, whether it is the raised one)
@@ -293,6 +294,11 @@ module _ (v : PlainVersion) (f : List IdentifierValue) {i : Bool} (t : Tail (pre
       (is_ge (precedence v z) && (is_lt (precedence v (raised_to f 3 (x ∷ y ∷ w ∷ []))) && true)) ≡ ((is_ge (precedence v z) && agrees 3 (x ∷ y ∷ w ∷ []) v) || excepted i v (Some (up 3 (x ∷ y ∷ w ∷ []))))
   within_three x y w p = between_third (step v.major x) (step v.minor y) (place v.patch w) t (pre_cmp v.pre p)
 
+  -- agreement up to the place that a caret raises is agreement past zeros
+  past_zeros : (s : List ℕ) (z : PlainVersion) (comparators : Bool) → comparators ≡ ((is_ge (precedence v z) && agrees (leading_place s) s v) || excepted i v (Some (up (leading_place s) s)))
+      → comparators ≡ ((is_ge (precedence v z) && agrees_past_zeros s (numbers v)) || excepted i v (Some (up (leading_place s) s)))
+  past_zeros s z comparators e = e ∙ ap (λ (b : Bool). (is_ge (precedence v z) && b) || excepted i v (Some (up (leading_place s) s))) (sym (same_agreement s (numbers v)))
+
   -- one number stated
   row_one : (mode : Compat) (form : Form) (x : ℕ) (p : List IdentifierValue) → RowAgrees f i mode form (x ∷ []) p v
   row_one Cargo bare x p = within_one x 0 0 p
@@ -303,7 +309,7 @@ module _ (v : PlainVersion) (f : List IdentifierValue) {i : Bool} (t : Tail (pre
   row_one mode greater x p = alone (is_gt (precedence v (filled (x ∷ []) p)))
   row_one mode at_least x p = alone (is_ge (precedence v (filled (x ∷ []) p)))
   row_one mode tilde x p = within_one x 0 0 p
-  row_one mode caret x p = within_one x 0 0 p
+  row_one mode caret x p = past_zeros (x ∷ []) (filled (x ∷ []) p) _ (within_one x 0 0 p)
 
   caret_two : (b : Bool) (x y : ℕ) (p : List IdentifierValue) → let k : ℕ = (if b then 2 else 1) in let z = filled (x ∷ y ∷ []) p in
       (is_ge (precedence v z) && (is_lt (precedence v (raised_to f k (x ∷ y ∷ []))) && true)) ≡ ((is_ge (precedence v z) && agrees k (x ∷ y ∷ []) v) || excepted i v (Some (up k (x ∷ y ∷ []))))
@@ -320,7 +326,7 @@ module _ (v : PlainVersion) (f : List IdentifierValue) {i : Bool} (t : Tail (pre
   row_two mode greater x y p = alone (is_gt (precedence v (filled (x ∷ y ∷ []) p)))
   row_two mode at_least x y p = alone (is_ge (precedence v (filled (x ∷ y ∷ []) p)))
   row_two mode tilde x y p = within_two x y 0 p
-  row_two mode caret x y p = caret_two (x == 0) x y p
+  row_two mode caret x y p = past_zeros (x ∷ y ∷ []) (filled (x ∷ y ∷ []) p) _ (caret_two (x == 0) x y p)
 
   caret_three : (b c : Bool) (x y w : ℕ) (p : List IdentifierValue) → let k : ℕ = (if b then suc (if c then 2 else 1) else 1) in let z = filled (x ∷ y ∷ w ∷ []) p in
       (is_ge (precedence v z) && (is_lt (precedence v (raised_to f k (x ∷ y ∷ w ∷ []))) && true)) ≡ ((is_ge (precedence v z) && agrees k (x ∷ y ∷ w ∷ []) v) || excepted i v (Some (up k (x ∷ y ∷ w ∷ []))))
@@ -330,7 +336,7 @@ module _ (v : PlainVersion) (f : List IdentifierValue) {i : Bool} (t : Tail (pre
 
   -- three numbers stated
   row_three : (mode : Compat) (form : Form) (x y w : ℕ) (p : List IdentifierValue) → RowAgrees f i mode form (x ∷ y ∷ w ∷ []) p v
-  row_three Cargo bare x y w p = caret_three (x == 0) (y == 0) x y w p
+  row_three Cargo bare x y w p = past_zeros (x ∷ y ∷ w ∷ []) (filled (x ∷ y ∷ w ∷ []) p) _ (caret_three (x == 0) (y == 0) x y w p)
   row_three Npm bare x y w p = alone (is_eq (precedence v (filled (x ∷ y ∷ w ∷ []) p)))
   row_three mode equal x y w p = alone (is_eq (precedence v (filled (x ∷ y ∷ w ∷ []) p)))
   row_three mode less x y w p = alone (is_lt (precedence v (filled (x ∷ y ∷ w ∷ []) p)))
@@ -338,7 +344,7 @@ module _ (v : PlainVersion) (f : List IdentifierValue) {i : Bool} (t : Tail (pre
   row_three mode greater x y w p = alone (is_gt (precedence v (filled (x ∷ y ∷ w ∷ []) p)))
   row_three mode at_least x y w p = alone (is_ge (precedence v (filled (x ∷ y ∷ w ∷ []) p)))
   row_three mode tilde x y w p = within_two x y w p
-  row_three mode caret x y w p = caret_three (x == 0) (y == 0) x y w p
+  row_three mode caret x y w p = past_zeros (x ∷ y ∷ w ∷ []) (filled (x ∷ y ∷ w ∷ []) p) _ (caret_three (x == 0) (y == 0) x y w p)
 
   -- any row of the table
   any_row : (mode : Compat) (form : Form) {s : List ℕ} → Shape s → (p : List IdentifierValue) → RowAgrees f i mode form s p v

@@ -1,5 +1,5 @@
 -- What a range text means for a version, by agreement on stated numbers and by precedence against the zero-filled version.
-use Rattle.std.specs.Prelude.{ℕ, Bool, ◌&&◌, ◌==◌, if◌then◌else◌, List, length, take, nat_eq}
+use Rattle.std.specs.Prelude.{ℕ, Bool, true, false, not, ◌&&◌, ◌||◌, ◌==◌, if◌then◌else◌, List, [], ◌∷◌, length, take, nat_eq}
 use Rattle.std.specs.List.{list_any, list_all, starts_with}
 use Rattle.std.specs.Ordering.{nat_cmp, is_eq, is_lt, is_gt, is_le, is_ge}
 use Rattle.std.specs.Cmp.Lexicographic.{slice_cmp}
@@ -9,16 +9,22 @@ use Rattle.semver_ranges.specs.RangeTree.{Form, bare, equal, less, at_most, grea
 use Rattle.semver_texts.specs.Texts.{is_empty}
 use Rattle.semver_ranges.specs.Precedence.{precedence}
 use Rattle.semver_texts.specs.Versions.{numbers, PlainVersion}
-use Rattle.semver_ranges.specs.Partials.{stated, zero_filled, zero_version, leading_place}
+use Rattle.semver_ranges.specs.Partials.{stated, zero_filled, zero_version}
 use Rattle.semver_ranges.specs.Terms.{Term, of_simple, of_nothing, terms}
 
 -- the version's first numbers are the first n of the stated ones
 abbrev pub agrees : ℕ → List ℕ → PlainVersion → Bool
 agrees n s v = starts_with nat_eq (numbers v) (take n s)
 
+-- stated numbers and a version's, side by side: the same, and behind a 0 the next ones too
+abbrev pub agrees_past_zeros : List ℕ → List ℕ → Bool
+agrees_past_zeros [] others = true
+agrees_past_zeros (n ∷ rest) [] = false
+agrees_past_zeros (n ∷ rest) (m ∷ others) = (n == m) && (not (n == 0) || agrees_past_zeros rest others)
+
 -- `^`: not below z, and agreement up to the first stated number that isn't 0, on all where all are 0
 abbrev pub meets_caret : List ℕ → PlainVersion → PlainVersion → Bool
-meets_caret s z v = is_ge (precedence v z) && agrees (leading_place s) s v
+meets_caret s z v = is_ge (precedence v z) && agrees_past_zeros s (numbers v)
 
 -- `~`: not below z, and agreement on the major, and on the minor where it is stated
 abbrev pub meets_tilde : List ℕ → PlainVersion → PlainVersion → Bool
