@@ -1,2 +1,1 @@
 pub mod KeptReleases
-pub mod Numbers

@@ -1,6 +1,8 @@
 //! The releases that a range text means.
 #![tactic(auto)]
 
+mod precedence;
+
 ghost use Rattle.std.specs.Prelude.{◌≡◌, ◌↔◌, ◌&&◌, false, map, filter, IfOk, IsTrue};
 ghost use Rattle.semver_parser.specs.RangeTree.{SetTree, Spells};
 ghost use Rattle.semver_parser.specs.RewritingTable.{fits};
@@ -9,12 +11,10 @@ ghost use Rattle.semver_parser.specs.Meeting.{meets_comparator, meets_set};
 ghost use Rattle.semver_parser.specs.RangeViews.{comparator_of, set_of};
 ghost use Rattle.semver_parser.specs.VersionViews.{version_value};
 ghost use Rattle.release_filter.specs.KeptReleases.{is_release, kept_releases};
-ghost use Rattle.release_filter.specs.Numbers.{numbers_alone};
 
 use semver_parser::version::Version;
 use semver_parser::{Comparator, Compat, Op, Range, RangeError, RangeSet};
 use std::alloc::{AllocError, Global};
-use std::cmp::Ordering;
 
 /// Whether a version is a release that meets a range set: it has no pre-release, and some range of the set has all its
 /// comparators met, by precedence (SemVer 2.0.0, section 11).
@@ -24,39 +24,42 @@ use std::cmp::Ordering;
 pub fn release_meets(set: &RangeSet, version: &Version) -> bool
     ensures meets { result ≡ (is_release (version_value version.now) && meets_set (version_value version.now).plain (set_of set.now)) }
 {
-    version.pre.is_empty() && some_range_meets(&set.ranges, version)
+    version.pre.is_empty() && version_meets(set, version)
 }
 
-// Whether a version, without its pre-release, meets some range.
+/// Whether a version, a pre-release too, meets a range set: some range of the set has all its comparators met, by precedence
+/// (SemVer 2.0.0, section 11). The build of the version doesn't count.
+///
+/// `1.0.0-beta.11` meets the set of `>=1.0.0-beta.2 <1.0.0`; `1.0.0-alpha` doesn't, and neither does `1.0.0`. A pre-release
+/// needs no comparator with its own numbers: `2.0.0-alpha` meets `>=1.0.0`, and `<2.0.0` too. No version meets a set
+/// without ranges, and each meets a range without comparators. It takes no memory.
+pub fn version_meets(set: &RangeSet, version: &Version) -> bool
+    ensures meets { result ≡ meets_set (version_value version.now).plain (set_of set.now) }
+{
+    some_range_meets(&set.ranges, version)
+}
+
+// Whether a version meets some range.
 fn some_range_meets(ranges: &[Range], version: &Version) -> bool
-    ensures { result ≡ list_any (λ range. list_all (λ comparator. meets_comparator (numbers_alone version.now) (comparator_of comparator)) range.comparator_set.items) ranges.now }
+    ensures { result ≡ list_any (λ range. list_all (λ comparator. meets_comparator (version_value version.now).plain (comparator_of comparator)) range.comparator_set.items) ranges.now }
 {
     ranges.iter().any(|range| each_comparator_is_met(&range.comparator_set, version))
 }
 
-// Whether a version, without its pre-release, meets all comparators.
+// Whether a version meets all comparators.
 fn each_comparator_is_met(comparators: &[Comparator], version: &Version) -> bool
-    ensures { result ≡ list_all (λ comparator. meets_comparator (numbers_alone version.now) (comparator_of comparator)) comparators.now }
+    ensures { result ≡ list_all (λ comparator. meets_comparator (version_value version.now).plain (comparator_of comparator)) comparators.now }
 {
     comparators
         .iter()
         .all(|comparator| comparator_is_met(comparator, version))
 }
 
-// Whether a version, without its pre-release, meets a comparator. A pre-release of its numbers is below it.
+// Whether a version meets a comparator.
 fn comparator_is_met(comparator: &Comparator, version: &Version) -> bool
-    ensures { result ≡ meets_comparator (numbers_alone version.now) (comparator_of comparator.now) }
+    ensures { result ≡ meets_comparator (version_value version.now).plain (comparator_of comparator.now) }
 {
-    let ordering = version
-        .major
-        .cmp(&comparator.major)
-        .then(version.minor.cmp(&comparator.minor))
-        .then(version.patch.cmp(&comparator.patch))
-        .then(if comparator.pre.is_empty() {
-            Ordering::Equal
-        } else {
-            Ordering::Greater
-        });
+    let ordering = precedence::compare(version, comparator);
     match comparator.op {
         Op::Lt => ordering.is_lt(),
         Op::Lte => ordering.is_le(),
