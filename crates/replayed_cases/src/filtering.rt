@@ -1,7 +1,7 @@
-//! What the filter keeps.
+//! What the filter keeps, and which versions meet a set.
 
-use release_filter::filter_text;
-use semver_parser::{Compat, version};
+use release_filter::{filter_text, version_meets};
+use semver_parser::{Compat, RangeSet, version};
 use std::alloc::Global;
 use std::io;
 use std::io::Write;
@@ -30,4 +30,29 @@ pub fn write_kept<W: Write>(
         }
         Err(error) => write!(out, "{error}"),
     }
+}
+
+/// Writes the versions of a list, parted by blanks, that meet the set of a text, pre-releases too, or the fault of the text.
+pub fn write_met<W: Write>(
+    alloc: Global,
+    text: &str,
+    compat: Compat,
+    list: &str,
+    out: &mut W,
+) -> io::Result<()> {
+    let set = match RangeSet::parse(alloc, text, compat) {
+        Ok(set) => set,
+        Err(error) => return write!(out, "{error}"),
+    };
+    for item in list.split(' ').filter(|item| !item.is_empty()) {
+        match version::parse(alloc, item) {
+            Ok(version) => {
+                if version_meets(&set, &version) {
+                    write!(out, "{version} ")?;
+                }
+            }
+            Err(_) => return write!(out, "{item} is no version"),
+        }
+    }
+    write!(out, "end")
 }

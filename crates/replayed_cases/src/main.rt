@@ -73,6 +73,8 @@ fn answer<W: Write>(
         "from-str" => ranges::write_from_str(alloc, text, out),
         "filter-cargo" => filtering::write_kept(alloc, text, Compat::Cargo, steps, out),
         "filter-npm" => filtering::write_kept(alloc, text, Compat::Npm, steps, out),
+        "meet-cargo" => filtering::write_met(alloc, text, Compat::Cargo, steps, out),
+        "meet-npm" => filtering::write_met(alloc, text, Compat::Npm, steps, out),
         "report" => reporting::write_report(alloc, text, out),
         _ => write!(out, "no such call"),
     }
