@@ -1,4 +1,4 @@
-//! The releases that a range text means.
+//! The releases that a range text means, and which versions meet a range set.
 #![tactic(auto)]
 
 mod precedence;
