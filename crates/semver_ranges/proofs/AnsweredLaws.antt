@@ -12,7 +12,8 @@ use Rattle.semver_texts.specs.Texts.{Text, is_empty}
 use Rattle.semver_texts.specs.Versions.{numbers, IdentifierValue, PlainVersion}
 use Rattle.semver_ranges.specs.Partials.{fits_u64, kept, stated, states_nothing, pre_parts, pre_release, filled, zero_filled}
 use Rattle.semver_ranges.specs.Terms.{of_simple, left_side, right_side, terms}
-use Rattle.semver_ranges.specs.RewritingTable.{PlainComparator, Cell, from_zero, below_zero, against, below, between, cell, cell_comparators, cell_raised, bound_fits, simple_comparators, range_comparators, rewritten, fits, term_fits}
+use Rattle.semver_ranges.specs.RewritingTable.{PlainComparator, Cell, from_zero, below_zero, against, below, between, cell, written_cell, cell_raised, up, bound_fits, written_simple, written_range, written_set, rewritten, fits, term_fits}
+use Rattle.semver_ranges.specs.ExactBounds.{exact_bound}
 use Rattle.semver_ranges.specs.PrintedRanges.{is_kept, is_printable_version, IsPrintableRange, IsPrintableSet}
 use Rattle.semver_ranges.proofs.Rows.{Shape}
 use Rattle.semver_ranges.proofs.Meanings.{stated_shape}
@@ -49,26 +50,30 @@ filled_fits (Shape.one x) pre e = and_from _ _ (and_parts (fits_u64 x) true e).0
 filled_fits (Shape.two x y) pre e = let h = and_parts (fits_u64 x) (fits_u64 y && true) e in and_from _ _ h.0 (and_from _ _ (and_parts (fits_u64 y) true h.1).0 refl)
 filled_fits (Shape.three x y w) pre e = e
 
+-- a raised bound that is printable stays so where it is written
+abbrev Keeps : (PlainVersion → PlainVersion) → Type 0
+Keeps write = (v : PlainVersion) → is_printable_version v ≡ true → is_printable_version (write v) ≡ true
+
 -- the comparators of a cell
-cell_printable : (c : Cell) (s : List ℕ) (z : PlainVersion) → is_printable_version z ≡ true → bound_fits (cell_raised c s) ≡ true → are_printable (cell_comparators c s z) ≡ true
-cell_printable from_zero s z e h = refl
-cell_printable below_zero s z e h = refl
-cell_printable (against op) s z e h = and_from _ _ e refl
-cell_printable (below k) s z e h = and_from _ _ (and_from _ _ h refl) refl
-cell_printable (between k) s z e h = and_from _ _ e (and_from _ _ (and_from _ _ h refl) refl)
+cell_printable : (write : PlainVersion → PlainVersion) → Keeps write → (c : Cell) (s : List ℕ) (z : PlainVersion) → is_printable_version z ≡ true → bound_fits (cell_raised c s) ≡ true → are_printable (written_cell write c s z) ≡ true
+cell_printable write keeps from_zero s z e h = refl
+cell_printable write keeps below_zero s z e h = refl
+cell_printable write keeps (against op) s z e h = and_from _ _ e refl
+cell_printable write keeps (below k) s z e h = and_from _ _ (keeps (up k s) (and_from _ _ h refl)) refl
+cell_printable write keeps (between k) s z e h = and_from _ _ e (and_from _ _ (keeps (up k s) (and_from _ _ h refl)) refl)
 
-cell_some : (c : Cell) (s : List ℕ) (z : PlainVersion) → is_empty (cell_comparators c s z) ≡ false
-cell_some from_zero s z = refl
-cell_some below_zero s z = refl
-cell_some (against op) s z = refl
-cell_some (below k) s z = refl
-cell_some (between k) s z = refl
+cell_some : (write : PlainVersion → PlainVersion) (c : Cell) (s : List ℕ) (z : PlainVersion) → is_empty (written_cell write c s z) ≡ false
+cell_some write from_zero s z = refl
+cell_some write below_zero s z = refl
+cell_some write (against op) s z = refl
+cell_some write (below k) s z = refl
+cell_some write (between k) s z = refl
 
-simple_printable : (mode : Compat) (s : Simple) → HasParts s.partial → term_fits mode (of_simple s) ≡ true → are_printable (simple_comparators mode s) ≡ true
-simple_printable mode s h e =
+simple_printable : (write : PlainVersion → PlainVersion) → Keeps write → (mode : Compat) (s : Simple) → HasParts s.partial → term_fits mode (of_simple s) ≡ true → are_printable (written_simple write mode s) ≡ true
+simple_printable write keeps mode s h e =
     let c = cell mode s.form (stated s.partial) in
     let fit = and_parts (list_all fits_u64 (stated s.partial)) (bound_fits (cell_raised c (stated s.partial))) e in
-    cell_printable c (stated s.partial) (zero_filled s.partial)
+    cell_printable write keeps c (stated s.partial) (zero_filled s.partial)
     (and_from _ _ (filled_fits (stated_shape s.partial) (pre_release s.partial) fit.0) (pre_kept s.partial h)) fit.1
 
 -- simples whose partials have parts
@@ -76,17 +81,17 @@ HaveParts : List Simple → Type 0
 HaveParts [] = Unit {0}
 HaveParts (s ∷ ss) = HasParts s.partial × HaveParts ss
 
-simples_printable : (mode : Compat) (ss : List Simple) → HaveParts ss → list_all (term_fits mode) (map of_simple ss) ≡ true → are_printable (flat_map (simple_comparators mode) ss) ≡ true
+simples_printable : (write : PlainVersion → PlainVersion) → Keeps write → (mode : Compat) (ss : List Simple) → HaveParts ss → list_all (term_fits mode) (map of_simple ss) ≡ true → are_printable (flat_map (written_simple write mode) ss) ≡ true
 unfolding HaveParts
-simples_printable mode [] h e = refl
-simples_printable mode (s ∷ ss) h e =
+simples_printable write keeps mode [] h e = refl
+simples_printable write keeps mode (s ∷ ss) h e =
     let fit = and_parts (term_fits mode (of_simple s)) (list_all (term_fits mode) (map of_simple ss)) e in
-    list_all-append (λ c. is_printable_version c.version) (simple_comparators mode s) (flat_map (simple_comparators mode) ss)
-    ∙ and_from _ _ (simple_printable mode s h.0 fit.0) (simples_printable mode ss h.1 fit.1)
+    list_all-append (λ c. is_printable_version c.version) (written_simple write mode s) (flat_map (written_simple write mode) ss)
+    ∙ and_from _ _ (simple_printable write keeps mode s h.0 fit.0) (simples_printable write keeps mode ss h.1 fit.1)
 
-simples_some : (mode : Compat) (s : Simple) (ss : List Simple) → is_empty (flat_map (simple_comparators mode) (s ∷ ss)) ≡ false
-simples_some mode s ss = go (simple_comparators mode s) (cell_some (cell mode s.form (stated s.partial)) (stated s.partial) (zero_filled s.partial)) where
-  go : (cs : List PlainComparator) → is_empty cs ≡ false → is_empty (cs ++ flat_map (simple_comparators mode) ss) ≡ false
+simples_some : (write : PlainVersion → PlainVersion) (mode : Compat) (s : Simple) (ss : List Simple) → is_empty (flat_map (written_simple write mode) (s ∷ ss)) ≡ false
+simples_some write mode s ss = go (written_simple write mode s) (cell_some write (cell mode s.form (stated s.partial)) (stated s.partial) (zero_filled s.partial)) where
+  go : (cs : List PlainComparator) → is_empty cs ≡ false → is_empty (cs ++ flat_map (written_simple write mode) ss) ≡ false
   go [] e = cc
   go (c ∷ cs) e = refl
 
@@ -99,12 +104,12 @@ simples_parts first (next ∷ others) t (front, gap, back, (head, tail, f, p, eq
 abbrev ArePrintable : List PlainComparator → Type 0
 ArePrintable cs = IsTrue (not (is_empty cs)) × IsTrue (are_printable cs)
 
-range_printable : (mode : Compat) (r : RangeTree) (t : Text) → SpellsRange r t → list_all (term_fits mode) (terms r) ≡ true → ArePrintable (range_comparators mode r)
+range_printable : (write : PlainVersion → PlainVersion) → Keeps write → (mode : Compat) (r : RangeTree) (t : Text) → SpellsRange r t → list_all (term_fits mode) (terms r) ≡ true → ArePrintable (written_range write mode r)
 unfolding HaveParts
-range_printable mode empty t h e = (refl, refl)
-range_printable mode (simples first others) t h e =
-    (not_from_false (is_empty (flat_map (simple_comparators mode) (first ∷ others))) (simples_some mode first others), simples_printable mode (first ∷ others) (simples_parts first others t h) e)
-range_printable mode (hyphen left right) t (l, gap, gap', r, h, g, g', h', eq) e = elim (cases_Bool (states_nothing left)) [
+range_printable write keeps mode empty t h e = (refl, refl)
+range_printable write keeps mode (simples first others) t h e =
+    (not_from_false (is_empty (flat_map (written_simple write mode) (first ∷ others))) (simples_some write mode first others), simples_printable write keeps mode (first ∷ others) (simples_parts first others t h) e)
+range_printable write keeps mode (hyphen left right) t (l, gap, gap', r, h, g, g', h', eq) e = elim (cases_Bool (states_nothing left)) [
   | inl a ↦ elim (cases_Bool (states_nothing right)) [
     | inl b ↦ rw (a, b) (refl, refl)
     | inr b ↦ rw (a, b) (made (right_side right) [] (h'.1, tt) (rw (a, b) at e))
@@ -114,26 +119,33 @@ range_printable mode (hyphen left right) t (l, gap, gap', r, h, g, g', h', eq) e
     | inr b ↦ rw (a, b) (made (left_side left) (right_side right ∷ []) (h.1, (h'.1, tt)) (rw (a, b) at e))
   ]
 ] where
-  made : (s : Simple) (ss : List Simple) → HaveParts (s ∷ ss) → list_all (term_fits mode) (map of_simple (s ∷ ss)) ≡ true → ArePrintable (flat_map (simple_comparators mode) (s ∷ ss))
-  made s ss h e = (not_from_false (is_empty (flat_map (simple_comparators mode) (s ∷ ss))) (simples_some mode s ss), simples_printable mode (s ∷ ss) h e)
+  made : (s : Simple) (ss : List Simple) → HaveParts (s ∷ ss) → list_all (term_fits mode) (map of_simple (s ∷ ss)) ≡ true → ArePrintable (flat_map (written_simple write mode) (s ∷ ss))
+  made s ss h e = (not_from_false (is_empty (flat_map (written_simple write mode) (s ∷ ss))) (simples_some write mode s ss), simples_printable write keeps mode (s ∷ ss) h e)
 
-padded_printable : (mode : Compat) (r : RangeTree) (t : Text) → SpellsPadded r t → list_all (term_fits mode) (terms r) ≡ true
-    → IsPrintableRange mode (record { comparators = range_comparators mode r; compat = mode })
-padded_printable mode r t (before, inner, after, b, h, a, eq) e = let p = range_printable mode r inner h e in (p.0, refl, p.1)
+padded_printable : (write : PlainVersion → PlainVersion) → Keeps write → (mode : Compat) (r : RangeTree) (t : Text) → SpellsPadded r t → list_all (term_fits mode) (terms r) ≡ true
+    → IsPrintableRange mode (record { comparators = written_range write mode r; compat = mode })
+padded_printable write keeps mode r t (before, inner, after, b, h, a, eq) e = let p = range_printable write keeps mode r inner h e in (p.0, refl, p.1)
 
-ranges_printable : (mode : Compat) (tree : SetTree) (t : Text) → Spells tree t → fits mode tree ≡ true → All (IsPrintableRange mode) (rewritten mode tree).ranges
-ranges_printable mode [] t h e = absurd h
-ranges_printable mode (r ∷ []) t h e =
-    All-cons (IsPrintableRange mode) (record { comparators = range_comparators mode r; compat = mode }) []
-    (padded_printable mode r t h (and_parts (list_all (term_fits mode) (terms r)) true e).0) (All-nil (IsPrintableRange mode))
-ranges_printable mode (r ∷ next ∷ others) t (head, tail, h, more, eq) e =
+ranges_printable : (write : PlainVersion → PlainVersion) → Keeps write → (mode : Compat) (tree : SetTree) (t : Text) → Spells tree t → fits mode tree ≡ true → All (IsPrintableRange mode) (written_set write mode tree).ranges
+ranges_printable write keeps mode [] t h e = absurd h
+ranges_printable write keeps mode (r ∷ []) t h e =
+    All-cons (IsPrintableRange mode) (record { comparators = written_range write mode r; compat = mode }) []
+    (padded_printable write keeps mode r t h (and_parts (list_all (term_fits mode) (terms r)) true e).0) (All-nil (IsPrintableRange mode))
+ranges_printable write keeps mode (r ∷ next ∷ others) t (head, tail, h, more, eq) e =
     let parts = and_parts (list_all (term_fits mode) (terms r)) (fits mode (next ∷ others)) e in
-    All-cons (IsPrintableRange mode) (record { comparators = range_comparators mode r; compat = mode }) (rewritten mode (next ∷ others)).ranges
-    (padded_printable mode r head h parts.0) (ranges_printable mode (next ∷ others) tail more parts.1)
+    All-cons (IsPrintableRange mode) (record { comparators = written_range write mode r; compat = mode }) (written_set write mode (next ∷ others)).ranges
+    (padded_printable write keeps mode r head h parts.0) (ranges_printable write keeps mode (next ∷ others) tail more parts.1)
 
 -- what a tree that spells a text and fits is rewritten to is printable
-pub rewritten_printable : (mode : Compat) (tree : SetTree) (t : Text) → Spells tree t → fits mode tree ≡ true → IsPrintableSet (rewritten mode tree)
-rewritten_printable mode tree t h e = (some tree h, ranges_printable mode tree t h e) where
-  some : (tree : SetTree) → Spells tree t → not (is_empty (rewritten mode tree).ranges) ≡ true
+pub written_printable : (write : PlainVersion → PlainVersion) → Keeps write → (mode : Compat) (tree : SetTree) (t : Text) → Spells tree t → fits mode tree ≡ true → IsPrintableSet (written_set write mode tree)
+written_printable write keeps mode tree t h e = (some tree h, ranges_printable write keeps mode tree t h e) where
+  some : (tree : SetTree) → Spells tree t → not (is_empty (written_set write mode tree).ranges) ≡ true
   some [] h = absurd h
   some (r ∷ rs) h = refl
+
+pub rewritten_printable : (mode : Compat) (tree : SetTree) (t : Text) → Spells tree t → fits mode tree ≡ true → IsPrintableSet (rewritten mode tree)
+rewritten_printable mode tree t h e = written_printable (λ bound. bound) (λ v e. e) mode tree t h e
+
+-- an exact bound has the numbers of the bound, and one identifier that prints
+pub exact_kept : (v : PlainVersion) → is_printable_version v ≡ true → is_printable_version (exact_bound v) ≡ true
+exact_kept v e = and_from _ _ (and_parts (list_all fits_u64 (numbers v)) _ e).0 refl

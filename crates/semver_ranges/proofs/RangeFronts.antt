@@ -11,11 +11,12 @@ use Rattle.semver_ranges.specs.declared.partial.PartialKind.TheVariants.{XRangeO
 use Rattle.semver_ranges.specs.declared.range.Compat.{Compat}
 use Rattle.semver_ranges.specs.declared.range.Op.TheVariants.{Gte}
 use Rattle.semver_ranges.specs.RangeTree as tree
+use Rattle.semver_texts.specs.Versions.{PlainVersion}
 use Rattle.semver_ranges.specs.RangeTree.{is_blank}
 use Rattle.semver_texts.specs.Texts.{Text, is_empty}
 use Rattle.semver_ranges.specs.Partials.{fits_u64, stated, states_nothing, zero_version}
 use Rattle.semver_ranges.specs.Terms.{of_simple, left_side, right_side as right_term}
-use Rattle.semver_ranges.specs.RewritingTable.{term_fits, comparator, simple_comparators}
+use Rattle.semver_ranges.specs.RewritingTable.{term_fits, comparator, written_simple}
 use Rattle.semver_ranges.specs.Reading.{begins_with, ends_range, simple, all_simples, put_before, behind_simple, with_others, with_right, right_side, behind_first, range_here, range, behind_blanks, is_bare, partial, range_end, range_behind, behind_bars}
 use Rattle.semver_ranges.specs.PartialViews.{stated_at, version_of, states_none, IsPartialOf, PartsPass}
 use Rattle.semver_ranges.specs.CursorViews.{AreFirst, HasRoom, IsMadeOf, AreSidesOf, GoesOn, IsFrontOf, simple_fits}
@@ -34,7 +35,7 @@ same_fits : (mode : Compat) (ss : List tree.Simple) → list_all (term_fits mode
 same_fits mode ss = list_all-map (term_fits mode) of_simple ss
 
 pub made_of_simples : (first : tree.Simple) (others : List tree.Simple) → IsMadeOf (tree.simples first others) (first ∷ others)
-made_of_simples first others = λ mode. (same_fits mode (first ∷ others), refl)
+made_of_simples first others = λ mode. (same_fits mode (first ∷ others), λ write. refl)
 
 -- a range that goes on behind its second simple
 pub front_goes_on : (r : RangeText) (s next : tree.Simple) (o : Option (tree.RangeTree × Text)) → AreFirst (s ∷ next ∷ []) r.first r.second → HasRoom r.others.now
@@ -47,7 +48,7 @@ front_goes_on r s next o first room is = ((s ∷ next ∷ [], first), room, at_e
 
 -- an empty range
 pub made_of_nothing : IsMadeOf tree.empty (record { form = tree.bare; partial = tree.one (codes "*") } ∷ [])
-made_of_nothing = λ mode. (refl, refl)
+made_of_nothing = λ mode. (refl, λ write. refl)
 
 -- what a partial states, by its kind
 some_stated : (s : List ℕ) → list_all fits_u64 s ≡ false → is_empty s ≡ false
@@ -74,20 +75,20 @@ nothing_is (n ∷ s) e = cc
 fits_nothing : (mode : Compat) (p : tree.PartialTree) → stated p ≡ [] → term_fits mode (of_simple (right_term p)) ≡ true
 fits_nothing mode p e = rw e refl
 
-from_zero : (mode : Compat) (p : tree.PartialTree) → stated p ≡ [] → comparator Gte zero_version ∷ [] ≡ flat_map (simple_comparators mode) (left_side p ∷ [])
-from_zero mode p e = rw e refl
+from_zero : (write : PlainVersion → PlainVersion) (mode : Compat) (p : tree.PartialTree) → stated p ≡ [] → comparator Gte zero_version ∷ [] ≡ flat_map (written_simple write mode) (left_side p ∷ [])
+from_zero write mode p e = rw e refl
 
 made_of_left : (l r : tree.PartialTree) → states_nothing r ≡ true → IsMadeOf (tree.hyphen l r) (left_side l ∷ [])
 made_of_left l r e = λ mode. elim (cases_Bool (states_nothing l)) [
-  | inl y ↦ rw (y, e) (ap (λ (b : Bool). term_fits mode (of_simple (left_side l)) && (b && true)) (fits_nothing mode r (nothing_is (stated r) e)), from_zero mode l (nothing_is (stated l) y))
-  | inr n ↦ rw (n, e) (refl, refl)
+  | inl y ↦ rw (y, e) (ap (λ (b : Bool). term_fits mode (of_simple (left_side l)) && (b && true)) (fits_nothing mode r (nothing_is (stated r) e)), λ write. from_zero write mode l (nothing_is (stated l) y))
+  | inr n ↦ rw (n, e) (refl, λ write. refl)
 ]
 
 made_of_right : (l r : tree.PartialTree) → states_nothing l ≡ true → states_nothing r ≡ false → IsMadeOf (tree.hyphen l r) (right_term r ∷ [])
-made_of_right l r e f = λ mode. rw (e, f) (refl, refl)
+made_of_right l r e f = λ mode. rw (e, f) (refl, λ write. refl)
 
 made_of_both : (l r : tree.PartialTree) → states_nothing l ≡ false → states_nothing r ≡ false → IsMadeOf (tree.hyphen l r) (left_side l ∷ right_term r ∷ [])
-made_of_both l r e f = λ mode. rw (e, f) (refl, refl)
+made_of_both l r e f = λ mode. rw (e, f) (refl, λ write. refl)
 
 pub left_alone : (l r : tree.PartialTree) (right : Partial) → IsPartialOf r right → states_none right.kind ≡ true → IsMadeOf (tree.hyphen l r) (left_side l ∷ [])
 left_alone l r right is e = made_of_left l r (states_kind r right is ∙ e)

@@ -1,20 +1,22 @@
 -- Ranges of a text, one after the other.
 use Rattle.std.proofs.Common.{◌≡◌, ℕ, ◌<◌, ◌+◌, Bool, true, false, ◌&&◌, ◌==◌, List, [], ◌∷◌, ◌++◌, length, Option, Some, None, refl, sym, ap, ◌∙◌, arith, inl, inr, append_assoc, append-nil}
 use Rattle.std.specs.Prelude.{map}
-use Rattle.std.specs.List.{list_all, flat_map}
+use Rattle.std.specs.List.{list_all}
 use Rattle.std.proofs.lemmas.Bool.{cases_Bool, both_ways, and_parts, or_cases, eqb-true, false_from_ne_true}
 use Rattle.std.proofs.lemmas.List.{length-append}
 use Rattle.std.proofs.lemmas.List.Folds.{list_all-append}
 use Rattle.semver_ranges.specs.declared.grammar.RangeText.{RangeText}
+use Rattle.semver_ranges.specs.declared.rewriting.RangeBounds.{RangeBounds}
 use Rattle.semver_ranges.specs.declared.rewriting.Size.{Size}
 use Rattle.semver_ranges.specs.declared.range.Compat.{Compat}
 use Rattle.semver_ranges.specs.RangeTree as tree
 use Rattle.semver_ranges.specs.RangeTree.{is_blank}
 use Rattle.semver_texts.specs.Texts.{Text}
-use Rattle.semver_ranges.specs.RewritingTable.{PlainComparator, PlainRange, simple_comparators, fits, rewritten}
+use Rattle.semver_texts.specs.Versions.{PlainVersion}
+use Rattle.semver_ranges.specs.RewritingTable.{PlainComparator, PlainRange, written_simple, written_set, fits}
 use Rattle.semver_ranges.specs.Reading.{ends_range, simple, all_simples, range, read, read_rest, read_at, range_behind, range_at, behind_range, more_ranges, behind_bars, behind_blanks, onto}
-use Rattle.semver_ranges.specs.CursorViews.{Has, IsMadeOf, GoesOn, IsFrontOf, simple_fits, range_fits}
-use Rattle.semver_ranges.specs.BoundsViews.{IsSize, range_for}
+use Rattle.semver_ranges.specs.CursorViews.{Has, AreFirst, AreRead, IsMadeOf, GoesOn, IsFrontOf, simple_fits, range_fits}
+use Rattle.semver_ranges.specs.BoundsViews.{IsSize, AreRows, AreBounds, HasRows, range_of_simples, range_for}
 use Rattle.semver_ranges.proofs.ReadingSteps.{read_step, simples_stop, shorter_range}
 use Rattle.semver_ranges.proofs.KeptLists.{mapped_push}
 use Rattle.semver_ranges.proofs.RangeFronts.{range_begins, behind_end}
@@ -163,8 +165,8 @@ next_built mode t v left r z is fit bars front sized fault =
     (found.0, found.1, found.2, split.0, found.4, found.5, sym (found.5 mode).0 ∙ parts.0, split.2, split.1, parts.1, rest_shorter t z.rest.now v found.0 bars found.3)
 
 -- a range of its comparators, and one more that was built
-pub range_made : (mode : Compat) (x : tree.RangeTree) (ss : List tree.Simple) → IsMadeOf x ss → record { comparators = flat_map (simple_comparators mode) ss; compat = mode } ≡ range_for mode x
-range_made mode x ss made = ap (λ (l : List PlainComparator). record { comparators = l; compat = mode }) (sym (made mode).1)
+pub range_made : (write : PlainVersion → PlainVersion) (mode : Compat) (x : tree.RangeTree) (ss : List tree.Simple) → IsMadeOf x ss → range_of_simples write mode ss ≡ range_for write mode x
+range_made write mode x ss made = ap (λ (l : List PlainComparator). record { comparators = l; compat = mode }) (sym ((made mode).1 write))
 
 pub built_more : {B X Y : Type 0} (view : B → Y) (f : X → Y) (first : List Y) (now new : List B) (b : B) (done : List X) (x : X)
     → map view now ≡ first ++ map f done → new ≡ now ++ b ∷ [] → view b ≡ f x → map view new ≡ first ++ map f (done ++ x ∷ [])
@@ -193,18 +195,32 @@ tree_left mode t r z others b front sized fault is fit =
     (found.0, found.1, found.2, found.4, found.5, read_first t z.rest.now found.0 found.3 ∙ ap (onto found.0) is, ap (λ c. c && fits mode others) (sym found.6) ∙ ap (λ c. z.fits && c) (sym fit), found.6 ∙ (found.5 mode).0)
 
 -- the set of a first range and others
-pub set_made : (mode : Compat) (x : tree.RangeTree) (ss : List tree.Simple) (others : tree.SetTree) (ranges : List PlainRange) → IsMadeOf x ss
-    → ranges ≡ record { comparators = flat_map (simple_comparators mode) ss; compat = mode } ∷ map (range_for mode) others → record { ranges = ranges; compat = mode } ≡ rewritten mode (x ∷ others)
-set_made mode x ss others ranges made is =
-    ap (λ (l : List PlainRange). record { ranges = l; compat = mode }) (is ∙ ap (λ (r : PlainRange). r ∷ map (range_for mode) others) (range_made mode x ss made))
+pub set_made : (write : PlainVersion → PlainVersion) (mode : Compat) (x : tree.RangeTree) (ss : List tree.Simple) (others : tree.SetTree) (ranges : List PlainRange) → IsMadeOf x ss
+    → ranges ≡ range_of_simples write mode ss ∷ map (range_for write mode) others → record { ranges = ranges; compat = mode } ≡ written_set write mode (x ∷ others)
+set_made write mode x ss others ranges made is =
+    ap (λ (l : List PlainRange). record { ranges = l; compat = mode }) (is ∙ ap (λ (r : PlainRange). r ∷ map (range_for write mode) others) (range_made write mode x ss made))
 
 -- a set of one simple
 pub one_fits : (mode : Compat) (s : tree.Simple) → simple_fits mode s ≡ true → fits mode (tree.simples s [] ∷ []) ≡ true
 one_fits mode s e = ap (λ (b : Bool). (b && true) && true) e
 
-pub one_made : (mode : Compat) (s : tree.Simple) (comparators : List PlainComparator) → comparators ≡ simple_comparators mode s
-    → record { ranges = record { comparators = comparators; compat = mode } ∷ []; compat = mode } ≡ rewritten mode (tree.simples s [] ∷ [])
-one_made mode s comparators e = ap (λ (l : List PlainComparator). record { ranges = record { comparators = l; compat = mode } ∷ []; compat = mode }) (e ∙ sym (append-nil (simple_comparators mode s)))
+pub one_made : (write : PlainVersion → PlainVersion) (mode : Compat) (s : tree.Simple) (comparators : List PlainComparator) → comparators ≡ written_simple write mode s
+    → record { ranges = record { comparators = comparators; compat = mode } ∷ []; compat = mode } ≡ written_set write mode (tree.simples s [] ∷ [])
+one_made write mode s comparators e = ap (λ (l : List PlainComparator). record { ranges = record { comparators = l; compat = mode } ∷ []; compat = mode }) (e ∙ sym (append-nil (written_simple write mode s)))
+
+-- the simples that were read, in the comparators that were made of them
+pub has_rows : (mode : Compat) (r : RangeText) (b : RangeBounds) (ss : List tree.Simple) (end : Text) → ((front : List tree.Simple) → AreFirst front r.first r.second → AreRows mode front b.first b.second)
+    → b.others.now ≡ r.others.now → Has r ss end → HasRows mode b ss end
+has_rows mode r b ss end rows others (front, more, first, found, is) = (front, more, rows front first, ap all_simples others ∙ found, is)
+
+pub bounds_there : (mode : Compat) (r : RangeText) (b : RangeBounds) → ((front : List tree.Simple) → AreFirst front r.first r.second → AreRows mode front b.first b.second) → AreRead r → AreBounds mode b
+bounds_there mode r b rows read = (read.0, rows read.0 read.1)
+
+-- a size of those comparators is the size of the range
+pub sized : (mode : Compat) (r : RangeText) (b : RangeBounds) (z : Size) → ((front : List tree.Simple) → AreFirst front r.first r.second → AreRows mode front b.first b.second)
+    → b.others.now ≡ r.others.now → ((ss : List tree.Simple) (end : Text) → HasRows mode b ss end → IsSize mode ss end z) → (all_simples b.others.now ≡ None → ends_range z.rest.now ≡ false)
+    → ((ss : List tree.Simple) (end : Text) → Has r ss end → IsSize mode ss end z) × (all_simples r.others.now ≡ None → ends_range z.rest.now ≡ false)
+sized mode r b z rows others size fault = (λ ss end has. size ss end (has_rows mode r b ss end rows others has), λ none. fault (ap all_simples others ∙ none))
 
 pub same_some : {A : Type 0} (x y : A) → Some x ≡ Some y → x ≡ y
 same_some x y e = cc

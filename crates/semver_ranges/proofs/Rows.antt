@@ -15,8 +15,8 @@ use Rattle.semver_ranges.specs.Precedence.{precedence, pre_cmp}
 use Rattle.semver_texts.specs.Versions.{numbers, IdentifierValue, numeric, alphanumeric, PlainVersion}
 use Rattle.semver_ranges.specs.Partials.{filled, leading_place}
 use Rattle.semver_ranges.specs.OwnMeaning.{meets_stated, agrees, agrees_past_zeros}
-use Rattle.semver_ranges.specs.RewritingTable.{PlainComparator, Cell, from_zero, below_zero, against, below, between, cell, raised, up, comparator, cell_comparators, cell_raised}
-use Rattle.semver_ranges.specs.ExactBounds.{lowest_pre_release, exact_cell_comparators}
+use Rattle.semver_ranges.specs.RewritingTable.{PlainComparator, Cell, from_zero, below_zero, against, below, between, cell, raised, up, comparator, written_cell, cell_comparators, cell_raised}
+use Rattle.semver_ranges.specs.ExactBounds.{lowest_pre_release, exact_bound}
 use Rattle.semver_ranges.specs.Meeting.{meets_comparator, has_pre_release, is_pre_release_of}
 use Rattle.semver_ranges.proofs.CaretPlaces.{same_agreement}
 
@@ -235,7 +235,7 @@ plain_bounds from_zero s z = refl
 plain_bounds below_zero s z = refl
 plain_bounds (against op) s z = refl
 
-exact_bounds : (c : Cell) (s : List ℕ) (z : PlainVersion) → exact_cell_comparators c s z ≡ bounded lowest_pre_release c s z
+exact_bounds : (c : Cell) (s : List ℕ) (z : PlainVersion) → written_cell exact_bound c s z ≡ bounded lowest_pre_release c s z
 exact_bounds (below k) s z = refl
 exact_bounds (between k) s z = refl
 exact_bounds from_zero s z = refl
@@ -368,7 +368,7 @@ row v mode form {s = s} shape p =
 
 -- with exact bounds they are met exactly if its meaning is
 pub exact_row : (v : PlainVersion) (mode : Compat) (form : Form) {s : List ℕ} → Shape s → (p : List IdentifierValue)
-    → list_all (meets_comparator v) (exact_cell_comparators (cell mode form s) s (filled s p)) ≡ meets_stated mode form s (filled s p) v
+    → list_all (meets_comparator v) (written_cell exact_bound (cell mode form s) s (filled s p)) ≡ meets_stated mode form s (filled s p) v
 exact_row v mode form {s = s} shape p =
     let c : Cell = cell mode form s in
     let z : PlainVersion = filled s p in

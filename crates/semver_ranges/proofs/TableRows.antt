@@ -11,7 +11,7 @@ use Rattle.semver_ranges.specs.declared.rewriting.Bounds.{Bounds}
 use Rattle.semver_ranges.specs.RangeTree.{Form, bare, equal, less, at_most, greater, at_least, tilde, caret, Simple}
 use Rattle.semver_texts.specs.Versions.{PlainVersion}
 use Rattle.semver_ranges.specs.Partials.{stated, zero_filled, zero_version, fits_u64}
-use Rattle.semver_ranges.specs.RewritingTable.{Cell, cell, nothing_stated, some_stated, three_stated, cell_raised, cell_comparators, bound_fits, simple_comparators}
+use Rattle.semver_ranges.specs.RewritingTable.{Cell, cell, nothing_stated, some_stated, three_stated, cell_raised, written_cell, bound_fits, written_simple}
 use Rattle.semver_ranges.specs.PartialViews.{stated_at, stated_of, version_of, states_none, PartsPass}
 use Rattle.semver_ranges.specs.CursorViews.{form_of, simple_fits, IsSimpleOf}
 use Rattle.semver_ranges.specs.BoundsViews.{raised_of, bounds_of, bounds_fit, IsBuildable, IsCell, IsRow}
@@ -27,15 +27,15 @@ nothing_raised at_least = refl
 nothing_raised tilde = refl
 nothing_raised caret = refl
 
-same_version : (form : Form) (v w : PlainVersion) → cell_comparators (nothing_stated form) [] v ≡ cell_comparators (nothing_stated form) [] w
-same_version bare v w = refl
-same_version equal v w = refl
-same_version less v w = refl
-same_version at_most v w = refl
-same_version greater v w = refl
-same_version at_least v w = refl
-same_version tilde v w = refl
-same_version caret v w = refl
+same_version : (write : PlainVersion → PlainVersion) (form : Form) (v w : PlainVersion) → written_cell write (nothing_stated form) [] v ≡ written_cell write (nothing_stated form) [] w
+same_version write bare v w = refl
+same_version write equal v w = refl
+same_version write less v w = refl
+same_version write at_most v w = refl
+same_version write greater v w = refl
+same_version write at_least v w = refl
+same_version write tilde v w = refl
+same_version write caret v w = refl
 
 -- what states no number fits
 none_fits : (p : Partial) → (p.fits ≡ false → states_none p.kind ≡ false) → p.kind ≡ XRangeOnly → p.fits ≡ true
@@ -45,15 +45,15 @@ none_fits p some kind = elim (cases_Bool p.fits) [
 ]
 
 pub row_of_nothing : (mode : Compat) (s : Simple) (simple : read.Simple) (b : Bounds) → simple.partial.kind ≡ XRangeOnly
-    → bounds_of b ≡ cell_comparators (nothing_stated (form_of simple.form)) [] zero_version → bounds_fit b ≡ true → IsBuildable b
+    → ((write : PlainVersion → PlainVersion) → bounds_of write b ≡ written_cell write (nothing_stated (form_of simple.form)) [] zero_version) → bounds_fit b ≡ true → IsBuildable b
     → IsSimpleOf s simple → IsRow mode s b
 row_of_nothing mode s simple b kind comparators fits buildable is =
     let p : Partial = simple.partial in
     let none : stated s.partial ≡ [] = sym (is.1.1 (none_fits p is.1.2 kind)).0 ∙ ap (λ (k : PartialKind). stated_at k p.major p.minor p.patch) kind in (
       buildable,
       fits ∙ sym (ap (λ (l : List ℕ). list_all fits_u64 l && bound_fits (cell_raised (cell mode s.form l) l)) none ∙ nothing_raised s.form),
-      λ _. comparators ∙ ap (λ (f : Form). cell_comparators (nothing_stated f) [] zero_version) is.0 ∙ same_version s.form zero_version (zero_filled s.partial)
-          ∙ sym (ap (λ (l : List ℕ). cell_comparators (cell mode s.form l) l (zero_filled s.partial)) none),
+      λ _ write. comparators write ∙ ap (λ (f : Form). written_cell write (nothing_stated f) [] zero_version) is.0 ∙ same_version write s.form zero_version (zero_filled s.partial)
+          ∙ sym (ap (λ (l : List ℕ). written_cell write (cell mode s.form l) l (zero_filled s.partial)) none),
     )
 
 -- a cell of the other columns, which compare with the partial's version
@@ -81,11 +81,11 @@ row_of_cell mode s simple x b column h is = (
         (h.2 ∙ ap (λ (c : Cell). cell_raised c (stated_of p)) (cells f) ∙ ap (cell_raised (cell mode s.form (stated s.partial))) (is.1.1 f).0)
     fits (inr n) = and_left _ _ (kept ∙ n) ∙ sym (and_left _ _ (is.1.0 ∙ n))
 
-    comparators : p.fits ≡ true → bounds_of b ≡ simple_comparators mode s
-    comparators f =
-        h.3 ∙ ap (λ (c : Cell). cell_comparators c (stated_of p) (version_of p)) (cells f)
-        ∙ ap (λ (l : List ℕ). cell_comparators (cell mode s.form (stated s.partial)) l (version_of p)) (is.1.1 f).0
-        ∙ ap (cell_comparators (cell mode s.form (stated s.partial)) (stated s.partial)) (is.1.1 f).1
+    comparators : p.fits ≡ true → (write : PlainVersion → PlainVersion) → bounds_of write b ≡ written_simple write mode s
+    comparators f write =
+        h.3 write ∙ ap (λ (c : Cell). written_cell write c (stated_of p) (version_of p)) (cells f)
+        ∙ ap (λ (l : List ℕ). written_cell write (cell mode s.form (stated s.partial)) l (version_of p)) (is.1.1 f).0
+        ∙ ap (written_cell write (cell mode s.form (stated s.partial)) (stated s.partial)) (is.1.1 f).1
 
 pub row_of_one : (mode : Compat) (s : Simple) (simple : read.Simple) (b : Bounds) → simple.partial.kind ≡ MajorOnly
     → IsCell (some_stated (form_of simple.form) (stated_of simple.partial)) simple.partial b → IsSimpleOf s simple → IsRow mode s b

@@ -6,13 +6,14 @@ use Rattle.semver_ranges.specs.declared.range_set.RangeError.{RangeError}
 use Rattle.semver_ranges.specs.declared.range_set.RangeError.TheVariants.{NotARange, NumberTooLarge, OutOfMemory}
 use Rattle.semver_ranges.specs.RangeTree.{SetTree}
 use Rattle.semver_texts.specs.Texts.{Text}
-use Rattle.semver_ranges.specs.RewritingTable.{fits, rewritten}
+use Rattle.semver_texts.specs.Versions.{PlainVersion}
+use Rattle.semver_ranges.specs.RewritingTable.{fits, written_set}
 use Rattle.semver_ranges.specs.Reading.{read}
 use Rattle.semver_ranges.specs.RangeViews.{set_of}
 
--- a set of a tree that is read and fits, or why there is none; memory may run out for a tree that fits alone
-abbrev pub IsAnswer : Text → Compat → Result RangeSet RangeError → Type 0
-IsAnswer t mode (Ok set) = (tree : SetTree) × (read t ≡ Some tree) × IsTrue (fits mode tree) × (set_of set ≡ rewritten mode tree)
-IsAnswer t mode (Err NotARange) = read t ≡ None
-IsAnswer t mode (Err NumberTooLarge) = (tree : SetTree) × (read t ≡ Some tree) × (fits mode tree ≡ false)
-IsAnswer t mode (Err OutOfMemory) = (tree : SetTree) × (read t ≡ Some tree) × IsTrue (fits mode tree)
+-- a set of a tree that is read and fits, with its raised bounds written so, or why there is none; memory may run out for a tree that fits alone
+abbrev pub IsAnswer : (PlainVersion → PlainVersion) → Text → Compat → Result RangeSet RangeError → Type 0
+IsAnswer write t mode (Ok set) = (tree : SetTree) × (read t ≡ Some tree) × IsTrue (fits mode tree) × (set_of set ≡ written_set write mode tree)
+IsAnswer write t mode (Err NotARange) = read t ≡ None
+IsAnswer write t mode (Err NumberTooLarge) = (tree : SetTree) × (read t ≡ Some tree) × (fits mode tree ≡ false)
+IsAnswer write t mode (Err OutOfMemory) = (tree : SetTree) × (read t ≡ Some tree) × IsTrue (fits mode tree)

@@ -3,18 +3,19 @@ use Rattle.std.specs.Prelude.{◌≡◌, ◌≤◌, Bool, true, ◌&&◌, Option
 use Rattle.std.specs.List.{list_all, flat_map}
 use Rattle.semver_ranges.specs.declared.partial.Partial.{Partial}
 use Rattle.semver_ranges.specs.declared.partial.Place.{Place}
-use Rattle.semver_ranges.specs.declared.grammar.RangeText.{RangeText}
 use Rattle.semver_ranges.specs.declared.range.Compat.{Compat}
 use Rattle.semver_ranges.specs.declared.range.Op.{Op}
 use Rattle.semver_ranges.specs.declared.range.Op.TheVariants.{Lt}
 use Rattle.semver_ranges.specs.declared.rewriting.Bounds.{Bounds}
+use Rattle.semver_ranges.specs.declared.rewriting.RangeBounds.{RangeBounds}
 use Rattle.semver_ranges.specs.declared.rewriting.Size.{Size}
 use Rattle.semver_ranges.specs.RangeTree.{Simple, RangeTree, SetTree}
 use Rattle.semver_texts.specs.Texts.{Text}
 use Rattle.semver_texts.specs.Versions.{PlainVersion}
-use Rattle.semver_ranges.specs.RewritingTable.{PlainComparator, PlainRange, comparator, Cell, up, cell_raised, cell_comparators, bound_fits, simple_comparators, range_comparators, fits}
+use Rattle.semver_ranges.specs.RewritingTable.{PlainComparator, PlainRange, comparator, Cell, up, cell_raised, written_cell, bound_fits, written_simple, simple_comparators, written_range, fits}
 use Rattle.semver_ranges.specs.PartialViews.{stated_of, version_of, place_number, PartsPass}
-use Rattle.semver_ranges.specs.CursorViews.{Has, simple_fits}
+use Rattle.semver_ranges.specs.Reading.{all_simples}
+use Rattle.semver_ranges.specs.CursorViews.{simple_fits}
 
 -- a place is one of those that are stated
 abbrev pub IsPlaced : Option Place → Partial → Type 0
@@ -29,17 +30,17 @@ raised_at (Some place) p = Some (up (place_number place) (stated_of p))
 abbrev pub raised_of : Bounds → Option PlainVersion
 raised_of b = raised_at b.raised b.partial
 
--- the comparators
+-- the comparators, where `write` says how the raised bound is written
 abbrev pub compared : Option Op → PlainVersion → List PlainComparator
 compared None v = []
 compared (Some op) v = comparator op v ∷ []
 
-abbrev pub below : Option PlainVersion → List PlainComparator
-below None = []
-below (Some bound) = comparator Lt bound ∷ []
+abbrev pub below : (PlainVersion → PlainVersion) → Option PlainVersion → List PlainComparator
+below write None = []
+below write (Some bound) = comparator Lt (write bound) ∷ []
 
-abbrev pub bounds_of : Bounds → List PlainComparator
-bounds_of b = compared b.op (version_of b.partial) ++ below (raised_of b)
+abbrev pub bounds_of : (PlainVersion → PlainVersion) → Bounds → List PlainComparator
+bounds_of write b = compared b.op (version_of b.partial) ++ below write (raised_of b)
 
 -- whether the numbers and the raised bound fit
 abbrev pub bounds_fit : Bounds → Bool
@@ -51,19 +52,35 @@ IsBuildable b = PartsPass b.partial × IsPlaced b.raised b.partial
 
 -- the comparators of a cell of the table
 abbrev pub IsCell : Cell → Partial → Bounds → Type 0
-IsCell x p b = (b.partial ≡ p) × IsPlaced b.raised b.partial × (raised_of b ≡ cell_raised x (stated_of p)) × (bounds_of b ≡ cell_comparators x (stated_of p) (version_of p))
+IsCell x p b = (b.partial ≡ p) × IsPlaced b.raised b.partial × (raised_of b ≡ cell_raised x (stated_of p))
+    × ((write : PlainVersion → PlainVersion) → bounds_of write b ≡ written_cell write x (stated_of p) (version_of p))
 
 -- the comparators of a simple, where it fits
 abbrev pub IsRow : Compat → Simple → Bounds → Type 0
-IsRow mode s b = IsBuildable b × (bounds_fit b ≡ simple_fits mode s) × (bounds_fit b ≡ true → bounds_of b ≡ simple_comparators mode s)
+IsRow mode s b = IsBuildable b × (bounds_fit b ≡ simple_fits mode s) × (bounds_fit b ≡ true → (write : PlainVersion → PlainVersion) → bounds_of write b ≡ written_simple write mode s)
+
+-- those of the one or two simples that a range begins with
+abbrev pub AreRows : Compat → List Simple → Bounds → Option Bounds → Type 0
+AreRows mode [] first second = ⊥
+AreRows mode (s ∷ []) first second = IsRow mode s first × (second ≡ None)
+AreRows mode (s ∷ next ∷ []) first None = ⊥
+AreRows mode (s ∷ next ∷ []) first (Some bounds) = IsRow mode s first × IsRow mode next bounds
+AreRows mode (s ∷ next ∷ third ∷ others) first second = ⊥
+
+abbrev pub AreBounds : Compat → RangeBounds → Type 0
+AreBounds mode r = (front : List Simple) × AreRows mode front r.first r.second
+
+-- all simples of a range, and what follows them
+abbrev pub HasRows : Compat → RangeBounds → List Simple → Text → Type 0
+HasRows mode r ss end = (front : List Simple) × (others : List Simple) × AreRows mode front r.first r.second × (all_simples r.others.now ≡ Some (others, end)) × (ss ≡ front ++ others)
 
 -- the size of simples
 abbrev pub IsSize : Compat → List Simple → Text → Size → Type 0
 IsSize mode ss end size = (size.fits ≡ list_all (simple_fits mode) ss) × (size.fits ≡ true → size.count ≡ length (flat_map (simple_comparators mode) ss)) × (size.rest.now ≡ end)
 
 -- a range, simples and ranges that are there and fit
-abbrev pub Fits : Compat → RangeText → Type 0
-Fits mode r = (ss : List Simple) × (end : Text) × Has r ss end × (list_all (simple_fits mode) ss ≡ true)
+abbrev pub Fits : Compat → RangeBounds → Type 0
+Fits mode r = (ss : List Simple) × (end : Text) × HasRows mode r ss end × (list_all (simple_fits mode) ss ≡ true)
 
 abbrev pub SimplesFit : Compat → Option (List Simple × Text) → Type 0
 SimplesFit mode o = (ss : List Simple) × (end : Text) × (o ≡ Some (ss, end)) × (list_all (simple_fits mode) ss ≡ true)
@@ -71,6 +88,9 @@ SimplesFit mode o = (ss : List Simple) × (end : Text) × (o ≡ Some (ss, end))
 abbrev pub RestFits : Compat → Option SetTree → Type 0
 RestFits mode o = (tree : SetTree) × (o ≡ Some tree) × (fits mode tree ≡ true)
 
--- a range in a mode, as it is rewritten
-abbrev pub range_for : Compat → RangeTree → PlainRange
-range_for mode r = record { comparators = range_comparators mode r; compat = mode }
+-- simples and a range in a mode, as they are rewritten
+abbrev pub range_of_simples : (PlainVersion → PlainVersion) → Compat → List Simple → PlainRange
+range_of_simples write mode ss = record { comparators = flat_map (written_simple write mode) ss; compat = mode }
+
+abbrev pub range_for : (PlainVersion → PlainVersion) → Compat → RangeTree → PlainRange
+range_for write mode r = record { comparators = written_range write mode r; compat = mode }

@@ -9,8 +9,9 @@ use Rattle.semver_ranges.specs.declared.grammar.RangeText.{RangeText}
 use Rattle.semver_ranges.specs.declared.range.Compat.{Compat}
 use Rattle.semver_ranges.specs.RangeTree as tree
 use Rattle.semver_texts.specs.Texts.{Text}
+use Rattle.semver_texts.specs.Versions.{PlainVersion}
 use Rattle.semver_ranges.specs.Terms.{of_simple, terms}
-use Rattle.semver_ranges.specs.RewritingTable.{term_fits, simple_comparators, range_comparators}
+use Rattle.semver_ranges.specs.RewritingTable.{term_fits, written_simple, written_range}
 use Rattle.semver_ranges.specs.Reading.{parts, ends_range, all_simples}
 use Rattle.semver_ranges.specs.PartialViews.{IsPartialOf}
 
@@ -65,9 +66,10 @@ simple_fits mode s = term_fits mode (of_simple s)
 abbrev pub range_fits : Compat → tree.RangeTree → Bool
 range_fits mode r = list_all (term_fits mode) (terms r)
 
--- a range that fits as its simples do, and has their comparators
+-- a range that fits as its simples do, and has their comparators, however a raised bound is written
 abbrev pub IsMadeOf : tree.RangeTree → List tree.Simple → Type 0
-IsMadeOf x ss = (mode : Compat) → (range_fits mode x ≡ list_all (simple_fits mode) ss) × (range_comparators mode x ≡ flat_map (simple_comparators mode) ss)
+IsMadeOf x ss = (mode : Compat) → (range_fits mode x ≡ list_all (simple_fits mode) ss)
+    × ((write : PlainVersion → PlainVersion) → written_range write mode x ≡ flat_map (written_simple write mode) ss)
 
 -- the first simples are those of a range
 abbrev pub AreSidesOf : tree.RangeTree → Simple → Option Simple → Type 0

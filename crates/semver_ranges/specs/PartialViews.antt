@@ -7,6 +7,8 @@ use Rattle.semver_ranges.specs.declared.partial.Component.TheVariants.{Wildcard,
 use Rattle.semver_ranges.specs.declared.partial.Partial.{Partial}
 use Rattle.semver_ranges.specs.declared.partial.PartialKind.{PartialKind}
 use Rattle.semver_ranges.specs.declared.partial.PartialKind.TheVariants.{XRangeOnly, MajorOnly, MajorMinor, MajorMinorPatch}
+use Rattle.semver_ranges.specs.declared.partial.Bound.{Bound}
+use Rattle.semver_ranges.specs.declared.partial.Bound.TheVariants.{Plain, Exact}
 use Rattle.semver_ranges.specs.declared.partial.Place.{Place}
 use Rattle.semver_ranges.specs.declared.partial.Place.TheVariants.{Major, Minor, Patch}
 use Rattle.semver_ranges.specs.RangeTree.{PartialTree, is_wildcard, is_part}
@@ -14,6 +16,7 @@ use Rattle.semver_texts.specs.Texts.{Text}
 use Rattle.semver_texts.specs.Versions.{PlainVersion}
 use Rattle.semver_ranges.specs.Partials.{fits_u64, kept, stated, zero_filled}
 use Rattle.semver_ranges.specs.Reading.{is_dot}
+use Rattle.semver_ranges.specs.ExactBounds.{exact_bound}
 
 -- the parts of a slice between dots; none where it is empty
 abbrev pub parts_of : Text → List Text
@@ -39,6 +42,11 @@ abbrev pub place_number : Place → ℕ
 place_number Major = 1
 place_number Minor = 2
 place_number Patch = 3
+
+-- how a raised bound is written
+abbrev pub written : Bound → PlainVersion → PlainVersion
+written Plain = λ bound. bound
+written Exact = exact_bound
 
 -- the value of a number, which is none where it is above 2^64 - 1
 abbrev pub IsValue : ℕ → Option ℕ → Type 0

@@ -84,13 +84,17 @@ up k s = filled (raised k s) []
 abbrev pub comparator : Op → PlainVersion → PlainComparator
 comparator op v = record { op = op; version = v }
 
--- the comparators of a cell
+-- the comparators of a cell, where `write` says how a raised bound is written
+abbrev pub written_cell : (PlainVersion → PlainVersion) → Cell → List ℕ → PlainVersion → List PlainComparator
+written_cell write from_zero s z = comparator Gte zero_version ∷ []
+written_cell write below_zero s z = comparator Lt zero_version ∷ []
+written_cell write (against op) s z = comparator op z ∷ []
+written_cell write (below k) s z = comparator Lt (write (up k s)) ∷ []
+written_cell write (between k) s z = comparator Gte z ∷ comparator Lt (write (up k s)) ∷ []
+
+-- the comparators of a cell, with the raised bound as it is
 abbrev pub cell_comparators : Cell → List ℕ → PlainVersion → List PlainComparator
-cell_comparators from_zero s z = comparator Gte zero_version ∷ []
-cell_comparators below_zero s z = comparator Lt zero_version ∷ []
-cell_comparators (against op) s z = comparator op z ∷ []
-cell_comparators (below k) s z = comparator Lt (up k s) ∷ []
-cell_comparators (between k) s z = comparator Gte z ∷ comparator Lt (up k s) ∷ []
+cell_comparators c s z = written_cell (λ bound. bound) c s z
 
 -- the raised bound of a cell, where it has one
 abbrev pub cell_raised : Cell → List ℕ → Option PlainVersion
@@ -99,20 +103,29 @@ cell_raised (between k) s = Some (up k s)
 cell_raised _ s = None
 
 -- the comparators of a simple
+abbrev pub written_simple : (PlainVersion → PlainVersion) → Compat → Simple → List PlainComparator
+written_simple write mode s = written_cell write (cell mode s.form (stated s.partial)) (stated s.partial) (zero_filled s.partial)
+
 abbrev pub simple_comparators : Compat → Simple → List PlainComparator
-simple_comparators mode s = cell_comparators (cell mode s.form (stated s.partial)) (stated s.partial) (zero_filled s.partial)
+simple_comparators mode s = written_simple (λ bound. bound) mode s
 
 -- the comparators of a range: those of its simples or sides in order; `>=0.0.0` where it is empty or both sides state nothing
-abbrev pub range_comparators : Compat → RangeTree → List PlainComparator
-range_comparators mode empty = comparator Gte zero_version ∷ []
-range_comparators mode (hyphen left right) =
+abbrev pub written_range : (PlainVersion → PlainVersion) → Compat → RangeTree → List PlainComparator
+written_range write mode empty = comparator Gte zero_version ∷ []
+written_range write mode (hyphen left right) =
     if states_nothing left && states_nothing right then comparator Gte zero_version ∷ []
-    else flat_map (simple_comparators mode) (sides left right)
-range_comparators mode (simples first others) = flat_map (simple_comparators mode) (first ∷ others)
+    else flat_map (written_simple write mode) (sides left right)
+written_range write mode (simples first others) = flat_map (written_simple write mode) (first ∷ others)
+
+abbrev pub range_comparators : Compat → RangeTree → List PlainComparator
+range_comparators mode r = written_range (λ bound. bound) mode r
 
 -- the set that a tree is rewritten to: the comparators of its ranges in order, with the mode in the set and in each range
+abbrev pub written_set : (PlainVersion → PlainVersion) → Compat → SetTree → PlainSet
+written_set write mode tree = record { ranges = map (λ r. record { comparators = written_range write mode r; compat = mode }) tree; compat = mode }
+
 abbrev pub rewritten : Compat → SetTree → PlainSet
-rewritten mode tree = record { ranges = map (λ r. record { comparators = range_comparators mode r; compat = mode }) tree; compat = mode }
+rewritten mode tree = written_set (λ bound. bound) mode tree
 
 -- the raised bound of a term, where its row has one
 abbrev pub raised_bound : Compat → Term → Option PlainVersion

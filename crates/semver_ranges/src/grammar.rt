@@ -261,16 +261,27 @@ fn begins_qualifier(text: &[u8]) -> bool
 }
 
 /// A partial of three components from its pre-release and its build on, each where it is there.
-#[inline(never)]
+#[inline(always)]
 fn read_qualifier<'input>(
     partial: Partial<'input>,
     text: &'input [u8],
 ) -> Option<(Partial<'input>, &'input [u8])>
     ensures { (a b c : Text) → IsPartialOf (three a b c [] []) partial.entry → Finds IsPartialOf (behind_three a b c text.now) result }
 {
+    let (pre, rest) = read_pre(text)?;
+    Some((partial.with_pre(pre), rest))
+}
+
+/// The pre-release at the front of a text, and what follows it and the build behind it, each where it is there.
+#[inline(never)]
+fn read_pre(text: &[u8]) -> Option<(&[u8], &[u8])>
+    ensures found { (a b c : Text) → MatchOption result (behind_three a b c text.now ≡ None)
+        (λ f. (build : List Text) × (behind_three a b c text.now ≡ Some (three a b c (parts_of f.0.now) build, f.1.now))) }
+    ensures parts_pass { IfSome result (λ f. list_all is_part (parts_of f.0.now) ≡ true) }
+{
     let (pre, rest) = read_parts(text, b'-')?;
     let (_, rest) = read_parts(rest, b'+')?;
-    Some((partial.with_pre(pre), rest))
+    Some((pre, rest))
 }
 
 /// The parts behind a mark, and what follows them; nothing where the text doesn't begin with the mark.

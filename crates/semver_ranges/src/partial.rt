@@ -9,7 +9,7 @@ ghost use Rattle.semver_ranges.specs.Partials.{kept, leading_place};
 ghost use Rattle.semver_ranges.specs.Reading.{is_dot};
 ghost use Rattle.semver_ranges.specs.RewritingTable.{comparator, up, bound_fits};
 ghost use Rattle.semver_ranges.specs.RangeViews.{comparator_of, identifier_of};
-ghost use Rattle.semver_ranges.specs.PartialViews.{parts_of, states_none, stated_of, version_of, place_number, IsComponentOf, IsPartialOf, PartsPass};
+ghost use Rattle.semver_ranges.specs.PartialViews.{parts_of, states_none, stated_of, version_of, place_number, written, IsComponentOf, IsPartialOf, PartsPass};
 
 use crate::range::{Comparator, Identifier, Op};
 use std::alloc::{AllocError, Global};
@@ -40,6 +40,15 @@ pub(crate) enum Place {
     Major,
     Minor,
     Patch,
+}
+
+/// How a bound that is raised is written.
+#[derive(Clone, Copy)]
+pub(crate) enum Bound {
+    /// Without pre-release, as `<2.0.0`.
+    Plain,
+    /// With the lowest pre-release, as `<2.0.0-0`.
+    Exact,
 }
 
 /// The numbers that a partial states, with zeros for the others, and its pre-release behind three, as a slice of the text.
@@ -198,18 +207,18 @@ impl<'input> Partial<'input> {
     }
 
     /// The bound above all versions with these numbers up to a place: that number is raised by one, those behind it are 0, and
-    /// there is no pre-release.
+    /// the pre-release is that of the bound.
     #[inline(always)]
-    pub(crate) fn raised(self, place: Place) -> Partial<'input>
+    pub(crate) fn raised(self, place: Place, bound: Bound) -> Partial<'input>
         requires stated { place_number place ≤ length (stated_of self) }
         requires fits { bound_fits (Some (up (place_number place) (stated_of self))) ≡ true }
-        ensures bound { version_of result ≡ up (place_number place) (stated_of self.entry) }
+        ensures bound { version_of result ≡ written bound (up (place_number place) (stated_of self.entry)) }
         ensures parts_pass { PartsPass result }
     {
         match place {
-            Place::Major => self.inc_major().zero_minor().zero_patch().no_pre(),
-            Place::Minor => self.inc_minor().zero_patch().no_pre(),
-            Place::Patch => self.inc_patch().no_pre(),
+            Place::Major => self.inc_major().zero_minor().zero_patch().as_bound(bound),
+            Place::Minor => self.inc_minor().zero_patch().as_bound(bound),
+            Place::Patch => self.inc_patch().as_bound(bound),
         }
     }
 
@@ -261,12 +270,16 @@ impl<'input> Partial<'input> {
         self
     }
 
-    /// Without pre-release.
+    /// With the pre-release of a bound: none, or the lowest.
     #[inline(always)]
-    fn no_pre(mut self) -> Partial<'input>
-        ensures { version_of result ≡ record (version_of self.entry) { pre = [] } }
+    fn as_bound(mut self, bound: Bound) -> Partial<'input>
+        ensures bound { version_of result ≡ written bound (record (version_of self.entry) { pre = [] }) }
+        ensures parts_pass { PartsPass result }
     {
-        self.pre = &[];
+        self.pre = match bound {
+            Bound::Plain => b"",
+            Bound::Exact => b"0",
+        };
         self
     }
 

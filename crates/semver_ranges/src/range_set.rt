@@ -6,18 +6,21 @@ ghost use Rattle.semver_ranges.specs.RangeTree.{Simple as SimpleTree, SetTree, S
 ghost use Rattle.semver_texts.specs.Texts.{Text};
 ghost use Rattle.semver_texts.specs.Versions.{PlainVersion};
 ghost use Rattle.semver_ranges.specs.OwnMeaning.{meets_tree};
-ghost use Rattle.semver_ranges.specs.RewritingTable.{PlainSet, fits, rewritten, simple_comparators};
+ghost use Rattle.semver_ranges.specs.RewritingTable.{PlainSet, fits, rewritten, written_simple};
+ghost use Rattle.semver_ranges.specs.ExactBounds.{rewritten_exactly};
 ghost use Rattle.semver_ranges.specs.Meeting.{meets_set, meets_tree_or_bounds};
 ghost use Rattle.semver_ranges.specs.PrintedRanges.{IsPrintableSet, set_text};
 ghost use Rattle.semver_ranges.specs.RangeViews.{range_of, set_of};
 ghost use Rattle.semver_ranges.specs.Reading.{read, read_rest};
 ghost use Rattle.semver_ranges.specs.Answers.{IsAnswer};
-ghost use Rattle.semver_ranges.specs.CursorViews.{Has, simple_fits};
-ghost use Rattle.semver_ranges.specs.BoundsViews.{bounds_of, bounds_fit, range_for, IsBuildable, Fits, RestFits};
+ghost use Rattle.semver_ranges.specs.CursorViews.{simple_fits};
+ghost use Rattle.semver_ranges.specs.PartialViews.{written};
+ghost use Rattle.semver_ranges.specs.BoundsViews.{bounds_of, bounds_fit, range_of_simples, range_for, IsBuildable, HasRows, Fits, RestFits};
 
-use crate::grammar::{RangeText, ends_range, next_range, read_range, read_simple};
+use crate::grammar::{ends_range, next_range, read_range, read_simple};
+use crate::partial::Bound;
 use crate::range::{Compat, Range};
-use crate::rewriting::{Bounds, Size, rewritten};
+use crate::rewriting::{Bounds, RangeBounds, Size, rewritten};
 use semver_texts::printing::write_joined;
 use std::alloc::{AllocError, Global};
 use std::fmt;
@@ -92,7 +95,41 @@ impl RangeSet {
         ensures reads_back { (s : PlainSet) → IsPrintableSet s → s.compat ≡ compat → input.now ≡ set_text s →
             (result ≡ Err RangeError.OutOfMemory) ⊎ IsOkAnd result (λ set. set_of set ≡ s) }
     {
-        read_set(alloc, input, compat)
+        read_set(alloc, input, compat, Bound::Plain)
+    }
+
+    /// Reads a range text as `RangeSet::parse` does, but with exact bounds: each upper bound that is raised by one has the
+    /// pre-release `0`, the lowest there is. The Rust crate has no such call; npm writes its bounds so.
+    ///
+    /// `^1.2.3-beta.4` gives `>=1.2.3-beta.4 <2.0.0-0`, `<=1.2` gives `<1.3.0-0`, and `1.x - 2` gives `>=1.0.0 <3.0.0-0`. A bound
+    /// that the text states stays as it is: `<2.0.0` and `<2` give `<2.0.0`, and `>1` gives `>1.0.0`.
+    ///
+    /// Nothing of 2.0.0 is below `2.0.0-0`. So a version, a pre-release too, meets the answer exactly if it meets what the
+    /// text means by itself, without the exception of `RangeSet::parse` for the pre-releases of raised bounds.
+    ///
+    /// # Errors
+    ///
+    /// Those of `RangeSet::parse`, for the same texts. `OutOfMemory` stands in place of a set alone.
+    pub fn parse_exact(alloc: Global, input: &str, compat: Compat) -> Result<RangeSet, RangeError>
+        // There is a tree of the text that fits, and what is answered is what each tree of the text is rewritten to exactly, in this mode.
+        ensures accepted { IfOk result (λ set. (tree : SetTree) × Spells tree input.now × IsTrue (fits compat tree)) }
+        ensures as_rewritten { IfOk result (λ set. (tree : SetTree) → Spells tree input.now → set_of set ≡ rewritten_exactly compat tree) }
+
+        // Refusals. The first two are exact, and memory runs out only where there is a set to answer.
+        ensures not_a_range { (result ≡ Err RangeError.NotARange) ↔ ((tree : SetTree) → Spells tree input.now → ⊥) }
+        ensures too_large { (result ≡ Err RangeError.NumberTooLarge) ↔ ((tree : SetTree) × Spells tree input.now × (fits compat tree ≡ false)) }
+        ensures out_of_memory { result ≡ Err RangeError.OutOfMemory → (tree : SetTree) × Spells tree input.now × IsTrue (fits compat tree) }
+
+        // A version meets the answer exactly if it meets what the text means by itself.
+        ensures meaning { IfOk result (λ set. (tree : SetTree) (v : PlainVersion) → Spells tree input.now →
+            meets_set v (set_of set) ≡ meets_tree compat tree v) }
+
+        // What is answered is printable, and its text is a range text that `RangeSet::parse` rewrites to that set again.
+        ensures printable { IfOk result (λ set. IsPrintableSet (set_of set)) }
+        ensures reads_back { IfOk result (λ set. (tree : SetTree) × Spells tree (set_text (set_of set)) × IsTrue (fits compat tree)
+            × (rewritten compat tree ≡ set_of set)) }
+    {
+        read_set(alloc, input, compat, Bound::Exact)
     }
 
     /// Reads a range text in Cargo mode: what `RangeSet::parse` answers with `Compat::Cargo`, with its errors.
@@ -122,30 +159,41 @@ impl RangeSet {
         ensures reads_back { (s : PlainSet) → IsPrintableSet s → s.compat ≡ Compat.Cargo → input.now ≡ set_text s →
             (result ≡ Err RangeError.OutOfMemory) ⊎ IsOkAnd result (λ set. set_of set ≡ s) }
     {
-        read_set(alloc, input, Compat::Cargo)
+        read_set(alloc, input, Compat::Cargo, Bound::Plain)
     }
 }
 
 /// The range set of a text, or why there is none.
-fn read_set(alloc: Global, input: &str, compat: Compat) -> Result<RangeSet, RangeError>
-    ensures { IsAnswer input.now compat result }
+fn read_set(
+    alloc: Global,
+    input: &str,
+    compat: Compat,
+    bound: Bound,
+) -> Result<RangeSet, RangeError>
+    ensures { IsAnswer (written bound) input.now compat result }
 {
     let text = input.as_bytes();
     let Some(bounds) = read_only_simple(text, compat) else {
-        return read_ranges(alloc, text, compat);
+        return read_ranges(alloc, text, compat, bound);
     };
-    match build_only_simple(alloc, bounds, compat) {
+    match build_only_simple(alloc, bounds, compat, bound) {
         Ok(set) => Ok(set),
         Err(_) => Err(RangeError::OutOfMemory),
     }
 }
 
+/// Texts of more bytes are seldom one simple: the reader of ranges has them at once.
+const LONGEST_ONLY_SIMPLE: usize = 24;
+
 /// The comparators of a text that is one simple from its first byte on, and that fits. What it doesn't find, the reader of ranges decides.
 #[inline(always)]
 fn read_only_simple(text: &[u8], compat: Compat) -> Option<Bounds<'_>>
     ensures { IfSome result (λ bounds. (s : SimpleTree) × (read text.now ≡ Some (simples s [] ∷ [])) × (simple_fits compat s ≡ true)
-        × IsBuildable bounds × (bounds_fit bounds ≡ true) × (bounds_of bounds ≡ simple_comparators compat s)) }
+        × IsBuildable bounds × (bounds_fit bounds ≡ true) × ((write : PlainVersion → PlainVersion) → bounds_of write bounds ≡ written_simple write compat s)) }
 {
+    if text.len() > LONGEST_ONLY_SIMPLE {
+        return None;
+    }
     let (simple, rest) = read_simple(text)?;
     if !rest.is_empty() {
         return None;
@@ -159,14 +207,15 @@ fn build_only_simple(
     alloc: Global,
     bounds: Bounds<'_>,
     compat: Compat,
+    bound: Bound,
 ) -> Result<RangeSet, AllocError>
     requires buildable { IsBuildable bounds }
     requires fits { bounds_fit bounds ≡ true }
-    ensures { IfOk result (λ set. set_of set ≡ record { ranges = record { comparators = bounds_of bounds.entry; compat = compat } ∷ []; compat = compat }) }
+    ensures { IfOk result (λ set. set_of set ≡ record { ranges = record { comparators = bounds_of (written bound) bounds.entry; compat = compat } ∷ []; compat = compat }) }
 {
     let mut ranges = Vec::with_capacity(alloc, 1)?;
     let mut comparator_set = Vec::with_capacity(alloc, bounds.count())?;
-    bounds.push(alloc, &mut comparator_set)?;
+    bounds.push(alloc, &mut comparator_set, bound)?;
     ranges.push(Range {
         comparator_set,
         compat,
@@ -176,12 +225,18 @@ fn build_only_simple(
 
 /// The range set of a text of any ranges: first all of it is read, for the grammar and the sizes, and then it is built.
 #[inline(never)]
-fn read_ranges(alloc: Global, text: &[u8], compat: Compat) -> Result<RangeSet, RangeError>
-    ensures { IsAnswer text.now compat result }
+fn read_ranges(
+    alloc: Global,
+    text: &[u8],
+    compat: Compat,
+    bound: Bound,
+) -> Result<RangeSet, RangeError>
+    ensures { IsAnswer (written bound) text.now compat result }
 {
     let Some(first) = read_range(text) else {
         return Err(RangeError::NotARange);
     };
+    let first = first.rewritten(compat);
     let size = first.size(compat);
     let Some(others) = survey(size.rest, compat) else {
         return Err(RangeError::NotARange);
@@ -189,7 +244,7 @@ fn read_ranges(alloc: Global, text: &[u8], compat: Compat) -> Result<RangeSet, R
     if !(size.fits && others.fit) {
         return Err(RangeError::NumberTooLarge);
     }
-    match build_ranges(alloc, &first, &size, &others, compat) {
+    match build_ranges(alloc, first, &size, &others, compat, bound) {
         Ok(ranges) => Ok(RangeSet { ranges, compat }),
         Err(_) => Err(RangeError::OutOfMemory),
     }
@@ -227,7 +282,7 @@ fn survey_ranges(rest: &[u8], compat: Compat) -> Option<Others>
     let mut count = 0;
     let mut fit = true;
     while let Some(range) = next_range(rest) {
-        let size = range.size(compat);
+        let size = range.rewritten(compat).size(compat);
         if !ends_range(size.rest) {
             return None;
         }
@@ -246,23 +301,24 @@ fn survey_ranges(rest: &[u8], compat: Compat) -> Option<Others>
 #[inline(always)]
 fn build_ranges<'input>(
     alloc: Global,
-    first: &RangeText<'input>,
+    first: RangeBounds<'input>,
     size: &Size<'input>,
     others: &Others,
     compat: Compat,
+    bound: Bound,
 ) -> Result<Vec<Range>, AllocError>
-    requires first { Fits compat first.now }
+    requires first { Fits compat first }
     requires others { RestFits compat (read_rest size.now.rest.now) }
-    ensures { IfOk result (λ ranges. (ss : List SimpleTree) (end : Text) (tree : SetTree) → Has first.now ss end → list_all (simple_fits compat) ss ≡ true
+    ensures { IfOk result (λ ranges. (ss : List SimpleTree) (end : Text) (tree : SetTree) → HasRows compat first.entry ss end → list_all (simple_fits compat) ss ≡ true
         → read_rest size.now.rest.now ≡ Some tree
-        → map range_of ranges.items ≡ record { comparators = flat_map (simple_comparators compat) ss; compat = compat } ∷ map (range_for compat) tree) }
+        → map range_of ranges.items ≡ range_of_simples (written bound) compat ss ∷ map (range_for (written bound) compat) tree) }
 {
     let mut ranges = Vec::with_capacity(alloc, others.count.saturating_add(1))?;
-    ranges.push(first.build(alloc, size.count, compat)?)?;
+    ranges.push(first.build(alloc, size.count, compat, bound)?)?;
     if size.rest.is_empty() {
         return Ok(ranges);
     }
-    push_ranges(alloc, &mut ranges, size.rest, compat)?;
+    push_ranges(alloc, &mut ranges, size.rest, compat, bound)?;
     Ok(ranges)
 }
 
@@ -273,15 +329,17 @@ fn push_ranges(
     ranges: &mut Vec<Range>,
     rest: &[u8],
     compat: Compat,
+    bound: Bound,
 ) -> Result<(), AllocError>
     requires { RestFits compat (read_rest rest.now) }
     ensures { IfOk result (λ _. (tree : SetTree) → read_rest rest.now ≡ Some tree
-        → map range_of ranges.new.items ≡ map range_of ranges.old.items ++ map (range_for compat) tree) }
+        → map range_of ranges.new.items ≡ map range_of ranges.old.items ++ map (range_for (written bound) compat) tree) }
 {
     let mut rest = rest;
     while let Some(range) = next_range(rest) {
+        let range = range.rewritten(compat);
         let size = range.size(compat);
-        ranges.push(range.build(alloc, size.count, compat)?)?;
+        ranges.push(range.build(alloc, size.count, compat, bound)?)?;
         rest = size.rest;
     }
     Ok(())

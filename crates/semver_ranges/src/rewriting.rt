@@ -5,17 +5,18 @@
 ghost use Rattle.std.specs.Prelude.{◌≡◌, ◌+◌, ◌*◌, ◌≤◌, ◌++◌, Some, None, [], ◌∷◌, List, length, map, true, false, IfOk};
 ghost use Rattle.std.specs.List.{list_all, flat_map};
 ghost use Rattle.semver_texts.specs.Texts.{Text};
+ghost use Rattle.semver_texts.specs.Versions.{PlainVersion};
 ghost use Rattle.semver_ranges.specs.RangeTree.{Simple as SimpleTree};
 ghost use Rattle.semver_ranges.specs.Reading.{ends_range, all_simples};
-ghost use Rattle.semver_ranges.specs.RewritingTable.{nothing_stated, some_stated, three_stated, cell_comparators, simple_comparators};
+ghost use Rattle.semver_ranges.specs.RewritingTable.{nothing_stated, some_stated, three_stated, written_cell, written_simple};
 ghost use Rattle.semver_ranges.specs.Partials.{zero_version};
 ghost use Rattle.semver_ranges.specs.RangeViews.{comparator_of, range_of};
-ghost use Rattle.semver_ranges.specs.PartialViews.{stated_of, place_number};
-ghost use Rattle.semver_ranges.specs.CursorViews.{form_of, simple_fits, AreRead, Has, HasRoom, IsSimpleOf};
-ghost use Rattle.semver_ranges.specs.BoundsViews.{bounds_of, bounds_fit, IsPlaced, IsBuildable, IsCell, IsRow, IsSize, Fits, SimplesFit};
+ghost use Rattle.semver_ranges.specs.PartialViews.{stated_of, place_number, written};
+ghost use Rattle.semver_ranges.specs.CursorViews.{form_of, simple_fits, AreFirst, HasRoom, IsSimpleOf};
+ghost use Rattle.semver_ranges.specs.BoundsViews.{bounds_of, bounds_fit, range_of_simples, IsPlaced, IsBuildable, IsCell, IsRow, AreRows, AreBounds, HasRows, IsSize, Fits, SimplesFit};
 
 use crate::grammar::{Form, RangeText, Simple, ends_range, read_simple};
-use crate::partial::{Partial, PartialKind, Place};
+use crate::partial::{Bound, Partial, PartialKind, Place};
 use crate::range::{Comparator, Compat, Op, Range};
 use std::alloc::{AllocError, Global};
 
@@ -88,7 +89,7 @@ impl<'input> Bounds<'input> {
     /// How many comparators.
     #[inline(always)]
     pub(crate) fn count(&self) -> usize
-        ensures count { result ≡ length (bounds_of self.now) }
+        ensures count { (write : PlainVersion → PlainVersion) → result ≡ length (bounds_of write self.now) }
         ensures small { result ≤ 2 }
     {
         usize::from(self.op.is_some()) + usize::from(self.raised.is_some())
@@ -100,16 +101,18 @@ impl<'input> Bounds<'input> {
         self,
         alloc: Global,
         comparators: &mut Vec<Comparator>,
+        bound: Bound,
     ) -> Result<(), AllocError>
         requires buildable { IsBuildable self }
         requires fits { bounds_fit self ≡ true }
-        ensures { IfOk result (λ _. map comparator_of comparators.new.items ≡ map comparator_of comparators.old.items ++ bounds_of self.entry) }
+        ensures { IfOk result (λ _. map comparator_of comparators.new.items ≡ map comparator_of comparators.old.items ++ bounds_of (written bound) self.entry) }
     {
         if let Some(op) = self.op {
             comparators.push(self.partial.as_comparator(alloc, op)?)?;
         }
         if let Some(place) = self.raised {
-            comparators.push(self.partial.raised(place).as_comparator(alloc, Op::Lt)?)?;
+            let raised = self.partial.raised(place, bound);
+            comparators.push(raised.as_comparator(alloc, Op::Lt)?)?;
         }
         Ok(())
     }
@@ -132,7 +135,7 @@ pub(crate) fn rewritten<'input>(simple: &Simple<'input>, compat: Compat) -> Boun
 /// The column where no number is stated.
 #[inline(always)]
 fn with_nothing_stated<'input>(form: Form) -> Bounds<'input>
-    ensures comparators { bounds_of result ≡ cell_comparators (nothing_stated (form_of form)) [] zero_version }
+    ensures comparators { (write : PlainVersion → PlainVersion) → bounds_of write result ≡ written_cell write (nothing_stated (form_of form)) [] zero_version }
     ensures fits { bounds_fit result ≡ true }
     ensures buildable { IsBuildable result }
 {
@@ -189,20 +192,44 @@ pub(crate) struct Size<'input> {
     pub(crate) rest: &'input [u8],
 }
 
+/// The comparators of a range as far as its second simple, and the text from there on.
+#[derive(Drop)]
+pub(crate) struct RangeBounds<'input> {
+    first: Bounds<'input>,
+    second: Option<Bounds<'input>>,
+    others: &'input [u8],
+}
+
 impl<'input> RangeText<'input> {
+    /// The comparators as far as the second simple.
+    #[inline(always)]
+    pub(crate) fn rewritten(&self, compat: Compat) -> RangeBounds<'input>
+        ensures rows { (front : List SimpleTree) → AreFirst front self.now.first self.now.second → AreRows compat front result.first result.second }
+        ensures others { result.others.now ≡ self.now.others.now }
+    {
+        RangeBounds {
+            first: rewritten(&self.first, compat),
+            second: match &self.second {
+                Some(second) => Some(rewritten(second, compat)),
+                None => None,
+            },
+            others: self.others,
+        }
+    }
+}
+
+impl<'input> RangeBounds<'input> {
     /// The size of the range. Where something behind its second simple isn't a simple, that is what follows.
     #[inline(always)]
     pub(crate) fn size(&self, compat: Compat) -> Size<'input>
         requires room { HasRoom self.now.others.now }
-        requires first { AreRead self.now }
-        ensures size { (ss : List SimpleTree) (end : Text) → Has self.now ss end → IsSize compat ss end result }
+        requires bounds { AreBounds compat self.now }
+        ensures size { (ss : List SimpleTree) (end : Text) → HasRows compat self.now ss end → IsSize compat ss end result }
         ensures fault { all_simples self.now.others.now ≡ None → ends_range result.rest.now ≡ false }
     {
-        let first = rewritten(&self.first, compat);
-        let mut fits = first.fits();
-        let mut count = first.count();
+        let mut fits = self.first.fits();
+        let mut count = self.first.count();
         if let Some(second) = &self.second {
-            let second = rewritten(second, compat);
             fits = fits && second.fits();
             count += second.count();
         }
@@ -224,22 +251,23 @@ impl<'input> RangeText<'input> {
     /// The range in a mode, with its comparators in a vector of their number.
     #[inline(always)]
     pub(crate) fn build(
-        &self,
+        self,
         alloc: Global,
         count: usize,
         compat: Compat,
+        bound: Bound,
     ) -> Result<Range, AllocError>
-        requires fits { Fits compat self.now }
-        ensures { IfOk result (λ built. (ss : List SimpleTree) (end : Text) → Has self.now ss end → list_all (simple_fits compat) ss ≡ true
-            → range_of built ≡ record { comparators = flat_map (simple_comparators compat) ss; compat = compat }) }
+        requires fits { Fits compat self }
+        ensures { IfOk result (λ built. (ss : List SimpleTree) (end : Text) → HasRows compat self.entry ss end → list_all (simple_fits compat) ss ≡ true
+            → range_of built ≡ range_of_simples (written bound) compat ss) }
     {
         let mut comparator_set = Vec::with_capacity(alloc, count)?;
-        rewritten(&self.first, compat).push(alloc, &mut comparator_set)?;
-        if let Some(second) = &self.second {
-            rewritten(second, compat).push(alloc, &mut comparator_set)?;
+        self.first.push(alloc, &mut comparator_set, bound)?;
+        if let Some(second) = self.second {
+            second.push(alloc, &mut comparator_set, bound)?;
         }
         if !ends_range(self.others) {
-            push_simples(alloc, &mut comparator_set, self.others, compat)?;
+            push_simples(alloc, &mut comparator_set, self.others, compat, bound)?;
         }
         Ok(Range {
             comparator_set,
@@ -274,14 +302,15 @@ fn push_simples(
     comparators: &mut Vec<Comparator>,
     text: &[u8],
     compat: Compat,
+    bound: Bound,
 ) -> Result<(), AllocError>
     requires { SimplesFit compat (all_simples text.now) }
     ensures { IfOk result (λ _. (ss : List SimpleTree) (end : Text) → all_simples text.now ≡ Some (ss, end)
-        → map comparator_of comparators.new.items ≡ map comparator_of comparators.old.items ++ flat_map (simple_comparators compat) ss) }
+        → map comparator_of comparators.new.items ≡ map comparator_of comparators.old.items ++ flat_map (written_simple (written bound) compat) ss) }
 {
     let mut rest = text;
     while let Some((simple, behind)) = read_simple(rest) {
-        rewritten(&simple, compat).push(alloc, comparators)?;
+        rewritten(&simple, compat).push(alloc, comparators, bound)?;
         rest = behind;
     }
     Ok(())

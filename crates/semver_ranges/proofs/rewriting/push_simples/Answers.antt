@@ -3,7 +3,8 @@ use Rattle.std.specs.Prelude.{map}
 use Rattle.std.specs.List.{flat_map}
 use Rattle.semver_ranges.specs.RangeTree.{Simple}
 use Rattle.semver_ranges.specs.Reading.{all_simples}
-use Rattle.semver_ranges.specs.RewritingTable.{simple_comparators}
+use Rattle.semver_ranges.specs.RewritingTable.{written_simple}
+use Rattle.semver_ranges.specs.PartialViews.{written}
 use Rattle.semver_ranges.specs.RangeViews.{comparator_of}
 use Rattle.semver_ranges.specs.CursorViews.{simple_fits}
 use Rattle.semver_ranges.specs.BoundsViews.{bounds_of}
@@ -36,11 +37,12 @@ loop-simple-preserved c =
     let row = c.rewritten.ensures step.0 step.2 in (
       so_far.0 ++ step.0 ∷ [],
       simples_more (all_simples c.args.text.now) c.loop-simple.rest.now c.in-Some.behind.now so_far.0 step.0 so_far.1 step.1,
-      pushed_more (simple_comparators c.args.compat) _ _ _ (bounds_of c.rewritten.result) so_far.0 step.0 so_far.2 c.in_ok-push.ensures (row.2 (row.1 ∙ simple_here (goal.at.loop-simple-preserved c).In-Some)),
+      pushed_more (written_simple (written c.args.bound) c.args.compat) _ _ _ (bounds_of (written c.args.bound) c.rewritten.result) so_far.0 step.0 so_far.2 c.in_ok-push.ensures
+          (row.2 (row.1 ∙ simple_here (goal.at.loop-simple-preserved c).In-Some) (written c.args.bound)),
     )
 
 pub returns : goal.returns
 returns c = λ ss end found.
     let so_far = c.loop-simple.invariant in
     let is = simples_found (all_simples c.args.text.now) c.loop-simple.rest.now end so_far.0 ss so_far.1 c.in_default.ensures found in
-    so_far.2 ∙ ap (λ (l : List Simple). map comparator_of c.args.comparators.now.items ++ flat_map (simple_comparators c.args.compat) l) is.same
+    so_far.2 ∙ ap (λ (l : List Simple). map comparator_of c.args.comparators.now.items ++ flat_map (written_simple (written c.args.bound) c.args.compat) l) is.same

@@ -30,7 +30,7 @@ loop-simple-preserved c =
       joined ∙ fits_more (simple_fits c.args.compat) so_far.0 step.0 c.loop-simple.fits fit so_far.2 row.1,
       omega (arith, so_far.3, c.count-count.ensures.small, shorter),
       λ all. let both = and_parts c.loop-simple.fits fit (sym joined ∙ all) in
-          counted_more (simple_comparators c.args.compat) so_far.0 step.0 c.loop-simple.count c.count-count.result (bounds_of c.rewritten-bounds.result) (so_far.4 both.0) c.count-count.ensures.count (row.2 both.1),
+          counted_more (simple_comparators c.args.compat) so_far.0 step.0 c.loop-simple.count c.count-count.result (bounds_of (λ v. v) c.rewritten-bounds.result) (so_far.4 both.0) (c.count-count.ensures.count (λ v. v)) (row.2 both.1 (λ v. v)),
     )
 
 pub returns-clause-size : goal.returns-clause-size
