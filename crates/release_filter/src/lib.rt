@@ -1,4 +1,4 @@
-//! The releases that a range text means, and which versions meet a range set.
+//! The versions that a range text means, with or without pre-releases, and which versions meet a range set.
 #![tactic(auto)]
 
 mod precedence;
@@ -10,7 +10,8 @@ ghost use Rattle.std.specs.List.{list_all, list_any};
 ghost use Rattle.semver_parser.specs.Meeting.{meets_comparator, meets_set};
 ghost use Rattle.semver_parser.specs.RangeViews.{comparator_of, set_of};
 ghost use Rattle.semver_parser.specs.VersionViews.{version_value};
-ghost use Rattle.release_filter.specs.KeptReleases.{is_release, kept_releases};
+ghost use Rattle.semver_parser.specs.Versions.{VersionValue};
+ghost use Rattle.release_filter.specs.KeptReleases.{is_release, kept_releases, meant_versions, counts, meant_with};
 
 use semver_parser::version::Version;
 use semver_parser::{Comparator, Compat, Op, Range, RangeError, RangeSet};
@@ -69,6 +70,15 @@ fn comparator_is_met(comparator: &Comparator, version: &Version) -> bool
     }
 }
 
+/// Which of the versions that a range text means a filter keeps.
+#[derive(Clone, Copy, PartialEq, Eq, Debug)]
+pub enum PreReleases {
+    /// The releases alone: the versions without pre-release.
+    Excluded,
+    /// Every version, with pre-release or without.
+    Included,
+}
+
 /// The releases among the versions that a range text means, in the given order and with repeats kept: each version without
 /// pre-release that meets the text's own meaning. Of `^0.2 || 2.x` in Cargo mode, and of 0.2.0, 0.3.0, 2.0.0-rc, 2.5.0 and
 /// 2.5.0 again, these are 0.2.0, 2.5.0 and 2.5.0.
@@ -76,6 +86,8 @@ fn comparator_is_met(comparator: &Comparator, version: &Version) -> bool
 /// The text is read first, so its refusal doesn't depend on the versions: `NotARange` where it isn't in the range grammar,
 /// `NumberTooLarge` where it is and a stated number or a raised bound is above 2^64 - 1. `OutOfMemory` stands in place of an
 /// answer alone. Pre-releases are never among what is answered, whatever the text says.
+///
+/// Each version is judged once. Memory for the answer is asked for as it grows, and not at all where no version is kept.
 pub fn filter_text<'v>(
     alloc: Global,
     text: &str,
@@ -91,8 +103,54 @@ pub fn filter_text<'v>(
     ensures too_large { (result ≡ Err RangeError.NumberTooLarge) ↔ ((tree : SetTree) × Spells tree text.now × (fits compat tree ≡ false)) }
     ensures out_of_memory { result ≡ Err RangeError.OutOfMemory → (tree : SetTree) × Spells tree text.now × IsTrue (fits compat tree) }
 {
-    match RangeSet::parse(alloc, text, compat) {
-        Ok(set) => match kept(alloc, &set, versions) {
+    filter(alloc, text, compat, PreReleases::Excluded, versions)
+}
+
+/// The versions that a range text means, pre-releases too, in the given order and with repeats kept: each that meets the text's
+/// own meaning (docs/MEANING.md). Of `^0.2 || 2.x` in Cargo mode, and of 0.2.0-rc, 0.2.0, 0.3.0-rc, 2.0.0-rc, 2.5.0-rc and
+/// 2.5.0, these are 0.2.0, 2.5.0-rc and 2.5.0.
+///
+/// A pre-release counts like any version, by precedence (SemVer 2.0.0, section 11): 1.3.0-alpha meets `^1.2.0`, and none of its
+/// comparators needs a pre-release. A pre-release of the bound that ends a range isn't meant: neither 2.0.0-rc by `^1.2.0` nor
+/// 1.3.0-rc by `<=1.2`, which means what is below all of 1.3.0. A bound that the text states is a version like any other:
+/// 2.0.0-rc meets `<2.0.0`.
+///
+/// Its refusals are those of `filter_text`, and depend on the text alone. Each version is judged once. Memory for the answer is
+/// asked for as it grows, and not at all where no version is kept.
+pub fn filter_versions<'v>(
+    alloc: Global,
+    text: &str,
+    compat: Compat,
+    versions: &'v [Version],
+) -> Result<Vec<&'v Version>, RangeError>
+    // Some tree spells the text and fits, and what is answered is what each tree of the text means.
+    ensures accepted { IfOk result (λ kept. (tree : SetTree) × Spells tree text.now × IsTrue (fits compat tree)) }
+    ensures kept { IfOk result (λ kept. (tree : SetTree) → Spells tree text.now → map (λ v. v.now) kept.items ≡ meant_versions compat tree versions.now) }
+
+    // Refusals, exactly; memory may run out in place of an answer alone.
+    ensures not_a_range { (result ≡ Err RangeError.NotARange) ↔ ((tree : SetTree) → Spells tree text.now → ⊥) }
+    ensures too_large { (result ≡ Err RangeError.NumberTooLarge) ↔ ((tree : SetTree) × Spells tree text.now × (fits compat tree ≡ false)) }
+    ensures out_of_memory { result ≡ Err RangeError.OutOfMemory → (tree : SetTree) × Spells tree text.now × IsTrue (fits compat tree) }
+{
+    filter(alloc, text, compat, PreReleases::Included, versions)
+}
+
+// What both filters answer.
+fn filter<'v>(
+    alloc: Global,
+    text: &str,
+    compat: Compat,
+    pre_releases: PreReleases,
+    versions: &'v [Version],
+) -> Result<Vec<&'v Version>, RangeError>
+    ensures accepted { IfOk result (λ kept. (tree : SetTree) × Spells tree text.now × IsTrue (fits compat tree)) }
+    ensures kept { IfOk result (λ kept. (tree : SetTree) → Spells tree text.now → map (λ v. v.now) kept.items ≡ filter (λ v. meant_with pre_releases compat tree (version_value v)) versions.now) }
+    ensures not_a_range { (result ≡ Err RangeError.NotARange) ↔ ((tree : SetTree) → Spells tree text.now → ⊥) }
+    ensures too_large { (result ≡ Err RangeError.NumberTooLarge) ↔ ((tree : SetTree) × Spells tree text.now × (fits compat tree ≡ false)) }
+    ensures out_of_memory { result ≡ Err RangeError.OutOfMemory → (tree : SetTree) × Spells tree text.now × IsTrue (fits compat tree) }
+{
+    match read_set(alloc, text, compat, pre_releases) {
+        Ok(set) => match kept(alloc, &set, pre_releases, versions) {
             Ok(kept) => Ok(kept),
             Err(_) => Err(RangeError::OutOfMemory),
         },
@@ -100,24 +158,51 @@ pub fn filter_text<'v>(
     }
 }
 
-// The releases among the versions that meet a set, in their order and with repeats. It asks for memory once, for exactly
-// their number, and not at all where there are none.
+// The set whose versions are those that the text means. Raised bounds count for pre-releases alone, so a filter of releases
+// does with the set that takes less memory.
+fn read_set(
+    alloc: Global,
+    text: &str,
+    compat: Compat,
+    pre_releases: PreReleases,
+) -> Result<RangeSet, RangeError>
+    ensures accepted { IfOk result (λ set. (tree : SetTree) × Spells tree text.now × IsTrue (fits compat tree)) }
+    ensures meaning { IfOk result (λ set. (tree : SetTree) (v : VersionValue) → Spells tree text.now →
+        (counts pre_releases v && meets_set v.plain (set_of set)) ≡ meant_with pre_releases compat tree v) }
+    ensures not_a_range { (result ≡ Err RangeError.NotARange) ↔ ((tree : SetTree) → Spells tree text.now → ⊥) }
+    ensures too_large { (result ≡ Err RangeError.NumberTooLarge) ↔ ((tree : SetTree) × Spells tree text.now × (fits compat tree ≡ false)) }
+    ensures out_of_memory { result ≡ Err RangeError.OutOfMemory → (tree : SetTree) × Spells tree text.now × IsTrue (fits compat tree) }
+{
+    match pre_releases {
+        PreReleases::Excluded => RangeSet::parse(alloc, text, compat),
+        PreReleases::Included => RangeSet::parse_exact(alloc, text, compat),
+    }
+}
+
+// Those of the versions that count and meet a set, in their order and with repeats. It asks for memory as the list grows.
 fn kept<'v>(
     alloc: Global,
     set: &RangeSet,
+    pre_releases: PreReleases,
     versions: &'v [Version],
 ) -> Result<Vec<&'v Version>, AllocError>
-    ensures { IfOk result (λ kept. map (λ v. v.now) kept.items ≡ filter (λ v. is_release (version_value v) && meets_set (version_value v).plain (set_of set.now)) versions.now) }
+    ensures { IfOk result (λ kept. map (λ v. v.now) kept.items ≡ filter (λ v. counts pre_releases (version_value v) && meets_set (version_value v).plain (set_of set.now)) versions.now) }
 {
-    let count = versions
-        .iter()
-        .filter(|version| release_meets(set, version))
-        .count();
-    let mut kept = Vec::with_capacity(alloc, count)?;
+    let mut kept = Vec::new(alloc);
     for version in versions {
-        if release_meets(set, version) {
+        if is_kept(set, pre_releases, version) {
             kept.push(version)?;
         }
     }
     Ok(kept)
+}
+
+// Whether a version counts and meets a set.
+fn is_kept(set: &RangeSet, pre_releases: PreReleases, version: &Version) -> bool
+    ensures { result ≡ (counts pre_releases (version_value version.now) && meets_set (version_value version.now).plain (set_of set.now)) }
+{
+    match pre_releases {
+        PreReleases::Excluded => release_meets(set, version),
+        PreReleases::Included => version_meets(set, version),
+    }
 }
