@@ -1,1 +1,4 @@
 mod Maps
+mod VersionBytes
+mod LineReading
+mod LineSteps

@@ -1,1 +1,2 @@
 pub mod KeptReleases
+pub mod KeptLines

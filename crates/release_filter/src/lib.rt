@@ -1,6 +1,8 @@
-//! The versions that a range text means, with or without pre-releases, and which versions meet a range set.
+//! The versions that a range text means, with or without pre-releases, of a list or of the lines of a stream; and which
+//! versions meet a range set.
 #![tactic(auto)]
 
+mod lines;
 mod precedence;
 
 ghost use Rattle.std.specs.Prelude.{◌≡◌, ◌↔◌, ◌&&◌, false, map, filter, IfOk, IsTrue};
@@ -13,6 +15,7 @@ ghost use Rattle.semver_parser.specs.VersionViews.{version_value};
 ghost use Rattle.semver_parser.specs.Versions.{VersionValue};
 ghost use Rattle.release_filter.specs.KeptReleases.{is_release, kept_releases, meant_versions, counts, meant_with};
 
+pub use lines::{FilterError, filter_lines};
 use semver_parser::version::Version;
 use semver_parser::{Comparator, Compat, Op, Range, RangeError, RangeSet};
 use std::alloc::{AllocError, Global};

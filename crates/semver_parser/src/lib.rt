@@ -5,6 +5,7 @@
 
 pub mod laws;
 pub mod report;
+pub mod writing;
 
 pub use semver_ranges::{Comparator, Compat, Identifier, Op, Range, RangeError, RangeSet};
 pub use semver_steps::parser;

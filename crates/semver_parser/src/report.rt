@@ -9,11 +9,12 @@ ghost use Rattle.semver_texts.specs.VersionViews.{version_value};
 ghost use Rattle.semver_texts.specs.PrintedText.{version_text};
 ghost use Rattle.semver_parser.specs.Shown.{shown_text, is_value_of};
 
+use crate::writing::write_whole;
 use semver_ranges::{Compat, RangeError, RangeSet};
 use semver_steps::parser;
 use semver_versions::version::{self, Version};
 use std::alloc::Global;
-use std::io::{self, ErrorKind, Write};
+use std::io::{self, Write};
 
 /// What a line shows behind its label.
 #[derive(Drop)]
@@ -164,22 +165,14 @@ impl Shown {
 fn write_line<W: Write>(out: &mut W, label: &str, shown: &Shown) -> io::Result<()>
     ensures { WritesOrBegins (W.contents out.old) (W.contents out.new) result (line label.now (shown_text shown.now)) }
 {
-    write_whole(out, label)?;
-    write_whole(out, shown.as_str())?;
-    write_whole(out, "\n")
+    write_text(out, label)?;
+    write_text(out, shown.as_str())?;
+    write_text(out, "\n")
 }
 
-// Writes all of the text, by as many writes as it takes. It stops at the first that fails, is interrupted, or takes no byte.
-fn write_whole<W: Write>(out: &mut W, text: &str) -> io::Result<()>
+// Writes all of a text.
+fn write_text<W: Write>(out: &mut W, text: &str) -> io::Result<()>
     ensures { WritesOrBegins (W.contents out.old) (W.contents out.new) result text.now }
 {
-    let mut rest = text.as_bytes();
-    while !rest.is_empty() {
-        let count = out.write(rest)?;
-        if count == 0 {
-            return Err(io::Error::from(ErrorKind::WriteZero));
-        }
-        rest = &rest[count..];
-    }
-    Ok(())
+    write_whole(out, text.as_bytes())
 }

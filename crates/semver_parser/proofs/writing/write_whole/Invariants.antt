@@ -1,9 +1,9 @@
 use Rattle.std.proofs.Common.{◌≡◌, ℕ, List, ◌++◌, length}
 use Rattle.std.specs.Io.KnownBytes.{Appends}
-use Rattle.semver_parser.proofs.report.write_whole.Given as goal
+use Rattle.semver_parser.proofs.writing.write_whole.Given as goal
 
 abbrev pub invariant-loop-rest : goal.invariant-loop-rest
-invariant-loop-rest g l = (done : List ℕ) × (done ++ l.rest ≡ l.fn.text) × Appends (g.W.Write.contents l.initial.out) (g.W.Write.contents l.out) done
+invariant-loop-rest g l = (done : List ℕ) × (done ++ l.rest ≡ l.fn.bytes) × Appends (g.W.Write.contents l.initial.out) (g.W.Write.contents l.out) done
 
 abbrev pub decreases-loop-rest : goal.decreases-loop-rest
 decreases-loop-rest g l = length l.rest
