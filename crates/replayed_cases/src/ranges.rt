@@ -41,20 +41,36 @@ pub fn write_set<W: Write>(
     }
 }
 
-/// Writes what the set prints, if it reads back to an equal set, or its fault.
+/// Writes what the set of a text prints, if it reads back to an equal set, or its fault.
 pub fn write_printed<W: Write>(
     alloc: Global,
     text: &str,
     compat: Compat,
     out: &mut W,
 ) -> io::Result<()> {
-    let set = match RangeSet::parse(alloc, text, compat) {
-        Ok(set) => set,
-        Err(error) => return write!(out, "{error}"),
-    };
+    match RangeSet::parse(alloc, text, compat) {
+        Ok(set) => write_read_back(alloc, &set, out),
+        Err(error) => write!(out, "{error}"),
+    }
+}
+
+/// As `write_printed`, of the set with exact bounds.
+pub fn write_exact<W: Write>(
+    alloc: Global,
+    text: &str,
+    compat: Compat,
+    out: &mut W,
+) -> io::Result<()> {
+    match RangeSet::parse_exact(alloc, text, compat) {
+        Ok(set) => write_read_back(alloc, &set, out),
+        Err(error) => write!(out, "{error}"),
+    }
+}
+
+fn write_read_back<W: Write>(alloc: Global, set: &RangeSet, out: &mut W) -> io::Result<()> {
     let printed = set.to_string(alloc)?;
-    match RangeSet::parse(alloc, printed.as_str(), compat) {
-        Ok(again) if again == set => write!(out, "{printed}"),
+    match RangeSet::parse(alloc, printed.as_str(), set.compat) {
+        Ok(again) if again == *set => write!(out, "{printed}"),
         _ => write!(out, "{printed} reads back as another set"),
     }
 }
