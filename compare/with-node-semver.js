@@ -1,0 +1,149 @@
+// Compares what range texts mean here with what they mean by node-semver: `node with-node-semver.js PROGRAM COUNT SEED`, where
+// PROGRAM is the built `replayed_cases`. It makes COUNT pairs of a range text and a version, in npm mode, pre-releases included on both
+// sides. Where node-semver is known to mean something else, its answer is undone: each simple is turned into one that node-semver reads
+// as it is meant here. It counts how often each departure changed an answer, and prints the first other difference.
+'use strict'
+
+const semver = require('semver')
+const { spawnSync } = require('child_process')
+
+const INCLUDED = { includePrerelease: true }
+const VERSIONS = 8
+
+const LOWER = 'a lower bound with less than three numbers, or of a caret of 0 or a hyphen range, takes its own pre-releases in'
+const GREATER = '`>` with one or two numbers begins with the next ones'
+const LESS = '`<` with one or two numbers leaves out the pre-releases of its bound'
+const NOTHING = 'nothing stated takes the pre-releases of 0.0.0 in, or for `<` and `>` leaves them out'
+
+// A small generator of numbers; its whole state is its seed.
+class Random {
+  constructor (seed) {
+    this.state = BigInt(seed) * 0x9e3779b97f4a7c15n & 0xffffffffffffffffn | 1n
+  }
+
+  below (limit) {
+    let s = this.state
+    s ^= s << 13n & 0xffffffffffffffffn
+    s ^= s >> 7n
+    s ^= s << 17n & 0xffffffffffffffffn
+    this.state = s
+    return Number((s >> 11n) % BigInt(limit))
+  }
+
+  of (items) {
+    return items[this.below(items.length)]
+  }
+}
+
+const number = (random) => String(random.of([0, 0, 0, 1, 1, 2, 3, 9, 10, 11]))
+const preRelease = (random) => random.of(['alpha', 'alpha.1', 'beta', 'beta.2', 'beta.11', 'rc-1', '1', '2.a', 'a.0'])
+
+// A partial: what it states, and its text.
+function partial (random) {
+  const stated = [number(random), number(random), number(random)].slice(0, random.of([0, 1, 2, 3, 3, 3]))
+  const wildcard = random.of(['x', '*', 'X'])
+  const pre = stated.length === 3 && random.below(3) === 0 ? '-' + preRelease(random) : ''
+  let text = stated.join('.') + pre
+  if (stated.length < 3 && (stated.length === 0 || random.below(2) === 0)) {
+    text = stated.concat(wildcard).join('.')
+  }
+  return { stated, pre, text }
+}
+
+// The zero-filled version of a partial.
+const filled = (p) => p.stated.concat(['0', '0', '0']).slice(0, 3).join('.') + p.pre
+
+function simple (random) {
+  const sign = random.of(['', '=', '<', '<=', '>', '>=', '~', '~>', '^', '^'])
+  const of = partial(random)
+  return { sign, of, text: sign + random.of(['', '', ' ']) + of.text }
+}
+
+// A range: the texts of its parts, each by itself, and its own text.
+function range (random) {
+  if (random.below(5) === 0) {
+    const [left, right] = [partial(random), partial(random)]
+    return { parts: sides(left, right), text: `${left.text} - ${right.text}` }
+  }
+  const simples = Array.from({ length: random.of([1, 1, 1, 2, 2, 3]) }, () => simple(random))
+  return { parts: simples, text: simples.map((s) => s.text).join(' ') }
+}
+
+// A side that states nothing is left out where the other states something.
+function sides (left, right) {
+  const lower = { sign: '>=', of: left, text: `>=${left.text}` }
+  const upper = { sign: '<=', of: right, text: `<=${right.text}` }
+  return [lower, upper].filter((side) => side.of.stated.length > 0 || left.stated.length + right.stated.length === 0)
+}
+
+// A version near a partial of the text.
+function version (random, ranges) {
+  const near = random.of(random.of(ranges).parts).of
+  const numbers = filled({ stated: near.stated, pre: '' }).split('.').map(Number)
+  const place = random.below(4)
+  if (place < 3) {
+    numbers[place] = Math.max(0, numbers[place] + random.of([-1, 1, 1]))
+    numbers.fill(random.of([0, 0, 7]), place + 1)
+  }
+  const pre = random.of(['', '', '-0', '-zz', near.pre, '-' + preRelease(random)])
+  return numbers.join('.') + pre
+}
+
+// What a part means here, by node-semver, and the departure that was undone.
+function meant (part, tested) {
+  const { sign, of } = part
+  if (of.stated.length === 0) {
+    return [new semver.Comparator(sign === '<' || sign === '>' ? '<0.0.0' : '>=0.0.0', INCLUDED).test(tested), NOTHING]
+  }
+  if (of.stated.length < 3 && (sign === '<' || sign === '>')) {
+    return [new semver.Comparator(sign + filled(of), INCLUDED).test(tested), sign === '<' ? LESS : GREATER]
+  }
+  const isOwnLower = ({ operator, semver: { prerelease } }) => operator === '>=' && prerelease.join('.') === '0'
+  const comparators = new semver.Range(part.text, INCLUDED).set[0].filter((comparator) => !isOwnLower(comparator))
+  if (sign !== '<' && sign !== '<=') comparators.push(new semver.Comparator('>=' + filled(of), INCLUDED))
+  return [comparators.every((comparator) => comparator.test(tested)), LOWER]
+}
+
+// Whether each part of some range is met, and which departures were undone where node-semver's own answer is another.
+function expected (text, ranges, tested) {
+  const answers = ranges.map((range) => range.parts.map((part) => meant(part, tested)))
+  const answer = answers.some((parts) => parts.every(([met]) => met))
+  const own = new semver.Range(text, INCLUDED).test(tested)
+  const departures = own === answer ? [] : answers.flat().map(([, departure]) => departure)
+  return { answer, departures: new Set(departures) }
+}
+
+// The versions of each list that are meant here.
+function answers (program, cases) {
+  const lines = cases.map(({ text, versions }) => `-\tmean-npm\t${text}\t${versions.join(' ')}\n`)
+  const ran = spawnSync(program, { input: lines.join(''), encoding: 'utf8', maxBuffer: 1 << 30 })
+  if (ran.status !== 0) throw new Error(`${program} ended with ${ran.status}: ${ran.stderr}`)
+  return ran.stdout.trimEnd().split('\n').map((line) => new Set(line.replace(/^-: /, '').split(' ')))
+}
+
+function main ([program, count, seed]) {
+  const random = new Random(seed)
+  const cases = Array.from({ length: Math.ceil(count / VERSIONS) }, () => {
+    const ranges = Array.from({ length: random.of([1, 1, 1, 2, 3]) }, () => range(random))
+    const text = ranges.map((r) => r.text).join(random.of(['||', ' || ']))
+    return { ranges, text, versions: Array.from({ length: VERSIONS }, () => version(random, ranges)) }
+  })
+  const kept = answers(program, cases)
+  const occurred = new Map()
+  let met = 0
+  cases.forEach(({ ranges, text, versions }, at) => {
+    for (const tested of versions) {
+      const { answer, departures } = expected(text, ranges, new semver.SemVer(tested))
+      if (answer !== kept[at].has(tested)) {
+        console.log(`differ: ${JSON.stringify(text)} and ${tested}: wanted here ${answer}, answered here ${!answer}`)
+        process.exit(1)
+      }
+      met += answer ? 1 : 0
+      for (const departure of departures) occurred.set(departure, (occurred.get(departure) || 0) + 1)
+    }
+  })
+  console.log(`${cases.length * VERSIONS} pairs compared, seed ${seed}, ${met} met: no difference but the known ones`)
+  for (const [departure, times] of occurred) console.log(`  ${times} times beside: ${departure}`)
+}
+
+main(process.argv.slice(2))
