@@ -15,10 +15,15 @@ pub enum Kind {
     Cargo,
     /// The same in npm mode.
     Npm,
+    /// A whole text as a range set with exact bounds in Cargo mode, as it prints.
+    CargoExact,
+    /// The same in npm mode.
+    NpmExact,
 }
 
 impl Kind {
-    pub const ALL: [Kind; 5] = [Kind::Tokens, Kind::Steps, Kind::Versions, Kind::Cargo, Kind::Npm];
+    pub const ALL: [Kind; 7] =
+        [Kind::Tokens, Kind::Steps, Kind::Versions, Kind::Cargo, Kind::Npm, Kind::CargoExact, Kind::NpmExact];
 
     /// Its name in what is printed.
     pub fn name(self) -> &'static str {
@@ -28,6 +33,8 @@ impl Kind {
             Kind::Versions => "versions",
             Kind::Cargo => "ranges in Cargo mode",
             Kind::Npm => "ranges in npm mode",
+            Kind::CargoExact => "ranges with exact bounds in Cargo mode",
+            Kind::NpmExact => "ranges with exact bounds in npm mode",
         }
     }
 
@@ -39,6 +46,8 @@ impl Kind {
             Kind::Versions => "version",
             Kind::Cargo => "cargo",
             Kind::Npm => "npm",
+            Kind::CargoExact => "cargo-exact",
+            Kind::NpmExact => "npm-exact",
         }
     }
 }

@@ -7,6 +7,7 @@
 //! written in docs/MEANING.md.
 
 use crate::cases::{Case, Kind};
+use crate::exact;
 use crate::ranges::{self, Answer};
 use crate::real::{self, ERROR_AGAIN};
 use semver_parser::{Compat, Identifier, RangeSet};
@@ -33,6 +34,8 @@ pub fn expected(case: &Case) -> Expected {
     match case.kind {
         Kind::Cargo => range(&case.text, Compat::Cargo),
         Kind::Npm => range(&case.text, Compat::Npm),
+        Kind::CargoExact => exact(&case.text, Compat::Cargo),
+        Kind::NpmExact => exact(&case.text, Compat::Npm),
         Kind::Tokens | Kind::Steps | Kind::Versions => without_repeats(&real::answer(case)),
     }
 }
@@ -43,6 +46,12 @@ fn without_repeats(answer: &str) -> Expected {
         Some(items) => Expected { answer: format!("{items}end"), departures: vec![AGAIN] },
         None => Expected { answer: answer.to_string(), departures: Vec::new() },
     }
+}
+
+/// What the set with exact bounds has to print, by the answer with the bounds as they are.
+fn exact(text: &str, compat: Compat) -> Expected {
+    let Expected { answer, departures } = range(text, compat);
+    Expected { answer: exact::printed(text, &answer), departures }
 }
 
 /// What the answer to a range text has to be.

@@ -6,6 +6,7 @@
 
 mod cases;
 mod departures;
+mod exact;
 mod program;
 mod random;
 mod ranges;

@@ -16,8 +16,8 @@ pub fn answer(case: &Case) -> String {
         Kind::Tokens => lexed(&case.text),
         Kind::Steps => stepped(&case.text, &case.steps),
         Kind::Versions => or_fault(version::parse(&case.text), |version| fields(&version)),
-        Kind::Cargo => ranges::read(&case.text, Compat::Cargo).text(),
-        Kind::Npm => ranges::read(&case.text, Compat::Npm).text(),
+        Kind::Cargo | Kind::CargoExact => ranges::read(&case.text, Compat::Cargo).text(),
+        Kind::Npm | Kind::NpmExact => ranges::read(&case.text, Compat::Npm).text(),
     }
 }
 

@@ -20,7 +20,7 @@ pub fn case(kind: Kind, random: &mut Random) -> Case {
             _ => version(random),
         },
         Kind::Versions => version(random),
-        Kind::Cargo | Kind::Npm => set(random),
+        Kind::Cargo | Kind::Npm | Kind::CargoExact | Kind::NpmExact => set(random),
     };
     if random.one_in(100) {
         text = many_hyphens(random, &text);
