@@ -1,3 +1,6 @@
 pub mod RowFacts
 pub mod Writes
 pub mod ReportSteps
+pub use Rattle.semver_tokens.proofs.TokenLists
+pub use Rattle.semver_versions.proofs.OneVersion
+pub use Rattle.semver_ranges.proofs.ReadingComplete

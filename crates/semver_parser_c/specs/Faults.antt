@@ -1,0 +1,83 @@
+-- Which number stands for which fault and answer, and what C says by a bool.
+use Rattle.std.specs.Prelude.{ℤ, Bool, true, false, ◌≡◌, ◌≢◌, ◌⊎◌, ◌||◌, ◌&&◌, IsTrue, IsUtf8, List, [], ◌∷◌, Result, Ok, Err}
+use Rattle.semver_parser.specs.Texts.{Text}
+use Rattle.semver_parser.specs.Versions.{VersionValue}
+use Rattle.semver_parser.specs.declared.Compat.{Compat}
+use Rattle.semver_parser.specs.declared.Compat.TheVariants.{Cargo, Npm}
+use Rattle.semver_parser.specs.declared.RangeError.{RangeError}
+use Rattle.semver_parser.specs.declared.RangeError.TheVariants as range_error
+use Rattle.semver_parser.specs.ParserState as fault
+use Rattle.semver_parser.specs.ParserState.{Fault}
+use Rattle.semver_parser.specs.RangeTree.{SetTree, Spells}
+use Rattle.semver_parser.specs.RewritingTable.{fits, rewritten, PlainSet}
+use Rattle.semver_parser.specs.ExactBounds.{rewritten_exactly}
+use Rattle.semver_parser.specs.OwnMeaning.{meets_tree}
+use Rattle.release_filter.specs.KeptReleases.{is_release}
+use Rattle.semver_parser_c.specs.Numbers as number
+use Rattle.semver_parser_c.specs.Numbers.{range_out_of_memory}
+
+-- the number of a fault of a version text
+abbrev pub fault_number : Fault → ℤ
+fault_number fault.UnexpectedEnd = number.unexpected_end
+fault_number (fault.UnexpectedToken t) = number.unexpected_token
+fault_number (fault.Lexer c) = number.unexpected_char
+fault_number (fault.MoreInput ts) = number.more_input
+fault_number fault.EmptyPredicate = number.empty_predicate
+fault_number fault.EmptyRange = number.empty_range
+fault_number fault.OutOfMemory = number.version_out_of_memory
+
+-- the number of a fault of a range text
+abbrev pub range_fault_number : RangeError → ℤ
+range_fault_number range_error.NotARange = number.not_a_range
+range_fault_number range_error.NumberTooLarge = number.number_too_large
+range_fault_number range_error.OutOfMemory = number.range_out_of_memory
+
+-- the number of an outcome of a version text
+abbrev pub outcome_number : Result VersionValue Fault → ℤ
+outcome_number (Ok v) = number.ok
+outcome_number (Err e) = fault_number e
+
+-- the number of what was read, or of why nothing was
+abbrev pub number_of : {T : Type 0} → Result T ℤ → ℤ
+number_of (Ok x) = number.ok
+number_of (Err n) = n
+
+-- the number is one of these
+abbrev pub IsOneOf : List ℤ → ℤ → Type 0
+IsOneOf [] n = ⊥
+IsOneOf (m ∷ ms) n = (n ≡ m) ⊎ IsOneOf ms n
+
+-- the numbers that reading a version text answers, but for `ok`
+abbrev pub version_faults : List ℤ
+version_faults = number.version_not_utf8 ∷ number.unexpected_end ∷ number.unexpected_token ∷ number.unexpected_char ∷ number.more_input ∷ number.version_out_of_memory ∷ []
+
+-- the numbers that reading a range text answers, but for `ok`
+abbrev pub range_faults : List ℤ
+range_faults = number.range_not_utf8 ∷ number.not_a_range ∷ number.number_too_large ∷ number.range_out_of_memory ∷ []
+
+-- the mode that C names by a bool
+abbrev pub mode_of : Bool → Compat
+mode_of true = Npm
+mode_of false = Cargo
+
+-- what a tree is rewritten to, with exact bounds or without
+abbrev pub set_for : Bool → Compat → SetTree → PlainSet
+set_for true mode tree = rewritten_exactly mode tree
+set_for false mode tree = rewritten mode tree
+
+-- the text is a range that fits, and its memory was found
+pub record RangeIsRead (mode : Compat) (text : Text) (answer : ℤ) : Type 0 where
+  pub utf8 : IsUtf8 text
+  pub tree : SetTree
+  pub spells : Spells tree text
+  pub fit : IsTrue (fits mode tree)
+  pub memory : answer ≢ range_out_of_memory
+
+-- whether a version meets the own meaning of a range; a pre-release does only where they are asked for
+abbrev pub is_met : Bool → Compat → SetTree → VersionValue → Bool
+is_met pre_releases mode tree v = (pre_releases || is_release v) && meets_tree mode tree v.plain
+
+-- the answer by a number
+abbrev pub meeting_number : Bool → ℤ
+meeting_number true = number.meets
+meeting_number false = number.does_not_meet

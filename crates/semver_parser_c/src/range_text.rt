@@ -1,0 +1,74 @@
+//! Range texts: the set of one, or the number of its fault, and its printed text in the room of a caller.
+
+ghost use Rattle.std.specs.Prelude.{◌≡◌, ◌↔◌, false, IsTrue, IsUtf8, IfOk, IfErr};
+ghost use Rattle.semver_parser.specs.Versions.{PlainVersion};
+ghost use Rattle.semver_parser.specs.RangeTree.{SetTree, Spells};
+ghost use Rattle.semver_parser.specs.RewritingTable.{fits};
+ghost use Rattle.semver_parser.specs.OwnMeaning.{meets_tree};
+ghost use Rattle.semver_parser.specs.Meeting.{meets_set};
+ghost use Rattle.semver_parser.specs.RangeViews.{set_of};
+ghost use Rattle.semver_parser_c.specs.Numbers as number;
+ghost use Rattle.semver_parser_c.specs.Faults.{IsOneOf, mode_of, number_of, range_fault_number, range_faults, set_for};
+ghost use Rattle.semver_parser_c.specs.Printing.{Puts};
+
+use crate::numbers;
+use semver_parser::{Compat, RangeError, RangeSet};
+use std::alloc::Global;
+
+/// The set of a range text, or the number of its fault.
+pub fn read(alloc: Global, text: &[u8], npm: bool, exact: bool) -> Result<RangeSet, i32>
+    ensures accepted { IfOk result (λ set. (tree : SetTree) × Spells tree text.now × IsTrue (fits (mode_of npm) tree)) }
+    ensures utf8 { IfOk result (λ set. IsUtf8 text.now) }
+    ensures as_rewritten { IfOk result (λ set. (tree : SetTree) → Spells tree text.now → set_of set ≡ set_for exact (mode_of npm) tree) }
+    ensures meaning { IfOk result (λ set. IsTrue exact → (tree : SetTree) (v : PlainVersion) → Spells tree text.now → meets_set v (set_of set) ≡ meets_tree (mode_of npm) tree v) }
+    ensures numbers { IfErr result (λ n. IsOneOf range_faults n) }
+    ensures not_utf8 { (number_of result ≡ number.range_not_utf8) ↔ ¬ (IsUtf8 text.now) }
+    ensures not_a_range { IsUtf8 text.now → (number_of result ≡ number.not_a_range) ↔ ((tree : SetTree) → Spells tree text.now → ⊥) }
+    ensures too_large { IsUtf8 text.now → (number_of result ≡ number.number_too_large) ↔ ((tree : SetTree) × Spells tree text.now × (fits (mode_of npm) tree ≡ false)) }
+    ensures out_of_memory { number_of result ≡ number.range_out_of_memory → (tree : SetTree) × Spells tree text.now × IsTrue (fits (mode_of npm) tree) }
+{
+    let Ok(text) = std::str::from_utf8(text) else {
+        return Err(numbers::RANGE_NOT_UTF8);
+    };
+    let read = if exact {
+        RangeSet::parse_exact(alloc, text, mode(npm))
+    } else {
+        RangeSet::parse(alloc, text, mode(npm))
+    };
+    match read {
+        Ok(set) => Ok(set),
+        Err(error) => Err(fault_number(&error)),
+    }
+}
+
+// The mode that C names by a bool.
+fn mode(npm: bool) -> Compat
+    ensures { result ≡ mode_of npm }
+{
+    if npm { Compat::Npm } else { Compat::Cargo }
+}
+
+// The number of a fault.
+fn fault_number(error: &RangeError) -> i32
+    ensures { result ≡ range_fault_number error.now }
+{
+    match error {
+        RangeError::NotARange => numbers::NOT_A_RANGE,
+        RangeError::NumberTooLarge => numbers::NUMBER_TOO_LARGE,
+        RangeError::OutOfMemory => numbers::RANGE_OUT_OF_MEMORY,
+    }
+}
+
+/// Tells the length of a text, and puts it at the front of the room where it fits.
+pub fn put(text: &str, out: &mut [u8], length: &mut usize) -> i32
+    ensures { Puts text.now out.old out.new length.new result }
+{
+    let bytes = text.as_bytes();
+    let len = bytes.len();
+    *length = len;
+    if len > out.len() {
+        return numbers::NO_ROOM;
+    }
+    out[..len].copy_from_slice(bytes);
+    numbers::OK
+}
