@@ -1,0 +1,314 @@
+/* Replays the table of cases through the C library: replay STDIN STDOUT, where these are the files of crates/replayed_cases. A row of a call that C has is
+ * answered by the library's calls, written as the table writes it, and compared with what the table expects. Ends with status 1 where a row differs.
+ *
+ * Rows of other calls (tokens, steps of a parser, joined identifiers, sentences of errors) are passed over, and so are the tokens that the table has behind
+ * a fault's name, which C isn't told. */
+#include "calls.h"
+
+#include <inttypes.h>
+#include <stdio.h>
+#include <stdlib.h>
+#include <string.h>
+
+/* ---- how the table writes an answer */
+
+static const char *version_fault(int32_t answer) {
+    switch (answer) {
+    case SEMVER_PARSER_UNEXPECTED_END: return "UnexpectedEnd";
+    case SEMVER_PARSER_UNEXPECTED_TOKEN: return "UnexpectedToken(";
+    case SEMVER_PARSER_UNEXPECTED_CHAR: return "Lexer(";
+    case SEMVER_PARSER_MORE_INPUT: return "MoreInput(";
+    default: return "another number";
+    }
+}
+
+static const char *version_word(int32_t answer) {
+    switch (answer) {
+    case SEMVER_PARSER_UNEXPECTED_END: return "unexpected-end";
+    case SEMVER_PARSER_UNEXPECTED_TOKEN: return "unexpected-token";
+    case SEMVER_PARSER_UNEXPECTED_CHAR: return "unexpected-char";
+    case SEMVER_PARSER_MORE_INPUT: return "more-input";
+    default: return "another number";
+    }
+}
+
+/* The fault of a range: by the name of its case, as a sentence, and as a word. */
+enum { BY_NAME, BY_SENTENCE, BY_WORD };
+
+static const char *range_fault(int32_t answer, int how) {
+    static const char *const not_a_range[] = {"NotARange", "not a range", "not-a-range"};
+    static const char *const number_too_large[] = {"NumberTooLarge", "number too large", "number-too-large"};
+    switch (answer) {
+    case SEMVER_PARSER_NOT_A_RANGE: return not_a_range[how];
+    case SEMVER_PARSER_NUMBER_TOO_LARGE: return number_too_large[how];
+    default: return "another number";
+    }
+}
+
+/* Whether an identifier is a number: digits without a zero in front, up to 2^64 - 1. */
+static bool is_number(const char *bytes, size_t length) {
+    for (size_t at = 0; at < length; at++) {
+        if (bytes[at] < '0' || bytes[at] > '9') {
+            return false;
+        }
+    }
+    if (length > 1 && bytes[0] == '0') {
+        return false;
+    }
+    return length < 20 || (length == 20 && memcmp(bytes, "18446744073709551615", 20) <= 0);
+}
+
+/* Writes the identifiers between the dots by their variants. */
+static void say_identifiers(text *to, const char *bytes, size_t length) {
+    const char *end = bytes + length;
+    while (length > 0) {
+        const char *dot = memchr(bytes, '.', (size_t)(end - bytes));
+        const char *stop = dot != NULL ? dot : end;
+        text_say(to, is_number(bytes, (size_t)(stop - bytes)) ? "Numeric(" : "AlphaNumeric(");
+        text_add(to, bytes, (size_t)(stop - bytes));
+        text_say(to, ")");
+        if (dot == NULL) {
+            return;
+        }
+        text_say(to, " ");
+        bytes = dot + 1;
+    }
+}
+
+static void say_version(text *to, const text *of) {
+    semver_parser_read_version version;
+    int32_t answer = read_version(of, &version);
+    if (answer != SEMVER_PARSER_OK) {
+        text_say(to, "%s", version_fault(answer));
+        return;
+    }
+    text_say(to, "%" PRIu64 " %" PRIu64 " %" PRIu64 " pre[", version.major, version.minor, version.patch);
+    say_identifiers(to, of->bytes + version.pre.offset, version.pre.length);
+    text_say(to, "] build[");
+    say_identifiers(to, of->bytes + version.build.offset, version.build.length);
+    text_say(to, "]");
+}
+
+/* Writes the printed version, and answers whether there is one. */
+static int32_t say_printed_version(text *to, const text *of) {
+    semver_parser_read_version version;
+    int32_t answer = read_version(of, &version);
+    if (answer != SEMVER_PARSER_OK) {
+        return answer;
+    }
+    text_say(to, "%" PRIu64 ".%" PRIu64 ".%" PRIu64, version.major, version.minor, version.patch);
+    if (version.pre.length > 0) {
+        text_say(to, "-");
+        text_add(to, of->bytes + version.pre.offset, version.pre.length);
+    }
+    if (version.build.length > 0) {
+        text_say(to, "+");
+        text_add(to, of->bytes + version.build.offset, version.build.length);
+    }
+    return answer;
+}
+
+/* Writes a printed comparator or bars, by fields. */
+static void say_word(text *to, const char *word, size_t length) {
+    const char *hyphen = memchr(word, '-', length);
+    const char *end = hyphen != NULL ? hyphen : word + length;
+    text_say(to, " ");
+    text_add(to, word, (size_t)(end - word));
+    if (length == 2 && word[0] == '|') {
+        return;
+    }
+    text_say(to, "[");
+    if (hyphen != NULL) {
+        say_identifiers(to, hyphen + 1, length - (size_t)(hyphen + 1 - word));
+    }
+    text_say(to, "]");
+}
+
+/* Writes the fields of a set, which its printed text has. */
+static void say_set(text *to, const text *of, bool npm) {
+    text printed = {0};
+    int32_t answer = rewrite(of, npm, false, &printed);
+    if (answer != SEMVER_PARSER_OK) {
+        text_say(to, "%s", range_fault(answer, BY_NAME));
+        return;
+    }
+    text_say(to, npm ? "Npm" : "Cargo");
+    for (size_t at = 0; at < printed.length;) {
+        const char *word = printed.bytes + at;
+        const char *blank = memchr(word, ' ', printed.length - at);
+        size_t length = blank != NULL ? (size_t)(blank - word) : printed.length - at;
+        say_word(to, word, length);
+        at += length + 1;
+    }
+    text_free(&printed);
+}
+
+static bool say_printed_set(text *to, const text *of, bool npm, int how) {
+    int32_t answer = rewrite(of, npm, false, to);
+    if (answer != SEMVER_PARSER_OK) {
+        text_say(to, "%s", range_fault(answer, how));
+    }
+    return answer == SEMVER_PARSER_OK;
+}
+
+static void say_report(text *to, const text *of) {
+    text_say(to, "version: ");
+    int32_t answer = say_printed_version(to, of);
+    if (answer != SEMVER_PARSER_OK) {
+        text_say(to, "%s", version_word(answer));
+    }
+    text_say(to, "; cargo: ");
+    bool cargo = say_printed_set(to, of, false, BY_WORD);
+    text_say(to, "; npm: ");
+    bool npm = say_printed_set(to, of, true, BY_WORD);
+    text_say(to, "; status %d", answer == SEMVER_PARSER_OK || cargo || npm ? 0 : 1);
+}
+
+/* Writes the versions of a list that meet a range. */
+static void say_met(text *to, const text *range, bool npm, bool pre_releases, const text *list) {
+    text ignored = {0};
+    int32_t fault = rewrite(range, npm, false, &ignored);
+    text_free(&ignored);
+    if (fault != SEMVER_PARSER_OK) {
+        text version = {0};
+        text_say(&version, "1.2.3");
+        bool same = meets(range, npm, pre_releases, &version) == fault;
+        text_say(to, "%s", same ? range_fault(fault, BY_SENTENCE) : "another fault");
+        text_free(&version);
+        return;
+    }
+    for (size_t at = 0; at < list->length;) {
+        const char *item = list->bytes + at;
+        const char *blank = memchr(item, ' ', list->length - at);
+        size_t length = blank != NULL ? (size_t)(blank - item) : list->length - at;
+        at += length + 1;
+        text version = {0};
+        text_add(&version, item, length);
+        int32_t answer = length > 0 ? meets(range, npm, pre_releases, &version) : SEMVER_PARSER_DOES_NOT_MEET;
+        if (answer == SEMVER_PARSER_MEETS) {
+            say_printed_version(to, &version);
+            text_say(to, " ");
+        } else if (answer != SEMVER_PARSER_DOES_NOT_MEET) {
+            text_say(to, "fault %d ", (int)answer);
+        }
+        text_free(&version);
+    }
+    text_say(to, "end");
+}
+
+/* ---- rows */
+
+/* Writes what a call of the table answers. False where C has no such call. */
+static bool say_answer(text *to, const char *call, const text *of, const text *steps) {
+    if (strcmp(call, "version") == 0) {
+        say_version(to, of);
+    } else if (strcmp(call, "version-text") == 0) {
+        int32_t answer = say_printed_version(to, of);
+        text_say(to, "%s", answer == SEMVER_PARSER_OK ? "" : version_fault(answer));
+    } else if (strcmp(call, "cargo") == 0 || strcmp(call, "npm") == 0) {
+        say_set(to, of, call[0] == 'n');
+    } else if (strcmp(call, "cargo-text") == 0 || strcmp(call, "npm-text") == 0 || strcmp(call, "from-str") == 0) {
+        say_printed_set(to, of, call[0] == 'n', BY_SENTENCE);
+    } else if (strcmp(call, "report") == 0) {
+        say_report(to, of);
+    } else if (strcmp(call, "filter-cargo") == 0 || strcmp(call, "filter-npm") == 0) {
+        say_met(to, of, strcmp(call, "filter-npm") == 0, false, steps);
+    } else if (strcmp(call, "meet-cargo") == 0 || strcmp(call, "meet-npm") == 0) {
+        say_met(to, of, strcmp(call, "meet-npm") == 0, true, steps);
+    } else {
+        return false;
+    }
+    return true;
+}
+
+/* Whether an answer is what the table expects. Of a fault whose name has tokens or a character behind it, the name decides. */
+static bool is_expected(const text *answer, const char *expected, size_t length) {
+    bool is_front = answer->length > 0 && answer->bytes[answer->length - 1] == '(';
+    return (is_front ? answer->length <= length : answer->length == length) && memcmp(answer->bytes, expected, answer->length) == 0;
+}
+
+enum outcome { PASSED, FAILED, PASSED_OVER };
+
+/* Replays the row of a call, a text and steps. */
+static enum outcome replay(const char *call, const text *of, const text *steps, const char *expected, size_t length) {
+    static const char sum[] = "sum-of-";
+    bool is_sum = strncmp(call, sum, strlen(sum)) == 0;
+    text answer = {0};
+    text_add(&answer, "", 0);
+    enum outcome outcome = PASSED_OVER;
+    bool has_call = say_answer(&answer, is_sum ? call + strlen(sum) : call, of, steps);
+    bool has_tokens = answer.length > 0 && answer.bytes[answer.length - 1] == '(';
+    if (has_call && !(is_sum && has_tokens)) {
+        text shown = {0};
+        text_add(&shown, "", 0);
+        if (is_sum) {
+            text_say_sum(&shown, &answer);
+        }
+        outcome = is_expected(is_sum ? &shown : &answer, expected, length) ? PASSED : FAILED;
+        if (outcome == FAILED) {
+            printf("%s %.200s\n  expected %.*s\n  answered %.400s\n", call, of->bytes, (int)(length < 400 ? length : 400), expected, is_sum ? shown.bytes : answer.bytes);
+        }
+        text_free(&shown);
+    }
+    text_free(&answer);
+    return outcome;
+}
+
+/* Replays the row of a line, whose fields are parted by tabs. */
+static enum outcome replay_line(char *line, const char *expected) {
+    char *fields[4] = {line, "", "", ""};
+    for (int field = 1; field < 4; field++) {
+        char *tab = strchr(fields[field - 1], '\t');
+        if (tab == NULL) {
+            break;
+        }
+        *tab = 0;
+        fields[field] = tab + 1;
+    }
+    text of = {0};
+    text steps = {0};
+    enum outcome outcome = FAILED;
+    const char *answer = expected + strlen(line) + 2;
+    if (strncmp(expected, line, strlen(line)) != 0 || !text_expand(&of, fields[2], strlen(fields[2])) || !text_expand(&steps, fields[3], strlen(fields[3]))) {
+        printf("not a row: %s\n", line);
+    } else {
+        outcome = replay(fields[1], &of, &steps, answer, strlen(answer));
+    }
+    text_free(&of);
+    text_free(&steps);
+    return outcome;
+}
+
+/* The line at a place, ended by a zero byte, and the place moved behind it. */
+static char *next_line(char **at) {
+    char *line = *at;
+    char *end = strchr(line, '\n');
+    if (end == NULL) {
+        *at = line + strlen(line);
+    } else {
+        *end = 0;
+        *at = end + 1;
+    }
+    return line;
+}
+
+int main(int count, char **arguments) {
+    if (count != 3) {
+        fprintf(stderr, "replay STDIN STDOUT\n");
+        return 2;
+    }
+    text rows = text_of_file(arguments[1]);
+    text answers = text_of_file(arguments[2]);
+    char *row = rows.bytes;
+    char *answer = answers.bytes;
+    int totals[3] = {0};
+    while (*row != 0 && *answer != 0) {
+        char *line = next_line(&row);
+        totals[replay_line(line, next_line(&answer))]++;
+    }
+    bool is_whole = *row == 0 && *answer == 0;
+    printf("rows: %d passed, %d failed, %d passed over\n", totals[PASSED], totals[FAILED], totals[PASSED_OVER]);
+    text_free(&rows);
+    text_free(&answers);
+    return is_whole && totals[FAILED] == 0 && totals[PASSED] > 4000 ? 0 : 1;
+}
