@@ -45,7 +45,8 @@ static int check(const char *line, size_t length, unsigned long number, bool npm
         return 0;
     }
     if (answer == SEMVER_PARSER_DOES_NOT_MEET) {
-        printf("%.*s\n", (int)length, line);
+        fwrite(line, 1, length, stdout);
+        putchar('\n');
         return 1;
     }
     fprintf(stderr, "line %lu: %s\n", number, fault(answer));

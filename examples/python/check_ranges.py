@@ -59,7 +59,7 @@ def main(arguments):
     npm = arguments[2:] != ["cargo"]
     status = 0
     for number, line in enumerate(sys.stdin.buffer, 1):
-        status = max(status, check(library, line.removesuffix(b"\n"), number, npm))
+        status = max(status, check(library, line.rstrip(b"\n"), number, npm))
     return status
 
 
