@@ -12,22 +12,22 @@ typedef struct {
 
 static _Alignas(16) unsigned char no_block[16];
 
-static answer told(void *block) {
-    answer told = {block != NULL, block != NULL ? block : no_block};
-    return told;
+static answer answer_of(void *block) {
+    answer made = {block != NULL, block != NULL ? block : no_block};
+    return made;
 }
 
 /* A block of `size` bytes. One of no bytes is asked for as one byte, so that null always means a refusal. */
 answer rattle_alloc(size_t size, size_t align) {
     (void)align;
-    return told(malloc(size != 0 ? size : 1));
+    return answer_of(malloc(size != 0 ? size : 1));
 }
 
 /* The block made `size` bytes long, with its first `kept` bytes as they were. Where it is refused, the block stays. */
 answer rattle_realloc(void *block, size_t kept, size_t size, size_t align) {
     (void)kept;
     (void)align;
-    return told(realloc(block, size != 0 ? size : 1));
+    return answer_of(realloc(block, size != 0 ? size : 1));
 }
 
 /* Gives a block back. */

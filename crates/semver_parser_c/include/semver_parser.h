@@ -15,8 +15,8 @@
  * MEMORY. Nothing is kept between calls, and nothing is left for the caller to free: what a call takes from `malloc` it gives back to `free`. So
  * calls may be made from several threads at once, where `malloc` and `free` may. c/heap.c joins the library to these two, and is linked with it.
  *
- * TIME. Each call reads its texts anew, in time that grows with their lengths alone. `semver_parser_meets` reads both. To compare one range with
- * many versions is that many readings of the range.
+ * TIME. Each call reads its texts anew, in time linear in their lengths; `semver_parser_meets` reads both. So to compare one range with many versions
+ * is to read it as many times.
  *
  * Link: cc program.c c/heap.c out/libsemver_parser_c.a
  */
