@@ -1,2 +1,3 @@
+mod PartBytes
 mod Places
 mod Steps

@@ -1,9 +1,10 @@
 -- Where a version text has its pre-release and its build.
-use Rattle.std.specs.Prelude.{ℕ, suc, ◌+◌, [], ◌∷◌, length, map}
+use Rattle.std.specs.Prelude.{ℕ, suc, ◌+◌, List, [], ◌∷◌, length, take, drop, map}
 use Rattle.std.specs.List.{join_with_byte}
 use Rattle.std.specs.Fmt.{decimal}
 use Rattle.semver_parser.specs.Texts.{Text}
-use Rattle.semver_parser.specs.Versions.{VersionValue, numbers}
+use Rattle.semver_parser.specs.Versions.{IdentifierValue, VersionValue, numbers}
+use Rattle.semver_parser.specs.PrintedText.{identifier_text}
 use Rattle.semver_parser.specs.VersionGrammar.{SpellsVersion}
 use Rattle.semver_parser_c.specs.declared.Part.{Part}
 use Rattle.semver_parser_c.specs.declared.ReadVersion.{ReadVersion}
@@ -30,3 +31,11 @@ told {v} w = record {
   pre = behind_mark (numbers_end w) w.pre_text;
   build = behind_mark (numbers_end w + length w.pre_text) w.build_text;
 }
+
+-- the bytes of a text that a part names
+abbrev pub bytes_at : Part → Text → Text
+bytes_at part text = take part.length (drop part.offset text)
+
+-- the texts of identifiers, joined by dots
+abbrev pub dotted : List IdentifierValue → Text
+dotted ids = join_with_byte 46 (map identifier_text ids)

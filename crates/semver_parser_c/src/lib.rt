@@ -23,7 +23,7 @@ ghost use Rattle.semver_parser.specs.VersionViews.{version_value};
 ghost use Rattle.release_filter.specs.KeptReleases.{is_release};
 ghost use Rattle.semver_parser_c.specs.Numbers as number;
 ghost use Rattle.semver_parser_c.specs.Faults.{IsOneOf, RangeIsRead, is_met, meeting_number, mode_of, outcome_number, range_faults, set_for, version_faults};
-ghost use Rattle.semver_parser_c.specs.Places.{told};
+ghost use Rattle.semver_parser_c.specs.Places.{bytes_at, dotted, told};
 ghost use Rattle.semver_parser_c.specs.Printing.{Puts};
 
 use release_filter::{release_meets, version_meets};
@@ -69,8 +69,9 @@ pub struct ReadVersion {
 #[unsafe(no_mangle)]
 pub extern "C" fn semver_parser_version(alloc: Global, text: &[u8], out: &mut ReadVersion) -> i32
     ensures numbers { IsOneOf (number.ok ∷ version_faults) result }
-    // What is read is the version that the text spells, and where it has its parts.
+    // What is read is the version that the text spells, and where it has its parts: there stand the identifiers, joined by dots.
     ensures version { result ≡ number.ok → (v : VersionValue) × (w : SpellsVersion v text.now) × (out.new ≡ told w) }
+    ensures parts { result ≡ number.ok → (v : VersionValue) → SpellsVersion v text.now → (bytes_at out.new.pre text.now ≡ dotted v.plain.pre) × (bytes_at out.new.build text.now ≡ dotted v.build) }
     ensures accepted { (v : VersionValue) → IsUtf8 text.now → SpellsVersion v text.now → (result ≡ number.ok) ⊎ (result ≡ number.version_out_of_memory) }
     ensures plain { (v : VersionValue) → IsUtf8 text.now → SpellsVersion v text.now → v.plain.pre ≡ [] → v.build ≡ [] → result ≡ number.ok }
 
