@@ -89,7 +89,7 @@ fn of_versions(alloc: Global) -> [(&'static str, Ending); 13] {
 }
 
 /// How each call on ranges and above them ends.
-fn of_ranges(alloc: Global) -> [(&'static str, Ending); 13] {
+fn of_ranges(alloc: Global) -> [(&'static str, Ending); 15] {
     [
         (
             "one_simple",
@@ -126,6 +126,8 @@ fn of_ranges(alloc: Global) -> [(&'static str, Ending); 13] {
         ("refused_range_texts", ranges::refused_texts(alloc)),
         ("range_set_clone", ranges::clone(alloc)),
         ("filter", filters::filter(alloc)),
+        ("filter_of_all", filters::filter_of_all(alloc)),
+        ("filter_of_lines", filters::filter_of_lines(alloc)),
         ("refused_filter_texts", filters::refused_texts(alloc)),
         ("report", reports::report(alloc)),
         ("report_of_faults", reports::report_of_faults(alloc)),

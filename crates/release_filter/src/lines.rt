@@ -47,7 +47,8 @@ pub enum FilterError {
 /// their end, in their order and with repeats. Any other line is passed over, also one that is no UTF-8. Of `^1.2` in Cargo mode,
 /// releases alone, and the input `"1.2.0\r\nx\n1.3.0-rc\n2.0.0\n1.9.0"` it writes `"1.2.0\r\n1.9.0"`, and answers true.
 ///
-/// It holds one line at a time. `out` isn't flushed.
+/// It holds one line at a time, and of a line with more behind its version the tokens of that, some 24 bytes for each byte at
+/// most. `out` isn't flushed.
 ///
 /// # Errors
 ///
