@@ -89,7 +89,7 @@ fn of_versions(alloc: Global) -> [(&'static str, Ending); 13] {
 }
 
 /// How each call on ranges and above them ends.
-fn of_ranges(alloc: Global) -> [(&'static str, Ending); 15] {
+fn of_ranges(alloc: Global) -> [(&'static str, Ending); 17] {
     [
         (
             "one_simple",
@@ -123,6 +123,24 @@ fn of_ranges(alloc: Global) -> [(&'static str, Ending); 15] {
         ),
         ("range_set_in_npm_mode", ranges::parse(alloc, Compat::Npm)),
         ("range_set_from_str", ranges::from_str(alloc)),
+        (
+            "exact_simple",
+            ranges::parse_exact_text(
+                alloc,
+                "^1.2.3-beta.4",
+                ">=1.2.3-beta.4 <2.0.0-0",
+                Compat::Npm,
+            ),
+        ),
+        (
+            "exact_range_set",
+            ranges::parse_exact_text(
+                alloc,
+                "1.2 - 2 || <2 ~3.4",
+                ">=1.2.0 <3.0.0-0 || <2.0.0 >=3.4.0 <3.5.0-0",
+                Compat::Cargo,
+            ),
+        ),
         ("refused_range_texts", ranges::refused_texts(alloc)),
         ("range_set_clone", ranges::clone(alloc)),
         ("filter", filters::filter(alloc)),

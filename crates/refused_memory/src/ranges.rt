@@ -17,7 +17,16 @@ pub fn parse(alloc: Global, compat: Compat) -> Ending {
 
 /// The set of a text, in a mode, which prints as another.
 pub fn parse_text(alloc: Global, text: &str, printed: &str, compat: Compat) -> Ending {
-    match RangeSet::parse(alloc, text, compat) {
+    ending(RangeSet::parse(alloc, text, compat), printed, compat)
+}
+
+/// As `parse_text`, with exact bounds.
+pub fn parse_exact_text(alloc: Global, text: &str, printed: &str, compat: Compat) -> Ending {
+    ending(RangeSet::parse_exact(alloc, text, compat), printed, compat)
+}
+
+fn ending(read: Result<RangeSet, RangeError>, printed: &str, compat: Compat) -> Ending {
+    match read {
         Ok(set) => Ending::full_if(set.compat == compat && prints_as(&set, printed)),
         Err(RangeError::OutOfMemory) => Ending::Refused,
         Err(_) => Ending::Wrong,
