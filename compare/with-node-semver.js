@@ -1,7 +1,8 @@
 // Compares what range texts mean here with what they mean by node-semver: `node with-node-semver.js PROGRAM COUNT SEED`, where
 // PROGRAM is the built `replayed_cases`. It makes COUNT pairs of a range text and a version, in npm mode, pre-releases included on both
 // sides. Where node-semver is known to mean something else, its answer is undone: each simple is turned into one that node-semver reads
-// as it is meant here. It counts how often each departure changed an answer, and prints the first other difference.
+// as it is meant here. It counts how often each departure changed an answer, and prints the first other difference. It also lets node-semver
+// read the printed set with exact bounds of each text, which has to give the same comparators.
 'use strict'
 
 const semver = require('semver')
@@ -113,12 +114,24 @@ function expected (text, ranges, tested) {
   return { answer, departures: new Set(departures) }
 }
 
-// The versions of each list that are meant here.
-function answers (program, cases) {
-  const lines = cases.map(({ text, versions }) => `-\tmean-npm\t${text}\t${versions.join(' ')}\n`)
-  const ran = spawnSync(program, { input: lines.join(''), encoding: 'utf8', maxBuffer: 1 << 30 })
+// What the program answers to each line.
+function answers (program, lines) {
+  const input = lines.map((line) => `-\t${line}\n`).join('')
+  const ran = spawnSync(program, { input, encoding: 'utf8', maxBuffer: 1 << 30 })
   if (ran.status !== 0) throw new Error(`${program} ended with ${ran.status}: ${ran.stderr}`)
-  return ran.stdout.trimEnd().split('\n').map((line) => new Set(line.replace(/^-: /, '').split(' ')))
+  return ran.stdout.trimEnd().split('\n').map((line) => line.replace(/^-: /, ''))
+}
+
+// Whether node-semver reads a printed set as the same comparators. It writes `=1.2.3` as `1.2.3`, and repeats once.
+function readsBack (printed) {
+  const written = printed.split(' || ').map((range) => [...new Set(range.split(' ').map((word) => word.replace(/^=/, '')))])
+  const read = new semver.Range(printed, INCLUDED).set.map((comparators) => comparators.map((comparator) => comparator.value))
+  return JSON.stringify(read) === JSON.stringify(written)
+}
+
+function differ (what) {
+  console.log(`differ: ${what}`)
+  process.exit(1)
 }
 
 function main ([program, count, seed]) {
@@ -128,15 +141,17 @@ function main ([program, count, seed]) {
     const text = ranges.map((r) => r.text).join(random.of(['||', ' || ']))
     return { ranges, text, versions: Array.from({ length: VERSIONS }, () => version(random, ranges)) }
   })
-  const kept = answers(program, cases)
+  const kept = answers(program, cases.map(({ text, versions }) => `mean-npm\t${text}\t${versions.join(' ')}`)).map((line) => new Set(line.split(' ')))
+  const printed = answers(program, cases.map(({ text }) => `npm-exact\t${text}`))
+  const unread = printed.find((set) => !readsBack(set))
+  if (unread !== undefined) differ(`node-semver reads ${unread} as another set`)
   const occurred = new Map()
   let met = 0
   cases.forEach(({ ranges, text, versions }, at) => {
     for (const tested of versions) {
       const { answer, departures } = expected(text, ranges, new semver.SemVer(tested))
       if (answer !== kept[at].has(tested)) {
-        console.log(`differ: ${JSON.stringify(text)} and ${tested}: wanted here ${answer}, answered here ${!answer}`)
-        process.exit(1)
+        differ(`${JSON.stringify(text)} and ${tested}: wanted here ${answer}, answered here ${!answer}`)
       }
       met += answer ? 1 : 0
       for (const departure of departures) occurred.set(departure, (occurred.get(departure) || 0) + 1)
