@@ -1,8 +1,9 @@
-//! Tests of the library that need more than data: the derived orders, values made by hand, and writers that refuse.
+//! Tests of the library that need more than data: the derived orders, values made by hand, and readers and writers that fail.
 //! It writes what it found. What it has to be stands in the file beside this crate: it comes from the written rules and
 //! from the declarations of the Rust crate.
 #![tactic(auto)]
 
+mod lines;
 mod made;
 mod orders;
 mod printing;
@@ -19,5 +20,6 @@ fn main(rt: HostRuntime) -> io::Result<()> {
     printing::write_versions(&rt, rt.alloc())?;
     printing::write_sets(&rt, rt.alloc())?;
     printing::write_errors(&rt, rt.alloc())?;
-    reports::write_report(&rt, rt.alloc())
+    reports::write_report(&rt, rt.alloc())?;
+    lines::write_lines(&rt, rt.alloc())
 }

@@ -1,0 +1,98 @@
+//! The filter of lines at a reader that fails, and at a writer that refuses.
+use super::writers::{Limited, Refusal};
+use release_filter::{FilterError, PreReleases, filter_lines};
+use semver_parser::Compat;
+use std::alloc::Global;
+use std::io;
+use std::io::{BufReader, ErrorKind, Read};
+
+/// What is read. Of `^1.2` in Cargo mode the lines at 0, 18 and 30 are kept.
+const INPUT: &str = "1.2.0\r\nx\n1.3.0-rc\n1.9.0\n2.0.0\n1.4.0";
+
+/// What is written of it.
+const OUTPUT: &str = "1.2.0\r\n1.9.0\n1.4.0";
+
+/// Gives its bytes, so many at a call, and then fails.
+#[derive(Drop)]
+struct Broken<'b> {
+    bytes: &'b [u8],
+    most: usize,
+}
+
+impl Read for Broken<'_> {
+    fn read(&mut self, buf: &mut [u8]) -> io::Result<usize> {
+        let count = buf.len().min(self.most).min(self.bytes.len());
+        if count == 0 && !buf.is_empty() {
+            return Err(io::Error::from(ErrorKind::ConnectionReset));
+        }
+        buf[..count].copy_from_slice(&self.bytes[..count]);
+        self.bytes = &self.bytes[count..];
+        Ok(count)
+    }
+}
+
+/// Writes at which faults the filter doesn't end as it has to, and how many there were.
+pub fn write_lines(rt: &impl Print, alloc: Global) -> io::Result<()> {
+    let mut faults = 0u32;
+    for most in [1, 5, usize::MAX] {
+        for place in 0..=INPUT.len() {
+            if !ends_at_a_reader(alloc, place, most)? {
+                println!(rt; "lines: wrong where reading fails after {place} bytes")?;
+            }
+            faults = faults.saturating_add(1);
+        }
+        for refusal in [Refusal::Fail, Refusal::Interrupt, Refusal::TakeNone] {
+            for left in 0..=OUTPUT.len() {
+                if !ends_at_a_writer(alloc, left, most, refusal) {
+                    println!(rt; "lines: wrong where writing fails after {left} bytes")?;
+                }
+                faults = faults.saturating_add(1);
+            }
+        }
+    }
+    println!(rt; "lines: {faults} readers and writers")
+}
+
+/// Whether the fault of the reader is told, and of the lines that ended before it exactly the kept ones were written.
+fn ends_at_a_reader(alloc: Global, place: usize, most: usize) -> io::Result<bool> {
+    let bytes = INPUT.as_bytes().get(..place).unwrap_or_default();
+    let mut input = BufReader::with_capacity(alloc, 4, Broken { bytes, most })?;
+    let mut out = Vec::new(alloc);
+    let ran = filter_lines(
+        alloc,
+        "^1.2",
+        Compat::Cargo,
+        PreReleases::Excluded,
+        &mut input,
+        &mut out,
+    );
+    let written = match place {
+        0..=6 => "",
+        7..=23 => "1.2.0\r\n",
+        _ => "1.2.0\r\n1.9.0\n",
+    };
+    Ok(
+        out.as_slice() == written.as_bytes()
+            && matches!(ran, Err(FilterError::Read(error)) if error.kind() == ErrorKind::ConnectionReset),
+    )
+}
+
+/// Whether the fault of the writer is told and nothing written after it, or all is written and it is told that there was a line.
+fn ends_at_a_writer(alloc: Global, left: usize, most: usize, refusal: Refusal) -> bool {
+    let mut out = Limited::new(alloc, left, most, refusal);
+    let mut input = INPUT.as_bytes();
+    let ran = filter_lines(
+        alloc,
+        "^1.2",
+        Compat::Cargo,
+        PreReleases::Excluded,
+        &mut input,
+        &mut out,
+    );
+    let is_told = match ran {
+        Ok(some) => some && left == OUTPUT.len(),
+        Err(FilterError::Write(_)) => left < OUTPUT.len(),
+        Err(_) => false,
+    };
+    is_told && out.late_calls == 0 && Some(out.taken.as_slice()) == OUTPUT.as_bytes().get(..left)
+}
