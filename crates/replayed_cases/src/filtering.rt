@@ -47,10 +47,7 @@ fn versions_of(alloc: Global, list: &str) -> io::Result<Option<Vec<Version>>> {
     Ok(Some(versions))
 }
 
-fn write_answer<W: Write>(
-    kept: &Result<Vec<&Version>, RangeError>,
-    out: &mut W,
-) -> io::Result<()> {
+fn write_answer<W: Write>(kept: &Result<Vec<&Version>, RangeError>, out: &mut W) -> io::Result<()> {
     match kept {
         Ok(kept) => {
             for version in kept.iter() {
