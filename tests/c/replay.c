@@ -143,8 +143,8 @@ static void say_set(text *to, const text *of, bool npm) {
     text_free(&printed);
 }
 
-static bool say_printed_set(text *to, const text *of, bool npm, int how) {
-    int32_t answer = rewrite(of, npm, false, to);
+static bool say_printed_set(text *to, const text *of, bool npm, bool exact, int how) {
+    int32_t answer = rewrite(of, npm, exact, to);
     if (answer != SEMVER_PARSER_OK) {
         text_say(to, "%s", range_fault(answer, how));
     }
@@ -158,9 +158,9 @@ static void say_report(text *to, const text *of) {
         text_say(to, "%s", version_word(answer));
     }
     text_say(to, "; cargo: ");
-    bool cargo = say_printed_set(to, of, false, BY_WORD);
+    bool cargo = say_printed_set(to, of, false, false, BY_WORD);
     text_say(to, "; npm: ");
-    bool npm = say_printed_set(to, of, true, BY_WORD);
+    bool npm = say_printed_set(to, of, true, false, BY_WORD);
     text_say(to, "; status %d", answer == SEMVER_PARSER_OK || cargo || npm ? 0 : 1);
 }
 
@@ -208,13 +208,17 @@ static bool say_answer(text *to, const char *call, const text *of, const text *s
     } else if (strcmp(call, "cargo") == 0 || strcmp(call, "npm") == 0) {
         say_set(to, of, call[0] == 'n');
     } else if (strcmp(call, "cargo-text") == 0 || strcmp(call, "npm-text") == 0 || strcmp(call, "from-str") == 0) {
-        say_printed_set(to, of, call[0] == 'n', BY_SENTENCE);
+        say_printed_set(to, of, call[0] == 'n', false, BY_SENTENCE);
+    } else if (strcmp(call, "cargo-exact") == 0 || strcmp(call, "npm-exact") == 0) {
+        say_printed_set(to, of, call[0] == 'n', true, BY_SENTENCE);
     } else if (strcmp(call, "report") == 0) {
         say_report(to, of);
     } else if (strcmp(call, "filter-cargo") == 0 || strcmp(call, "filter-npm") == 0) {
         say_met(to, of, strcmp(call, "filter-npm") == 0, false, steps);
     } else if (strcmp(call, "meet-cargo") == 0 || strcmp(call, "meet-npm") == 0) {
         say_met(to, of, strcmp(call, "meet-npm") == 0, true, steps);
+    } else if (strcmp(call, "mean-cargo") == 0 || strcmp(call, "mean-npm") == 0) {
+        say_met(to, of, strcmp(call, "mean-npm") == 0, true, steps);
     } else {
         return false;
     }
@@ -310,5 +314,5 @@ int main(int count, char **arguments) {
     printf("rows: %d passed, %d failed, %d passed over\n", totals[PASSED], totals[FAILED], totals[PASSED_OVER]);
     text_free(&rows);
     text_free(&answers);
-    return is_whole && totals[FAILED] == 0 && totals[PASSED] > 4000 ? 0 : 1;
+    return is_whole && totals[FAILED] == 0 && totals[PASSED] > 4500 ? 0 : 1;
 }
