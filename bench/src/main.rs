@@ -1,7 +1,8 @@
 //! Measures this repository's calls.
 //!
-//! `bench` times them beside those of the Rust crates, on the texts of the folder `texts`; `bench growth` counts the
-//! instructions of calls on texts of growing size; `bench texts` makes the made files of `texts` anew.
+//! `bench` times them beside those of the Rust crates, on the texts of the folder `texts`, and whole runs of the program
+//! `release-filter` beside those of `filter-by-semver`; `bench growth` counts the instructions of calls on texts of growing
+//! size; `bench texts` makes the made files of `texts` anew.
 
 mod agreement;
 mod calls;
@@ -9,6 +10,7 @@ mod cells;
 mod files;
 mod generation;
 mod growth;
+mod programs;
 mod random;
 mod speed;
 mod texts;
@@ -20,7 +22,7 @@ fn main() -> ExitCode {
     let arguments: Vec<String> = std::env::args().skip(1).collect();
     let arguments: Vec<&str> = arguments.iter().map(String::as_str).collect();
     let outcome = match arguments.as_slice() {
-        [] => speed::print_table(),
+        [] => print_times(),
         ["growth"] => growth::print_table(),
         ["run", name, count, calls] => growth::run(name, count, calls),
         ["texts"] => generation::write(),
@@ -33,4 +35,11 @@ fn main() -> ExitCode {
             ExitCode::FAILURE
         }
     }
+}
+
+/// Prints both tables of times, parted by an empty line.
+fn print_times() -> Result<(), String> {
+    speed::print_table()?;
+    println!();
+    programs::print_table()
 }
