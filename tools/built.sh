@@ -17,9 +17,10 @@ is_built() {
 }
 
 # build CRATE ARGUMENT: proves and builds the program of a crate, unless it is built, and runs it once on an argument, of which it has
-# to make status 0. All that is said on the way goes to standard error where it fails, and else nowhere.
+# to make status 0. It says so first, on standard error; what is said on the way goes there where it fails, and else nowhere.
 build() {
     ! is_built "$1" || return 0
+    echo "proving and building $1 first, which takes some minutes" >&2
     begun=$(mktemp) || return
     built=0
     notes=$(cd "$top/crates/$1" && rt run -- "$2" 2>&1 < /dev/null) || built=$?
