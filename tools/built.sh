@@ -20,7 +20,7 @@ is_built() {
 # to make status 0. It says so first, on standard error; what is said on the way goes there where it fails, and else nowhere.
 build() {
     ! is_built "$1" || return 0
-    echo "proving and building $1 first, which takes some minutes" >&2
+    echo "proving and building $1 first, which can take some minutes" >&2
     begun=$(mktemp) || return
     built=0
     notes=$(cd "$top/crates/$1" && rt run -- "$2" 2>&1 < /dev/null) || built=$?
