@@ -1,11 +1,13 @@
 -- Ranges of a text, one after the other.
-use Rattle.std.proofs.Common.{◌≡◌, ℕ, ◌<◌, ◌+◌, Bool, true, false, ◌&&◌, ◌==◌, List, [], ◌∷◌, ◌++◌, length, Option, Some, None, refl, sym, ap, ◌∙◌, arith, inl, inr, append_assoc, append-nil}
+use Rattle.std.proofs.Common.{◌≡◌, ℕ, ◌<◌, ◌+◌, Bool, true, false, ◌&&◌, ◌==◌, List, [], ◌∷◌, ◌++◌, length, Option, Some, None, Result, Ok, Err, is_err, IfOk, refl, sym, ap, ◌∙◌, arith, inl, inr, append_assoc, append-nil}
 use Rattle.std.specs.Prelude.{map}
 use Rattle.std.specs.List.{list_all}
 use Rattle.std.proofs.lemmas.Bool.{cases_Bool, both_ways, and_parts, or_cases, eqb-true, false_from_ne_true}
 use Rattle.std.proofs.lemmas.List.{length-append}
 use Rattle.std.proofs.lemmas.List.Folds.{list_all-append}
 use Rattle.semver_ranges.specs.declared.grammar.RangeText.{RangeText}
+use Rattle.semver_ranges.specs.declared.range_set.Others.{Others}
+use Rattle.semver_ranges.specs.declared.range_set.RangeBuilder.{RangeBuilder}
 use Rattle.semver_ranges.specs.declared.rewriting.RangeBounds.{RangeBounds}
 use Rattle.semver_ranges.specs.declared.rewriting.Size.{Size}
 use Rattle.semver_ranges.specs.declared.range.Compat.{Compat}
@@ -16,13 +18,20 @@ use Rattle.semver_texts.specs.Versions.{PlainVersion}
 use Rattle.semver_ranges.specs.RewritingTable.{PlainComparator, PlainRange, written_simple, written_set, fits}
 use Rattle.semver_ranges.specs.Reading.{ends_range, simple, all_simples, range, read, read_rest, read_at, range_behind, range_at, behind_range, more_ranges, behind_bars, behind_blanks, onto}
 use Rattle.semver_ranges.specs.CursorViews.{Has, AreFirst, AreRead, IsMadeOf, GoesOn, IsFrontOf, simple_fits, range_fits}
-use Rattle.semver_ranges.specs.BoundsViews.{IsSize, AreRows, AreBounds, HasRows, range_of_simples, range_for}
+use Rattle.semver_ranges.specs.BoundsViews.{IsSize, AreRows, AreBounds, HasRows, IsRangeOf, Fits, RestFits, HasSurveyed, HasBuilt, range_of_simples, range_for}
+use Rattle.semver_ranges.specs.PartialViews.{written}
+use Rattle.semver_ranges.specs.RangeViews.{range_of}
+use Rattle.semver_ranges.proofs.Gathered.{onto_all, onto_all-none, onto_all-some}
 use Rattle.semver_ranges.proofs.ReadingSteps.{read_step, simples_stop, shorter_range}
 use Rattle.semver_ranges.proofs.KeptLists.{mapped_push}
+use Rattle.semver_ranges.proofs.SizedSimples.{and_after}
 use Rattle.semver_ranges.proofs.RangeFronts.{range_begins, behind_end}
 
-none_some : {A : Type 0} (x : A) → None ≡ Some x → ⊥
+pub none_some : {A : Type 0} (x : A) → None ≡ Some x → ⊥
 none_some x e = cc
+
+pub same_some : {A : Type 0} (x y : A) → Some x ≡ Some y → x ≡ y
+same_some x y e = cc
 
 -- a text that is one simple
 blank_none : (b : ℕ) (t : Text) → is_blank b ≡ true → simple (b ∷ t) ≡ None
@@ -124,18 +133,6 @@ rest_shorter t u v x bars e = omega (arith, bars_longer t v bars, shorter_range 
 pub rest_no_first : (t v : Text) → behind_bars t ≡ Some v → range_behind t ≡ None → read_rest t ≡ None
 rest_no_first t v bars e = rest_bars t v bars ∙ no_first v (sym (ap range_at bars) ∙ e)
 
--- a tree that begins with a range
-pub onto_some : (x : tree.RangeTree) (o : Option tree.SetTree) (whole : tree.SetTree) → onto x o ≡ Some whole → (left : tree.SetTree) × (o ≡ Some left) × (whole ≡ x ∷ left)
-onto_some x None whole e = absurd (none_some whole e)
-onto_some x (Some left) whole e = (left, refl, cc)
-
-pub rest_goes_on : (mode : Compat) (t v : Text) (left : tree.SetTree) (r : RangeText) (z : Size) → read_rest t ≡ Some left → behind_bars t ≡ Some v → IsFrontOf (range_behind t) (Some r)
-    → ((ss : List tree.Simple) (end : Text) → Has r ss end → IsSize mode ss end z) → ends_range z.rest.now ≡ true
-rest_goes_on mode t v left r z is bars front sized = elim (cases_Bool (ends_range z.rest.now)) [
-  | inl y ↦ y
-  | inr n ↦ absurd (none_some left (sym (rest_no_first t v bars (faulty mode (range_behind t) r z front sized n)) ∙ is))
-]
-
 -- one range more, counted and tested
 pub counted : (mode : Compat) (done : tree.SetTree) (x : tree.RangeTree) (n : ℕ) → n ≡ length done → n + 1 ≡ length (done ++ x ∷ [])
 counted mode done x n e = let all : length (done ++ x ∷ []) ≡ length done + 1 = length-append done (x ∷ []) in omega (arith, all, e)
@@ -152,27 +149,9 @@ pub rest_empty : (t : Text) → length t ≡ 0 → read_rest t ≡ Some []
 rest_empty [] e = refl
 rest_empty (b ∷ t) e = absurd (omega arith)
 
--- the next range of those that are there and fit
-pub next_built : (mode : Compat) (t v : Text) (left : tree.SetTree) (r : RangeText) (z : Size) → read_rest t ≡ Some left → fits mode left ≡ true → behind_bars t ≡ Some v → IsFrontOf (range_behind t) (Some r)
-    → ((ss : List tree.Simple) (end : Text) → Has r ss end → IsSize mode ss end z) → (all_simples r.others.now ≡ None → ends_range z.rest.now ≡ false)
-    → (x : tree.RangeTree) × (ss : List tree.Simple) × (end : Text) × (others : tree.SetTree) × Has r ss end × IsMadeOf x ss × (list_all (simple_fits mode) ss ≡ true)
-    × (left ≡ x ∷ others) × (read_rest z.rest.now ≡ Some others) × (fits mode others ≡ true) × (length z.rest.now < length t)
-next_built mode t v left r z is fit bars front sized fault =
-    let ends = rest_goes_on mode t v left r z is bars front sized in
-    let found = measured mode (range_behind t) r z front sized fault ends in
-    let split = onto_some found.0 (read_rest z.rest.now) left (sym (rest_first t z.rest.now v found.0 bars found.3) ∙ is) in
-    let parts = and_parts (range_fits mode found.0) (fits mode split.0) (sym (ap (fits mode) split.2) ∙ fit) in
-    (found.0, found.1, found.2, split.0, found.4, found.5, sym (found.5 mode).0 ∙ parts.0, split.2, split.1, parts.1, rest_shorter t z.rest.now v found.0 bars found.3)
-
 -- a range of its comparators, and one more that was built
 pub range_made : (write : PlainVersion → PlainVersion) (mode : Compat) (x : tree.RangeTree) (ss : List tree.Simple) → IsMadeOf x ss → range_of_simples write mode ss ≡ range_for write mode x
 range_made write mode x ss made = ap (λ (l : List PlainComparator). record { comparators = l; compat = mode }) (sym ((made mode).1 write))
-
-pub built_more : {B X Y : Type 0} (view : B → Y) (f : X → Y) (first : List Y) (now new : List B) (b : B) (done : List X) (x : X)
-    → map view now ≡ first ++ map f done → new ≡ now ++ b ∷ [] → view b ≡ f x → map view new ≡ first ++ map f (done ++ x ∷ [])
-built_more view f first now new b done x so_far step is =
-    ap (map view) step ∙ mapped_push view now b ∙ ap (λ l. l ++ view b ∷ []) so_far ∙ append_assoc first (map f done) (view b ∷ [])
-    ∙ ap (λ y. first ++ (map f done ++ y ∷ [])) is ∙ ap (λ l. first ++ l) (sym (mapped_push f done x))
 
 -- a text whose first range was read and measured, by what is left behind that
 pub none_left : (mode : Compat) (t : Text) (r : RangeText) (z : Size) → IsFrontOf (range t) (Some r)
@@ -222,5 +201,70 @@ pub sized : (mode : Compat) (r : RangeText) (b : RangeBounds) (z : Size) → ((f
     → ((ss : List tree.Simple) (end : Text) → Has r ss end → IsSize mode ss end z) × (all_simples r.others.now ≡ None → ends_range z.rest.now ≡ false)
 sized mode r b z rows others size fault = (λ ss end has. size ss end (has_rows mode r b ss end rows others has), λ none. fault (ap all_simples others ∙ none))
 
-pub same_some : {A : Type 0} (x y : A) → Some x ≡ Some y → x ≡ y
-same_some x y e = cc
+-- the next range that is taken
+pub next_taken : (mode : Compat) (t v : Text) (r : RangeText) (b : RangeBounds) (z : Size) → IsFrontOf (range_behind t) (Some r) → ((front : List tree.Simple) → AreFirst front r.first r.second → AreRows mode front b.first b.second)
+    → b.others.now ≡ r.others.now → ((ss : List tree.Simple) (end : Text) → HasRows mode b ss end → IsSize mode ss end z) → (all_simples b.others.now ≡ None → ends_range z.rest.now ≡ false)
+    → behind_bars t ≡ Some v → ends_range z.rest.now ≡ true
+    → (x : tree.RangeTree) × IsRangeOf mode x b z × (read_rest t ≡ onto x (read_rest z.rest.now)) × (length z.rest.now < length t)
+next_taken mode t v r b z front rows others size fault bars ends =
+    let all = sized mode r b z rows others size fault in
+    let found = measured mode (range_behind t) r z front all.0 all.1 ends in
+    (found.0, (found.1, found.2, has_rows mode r b found.1 found.2 rows others found.4, found.5, found.6), rest_first t z.rest.now v found.0 bars found.3, rest_shorter t z.rest.now v found.0 bars found.3)
+
+pub none_taken : (mode : Compat) (t v : Text) (r : RangeText) (b : RangeBounds) (z : Size) (whole : Option tree.SetTree) (done : tree.SetTree) → IsFrontOf (range_behind t) (Some r)
+    → ((front : List tree.Simple) → AreFirst front r.first r.second → AreRows mode front b.first b.second)
+    → b.others.now ≡ r.others.now → ((ss : List tree.Simple) (end : Text) → HasRows mode b ss end → IsSize mode ss end z) → (all_simples b.others.now ≡ None → ends_range z.rest.now ≡ false)
+    → behind_bars t ≡ Some v → ends_range z.rest.now ≡ false → whole ≡ onto_all done (read_rest t) → whole ≡ None
+none_taken mode t v r b z whole done front rows others size fault bars left so_far =
+    let all = sized mode r b z rows others size fault in
+    so_far ∙ ap (onto_all done) (rest_no_first t v bars (faulty mode (range_behind t) r z front all.0 left)) ∙ onto_all-none done
+
+pub taken_fits : (mode : Compat) (x : tree.RangeTree) (b : RangeBounds) (z : Size) (whole : Option tree.SetTree) (done : tree.SetTree) (o : Option tree.SetTree) → IsRangeOf mode x b z → whole ≡ onto_all done (onto x o) → RestFits mode whole
+    → Fits mode b × (z.fits ≡ true)
+taken_fits mode x b z whole done None is so_far (all, found, fit) = absurd (none_some all (sym (so_far ∙ onto_all-none done) ∙ found))
+taken_fits mode x b z whole done (Some left) (ss, end, has, made, fits_x) so_far (all, found, fit) =
+    let same : done ++ x ∷ left ≡ all = same_some (done ++ x ∷ left) all (sym (so_far ∙ onto_all-some done (x ∷ left)) ∙ found) in
+    let both = and_parts (fits mode done) (fits mode (x ∷ left)) (sym (list_all-append (range_fits mode) done (x ∷ left)) ∙ ap (fits mode) same ∙ fit) in
+    let here : range_fits mode x ≡ true = (and_parts (range_fits mode x) (fits mode left) both.1).0 in
+    ((ss, end, has, sym (made mode).0 ∙ here), fits_x ∙ here)
+
+-- where no range is behind
+pub end_taken : (t : Text) (whole : Option tree.SetTree) (done all : tree.SetTree) → range_behind t ≡ None → whole ≡ onto_all done (read_rest t) → whole ≡ Some all → (done ≡ all) × (length t ≡ 0)
+end_taken [] whole done all e so_far is = (sym (append-nil done) ∙ same_some (done ++ []) all (sym (so_far ∙ onto_all-some done []) ∙ is), refl)
+end_taken (b ∷ t) whole done all e so_far is = absurd (none_some all (sym (so_far ∙ ap (onto_all done) (rest_none (b ∷ t) e (λ zero. omega (arith, zero))) ∙ onto_all-none done) ∙ is))
+
+pub end_fault : (t : Text) (whole : Option tree.SetTree) (done : tree.SetTree) → whole ≡ onto_all done (read_rest t) → whole ≡ None → 0 < length t
+end_fault [] whole done so_far none = absurd (none_some (done ++ []) (sym none ∙ so_far ∙ onto_all-some done []))
+end_fault (b ∷ t) whole done so_far none = omega arith
+
+-- ranges that are taken, surveyed and built
+pub survey_more : (mode : Compat) (first old new : Others) (done : tree.SetTree) (x : tree.RangeTree) (b : RangeBounds) (z : Size) → HasSurveyed mode first done old → IsRangeOf mode x b z
+    → new.count ≡ old.count + 1 → new.fit ≡ (old.fit && z.fits) → HasSurveyed mode first (done ++ x ∷ []) new
+survey_more mode first old new done x b z (count, fit) is more joined = (
+  omega (arith, counted mode done x (length done) refl, count, more),
+  joined ∙ ap (λ c. c && z.fits) fit ∙ and_after first.fit (fits mode done) z.fits ∙ ap (λ c. first.fit && c) (tested mode done x (fits mode done) z.fits refl is.4),
+)
+
+pub surveyed : (mode : Compat) (o : Option tree.SetTree) (first now : Others) (left : ℕ) → first.count ≡ 0 → first.fit ≡ true → ((all : tree.SetTree) → o ≡ Some all → HasSurveyed mode first all now × (left ≡ 0)) → (o ≡ None → 0 < left) → left ≡ 0
+    → (all : tree.SetTree) × (o ≡ Some all) × (now.count ≡ length all) × (now.fit ≡ fits mode all)
+surveyed mode None first now left zero fit taken fault end = let some = fault refl in absurd (omega (arith, some, end))
+surveyed mode (Some all) first now left zero fit taken fault end =
+    let is = (taken all refl).0 in
+    (all, refl, omega (arith, is.0, zero), is.1 ∙ ap (λ b. b && fits mode all) fit)
+
+pub not_surveyed : (mode : Compat) (o : Option tree.SetTree) (first now : Others) (left : ℕ) → ((all : tree.SetTree) → o ≡ Some all → HasSurveyed mode first all now × (left ≡ 0)) → (left ≡ 0 → ⊥) → o ≡ None
+not_surveyed mode None first now left taken some = refl
+not_surveyed mode (Some all) first now left taken some = absurd (some (taken all refl).1)
+
+pub when_ok : {E P : Type 0} (r : Result (Unit {0}) E) → is_err r ≡ false → IfOk r (λ _. P) → P
+when_ok (Ok x) e p = p
+when_ok (Err x) e p = cc
+
+pub build_more : (mode : Compat) (first old new : RangeBuilder) (done : tree.SetTree) (x : tree.RangeTree) (b : RangeBounds) (z : Size) → HasBuilt mode first done old → IsRangeOf mode x b z → z.fits ≡ true → old.is_refused ≡ false
+    → ((ss : List tree.Simple) (end : Text) → HasRows mode b ss end → list_all (simple_fits mode) ss ≡ true → map range_of new.ranges.items ≡ map range_of old.ranges.items ++ range_of_simples (written old.bound) mode ss ∷ [])
+    → map range_of new.ranges.items ≡ map range_of first.ranges.items ++ map (range_for (written first.bound) mode) (done ++ x ∷ [])
+build_more mode first old new done x b z (bound, so_far) (ss, end, has, made, fits_x) fit going pushed =
+    pushed ss end has (sym (made mode).0 ∙ sym fits_x ∙ fit) ∙ ap (λ l. l ++ range_of_simples (written old.bound) mode ss ∷ []) (so_far going)
+    ∙ append_assoc (map range_of first.ranges.items) (map (range_for (written first.bound) mode) done) (range_of_simples (written old.bound) mode ss ∷ [])
+    ∙ ap (λ y. map range_of first.ranges.items ++ (map (range_for (written first.bound) mode) done ++ y ∷ [])) (ap (λ bound. range_of_simples (written bound) mode ss) bound ∙ range_made (written first.bound) mode x ss made)
+    ∙ ap (λ l. map range_of first.ranges.items ++ l) (sym (mapped_push (range_for (written first.bound) mode) done x))

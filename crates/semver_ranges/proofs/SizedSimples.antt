@@ -4,9 +4,15 @@ use Rattle.std.specs.List.{list_all, flat_map}
 use Rattle.std.proofs.lemmas.Bool.{cases_Bool, and_parts, eqb-true}
 use Rattle.std.proofs.lemmas.List.{length-append, flat_map_more}
 use Rattle.std.proofs.lemmas.List.Folds.{list_all-append}
+use Rattle.semver_ranges.specs.declared.range.Compat.{Compat}
+use Rattle.semver_ranges.specs.declared.rewriting.Bounds.{Bounds}
+use Rattle.semver_ranges.specs.declared.rewriting.SimpleCount.{SimpleCount}
 use Rattle.semver_ranges.specs.RangeTree.{Simple}
 use Rattle.semver_texts.specs.Texts.{Text}
 use Rattle.semver_ranges.specs.Reading.{ends_range, simple, behind_simple, all_simples}
+use Rattle.semver_ranges.specs.RewritingTable.{simple_comparators}
+use Rattle.semver_ranges.specs.CursorViews.{simple_fits}
+use Rattle.semver_ranges.specs.BoundsViews.{bounds_of, bounds_fit, IsRow, HasCounted}
 use Rattle.semver_ranges.proofs.Gathered.{put_all, put_all-more, put_all-none, put_all-some}
 use Rattle.semver_ranges.proofs.ReadingSteps.{simples_end, simples_step}
 
@@ -88,3 +94,20 @@ counted_more f done x now more ys so_far here is =
     let all : length (flat_map f (done ++ x ∷ [])) ≡ length (flat_map f done) + length (f x) = ap length (sym (flat_map_more f [] done x)) ∙ length-append (flat_map f done) (f x) in
     let one : length ys ≡ length (f x) = ap length is in
     omega (arith, all, one, so_far, here)
+
+-- simples that are taken, measured
+pub and_after : (a b c : Bool) → ((a && b) && c) ≡ (a && (b && c))
+and_after true b c = refl
+and_after false b c = refl
+
+pub count_more : (mode : Compat) (first old new : SimpleCount) (done : List Simple) (s : Simple) (b : Bounds) (m : ℕ) → HasCounted mode first done old → IsRow mode s b → m ≡ length (bounds_of (λ v. v) b)
+    → new.fits ≡ (old.fits && bounds_fit b) → new.count ≡ old.count + m → HasCounted mode first (done ++ s ∷ []) new
+count_more mode first old new done s b m (f, n, fits, count, joined, added) row here fit more = (
+  f && bounds_fit b,
+  n + m,
+  fits_more (simple_fits mode) done s f (bounds_fit b) fits row.1,
+  λ all. let both = and_parts f (bounds_fit b) all in
+      counted_more (simple_comparators mode) done s n m (bounds_of (λ v. v) b) (count both.0) here (row.2 both.1 (λ v. v)),
+  fit ∙ ap (λ c. c && bounds_fit b) joined ∙ and_after first.fits f (bounds_fit b),
+  omega (arith, added, more),
+)

@@ -1,5 +1,5 @@
 -- A means of proof, which no public clause cites: what private contracts see of the comparators of simples and ranges that aren't built yet.
-use Rattle.std.specs.Prelude.{◌≡◌, ◌≤◌, Bool, true, ◌&&◌, Option, Some, None, List, [], ◌∷◌, ◌++◌, length}
+use Rattle.std.specs.Prelude.{◌≡◌, ◌+◌, ◌≤◌, ℕ, Bool, true, false, ◌&&◌, Option, Some, None, List, [], ◌∷◌, ◌++◌, length, map}
 use Rattle.std.specs.List.{list_all, flat_map}
 use Rattle.semver_ranges.specs.declared.partial.Partial.{Partial}
 use Rattle.semver_ranges.specs.declared.partial.Place.{Place}
@@ -7,15 +7,20 @@ use Rattle.semver_ranges.specs.declared.range.Compat.{Compat}
 use Rattle.semver_ranges.specs.declared.range.Op.{Op}
 use Rattle.semver_ranges.specs.declared.range.Op.TheVariants.{Lt}
 use Rattle.semver_ranges.specs.declared.rewriting.Bounds.{Bounds}
+use Rattle.semver_ranges.specs.declared.range_set.Others.{Others}
+use Rattle.semver_ranges.specs.declared.range_set.RangeBuilder.{RangeBuilder}
+use Rattle.semver_ranges.specs.declared.rewriting.ComparatorBuilder.{ComparatorBuilder}
 use Rattle.semver_ranges.specs.declared.rewriting.RangeBounds.{RangeBounds}
+use Rattle.semver_ranges.specs.declared.rewriting.SimpleCount.{SimpleCount}
 use Rattle.semver_ranges.specs.declared.rewriting.Size.{Size}
 use Rattle.semver_ranges.specs.RangeTree.{Simple, RangeTree, SetTree}
 use Rattle.semver_texts.specs.Texts.{Text}
 use Rattle.semver_texts.specs.Versions.{PlainVersion}
 use Rattle.semver_ranges.specs.RewritingTable.{PlainComparator, PlainRange, comparator, Cell, up, cell_raised, written_cell, bound_fits, written_simple, simple_comparators, written_range, fits}
-use Rattle.semver_ranges.specs.PartialViews.{stated_of, version_of, place_number, PartsPass}
+use Rattle.semver_ranges.specs.PartialViews.{stated_of, version_of, place_number, written, PartsPass}
 use Rattle.semver_ranges.specs.Reading.{all_simples}
-use Rattle.semver_ranges.specs.CursorViews.{simple_fits}
+use Rattle.semver_ranges.specs.CursorViews.{simple_fits, range_fits, IsMadeOf}
+use Rattle.semver_ranges.specs.RangeViews.{comparator_of, range_of}
 
 -- a place is one of those that are stated
 abbrev pub IsPlaced : Option Place → Partial → Type 0
@@ -94,3 +99,24 @@ range_of_simples write mode ss = record { comparators = flat_map (written_simple
 
 abbrev pub range_for : (PlainVersion → PlainVersion) → Compat → RangeTree → PlainRange
 range_for write mode r = record { comparators = written_range write mode r; compat = mode }
+
+-- a range of a text, by its comparators and their size
+abbrev pub IsRangeOf : Compat → RangeTree → RangeBounds → Size → Type 0
+IsRangeOf mode x r size = (ss : List Simple) × (end : Text) × HasRows mode r ss end × IsMadeOf x ss × (size.fits ≡ range_fits mode x)
+
+-- what was taken from a first state on: simples that were measured, and simples whose comparators were built as long as no growth was refused
+abbrev pub HasCounted : Compat → SimpleCount → List Simple → SimpleCount → Type 0
+HasCounted mode first done now = (f : Bool) × (n : ℕ) × (f ≡ list_all (simple_fits mode) done) × (f ≡ true → n ≡ length (flat_map (simple_comparators mode) done))
+    × (now.fits ≡ (first.fits && f)) × (now.count ≡ first.count + n)
+
+abbrev pub HasPushed : Compat → ComparatorBuilder → List Simple → ComparatorBuilder → Type 0
+HasPushed mode first done now = (now.bound ≡ first.bound)
+    × (now.is_refused ≡ false → map comparator_of now.comparator_set.items ≡ map comparator_of first.comparator_set.items ++ flat_map (written_simple (written first.bound) mode) done)
+
+-- and so with ranges
+abbrev pub HasSurveyed : Compat → Others → SetTree → Others → Type 0
+HasSurveyed mode first done now = (now.count ≡ first.count + length done) × (now.fit ≡ (first.fit && fits mode done))
+
+abbrev pub HasBuilt : Compat → RangeBuilder → SetTree → RangeBuilder → Type 0
+HasBuilt mode first done now = (now.bound ≡ first.bound)
+    × (now.is_refused ≡ false → map range_of now.ranges.items ≡ map range_of first.ranges.items ++ map (range_for (written first.bound) mode) done)

@@ -1,8 +1,8 @@
 //! Range sets: the ranges of a text in one of two modes, and their printed text.
 
-ghost use Rattle.std.specs.Prelude.{Some, None, ◌≡◌, ◌↔◌, ◌⊎◌, ◌++◌, ◌∷◌, false, true, [], List, length, map, IsTrue, IfOk, IfSome, IsOkAnd, MatchOption};
+ghost use Rattle.std.specs.Prelude.{Some, None, ◌≡◌, ◌↔◌, ◌⊎◌, ◌++◌, ◌∷◌, ◌+◌, ◌^◌, ◌<◌, ◌≤◌, false, true, [], ℕ, Bool, List, length, map, IsTrue, IfOk, IfSome, IsOkAnd, MatchOption};
 ghost use Rattle.std.specs.List.{list_all, flat_map};
-ghost use Rattle.semver_ranges.specs.RangeTree.{Simple as SimpleTree, SetTree, Spells, simples};
+ghost use Rattle.semver_ranges.specs.RangeTree.{Simple as SimpleTree, RangeTree, SetTree, Spells, simples};
 ghost use Rattle.semver_texts.specs.Texts.{Text};
 ghost use Rattle.semver_texts.specs.Versions.{PlainVersion};
 ghost use Rattle.semver_ranges.specs.OwnMeaning.{meets_tree};
@@ -15,7 +15,7 @@ ghost use Rattle.semver_ranges.specs.Reading.{read, read_rest};
 ghost use Rattle.semver_ranges.specs.Answers.{IsAnswer};
 ghost use Rattle.semver_ranges.specs.CursorViews.{simple_fits};
 ghost use Rattle.semver_ranges.specs.PartialViews.{written};
-ghost use Rattle.semver_ranges.specs.BoundsViews.{bounds_of, bounds_fit, range_of_simples, range_for, IsBuildable, HasRows, Fits, RestFits};
+ghost use Rattle.semver_ranges.specs.BoundsViews.{bounds_of, bounds_fit, range_of_simples, range_for, IsBuildable, IsRangeOf, HasRows, Fits, RestFits};
 
 use crate::grammar::{ends_range, next_range, read_range, read_simple};
 use crate::partial::Bound;
@@ -263,38 +263,16 @@ fn survey(rest: &[u8], compat: Compat) -> Option<Others>
     ensures { MatchOption result (read_rest rest.now ≡ None)
         (λ others. (tree : SetTree) × (read_rest rest.now ≡ Some tree) × (others.count ≡ length tree) × (others.fit ≡ fits compat tree)) }
 {
+    let none = Others {
+        count: 0,
+        fit: true,
+    };
     if rest.is_empty() {
-        return Some(Others {
-            count: 0,
-            fit: true,
-        });
+        return Some(none);
     }
-    survey_ranges(rest, compat)
-}
-
-/// As `survey`, where something is left.
-#[inline(never)]
-fn survey_ranges(rest: &[u8], compat: Compat) -> Option<Others>
-    ensures { MatchOption result (read_rest rest.now ≡ None)
-        (λ others. (tree : SetTree) × (read_rest rest.now ≡ Some tree) × (others.count ≡ length tree) × (others.fit ≡ fits compat tree)) }
-{
-    let mut rest = rest;
-    let mut count = 0;
-    let mut fit = true;
-    while let Some(range) = next_range(rest) {
-        let size = range.rewritten(compat).size(compat);
-        if !ends_range(size.rest) {
-            return None;
-        }
-        count += 1;
-        fit = fit && size.fits;
-        rest = size.rest;
-    }
-    if rest.is_empty() {
-        Some(Others { count, fit })
-    } else {
-        None
-    }
+    let mut others = none;
+    let left = each_range(rest, compat, &mut others);
+    if left.is_empty() { Some(others) } else { None }
 }
 
 /// The ranges of a text: the first as it was read, and the others as they stand behind it.
@@ -318,31 +296,125 @@ fn build_ranges<'input>(
     if size.rest.is_empty() {
         return Ok(ranges);
     }
-    push_ranges(alloc, &mut ranges, size.rest, compat, bound)?;
-    Ok(ranges)
+    let mut builder = RangeBuilder {
+        alloc,
+        bound,
+        ranges,
+        is_refused: false,
+    };
+    each_range(size.rest, compat, &mut builder);
+    if builder.is_refused {
+        return Err(AllocError);
+    }
+    Ok(builder.ranges)
 }
 
-/// Adds the ranges from the end of a first one on.
+/// What is done with the ranges behind a first, one after the other.
+trait TakeRanges {
+    ghost use Rattle.semver_ranges.specs.declared.range.Compat.{Compat};
+
+    // From a first state on, these ranges were taken, in this mode.
+    ghost taken: { Compat → Self → SetTree → Self → Type 0 };
+    // How many were counted.
+    ghost counted: { Self → ℕ };
+    // Whether it takes only what fits.
+    ghost wants_fit: { Bool };
+
+    /// Takes one more range, by its comparators and their size.
+    fn take(&mut self, range: &RangeBounds<'_>, size: &Size<'_>, compat: Compat)
+        requires fits { wants_fit ≡ true → Fits compat range.now × (size.now.fits ≡ true) }
+        requires room { counted self.now + 1 < 2 ^ 64 }
+        ensures taken { (first : Self) (done : SetTree) (x : RangeTree) → taken compat first done self.old → IsRangeOf compat x range.now size.now
+            → taken compat first (done ++ x ∷ []) self.new }
+        ensures counted { counted self.new ≤ counted self.old + 1 };
+}
+
+/// Takes the ranges from the end of a first one on, and answers what is left of the text: where all of it is ranges, nothing.
 #[inline(never)]
-fn push_ranges(
-    alloc: Global,
-    ranges: &mut Vec<Range>,
-    rest: &[u8],
+fn each_range<'input, T: TakeRanges>(
+    text: &'input [u8],
     compat: Compat,
-    bound: Bound,
-) -> Result<(), AllocError>
-    requires { RestFits compat (read_rest rest.now) }
-    ensures { IfOk result (λ _. (tree : SetTree) → read_rest rest.now ≡ Some tree
-        → map range_of ranges.new.items ≡ map range_of ranges.old.items ++ map (range_for (written bound) compat) tree) }
+    taker: &mut T,
+) -> &'input [u8]
+    requires begins { T.taken compat taker.now [] taker.now }
+    requires fit { T.wants_fit ≡ true → RestFits compat (read_rest text.now) }
+    requires room { T.counted taker.now + length text.now < 2 ^ 64 }
+    ensures taken { (tree : SetTree) → read_rest text.now ≡ Some tree → T.taken compat taker.old tree taker.new × (length result.now ≡ 0) }
+    ensures fault { read_rest text.now ≡ None → 0 < length result.now }
 {
-    let mut rest = rest;
+    let mut rest = text;
     while let Some(range) = next_range(rest) {
         let range = range.rewritten(compat);
         let size = range.size(compat);
-        ranges.push(range.build(alloc, size.count, compat, bound)?)?;
+        if !ends_range(size.rest) {
+            return size.rest;
+        }
+        taker.take(&range, &size, compat);
         rest = size.rest;
     }
-    Ok(())
+    rest
+}
+
+impl TakeRanges for Others {
+    ghost use Rattle.semver_ranges.specs.BoundsViews.{HasSurveyed};
+
+    ghost taken = { HasSurveyed };
+
+    ghost counted = { λ o. o.count };
+
+    ghost wants_fit = { false };
+
+    #[inline(always)]
+    fn take(&mut self, _range: &RangeBounds<'_>, size: &Size<'_>, _compat: Compat) {
+        self.count += 1;
+        self.fit = self.fit && size.fits;
+    }
+}
+
+/// Ranges that are built. After a growth that was refused it builds no more.
+#[derive(Drop)]
+struct RangeBuilder {
+    alloc: Global,
+    bound: Bound,
+    ranges: Vec<Range>,
+    is_refused: bool,
+}
+
+impl RangeBuilder {
+    /// Adds a range.
+    #[inline(always)]
+    fn push(
+        &mut self,
+        range: &RangeBounds<'_>,
+        size: &Size<'_>,
+        compat: Compat,
+    ) -> Result<(), AllocError>
+        requires fits { Fits compat range.now }
+        ensures range { IfOk result (λ _. (ss : List SimpleTree) (end : Text) → HasRows compat range.now ss end → list_all (simple_fits compat) ss ≡ true
+            → map range_of self.new.ranges.items ≡ map range_of self.old.ranges.items ++ range_of_simples (written self.old.bound) compat ss ∷ []) }
+        ensures bound { self.new.bound ≡ self.old.bound }
+    {
+        let built = range.build(self.alloc, size.count, compat, self.bound)?;
+        self.ranges.push(built)?;
+        Ok(())
+    }
+}
+
+impl TakeRanges for RangeBuilder {
+    ghost use Rattle.semver_ranges.specs.BoundsViews.{HasBuilt};
+
+    ghost taken = { HasBuilt };
+
+    ghost counted = { λ _. 0 };
+
+    ghost wants_fit = { true };
+
+    #[inline(always)]
+    fn take(&mut self, range: &RangeBounds<'_>, size: &Size<'_>, compat: Compat) {
+        if !self.is_refused {
+            self.is_refused = self.push(range, size, compat).is_err();
+        }
+    }
 }
 
 impl fmt::Display for RangeSet {

@@ -2,7 +2,7 @@
 //!
 //! The rewriting takes no memory and raises nothing: only building does both, once all is known to fit.
 
-ghost use Rattle.std.specs.Prelude.{◌≡◌, ◌+◌, ◌*◌, ◌≤◌, ◌++◌, Some, None, [], ◌∷◌, List, length, map, true, false, IfOk};
+ghost use Rattle.std.specs.Prelude.{◌≡◌, ◌+◌, ◌*◌, ◌^◌, ◌<◌, ◌≤◌, ◌++◌, Some, None, [], ◌∷◌, ℕ, Bool, List, length, map, true, false, IfOk};
 ghost use Rattle.std.specs.List.{list_all, flat_map};
 ghost use Rattle.semver_texts.specs.Texts.{Text};
 ghost use Rattle.semver_texts.specs.Versions.{PlainVersion};
@@ -98,17 +98,17 @@ impl<'input> Bounds<'input> {
     /// Adds the comparators.
     #[inline(always)]
     pub(crate) fn push(
-        self,
+        &self,
         alloc: Global,
         comparators: &mut Vec<Comparator>,
         bound: Bound,
     ) -> Result<(), AllocError>
-        requires buildable { IsBuildable self }
-        requires fits { bounds_fit self ≡ true }
-        ensures { IfOk result (λ _. map comparator_of comparators.new.items ≡ map comparator_of comparators.old.items ++ bounds_of (written bound) self.entry) }
+        requires buildable { IsBuildable self.now }
+        requires fits { bounds_fit self.now ≡ true }
+        ensures { IfOk result (λ _. map comparator_of comparators.new.items ≡ map comparator_of comparators.old.items ++ bounds_of (written bound) self.now) }
     {
-        if let Some(op) = self.op {
-            comparators.push(self.partial.as_comparator(alloc, op)?)?;
+        if let Some(op) = &self.op {
+            comparators.push(self.partial.as_comparator(alloc, op.clone()?)?)?;
         }
         if let Some(place) = self.raised {
             let raised = self.partial.raised(place, bound);
@@ -240,34 +240,45 @@ impl<'input> RangeBounds<'input> {
                 rest: self.others,
             };
         }
-        let others = size_of_simples(self.others, compat);
+        let mut all = SimpleCount { fits, count };
+        let rest = each_simple(self.others, compat, &mut all);
         Size {
-            fits: fits && others.fits,
-            count: count + others.count,
-            rest: others.rest,
+            fits: all.fits,
+            count: all.count,
+            rest,
         }
     }
 
     /// The range in a mode, with its comparators in a vector of their number.
     #[inline(always)]
     pub(crate) fn build(
-        self,
+        &self,
         alloc: Global,
         count: usize,
         compat: Compat,
         bound: Bound,
     ) -> Result<Range, AllocError>
-        requires fits { Fits compat self }
-        ensures { IfOk result (λ built. (ss : List SimpleTree) (end : Text) → HasRows compat self.entry ss end → list_all (simple_fits compat) ss ≡ true
+        requires fits { Fits compat self.now }
+        ensures { IfOk result (λ built. (ss : List SimpleTree) (end : Text) → HasRows compat self.now ss end → list_all (simple_fits compat) ss ≡ true
             → range_of built ≡ range_of_simples (written bound) compat ss) }
     {
         let mut comparator_set = Vec::with_capacity(alloc, count)?;
         self.first.push(alloc, &mut comparator_set, bound)?;
-        if let Some(second) = self.second {
+        if let Some(second) = &self.second {
             second.push(alloc, &mut comparator_set, bound)?;
         }
         if !ends_range(self.others) {
-            push_simples(alloc, &mut comparator_set, self.others, compat, bound)?;
+            let mut builder = ComparatorBuilder {
+                alloc,
+                bound,
+                comparator_set,
+                is_refused: false,
+            };
+            each_simple(self.others, compat, &mut builder);
+            if builder.is_refused {
+                return Err(AllocError);
+            }
+            comparator_set = builder.comparator_set;
         }
         Ok(Range {
             comparator_set,
@@ -276,42 +287,94 @@ impl<'input> RangeBounds<'input> {
     }
 }
 
-/// The size of the simples at the front of a text, and where they end.
-#[inline(never)]
-fn size_of_simples<'input>(text: &'input [u8], compat: Compat) -> Size<'input>
-    ensures size { (ss : List SimpleTree) (end : Text) → all_simples text.now ≡ Some (ss, end) → IsSize compat ss end result }
-    ensures fault { all_simples text.now ≡ None → ends_range result.rest.now ≡ false }
-    ensures small { result.count ≤ 2 * length text.now }
-{
-    let mut fits = true;
-    let mut count = 0;
-    let mut rest = text;
-    while let Some((simple, behind)) = read_simple(rest) {
-        let bounds = rewritten(&simple, compat);
-        fits = fits && bounds.fits();
-        count += bounds.count();
-        rest = behind;
-    }
-    Size { fits, count, rest }
+/// What is done with the simples of a range, one after the other.
+trait TakeSimples {
+    ghost use Rattle.semver_ranges.specs.declared.range.Compat.{Compat};
+
+    // From a first state on, these simples were taken, in this mode.
+    ghost taken: { Compat → Self → List SimpleTree → Self → Type 0 };
+    // How many comparators were counted.
+    ghost counted: { Self → ℕ };
+    // Whether it takes only what fits.
+    ghost wants_fit: { Bool };
+
+    /// Takes one more simple, by its comparators.
+    fn take(&mut self, bounds: Bounds<'_>)
+        requires buildable { IsBuildable bounds }
+        requires fits { wants_fit ≡ true → bounds_fit bounds ≡ true }
+        requires room { counted self.now + 2 < 2 ^ 64 }
+        ensures taken { (compat : Compat) (first : Self) (done : List SimpleTree) (s : SimpleTree) → taken compat first done self.old → IsRow compat s bounds.entry
+            → taken compat first (done ++ s ∷ []) self.new }
+        ensures counted { counted self.new ≤ counted self.old + 2 };
 }
 
-/// Adds the comparators of the simples at the front of a text.
+/// Takes the simples at the front of a text, and answers what follows them.
 #[inline(never)]
-fn push_simples(
-    alloc: Global,
-    comparators: &mut Vec<Comparator>,
-    text: &[u8],
+fn each_simple<'input, T: TakeSimples>(
+    text: &'input [u8],
     compat: Compat,
-    bound: Bound,
-) -> Result<(), AllocError>
-    requires { SimplesFit compat (all_simples text.now) }
-    ensures { IfOk result (λ _. (ss : List SimpleTree) (end : Text) → all_simples text.now ≡ Some (ss, end)
-        → map comparator_of comparators.new.items ≡ map comparator_of comparators.old.items ++ flat_map (written_simple (written bound) compat) ss) }
+    taker: &mut T,
+) -> &'input [u8]
+    requires begins { T.taken compat taker.now [] taker.now }
+    requires fit { T.wants_fit ≡ true → SimplesFit compat (all_simples text.now) }
+    requires room { T.counted taker.now + 2 * length text.now < 2 ^ 64 }
+    ensures taken { (ss : List SimpleTree) (end : Text) → all_simples text.now ≡ Some (ss, end) → T.taken compat taker.old ss taker.new × (result.now ≡ end) }
+    ensures fault { all_simples text.now ≡ None → ends_range result.now ≡ false }
 {
     let mut rest = text;
     while let Some((simple, behind)) = read_simple(rest) {
-        rewritten(&simple, compat).push(alloc, comparators, bound)?;
+        taker.take(rewritten(&simple, compat));
         rest = behind;
     }
-    Ok(())
+    rest
+}
+
+/// Simples that are only measured: whether they fit, and how many comparators they have.
+#[derive(Drop)]
+struct SimpleCount {
+    fits: bool,
+    count: usize,
+}
+
+impl TakeSimples for SimpleCount {
+    ghost use Rattle.semver_ranges.specs.BoundsViews.{HasCounted};
+
+    ghost taken = { HasCounted };
+
+    ghost counted = { λ c. c.count };
+
+    ghost wants_fit = { false };
+
+    #[inline(always)]
+    fn take(&mut self, bounds: Bounds<'_>) {
+        self.fits = self.fits && bounds.fits();
+        self.count += bounds.count();
+    }
+}
+
+/// Simples whose comparators are built. After a growth that was refused it builds no more.
+#[derive(Drop)]
+struct ComparatorBuilder {
+    alloc: Global,
+    bound: Bound,
+    comparator_set: Vec<Comparator>,
+    is_refused: bool,
+}
+
+impl TakeSimples for ComparatorBuilder {
+    ghost use Rattle.semver_ranges.specs.BoundsViews.{HasPushed};
+
+    ghost taken = { HasPushed };
+
+    ghost counted = { λ _. 0 };
+
+    ghost wants_fit = { true };
+
+    #[inline(always)]
+    fn take(&mut self, bounds: Bounds<'_>) {
+        if !self.is_refused {
+            let pushed = bounds.push(self.alloc, &mut self.comparator_set, self.bound);
+            self.is_refused = pushed.is_err();
+        }
+    }
 }

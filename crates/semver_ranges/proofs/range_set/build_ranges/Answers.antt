@@ -12,7 +12,7 @@ use Rattle.semver_ranges.proofs.range_set.build_ranges.Goals as goal
 pub returns : goal.returns
 returns c = λ ss end tree has fits rest.
     let first : c.push.new.self.items ≡ c.in_ok-build.field-0 ∷ [] = c.in_ok-push.ensures.items ∙ ap (λ (l : List Range). l ++ c.in_ok-build.field-0 ∷ []) c.in_ok-ranges.ensures.items in
-    c.in_ok-push_ranges.ensures tree rest ∙ ap (λ (l : List Range). map range_of l ++ map (range_for (written c.args.bound) c.args.compat) tree) first
+    (c.each_range.ensures.taken tree rest).0.1 c.if-builder.false ∙ ap (λ (l : List Range). map range_of l ++ map (range_for (written c.args.bound) c.args.compat) tree) first
     ∙ ap (λ (r : PlainRange). r ∷ map (range_for (written c.args.bound) c.args.compat) tree) (c.in_ok-build.ensures ss end has fits)
 
 pub returns-then-is_empty : goal.returns-then-is_empty

@@ -4,7 +4,7 @@ use Rattle.semver_ranges.specs.BoundsViews.{bounds_fit, AreRows}
 use Rattle.semver_ranges.proofs.SizedSimples.{no_others}
 use Rattle.semver_ranges.proofs.SizedRanges.{AreSized, first_of, alone_of, both_of, one_sized, both_sized, resized}
 use Rattle.semver_ranges.proofs.rewriting.RangeBounds.size.Goals as goal
-use Rattle.semver_ranges.proofs.rewriting.RangeBounds.size.Goals.{Joined-self, in-Some, in_default, then-fits, else-fits, then-fits-2, else-fits-2}
+use Rattle.semver_ranges.proofs.rewriting.RangeBounds.size.Goals.{Joined-self, in-Some, in_default, then-fits, else-fits}
 
 pub fits-fits-requires : goal.fits-fits-requires
 fits-fits-requires c =
@@ -23,7 +23,7 @@ front_sized c front is = elim c.match-self.branch [
   | in-Some w ↦
       let s = both_of c.args.compat front c.args.self.now.first w.in-Some.second (rw w.in-Some.is at is) in
       let first = one_sized c.args.compat s.0 c.args.self.now.first c.count-count.result s.3 (c.count-count.ensures.count (λ v. v)) in
-      let second = one_sized c.args.compat s.1 w.in-Some.second w.count.result s.4 (w.count.ensures.count (λ v. v)) in
+      let second = one_sized c.args.compat s.1 w.in-Some.second w.count-count-in-Some.result s.4 (w.count-count-in-Some.ensures.count (λ v. v)) in
       let fit : Bool = bounds_fit w.in-Some.second in
       let joined : w.if-fits.fits ≡ (bounds_fit c.args.self.now.first && fit) = elim w.if-fits.branch [
         | then-fits v ↦ v.fits-is ∙ v.fits-fits-then-fits.ensures ∙ ap (λ (f : Bool). f && fit) (sym v.if-fits.true ∙ c.fits-fits.ensures)
@@ -46,12 +46,8 @@ returns-then-ends_range-clause-size c = λ ss end has.
 pub returns-clause-size : goal.returns-clause-size
 returns-clause-size c = λ ss end has.
     let front = front_sized (goal.at.returns-clause-size c).Joined-self has.0 has.2 in
-    let size = c.size_of_simples-others.ensures.size has.1 end has.3 in
-    let others : AreSized c.args.compat has.1 c.size_of_simples-others.result.fits c.size_of_simples-others.result.count = record { fits = size.0; count = size.1 } in
-    let fit : Bool = c.size_of_simples-others.result.fits in
-    let joined : c.if-fits-2.result ≡ (c.match-self.fits && fit) = elim c.if-fits-2.branch [
-      | then-fits-2 w ↦ w.result-is ∙ ap (λ (f : Bool). f && fit) (sym w.if-fits-2.true)
-      | else-fits-2 w ↦ w.result-is ∙ w.if-fits-2.false ∙ ap (λ (f : Bool). f && fit) (sym w.if-fits-2.false)
-    ] in
-    let all = resized c.args.compat _ ss _ _ _ _ (both_sized c.args.compat _ _ _ _ _ _ front others) has.4 joined refl in
-    (all.fits, all.count, size.2)
+    let taken = c.each_simple-rest.ensures.taken has.1 end has.3 in
+    let counted = taken.0 in
+    let others : AreSized c.args.compat has.1 counted.0 counted.1 = record { fits = counted.2; count = counted.3 } in
+    let all = resized c.args.compat _ ss _ _ _ _ (both_sized c.args.compat _ _ _ _ _ _ front others) has.4 counted.4 counted.5 in
+    (all.fits, all.count, taken.1)
