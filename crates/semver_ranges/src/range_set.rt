@@ -64,6 +64,9 @@ impl RangeSet {
     /// In Cargo mode `1.2.3 || ~2.0.0-rc` gives `>=1.2.3 <2.0.0 || >=2.0.0-rc <2.1.0`, and in Npm mode
     /// `=1.2.3 || >=2.0.0-rc <2.1.0`. The empty text gives `>=0.0.0`.
     ///
+    /// A version meets the comparators where the text means it, or where it is a pre-release of a raised bound:
+    /// `2.0.0-alpha` is below the `<2.0.0` of `^1.2.3`. `RangeSet::parse_exact` has no such exception.
+    ///
     /// # Errors
     ///
     /// - `NotARange` exactly where the text isn't in the grammar, as `1.2.3 -4`, `>=1.0.0, <2.0.0` or `v1.2.3`.
