@@ -17,8 +17,8 @@ use Rattle.semver_texts.specs.Texts.{Text}
 use Rattle.semver_texts.specs.Versions.{PlainVersion}
 use Rattle.semver_ranges.specs.RewritingTable.{PlainComparator, PlainRange, written_simple, written_set, fits}
 use Rattle.semver_ranges.specs.Reading.{ends_range, simple, all_simples, range, read, read_rest, read_at, range_behind, range_at, behind_range, more_ranges, behind_bars, behind_blanks, onto}
-use Rattle.semver_ranges.specs.CursorViews.{Has, AreFirst, AreRead, IsMadeOf, GoesOn, IsFrontOf, simple_fits, range_fits}
-use Rattle.semver_ranges.specs.BoundsViews.{IsSize, AreRows, AreBounds, HasRows, IsRangeOf, Fits, RestFits, HasSurveyed, HasBuilt, range_of_simples, range_for}
+use Rattle.semver_ranges.specs.CursorViews.{Has, AreFirst, IsMadeOf, GoesOn, IsFrontOf, simple_fits, range_fits}
+use Rattle.semver_ranges.specs.BoundsViews.{IsSize, AreRows, HasRows, IsRangeOf, Fits, RestFits, HasSurveyed, HasBuilt, range_of_simples, range_for}
 use Rattle.semver_ranges.specs.PartialViews.{written}
 use Rattle.semver_ranges.specs.RangeViews.{range_of}
 use Rattle.semver_ranges.proofs.Gathered.{onto_all, onto_all-none, onto_all-some}
@@ -191,9 +191,6 @@ one_made write mode s comparators e = ap (λ (l : List PlainComparator). record 
 pub has_rows : (mode : Compat) (r : RangeText) (b : RangeBounds) (ss : List tree.Simple) (end : Text) → ((front : List tree.Simple) → AreFirst front r.first r.second → AreRows mode front b.first b.second)
     → b.others.now ≡ r.others.now → Has r ss end → HasRows mode b ss end
 has_rows mode r b ss end rows others (front, more, first, found, is) = (front, more, rows front first, ap all_simples others ∙ found, is)
-
-pub bounds_there : (mode : Compat) (r : RangeText) (b : RangeBounds) → ((front : List tree.Simple) → AreFirst front r.first r.second → AreRows mode front b.first b.second) → AreRead r → AreBounds mode b
-bounds_there mode r b rows read = (read.0, rows read.0 read.1)
 
 -- a size of those comparators is the size of the range
 pub sized : (mode : Compat) (r : RangeText) (b : RangeBounds) (z : Size) → ((front : List tree.Simple) → AreFirst front r.first r.second → AreRows mode front b.first b.second)
