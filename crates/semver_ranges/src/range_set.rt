@@ -333,7 +333,7 @@ trait TakeRanges {
 }
 
 /// Takes the ranges from the end of a first one on, and answers what is left of the text: where all of it is ranges, nothing.
-#[inline(never)]
+#[inline(always)]
 fn each_range<'input, T: TakeRanges>(
     text: &'input [u8],
     compat: Compat,
