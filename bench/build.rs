@@ -1,4 +1,5 @@
-//! Links the static library that `rt lib` made of the crate `speed`. `SPEED` is its folder, `KIT` the kit's.
+//! Links the static library that `rt lib` made of the crate `speed`. `SPEED` is its folder, `KIT`
+//! the kit's.
 fn main() {
     let library = std::env::var("SPEED").expect("SPEED is the folder of libspeed.a");
     let kit = std::env::var("KIT").expect("KIT is the folder of the kit");

@@ -1,16 +1,18 @@
-//! What has to hold before anything is timed: each side reads the same texts, and its calls answer the same numbers.
+//! What has to hold before anything is timed: each side reads the same texts, and its calls answer
+//! the same numbers.
 
 use crate::calls::{here_filter, semver_filter, Call, REFUSED};
-use crate::files::File;
+use crate::rows::Row;
 
-/// Fails unless here and the crate `semver-parser` answer alike on each text of a file, and read each, or none where the
-/// file's texts are to be refused.
-pub fn check_file(file: &File, texts: &[&str]) -> Result<(), String> {
+/// Fails unless here and the crate `semver-parser` answer alike on each text of a row, and read
+/// each, or none where the row's texts are to be refused.
+pub fn check_row(row: &Row, texts: &[&str]) -> Result<(), String> {
     for text in texts {
-        let (here, parser) = ((file.here)(text), (file.parser)(text));
-        if here != parser || (here == REFUSED) != file.is_refused {
+        let (here, parser) = ((row.here)(text), (row.parser)(text));
+        if here != parser || (here == REFUSED) != row.is_refused() {
             let (here, parser) = (answer(here), answer(parser));
-            return Err(format!("{}: {text:?}: {here} here, {parser} by semver-parser", file.name));
+            let title = row.title;
+            return Err(format!("{title}: {text:?}: {here} here, {parser} by semver-parser"));
         }
     }
     Ok(())

@@ -1,4 +1,5 @@
-//! The calls that are compared. Each answers a number that depends on all that was read, and `REFUSED` where a text isn't read.
+//! The calls that are compared. Each answers a number that depends on all that was read, and
+//! `REFUSED` where a text isn't read.
 
 use semver::{Version, VersionReq};
 use semver_parser::{version, Compat, RangeSet};
@@ -12,7 +13,12 @@ pub type Call = fn(&str) -> u64;
 extern "C" {
     fn speed_version(text: *const u8, len: usize) -> u64;
     fn speed_range(text: *const u8, len: usize) -> u64;
-    fn speed_filter(ranges: *const u8, ranges_len: usize, versions: *const u8, versions_len: usize) -> u64;
+    fn speed_filter(
+        ranges: *const u8,
+        ranges_len: usize,
+        versions: *const u8,
+        versions_len: usize,
+    ) -> u64;
 }
 
 /// A version here: the sum of its numbers and of the counts of its identifiers.
@@ -28,13 +34,28 @@ pub fn parser_version(text: &str) -> u64 {
     })
 }
 
-/// A version of the crate `semver`, which keeps a pre-release as one text, and a build too: the sum of its numbers and of
-/// the lengths of both.
+/// A version of the crate `semver`, which keeps a pre-release as one text, and a build too: the sum
+/// of its numbers and of the lengths of both.
 pub fn semver_version(text: &str) -> u64 {
     Version::parse(text).map_or(REFUSED, |version| {
         let bytes = (version.pre.len() + version.build.len()) as u64;
         sum([version.major, version.minor, version.patch, bytes])
     })
+}
+
+/// 1 where a text is a version here. A version that was read is dropped at once.
+pub fn here_is_version(text: &str) -> u64 {
+    is_version(here_version(text) != REFUSED)
+}
+
+/// 1 where a text is a version to the crate `semver-parser`.
+pub fn parser_is_version(text: &str) -> u64 {
+    is_version(version::parse(text).is_ok())
+}
+
+/// 1 where a text is a version to the crate `semver`.
+pub fn semver_is_version(text: &str) -> u64 {
+    is_version(Version::parse(text).is_ok())
 }
 
 /// A range set here, in Cargo mode: how many comparators it has.
@@ -44,8 +65,9 @@ pub fn here_range(text: &str) -> u64 {
 
 /// A range set of the crate `semver-parser`, in Cargo mode: the same count.
 pub fn parser_range(text: &str) -> u64 {
-    RangeSet::parse(text, Compat::Cargo)
-        .map_or(REFUSED, |set| set.ranges.iter().map(|range| range.comparator_set.len() as u64).sum())
+    RangeSet::parse(text, Compat::Cargo).map_or(REFUSED, |set| {
+        set.ranges.iter().map(|range| range.comparator_set.len() as u64).sum()
+    })
 }
 
 /// A requirement of the crate `semver`: how many comparators it has, before any rewriting.
@@ -68,10 +90,19 @@ fn read_and_filter(ranges: &str, versions: &str) -> Result<u64, semver::Error> {
     let mut kept = 0;
     for range in ranges.lines() {
         let requirement = VersionReq::parse(range)?;
-        let releases: Vec<&Version> = versions.iter().filter(|version| requirement.matches(version)).collect();
+        let releases: Vec<&Version> =
+            versions.iter().filter(|version| requirement.matches(version)).collect();
         kept += releases.len() as u64;
     }
     Ok(kept)
+}
+
+fn is_version(is_read: bool) -> u64 {
+    if is_read {
+        1
+    } else {
+        REFUSED
+    }
 }
 
 fn sum(numbers: [u64; 4]) -> u64 {

@@ -13,18 +13,32 @@ struct Form {
 }
 
 const FORMS: [Form; 5] = [
-    Form { name: "identifiers", text: |count| format!("1.2.3-{}", joined("rc", ".", count)), call: here_version },
-    Form { name: "runs", text: |count| format!("1.2.3-{}", joined("rc", "-", count)), call: here_version },
-    Form { name: "digits", text: |count| format!("1.2.3-{}", joined("7", "", count)), call: here_version },
+    Form {
+        name: "identifiers",
+        text: |count| format!("1.2.3-{}", joined("rc", ".", count)),
+        call: here_version,
+    },
+    Form {
+        name: "runs",
+        text: |count| format!("1.2.3-{}", joined("rc", "-", count)),
+        call: here_version,
+    },
+    Form {
+        name: "digits",
+        text: |count| format!("1.2.3-{}", joined("7", "", count)),
+        call: here_version,
+    },
     Form { name: "simples", text: |count| joined("^1.2.3", " ", count), call: here_range },
     Form { name: "ranges", text: |count| joined("^1.2.3", " || ", count), call: here_range },
 ];
 
 const COUNTS: [usize; 3] = [1_000, 10_000, 100_000];
 
-/// Prints the instructions of a call on each form of text, at each count of elements, and the instructions for one element.
+/// Prints the instructions of a call on each form of text, at each count of elements, and the
+/// instructions for one element.
 pub fn print_table() -> Result<(), String> {
-    println!("| instructions for a text of | 1,000 | for each | 10,000 | for each | 100,000 | for each |");
+    print!("| instructions for a text of | 1,000 | for each ");
+    println!("| 10,000 | for each | 100,000 | for each |");
     println!("|---|---|---|---|---|---|---|");
     for form in &FORMS {
         print!("| {} |", form.name);
@@ -37,7 +51,8 @@ pub fn print_table() -> Result<(), String> {
     Ok(())
 }
 
-/// Makes a text of a form, and calls the call of that form on it so often: what callgrind is run on.
+/// Makes a text of a form, and calls the call of that form on it so often: what callgrind is run
+/// on.
 pub fn run(name: &str, count: &str, calls: &str) -> Result<(), String> {
     let form = FORMS.iter().find(|form| form.name == name).ok_or("no such form")?;
     let count = count.parse().map_err(|_| "no count")?;
@@ -70,7 +85,9 @@ fn counted(name: &str, count: usize, calls: &str) -> Result<u64, String> {
         return Err(report.into_owned());
     }
     let collected = report.lines().find_map(|line| line.split("Collected : ").nth(1));
-    collected.and_then(|number| number.trim().parse().ok()).ok_or(format!("callgrind counted nothing: {report}"))
+    collected
+        .and_then(|number| number.trim().parse().ok())
+        .ok_or(format!("callgrind counted nothing: {report}"))
 }
 
 fn joined(element: &str, between: &str, count: usize) -> String {

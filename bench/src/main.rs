@@ -1,32 +1,43 @@
 //! Measures this repository's calls.
 //!
-//! `bench` times them beside those of the Rust crates, on the texts of the folder `texts`, and whole runs of the program
-//! `release-filter` beside those of `filter-by-semver`; `bench growth` counts the instructions of calls on texts of growing
-//! size; `bench texts` makes the made files of `texts` anew.
+//! `bench` times them beside those of the Rust crates, on texts that it makes, and whole runs of
+//! the program `release-filter` beside those of `filter-by-semver`. `bench seed N` does so on the
+//! texts of another seed. `bench texts` and `bench texts N` write such texts down, to be looked at,
+//! and `bench growth` counts the instructions of calls on texts of growing size.
 
 mod agreement;
 mod calls;
 mod cells;
-mod files;
+mod distinct;
+mod faults;
+mod forms;
 mod generation;
 mod growth;
 mod programs;
+#[path = "../../compare/src/random.rs"]
 mod random;
+mod rows;
+mod source;
 mod speed;
 mod texts;
 mod timing;
 
 use std::process::ExitCode;
 
+/// The seed of the texts where none is given.
+const SEED: u64 = 1;
+
 fn main() -> ExitCode {
     let arguments: Vec<String> = std::env::args().skip(1).collect();
     let arguments: Vec<&str> = arguments.iter().map(String::as_str).collect();
     let outcome = match arguments.as_slice() {
-        [] => print_times(),
+        [] => print_times(SEED),
+        ["seed", seed] => number(seed).and_then(print_times),
+        ["texts"] => texts::write_all(SEED),
+        ["texts", seed] => number(seed).and_then(texts::write_all),
         ["growth"] => growth::print_table(),
         ["run", name, count, calls] => growth::run(name, count, calls),
-        ["texts"] => generation::write(),
-        _ => Err("usage: bench [growth | texts]".to_string()),
+        _ => Err("usage: bench [seed N | texts [N] | growth]".to_string()),
     };
     match outcome {
         Ok(()) => ExitCode::SUCCESS,
@@ -38,8 +49,12 @@ fn main() -> ExitCode {
 }
 
 /// Prints both tables of times, parted by an empty line.
-fn print_times() -> Result<(), String> {
-    speed::print_table()?;
+fn print_times(seed: u64) -> Result<(), String> {
+    speed::print_table(seed)?;
     println!();
-    programs::print_table()
+    programs::print_table(seed)
+}
+
+fn number(text: &str) -> Result<u64, String> {
+    text.parse().map_err(|_| format!("no seed: {text:?}"))
 }

@@ -1,8 +1,10 @@
-//! The table of whole runs: the program `release-filter` beside the same filter over the crate `semver`.
+//! The table of whole runs: the program `release-filter` beside the same filter over the crate
+//! `semver`.
 
 use crate::cells::grouped;
-use crate::texts;
-use crate::timing::{best, Pass};
+use crate::generation::Make;
+use crate::texts::write;
+use crate::timing::{best, Side};
 use std::env;
 use std::fs::{self, File};
 use std::path::{Path, PathBuf};
@@ -11,14 +13,21 @@ use std::process::{Command, Stdio};
 /// The built program, from the folder `bench`.
 const RELEASE_FILTER: &str = "../crates/release_filter_main/out/release_filter_main";
 
-/// How many lines a run reads.
+/// How many distinct lines a run reads.
 const LINES: usize = 1_000_000;
 
-/// The files whose versions are the lines, again and again.
-const FILES: [(&str, &str); 2] = [("plain", "plain versions"), ("mixed", "versions, plain and with identifiers")];
+/// What the lines are made of.
+const MAKES: [(&str, Make); 2] =
+    [("plain versions", Make::Plain), ("versions, plain and with identifiers", Make::Mixed)];
 
 /// The ranges: in Cargo mode here, and as requirements of the crate `semver`, in its grammar.
 const RANGES: [(&str, &str); 2] = [("^1.2", "^1.2"), (">=1.0.0 <3.0.0", ">=1.0.0, <3.0.0")];
+
+/// Both programs with an argument that means the same to each.
+struct Sides<'a> {
+    here: Filter<'a>,
+    semver: Filter<'a>,
+}
 
 /// A program with its argument.
 struct Filter<'a> {
@@ -27,21 +36,26 @@ struct Filter<'a> {
 }
 
 /// Checks that both programs write the same, times them, and prints a table.
-pub fn print_table() -> Result<(), String> {
+pub fn print_table(seed: u64) -> Result<(), String> {
     let folder = folder()?;
-    let by_semver = folder.join("filter-by-semver");
-    println!("| ms a run | `release-filter` | over `semver` | ratio | kept of {} lines |", grouped(LINES as u64));
+    let (lines, semver) = (folder.join("lines.txt"), folder.join("filter-by-semver"));
+    let (here, count) = (Path::new(RELEASE_FILTER), grouped(LINES as u64));
+    let sides = RANGES.map(|range| Sides {
+        here: Filter { program: here, range: range.0 },
+        semver: Filter { program: &semver, range: range.1 },
+    });
+    println!("| ms a run | `release-filter` | over `semver` | ratio | kept of {count} lines |");
     println!("|---|---|---|---|---|");
-    for (name, title) in FILES {
-        let lines = folder.join(format!("{name}-lines.txt"));
-        write_lines(name, &lines)?;
-        for (here, semver) in RANGES {
-            let here = Filter { program: Path::new(RELEASE_FILTER), range: here };
-            let semver = Filter { program: &by_semver, range: semver };
-            print_row(title, &here, &semver, &lines)?;
+    for (title, make) in MAKES {
+        let versions = make.texts(seed, LINES);
+        write(&lines, &versions)?;
+        for sides in &sides {
+            print_row(title, sides, &lines, true)?;
         }
+        write(&lines, &tags(&versions))?;
+        print_row(&format!("{title}, with a `v` in front"), &sides[0], &lines, false)?;
     }
-    Ok(())
+    fs::remove_file(&lines).map_err(|error| format!("{}: {error}", lines.display()))
 }
 
 /// The folder of this program, where the other one stands, too.
@@ -50,33 +64,36 @@ fn folder() -> Result<PathBuf, String> {
     program.parent().map(Path::to_path_buf).ok_or("this program has no folder".to_string())
 }
 
-/// Writes the texts of a file as lines, from its first one again after its last one.
-fn write_lines(name: &str, to: &Path) -> Result<(), String> {
-    let text = texts::read(name)?;
-    let lines: String = text.lines().cycle().take(LINES).flat_map(|line| [line, "\n"]).collect();
-    fs::write(to, lines).map_err(|error| format!("{}: {error}", to.display()))
+/// Lines with a `v` in front of each, which spell no version.
+fn tags(versions: &str) -> String {
+    versions.lines().flat_map(|line| ["v", line, "\n"]).collect()
 }
 
-/// The row of one range over the lines of one file.
-fn print_row(title: &str, here: &Filter, semver: &Filter, lines: &Path) -> Result<(), String> {
+/// The row of one range over lines, of which some are kept, or none.
+fn print_row(title: &str, sides: &Sides, lines: &Path, is_kept: bool) -> Result<(), String> {
+    let (here, semver) = (&sides.here, &sides.semver);
     let kept = here.output(lines)?;
-    if kept.is_empty() || kept != semver.output(lines)? {
-        return Err(format!("{title}, {}: the programs write something else, or nothing", here.range));
+    if kept.is_empty() == is_kept || kept != semver.output(lines)? {
+        let range = here.range;
+        return Err(format!("{title}, {range}: the programs write something else than wanted"));
     }
-    let passes: [Pass; 2] = [Box::new(|| here.pass(lines)), Box::new(|| semver.pass(lines))];
-    let best: Vec<f64> = best(&passes).iter().map(|nanoseconds| nanoseconds / 1e6).collect();
-    let kept = kept.iter().filter(|byte| **byte == b'\n').count() as u64;
-    let (range, ratio) = (here.range, best[0] / best[1]);
-    println!("| {title}, `{range}` | {:.1} | {:.1} | {ratio:.2} | {} |", best[0], best[1], grouped(kept));
+    let sides: [Side<&Path>; 2] =
+        [Box::new(|lines| here.pass(lines)), Box::new(|lines| semver.pass(lines))];
+    let best: Vec<f64> =
+        best(&[lines], &sides).iter().map(|nanoseconds| nanoseconds / 1e6).collect();
+    let kept = grouped(kept.iter().filter(|byte| **byte == b'\n').count() as u64);
+    let (range, here, semver) = (here.range, best[0], best[1]);
+    let ratio = here / semver;
+    println!("| {title}, `{range}` | {here:.1} | {semver:.1} | {ratio:.2} | {kept} |");
     Ok(())
 }
 
 impl Filter<'_> {
-    /// What the program writes of the lines.
+    /// What the program writes of the lines. Its status is 1 where that is nothing.
     fn output(&self, lines: &Path) -> Result<Vec<u8>, String> {
         let fault = |error| format!("{}: {error}", self.program.display());
         let run = self.command(lines).stderr(Stdio::inherit()).output().map_err(fault)?;
-        if run.status.success() {
+        if run.status.code() == Some(i32::from(run.stdout.is_empty())) {
             Ok(run.stdout)
         } else {
             Err(format!("{} {:?}: {}", self.program.display(), self.range, run.status))
@@ -86,7 +103,7 @@ impl Filter<'_> {
     /// One run whose output goes nowhere. It answers the status.
     fn pass(&self, lines: &Path) -> u64 {
         let run = self.command(lines).stdout(Stdio::null()).status();
-        u64::from(run.is_ok_and(|status| status.success()))
+        run.ok().and_then(|status| status.code()).map_or(u64::MAX, |code| code as u64)
     }
 
     fn command(&self, lines: &Path) -> Command {

@@ -1,14 +1,21 @@
 //! The table of times.
 
-use crate::agreement::{check_file, check_filter, count_read};
-use crate::calls::{here_filter, semver_filter};
+use crate::agreement::{check_filter, check_row, count_read};
+use crate::calls::{here_filter, semver_filter, Call};
 use crate::cells::grouped;
-use crate::files::{File, FILES};
-use crate::texts;
-use crate::timing::{best, over, Pass};
+use crate::generation::Make;
+use crate::rows::{Row, ROWS};
+use crate::texts::{self, COUNT};
+use crate::timing::{best, Side};
+
+/// How many texts are timed at once, where they are read one by one.
+const STRETCH: usize = 1_000;
+
+/// How many versions are filtered at once.
+const FILTERED: usize = 10_000;
 
 /// Nanoseconds for a text.
-struct Row {
+struct Times {
     title: String,
     here: f64,
     parser: Option<f64>,
@@ -17,36 +24,33 @@ struct Row {
 }
 
 /// Checks that all sides agree, times them, and prints a table.
-pub fn print_table() -> Result<(), String> {
-    let (filters, released) = (texts::read("filters")?, texts::read("released")?);
-    let mut files = Vec::new();
-    for file in &FILES {
-        files.push((file, texts::read(file.name)?));
-    }
-    for (file, text) in &files {
-        check_file(file, &text.lines().collect::<Vec<&str>>())?;
+pub fn print_table(seed: u64) -> Result<(), String> {
+    let (filters, released) = (texts::filters()?, Make::Released.texts(seed, COUNT));
+    let made: Vec<String> = ROWS.iter().map(|row| row.make.texts(seed, COUNT)).collect();
+    let made: Vec<Vec<&str>> = made.iter().map(|text| text.lines().collect()).collect();
+    for (row, texts) in ROWS.iter().zip(&made) {
+        check_row(row, texts)?;
     }
     check_filter(&filters, &released)?;
 
-    println!("| ns a text | here | `semver-parser` | `semver` | ratio to `semver-parser` | ratio to `semver` | `semver` reads |");
-    println!("|---|---|---|---|---|---|---|");
-    for (file, text) in &files {
-        print_row(&file_row(file, &text.lines().collect::<Vec<&str>>()));
+    print_head();
+    for (row, texts) in ROWS.iter().zip(&made) {
+        print_times(&row_times(row, texts));
     }
-    for row in filter_rows(&filters, &released) {
-        print_row(&row);
+    for times in filter_times(&filters, &released) {
+        print_times(&times);
     }
     Ok(())
 }
 
-/// The row of a file whose texts are read one by one.
-fn file_row(file: &File, texts: &[&str]) -> Row {
-    let passes = [over(texts, file.here), over(texts, file.parser), over(texts, file.semver)];
-    let best = best(&passes);
+/// The times of a row whose texts are read one by one.
+fn row_times(row: &Row, texts: &[&str]) -> Times {
+    let stretches: Vec<&[&str]> = texts.chunks(STRETCH).collect();
+    let best = best(&stretches, &[row.here, row.parser, row.semver].map(side));
     let count = texts.len() as f64;
-    let read = grouped(count_read(file.semver, texts) as u64);
-    Row {
-        title: file.title.to_string(),
+    let read = grouped(count_read(row.semver, texts) as u64);
+    Times {
+        title: row.title.to_string(),
         here: best[0] / count,
         parser: Some(best[1] / count),
         semver: best[2] / count,
@@ -54,38 +58,59 @@ fn file_row(file: &File, texts: &[&str]) -> Row {
     }
 }
 
-/// The rows of the filter: versions read and filtered by the first range, and a filter alone, which is the mean of what each
-/// further range takes more. The crate `semver-parser` has no filter.
-fn filter_rows(filters: &str, released: &str) -> [Row; 2] {
+/// A side that reads texts one by one.
+fn side<'a>(call: Call) -> Side<'a, &'a [&'a str]> {
+    Box::new(move |texts| texts.iter().fold(0, |sum: u64, text| sum.wrapping_add(call(text))))
+}
+
+/// The times of the filter: versions read and filtered by the first range, and a filter alone,
+/// which is the mean of what each further range takes more. The crate `semver-parser` has no
+/// filter.
+fn filter_times(filters: &str, released: &str) -> [Times; 2] {
     let first = filters.lines().next().unwrap_or("");
-    let passes: [Pass; 4] = [
-        Box::new(|| here_filter(first, released)),
-        Box::new(|| semver_filter(first, released)),
-        Box::new(|| here_filter(filters, released)),
-        Box::new(|| semver_filter(filters, released)),
+    let stretches = stretches(released);
+    let sides: [Side<String>; 4] = [
+        Box::new(|versions| here_filter(first, versions)),
+        Box::new(|versions| semver_filter(first, versions)),
+        Box::new(|versions| here_filter(filters, versions)),
+        Box::new(|versions| semver_filter(filters, versions)),
     ];
-    let best = best(&passes);
+    let best = best(&stretches, &sides);
     let versions = released.lines().count();
     let further = (filters.lines().count() - 1) as f64;
-    let row = |title: &str, here: f64, semver: f64| Row {
-        title: format!("{title} {} versions", grouped(versions as u64)),
+    let times = |title: &str, here: f64, semver: f64| Times {
+        title: format!("{title} {} versions", grouped(FILTERED as u64)),
         here: here / versions as f64,
         parser: None,
         semver: semver / versions as f64,
-        semver_reads: "all".to_string(),
+        semver_reads: format!("all of {}", grouped(versions as u64)),
     };
+    let (here, semver) = ((best[2] - best[0]) / further, (best[3] - best[1]) / further);
     [
-        row("reading, and then filtering,", best[0], best[1]),
-        row("filtering alone,", (best[2] - best[0]) / further, (best[3] - best[1]) / further),
+        times("reading, and then filtering,", best[0], best[1]),
+        times("filtering alone,", here, semver),
     ]
 }
 
-fn print_row(row: &Row) {
-    let (parser, to_parser) = match row.parser {
-        Some(parser) => (format!("{parser:.1}"), format!("{:.2}", row.here / parser)),
+/// The lines, so many in a text.
+fn stretches(lines: &str) -> Vec<String> {
+    let lines: Vec<&str> = lines.split_inclusive('\n').collect();
+    lines.chunks(FILTERED).map(|lines| lines.concat()).collect()
+}
+
+fn print_head() {
+    print!("| ns a text | here | `semver-parser` | `semver` ");
+    println!("| ratio to `semver-parser` | ratio to `semver` | `semver` reads |");
+    println!("|---|---|---|---|---|---|---|");
+}
+
+fn print_times(times: &Times) {
+    let (parser, to_parser) = match times.parser {
+        Some(parser) => (format!("{parser:.1}"), format!("{:.2}", times.here / parser)),
         None => ("none".to_string(), "none".to_string()),
     };
-    let (title, here, semver, reads) = (&row.title, row.here, row.semver, &row.semver_reads);
-    let to_semver = here / semver;
-    println!("| {title} | {here:.1} | {parser} | {semver:.1} | {to_parser} | {to_semver:.2} | {reads} |");
+    let (title, here, semver) = (&times.title, times.here, times.semver);
+    let (to_semver, reads) = (here / semver, &times.semver_reads);
+    print!("| {title} | {here:.1} | {parser} | {semver:.1} ");
+    println!("| {to_parser} | {to_semver:.2} | {reads} |");
 }

@@ -1,32 +1,44 @@
-//! How long a pass takes.
+//! How long texts take.
 
 use std::time::{Duration, Instant};
 
-/// One pass over all texts of a row. It answers the sum of the calls' answers, so that no call is left out.
-pub type Pass<'a> = Box<dyn Fn() -> u64 + 'a>;
+/// What one side does with a stretch of the texts. It answers the sum of the calls' answers, so
+/// that no call is left out.
+pub type Side<'a, Stretch> = Box<dyn Fn(&Stretch) -> u64 + 'a>;
 
 /// How long the passes of a row are repeated.
-const REPEATED: Duration = Duration::from_secs(6);
+const REPEATED: Duration = Duration::from_secs(10);
 
-/// A pass over texts by a call.
-pub fn over<'a>(texts: &'a [&'a str], call: impl Fn(&str) -> u64 + 'a) -> Pass<'a> {
-    Box::new(move || texts.iter().fold(0, |sum: u64, text| sum.wrapping_add(call(text))))
+/// The least time that a side took for a stretch, and what it answered each time.
+struct Best {
+    nanoseconds: f64,
+    sum: Option<u64>,
 }
 
-/// The nanoseconds of each pass, at its best: the passes run in turn, again and again. A pass that answers another sum than
-/// before stops it all.
-pub fn best(passes: &[Pass<'_>]) -> Vec<f64> {
-    let sums: Vec<u64> = passes.iter().map(|pass| pass()).collect();
-    let mut best = vec![f64::INFINITY; passes.len()];
+/// The nanoseconds of each side for all texts. The sides run in turn, each over all stretches,
+/// again and again, and of each stretch the best time counts: a whole pass is too long to be left
+/// alone by the machine's other work.
+pub fn best<Stretch>(stretches: &[Stretch], sides: &[Side<'_, Stretch>]) -> Vec<f64> {
+    let untimed = || stretches.iter().map(|_| Best { nanoseconds: f64::INFINITY, sum: None });
+    let mut bests: Vec<Vec<Best>> = sides.iter().map(|_| untimed().collect()).collect();
     let begin = Instant::now();
     while begin.elapsed() < REPEATED {
-        for (index, pass) in passes.iter().enumerate() {
-            let start = Instant::now();
-            let sum = pass();
-            let nanoseconds = start.elapsed().as_nanos() as f64;
-            assert_eq!(sum, sums[index], "a pass answered another sum");
-            best[index] = best[index].min(nanoseconds);
+        for (side, bests) in sides.iter().zip(&mut bests) {
+            for (stretch, best) in stretches.iter().zip(bests) {
+                best.time(|| side(stretch));
+            }
         }
     }
-    best
+    bests.iter().map(|bests| bests.iter().map(|best| best.nanoseconds).sum()).collect()
+}
+
+impl Best {
+    /// Times a stretch once more. One that answers another sum than before stops it all.
+    fn time(&mut self, pass: impl Fn() -> u64) {
+        let start = Instant::now();
+        let sum = pass();
+        let nanoseconds = start.elapsed().as_nanos() as f64;
+        assert_eq!(sum, *self.sum.get_or_insert(sum), "a pass answered another sum");
+        self.nanoseconds = self.nanoseconds.min(nanoseconds);
+    }
 }

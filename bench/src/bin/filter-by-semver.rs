@@ -1,7 +1,8 @@
 //! What `release-filter` is timed beside: the same filter over the crate `semver`.
 //!
-//! `filter-by-semver REQUIREMENT` copies those lines of standard input to standard output, as they stand, that spell a release
-//! which the requirement takes. Its status is 0 where a line was copied, 1 where none was, and 2 after a fault.
+//! `filter-by-semver REQUIREMENT` copies those lines of standard input to standard output, as they
+//! stand, that spell a release which the requirement takes. Its status is 0 where a line was
+//! copied, 1 where none was, and 2 after a fault.
 
 use semver::{Version, VersionReq};
 use std::error::Error;
@@ -21,7 +22,8 @@ fn main() -> ExitCode {
 
 /// Copies the lines, and tells whether there was one. Standard input is buffered as it is.
 fn copy() -> Result<bool, Box<dyn Error>> {
-    let requirement = VersionReq::parse(&std::env::args().nth(1).ok_or("usage: filter-by-semver REQUIREMENT")?)?;
+    let requirement =
+        VersionReq::parse(&std::env::args().nth(1).ok_or("usage: filter-by-semver REQUIREMENT")?)?;
     let mut input = io::stdin().lock();
     let mut output = BufWriter::new(io::stdout().lock());
     let mut line = Vec::new();

@@ -1,7 +1,9 @@
-//! Calls for measuring speed from outside. Each takes bytes and answers a number that depends on all that was read.
+//! Calls for measuring speed from outside. Each takes bytes and answers a number that depends on
+//! all that was read.
 //!
-//! The caller promises that the bytes are UTF-8, so what is timed is the library's work alone, and no check of the bytes.
-//! Only a crate that measures does so: the calls that it measures take a `&str`.
+//! The caller promises that the bytes are UTF-8, so what is timed is the library's work alone, and
+//! no check of the bytes. Only a crate that measures does so: the calls that it measures take a
+//! `&str`.
 #![tactic(auto)]
 
 ghost use Rattle.std.specs.Prelude.{IsUtf8};
@@ -11,7 +13,8 @@ use semver_parser::version::Version;
 use semver_parser::{Compat, RangeSet, version};
 use std::alloc::Global;
 
-/// The sum of the numbers and of the counts of identifiers of the version that the text is; `u64::MAX` where it is none.
+/// The sum of the numbers and of the counts of identifiers of the version that the text is;
+/// `u64::MAX` where it is none.
 #[unsafe(no_mangle)]
 pub extern "C" fn speed_version(alloc: Global, text: &[u8]) -> u64
     requires { IsUtf8 text.now }
@@ -48,8 +51,8 @@ pub extern "C" fn speed_range(alloc: Global, text: &[u8]) -> u64
     }
 }
 
-/// Reads the versions, and filters them by each of the ranges in Cargo mode: how many are kept in all. Each version and
-/// each range is a line. `u64::MAX` where a line isn't read.
+/// Reads the versions, and filters them by each of the ranges in Cargo mode: how many are kept in
+/// all. Each version and each range is a line. `u64::MAX` where a line isn't read.
 #[unsafe(no_mangle)]
 pub extern "C" fn speed_filter(alloc: Global, ranges: &[u8], versions: &[u8]) -> u64
     requires ranges_are_text { IsUtf8 ranges.now }
@@ -70,7 +73,7 @@ pub extern "C" fn speed_filter(alloc: Global, ranges: &[u8], versions: &[u8]) ->
     kept
 }
 
-// The versions of the lines, if each line is one.
+/// The versions of the lines, if each line is one.
 fn read_versions(alloc: Global, lines: &str) -> Option<Vec<Version>> {
     let mut versions = Vec::new(alloc);
     for line in lines.lines() {

@@ -1,0 +1,48 @@
+//! The rows whose texts are read one by one, and what reads them.
+
+use crate::calls::{
+    here_is_version, here_range, here_version, parser_is_version, parser_range, parser_version,
+    semver_is_version, semver_range, semver_version, Call,
+};
+use crate::generation::Make;
+
+/// What a row is made of: texts, and the calls that are compared on them.
+pub struct Row {
+    pub title: &'static str,
+    pub make: Make,
+    pub here: Call,
+    pub parser: Call,
+    pub semver: Call,
+}
+
+/// The rows, in the order of the table.
+pub const ROWS: [Row; 7] = [
+    versions("plain versions", Make::Plain),
+    versions("versions, plain and with identifiers", Make::Mixed),
+    versions("refused versions", Make::Refused),
+    Row {
+        title: "is it a version, on the refused ones",
+        make: Make::Refused,
+        here: here_is_version,
+        parser: parser_is_version,
+        semver: semver_is_version,
+    },
+    ranges("simple ranges", Make::Simples),
+    ranges("range sets", Make::Ranges),
+    ranges("three and more simples or ranges", Make::Many),
+];
+
+impl Row {
+    /// Whether its texts are to be refused.
+    pub fn is_refused(&self) -> bool {
+        matches!(self.make, Make::Refused)
+    }
+}
+
+const fn versions(title: &'static str, make: Make) -> Row {
+    Row { title, make, here: here_version, parser: parser_version, semver: semver_version }
+}
+
+const fn ranges(title: &'static str, make: Make) -> Row {
+    Row { title, make, here: here_range, parser: parser_range, semver: semver_range }
+}
