@@ -1,4 +1,5 @@
-//! The program `release-filter [--npm] [--pre] RANGE`: arguments, standard input and output, and exit status, nothing else.
+//! The program `release-filter [--npm] [--pre] RANGE`: arguments, standard input and output, and
+//! exit status, nothing else.
 #![tactic(auto)]
 
 use release_filter::{FilterError, PreReleases, filter_lines};
@@ -13,14 +14,16 @@ const USAGE: &str = "usage: release-filter [--npm] [--pre] RANGE";
 
 /// What the program does.
 const HELP: &str = "
-Copies those lines of standard input to standard output, as they stand, that spell a release which RANGE means.
+Copies those lines of standard input to standard output, as they stand,
+that spell a release which RANGE means.
 
     --npm       read RANGE in npm mode; without it in Cargo mode
     --pre       copy the pre-releases that RANGE means, too
     --          end the options
     -h, --help  write this, and read no input
 
-Its status is 0 where a line was copied, 1 where none was, and 2 after a fault, which standard error tells.";
+Its status is 0 where a line was copied, 1 where none was, and 2 after a fault,
+which standard error tells.";
 
 /// What the arguments ask for.
 #[derive(Drop)]

@@ -26,7 +26,7 @@ fn main(rt: HostRuntime) -> ExitCode {
     let text = text.as_ref().map_or(DEFAULT_TEXT, |text| text.as_str());
     let ran = report::run(rt.alloc(), text, &mut rt.stdout());
     if ran.is_err() {
-        return refused(&rt, "cannot write output");
+        say(&rt, "cannot write output");
     }
     ExitCode::from(report::status(&ran))
 }
@@ -44,8 +44,13 @@ fn only_argument(rt: &(impl Env + AllocGlobal)) -> Result<Option<String>, Refusa
     Ok(text)
 }
 
-/// Says why on standard error, and gives status 2.
+/// Says why on standard error, and gives the status of arguments that aren't one text at most.
 fn refused(rt: &impl Eprint, why: &str) -> ExitCode {
-    let _ = eprintln!(rt; "{why}");
+    say(rt, why);
     ExitCode::from(2)
+}
+
+/// Says why on standard error. Where that can't be written, nobody is told, and the status stays.
+fn say(rt: &impl Eprint, why: &str) {
+    let _ = eprintln!(rt; "{why}");
 }
