@@ -12,6 +12,10 @@ const INPUT: &str = "1.2.0\r\nx\n1.3.0-rc\n1.9.0\n2.0.0\n1.4.0";
 /// What is written of it.
 const OUTPUT: &str = "1.2.0\r\n1.9.0\n1.4.0";
 
+/// Lines that spell no version: nothing, bytes that are no UTF-8, a bad character, more than a
+/// version, less, and a word.
+const FAULTY_LINES: [&[u8]; 6] = [b"", b"1.2.\xff", b"1.2.0/", b"1.2.0 a", b"1.2.0-", b"a"];
+
 /// Gives its bytes, so many at a call, and then fails.
 #[derive(Drop)]
 struct Broken<'b> {
@@ -53,7 +57,45 @@ pub fn write_lines(rt: &impl Print, alloc: Global) -> io::Result<()> {
     println!(rt; "lines: {faults} readers and writers")
 }
 
-/// Whether the fault of the reader is told, and of the lines that ended before it exactly the kept ones were written.
+/// Writes which faulty lines aren't passed over, and how many there were.
+pub fn write_faulty_lines(rt: &impl Print, alloc: Global) -> io::Result<()> {
+    for (place, line) in FAULTY_LINES.iter().enumerate() {
+        for before in ["", "1.2.0\n"] {
+            for behind in ["", "\n", "\n1.9.0"] {
+                if !passes_over(alloc, before, line, behind)? {
+                    println!(rt; "lines: wrong at the faulty line {place}")?;
+                }
+            }
+        }
+    }
+    let count = FAULTY_LINES.len();
+    println!(rt; "lines: {count} faulty lines")
+}
+
+/// Whether a line is passed over, and what stands before it and behind it is written.
+fn passes_over(alloc: Global, before: &str, line: &[u8], behind: &str) -> io::Result<bool> {
+    let mut input = Vec::new(alloc);
+    input.extend_from_slice(before.as_bytes())?;
+    input.extend_from_slice(line)?;
+    input.extend_from_slice(behind.as_bytes())?;
+    let mut wanted = Vec::new(alloc);
+    wanted.extend_from_slice(before.as_bytes())?;
+    wanted.extend_from_slice(behind.trim_start().as_bytes())?;
+    let mut out = Vec::new(alloc);
+    let ran = filter_lines(
+        alloc,
+        "^1.2",
+        Compat::Cargo,
+        PreReleases::Excluded,
+        &mut input.as_slice(),
+        &mut out,
+    );
+    let is_some = !wanted.is_empty();
+    Ok(out == wanted && ran.is_ok_and(|some| some == is_some))
+}
+
+/// Whether the fault of the reader is told, and of the lines that ended before it exactly the kept
+/// ones were written.
 fn ends_at_a_reader(alloc: Global, place: usize, most: usize) -> io::Result<bool> {
     let bytes = INPUT.as_bytes().get(..place).unwrap_or_default();
     let mut input = BufReader::with_capacity(alloc, 4, Broken { bytes, most })?;
@@ -77,7 +119,8 @@ fn ends_at_a_reader(alloc: Global, place: usize, most: usize) -> io::Result<bool
     )
 }
 
-/// Whether the fault of the writer is told and nothing written after it, or all is written and it is told that there was a line.
+/// Whether the fault of the writer is told and nothing written after it, or all is written and it
+/// is told that there was a line.
 fn ends_at_a_writer(alloc: Global, left: usize, most: usize, refusal: Refusal) -> bool {
     let mut out = Limited::new(alloc, left, most, refusal);
     let mut input = INPUT.as_bytes();

@@ -4,7 +4,8 @@ use semver_parser::{Comparator, Compat, Identifier, Op, Range, RangeSet};
 use std::alloc::{AllocError, Global};
 use std::io;
 
-/// Writes what versions read back as whose one identifier keeps a text that may be none of an identifier.
+/// Writes what versions read back as whose one identifier keeps a text that may be none of an
+/// identifier.
 pub fn write_versions(rt: &impl Print, alloc: Global) -> io::Result<()> {
     for text in ["7", "01", "a--b", ""] {
         let made = version_of(alloc, text)?.to_string(alloc)?;
@@ -26,30 +27,65 @@ fn version_of(alloc: Global, text: &str) -> Result<Version, AllocError> {
     })
 }
 
-/// Writes what sets read back as in Cargo mode: of one text, without comparators, without ranges, and with a range in another mode.
+/// Writes what sets in Cargo mode read back as: one without ranges, one without comparators, ranges
+/// of one comparator, and one whose range is in another mode.
 pub fn write_sets(rt: &impl Print, alloc: Global) -> io::Result<()> {
-    for text in ["-", "18446744073709551616", "007", "a.b"] {
-        let kept = Identifier::AlphaNumeric(text.to_string(alloc)?);
-        let comparator = Comparator {
-            op: Op::Lte,
-            major: 1,
-            minor: 2,
-            patch: 3,
-            pre: vec![in alloc; kept]?,
-        };
-        let comparator_set = vec![in alloc; comparator]?;
-        write_read_back(rt, alloc, &of_one_range(alloc, comparator_set)?)?;
-    }
-    write_read_back(rt, alloc, &of_one_range(alloc, Vec::new(alloc))?)?;
     let (ranges, compat) = (Vec::new(alloc), Compat::Cargo);
-    write_read_back(rt, alloc, &RangeSet { ranges, compat })
+    write_read_back(rt, alloc, &RangeSet { ranges, compat })?;
+    let no_comparators = Vec::new(alloc);
+    write_read_back(
+        rt,
+        alloc,
+        &of_one_range(alloc, no_comparators, Compat::Cargo)?,
+    )?;
+    for (op, numbers, text) in [
+        (Op::Eq, (1, 2, 3), "007"),
+        (Op::Eq, (1, 2, 3), "a.b"),
+        (Op::Lte, (1, 0, 0), "-"),
+        (Op::Eq, (1, 2, 3), "18446744073709551616"),
+    ] {
+        let kept = Identifier::AlphaNumeric(text.to_string(alloc)?);
+        let comparator_set = comparators(alloc, op, numbers, vec![in alloc; kept]?)?;
+        write_read_back(
+            rt,
+            alloc,
+            &of_one_range(alloc, comparator_set, Compat::Cargo)?,
+        )?;
+    }
+    let comparator_set = comparators(alloc, Op::Gt, (1, 0, 0), Vec::new(alloc))?;
+    write_read_back(
+        rt,
+        alloc,
+        &of_one_range(alloc, comparator_set, Compat::Npm)?,
+    )
 }
 
-/// A set in Cargo mode, of one range in Npm mode.
-fn of_one_range(alloc: Global, comparator_set: Vec<Comparator>) -> Result<RangeSet, AllocError> {
+/// The one comparator of an operator, three numbers and a pre-release.
+fn comparators(
+    alloc: Global,
+    op: Op,
+    (major, minor, patch): (u64, u64, u64),
+    pre: Vec<Identifier>,
+) -> Result<Vec<Comparator>, AllocError> {
+    let comparator = Comparator {
+        op,
+        major,
+        minor,
+        patch,
+        pre,
+    };
+    Ok(vec![in alloc; comparator]?)
+}
+
+/// A set in Cargo mode, of one range in a mode of its own.
+fn of_one_range(
+    alloc: Global,
+    comparator_set: Vec<Comparator>,
+    compat: Compat,
+) -> Result<RangeSet, AllocError> {
     let range = Range {
         comparator_set,
-        compat: Compat::Npm,
+        compat,
     };
     Ok(RangeSet {
         ranges: vec![in alloc; range]?,
@@ -57,9 +93,16 @@ fn of_one_range(alloc: Global, comparator_set: Vec<Comparator>) -> Result<RangeS
     })
 }
 
-/// Writes what a set prints as, and what that reads back as in Cargo mode.
+/// Writes what a set prints as, what that reads back as in the set's own mode, and whether that is
+/// the set.
 fn write_read_back(rt: &impl Print, alloc: Global, set: &RangeSet) -> io::Result<()> {
     let printed = set.to_string(alloc)?;
-    let again = RangeSet::parse(alloc, printed.as_str(), Compat::Cargo);
-    println!(rt; "{printed}: {again:?}")
+    let again = RangeSet::parse(alloc, printed.as_str(), set.compat);
+    let is_itself = again.as_ref().is_ok_and(|again| again == set);
+    println!(rt; "{printed}: {again:?}, itself: {is_itself}")?;
+    let exact = RangeSet::parse_exact(alloc, printed.as_str(), set.compat);
+    if exact != again {
+        println!(rt; "{printed}: with exact bounds {exact:?}")?;
+    }
+    Ok(())
 }

@@ -1,6 +1,6 @@
-//! Tests of the library that need more than data: the derived orders, values made by hand, and readers and writers that fail.
-//! It writes what it found. What it has to be stands in the file beside this crate: it comes from the written rules and
-//! from the declarations of the Rust crate.
+//! Tests of the library that need more than data: the derived orders, values made by hand, and
+//! readers and writers that fail. It writes what it found. What it has to be stands in the file
+//! beside this crate: it comes from the written rules and from the declarations of the Rust crate.
 #![tactic(auto)]
 
 mod lines;
@@ -9,6 +9,7 @@ mod orders;
 mod printing;
 mod reports;
 mod writers;
+mod writes;
 
 use std::io;
 
@@ -20,6 +21,8 @@ fn main(rt: HostRuntime) -> io::Result<()> {
     printing::write_versions(&rt, rt.alloc())?;
     printing::write_sets(&rt, rt.alloc())?;
     printing::write_errors(&rt, rt.alloc())?;
+    writes::write_writes(&rt, rt.alloc())?;
     reports::write_report(&rt, rt.alloc())?;
-    lines::write_lines(&rt, rt.alloc())
+    lines::write_lines(&rt, rt.alloc())?;
+    lines::write_faulty_lines(&rt, rt.alloc())
 }

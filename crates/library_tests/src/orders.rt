@@ -1,4 +1,5 @@
-//! The derived orders: the cases of an enum in the order declared, and the fields of a struct from the first on.
+//! The derived orders: the cases of an enum in the order declared, and the fields of a struct from
+//! the first on.
 use semver_parser::lexer::{self, Token};
 use semver_parser::parser::Error;
 use semver_parser::version::Version;

@@ -86,7 +86,8 @@ fn write_comparator(
     Ok(())
 }
 
-/// Writes which errors print: those that reading a version answers, and those that are made by hand.
+/// Writes which errors print: those that reading a version answers, and those that are made by
+/// hand.
 pub fn write_errors(rt: &impl Print, alloc: Global) -> io::Result<()> {
     for (text, sentence) in [
         ("1.2", "expected more input"),
@@ -142,8 +143,8 @@ fn write_printed<T: fmt::Display>(
     println!(rt; "[{text}] prints")
 }
 
-/// Whether the value prints as the text to a writer of so many bytes: all of it where all is taken, and else a beginning, a
-/// fault, and nothing more.
+/// Whether the value prints as the text to a writer of so many bytes: all of it where all is taken,
+/// and else a beginning, a fault, and nothing more.
 fn prints<T: fmt::Display>(alloc: Global, value: &T, text: &str, left: usize) -> bool {
     let mut out = Limited::new(alloc, left, usize::MAX, Refusal::Fail);
     let is_printed = write!(out, "{value}").is_ok();

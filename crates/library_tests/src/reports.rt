@@ -23,7 +23,8 @@ pub fn write_report(rt: &impl Print, alloc: Global) -> io::Result<()> {
     println!(rt; "report: {refusals} writers")
 }
 
-/// Whether the report writes all that is taken and nothing after a refusal, and its status is 2 exactly if one came.
+/// Whether the report writes all that is taken and nothing after a refusal, and its status is 2
+/// exactly if one came.
 fn ends_with(alloc: Global, left: usize, most: usize, refusal: Refusal) -> bool {
     let mut out = Limited::new(alloc, left, most, refusal);
     let ran = report::run(alloc, "1.2.3", &mut out);

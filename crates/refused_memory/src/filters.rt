@@ -7,16 +7,18 @@ use semver_parser::version::Version;
 use semver_parser::{Compat, RangeError, parser, version};
 use std::alloc::Global;
 
-/// `^0.2 || 2.x` on five versions keeps three. Making the list is part of the call.
+/// `^0.2 || 2.x` on five versions, one of them a pre-release, keeps three. Making the list is part
+/// of the call.
 pub fn filter(alloc: Global) -> Ending {
     let mut versions = Vec::new(alloc);
-    for text in ["0.2.0", "0.3.0", "2.5.0", "2.5.0"] {
+    for text in ["0.2.0", "0.3.0", "2.0.0-rc", "2.5.0", "2.5.0"] {
         match version::parse(alloc, text) {
             Ok(version) => {
                 if versions.push(version).is_err() {
                     return Ending::Refused;
                 }
             }
+            Err(parser::Error::OutOfMemory) => return Ending::Refused,
             Err(_) => return Ending::Wrong,
         }
     }
@@ -33,7 +35,8 @@ fn is_wanted(version: &Version) -> bool {
     (version.major == 0 && version.minor == 2) || (version.major == 2 && version.minor == 5)
 }
 
-/// `>=0.2.0 <3.0.0` on two versions keeps the one that is a pre-release. Making the list is part of the call.
+/// `>=0.2.0 <3.0.0` on two versions keeps the one that is a pre-release. Making the list is part of
+/// the call.
 pub fn filter_of_all(alloc: Global) -> Ending {
     let mut versions = Vec::new(alloc);
     for text in ["0.1.0", "2.5.0-1"] {

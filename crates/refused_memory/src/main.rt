@@ -1,6 +1,7 @@
-//! Calls what takes memory, and checks that each call answers in full or for want of memory, and leaves what it promises.
-//! Standard input is the number of requests to make first. Where it is empty, every call has to answer in full;
-//! else the one request that is refused has to be met by exactly one call, which is named.
+//! Calls what takes memory, and checks that each call answers in full or for want of memory, and
+//! leaves what it promises. Standard input is the number of requests to make first. Where it is
+//! empty, every call has to answer in full; else the one request that is refused has to be met by
+//! exactly one call, which is named.
 #![tactic(auto)]
 
 mod filters;
@@ -47,8 +48,13 @@ impl Ending {
     }
 }
 
+/// After so many requests the next one is refused.
+const FIRST_REFUSED: u32 = 999;
+
 fn main(rt: HostRuntime) -> io::Result<()> {
-    spend_requests(rt.alloc(), &mut rt.stdin())?;
+    if spend_requests(rt.alloc(), &mut rt.stdin())? == FIRST_REFUSED {
+        tell(&rt, &of_long_texts(rt.alloc()))?;
+    }
     tell(&rt, &of_versions(rt.alloc()))?;
     tell(&rt, &of_ranges(rt.alloc()))?;
     rt.println("done")
@@ -152,8 +158,13 @@ fn of_ranges(alloc: Global) -> [(&'static str, Ending); 17] {
     ]
 }
 
-/// Makes as many requests as the input says.
-fn spend_requests(alloc: Global, input: &mut impl Read) -> io::Result<()> {
+/// How calls on long texts end that make no request. They take long, and are made once.
+fn of_long_texts(alloc: Global) -> [(&'static str, Ending); 1] {
+    [("refused_at_the_end", ranges::refused_at_the_end(alloc))]
+}
+
+/// Makes as many requests as the input says, and tells how many these were.
+fn spend_requests(alloc: Global, input: &mut impl Read) -> io::Result<u32> {
     let mut digits = [0u8; 8];
     let count = input.read(&mut digits)?;
     let mut requests = 0u32;
@@ -167,5 +178,5 @@ fn spend_requests(alloc: Global, input: &mut impl Read) -> io::Result<()> {
     for _ in 0..requests {
         let _request = Box::new(alloc, 0u8);
     }
-    Ok(())
+    Ok(requests)
 }

@@ -60,6 +60,25 @@ pub fn refused_texts(alloc: Global) -> Ending {
     Ending::Full
 }
 
+/// 9,999 times two bars, and one more: 10,000 ranges and half of what parts them from the next.
+const BARS: [u8; 19_999] = [b'|'; 19_999];
+
+/// A long text that is refused at its end is refused without a request.
+pub fn refused_at_the_end(alloc: Global) -> Ending {
+    let Ok(text) = str::from_utf8(&BARS) else {
+        return Ending::Wrong;
+    };
+    for compat in [Compat::Cargo, Compat::Npm] {
+        if !matches!(
+            RangeSet::parse(alloc, text, compat),
+            Err(RangeError::NotARange)
+        ) {
+            return Ending::Wrong;
+        }
+    }
+    Ending::Full
+}
+
 /// A clone equals its source, or finds no memory and leaves the source as it was.
 pub fn clone(alloc: Global) -> Ending {
     let Ok(set) = RangeSet::parse(alloc, TEXT, Compat::Npm) else {

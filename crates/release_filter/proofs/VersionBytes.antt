@@ -9,7 +9,7 @@ use Rattle.std.proofs.lemmas.Fmt.{IsAscii-decimal}
 use Rattle.std.proofs.lemmas.Str.{IsUtf8-from_ascii, IsAscii-append}
 use Rattle.std.proofs.lemmas.Str.Ascii.{IsAscii-from_all, IsAscii-nil}
 use Rattle.semver_parser.specs.Texts.{Text, marked}
-use Rattle.semver_parser.specs.Tokens.{is_space}
+use Rattle.semver_parser.specs.Texts.{is_space}
 use Rattle.semver_parser.specs.Versions.{IdentifierValue, numeric, alphanumeric, VersionValue, numbers}
 use Rattle.semver_parser.specs.VersionGrammar.{SpellsIdentifier, SpellsPart, SpellsVersion}
 
@@ -39,15 +39,19 @@ letters (b ∷ bs) h = ascii_cons b bs (small_letter b h.0) (letters bs h.1)
 joined_texts : (c : ℕ) → c < 128 → (texts : List Text) → AllByRecursion IsAscii texts → IsAscii (join_with_byte c texts)
 joined_texts c small [] h = IsAscii-nil
 joined_texts c small (t ∷ []) h = h.0
-joined_texts c small (t ∷ next ∷ texts) h = IsAscii-append t (c ∷ join_with_byte c (next ∷ texts)) h.0 (ascii_cons c _ small (joined_texts c small (next ∷ texts) h.1))
+joined_texts c small (t ∷ next ∷ texts) h =
+    IsAscii-append t (c ∷ join_with_byte c (next ∷ texts)) h.0 (ascii_cons c _ small (joined_texts c small (next ∷ texts) h.1))
 
-runs : (texts : List Text) → AllByRecursion (λ bytes. (0 < length bytes) × AllByRecursion (λ b. IsTrue (is_ascii_alphanumeric b)) bytes) texts → AllByRecursion IsAscii texts
+runs : (texts : List Text)
+    → AllByRecursion (λ bytes. (0 < length bytes) × AllByRecursion (λ b. IsTrue (is_ascii_alphanumeric b)) bytes) texts
+    → AllByRecursion IsAscii texts
 runs [] h = tt
 runs (t ∷ texts) h = (letters t h.0.1, runs texts h.1)
 
 identifier : (id : IdentifierValue) (text : Text) → SpellsIdentifier id text → IsAscii text
 identifier (numeric n) text h = subst IsAscii (sym h.1) (IsAscii-decimal n h.0)
-identifier (alphanumeric kept) text h = subst IsAscii (sym h.0) (subst IsAscii (sym h.1.joined) (joined_texts 45 (lit< tt) h.1.runs (runs h.1.runs h.1.each)))
+identifier (alphanumeric kept) text h =
+    subst IsAscii (sym h.0) (subst IsAscii (sym h.1.joined) (joined_texts 45 (lit< tt) h.1.runs (runs h.1.runs h.1.each)))
 
 identifiers : (ids : List IdentifierValue) (texts : List Text) → AllZip SpellsIdentifier ids texts → AllByRecursion IsAscii texts
 identifiers [] [] h = tt
@@ -63,7 +67,11 @@ part : (mark : Text) (ids : List IdentifierValue) (text : Text) → IsAscii mark
 part mark ids text m h = subst IsAscii (sym h.joined) (behind_mark mark h.texts m (identifiers ids h.texts h.each))
 
 three : (v : VersionValue) (text : Text) → SpellsVersion v text → IsAscii (join_with_byte 46 (map decimal (numbers v.plain)))
-three v text h = joined_texts 46 (lit< tt) (map decimal (numbers v.plain)) (IsAscii-decimal _ h.major, (IsAscii-decimal _ h.minor, (IsAscii-decimal _ h.patch, tt)))
+three v text h =
+    joined_texts 46 (lit< tt) (map decimal (numbers v.plain)) (
+      IsAscii-decimal _ h.major,
+      (IsAscii-decimal _ h.minor, (IsAscii-decimal _ h.patch, tt)),
+    )
 
 pub version_is_text : (v : VersionValue) (text : Text) → SpellsVersion v text → IsUtf8 text
 version_is_text v text h = IsUtf8-from_ascii text (subst IsAscii (sym h.spelled)

@@ -1,5 +1,6 @@
 -- The lines of a stream, and which of them a range text keeps.
-use Rattle.std.specs.Prelude.{◌≡◌, ℕ, ◌==◌, ◌⊎◌, Bool, not, List, [], ◌∷◌, ◌++◌, if◌then◌else◌, Option, Result, IfOk, IsTrue}
+use Rattle.std.specs.Prelude.{◌≡◌, ℕ, ◌==◌, ◌⊎◌, Bool, not, List, [], ◌∷◌, ◌++◌, if◌then◌else◌}
+use Rattle.std.specs.Prelude.{Option, Result, IfOk, IsTrue}
 use Rattle.std.specs.List.{concat}
 use Rattle.std.specs.Io.BufRead.{strip_last}
 use Rattle.semver_parser.specs.Texts.{is_empty}
@@ -21,7 +22,8 @@ abbrev pub lines_of : List ℕ → List (List ℕ)
 lines_of [] = []
 lines_of (x ∷ xs) = if x == 10 then (x ∷ []) ∷ lines_of xs else onto_first x (lines_of xs)
 
--- the text of a line: without the line feed at its end, and then without one carriage return at its end
+-- the text of a line: without the line feed at its end, and then without one carriage return at its
+-- end
 abbrev pub line_text : List ℕ → List ℕ
 line_text line = strip_last 13 (strip_last 10 line)
 
@@ -33,14 +35,18 @@ SpellsOneThat test line = (v : VersionValue) × SpellsVersion v (line_text line)
 abbrev pub IsKeptLine : PreReleases → Compat → SetTree → List ℕ → Type 0
 IsKeptLine pre_releases mode tree line = SpellsOneThat (meant_with pre_releases mode tree) line
 
--- the kept lines are exactly those of the lines that are to be kept, in their order and with repeats
+-- the kept lines are exactly those of the lines that are to be kept, in their order and with
+-- repeats
 abbrev pub AreThose : (List ℕ → Type 0) → List (List ℕ) → List (List ℕ) → Type 0
 AreThose IsKept [] kept = kept ≡ []
 AreThose IsKept (line ∷ lines) kept =
-    ((rest : List (List ℕ)) × IsKept line × (kept ≡ line ∷ rest) × AreThose IsKept lines rest) ⊎ (¬ (IsKept line) × AreThose IsKept lines kept)
+    ((rest : List (List ℕ)) × IsKept line × (kept ≡ line ∷ rest) × AreThose IsKept lines rest)
+    ⊎ (¬ (IsKept line) × AreThose IsKept lines kept)
 
--- a filter of these bytes wrote the kept ones of the lines that it read, or after a fault a beginning of them; with an answer it has read every line, and it tells whether some line was kept
-pub record CopiesLines {E : Type 0} (IsKept : List ℕ → Type 0) (bytes : List ℕ) (old new : Option (List ℕ)) (result : Result Bool E) : Type 0 where
+-- a filter of these bytes wrote the kept ones of the lines that it read, or after a fault a
+-- beginning of them; with an answer it has read every line, and it tells whether some line was kept
+pub record CopiesLines {E : Type 0} (IsKept : List ℕ → Type 0) (bytes : List ℕ)
+    (old new : Option (List ℕ)) (result : Result Bool E) : Type 0 where
   pub read : List (List ℕ)
   pub unread : List (List ℕ)
   pub kept : List (List ℕ)

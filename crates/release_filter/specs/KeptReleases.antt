@@ -1,4 +1,5 @@
--- What a range text keeps of a list of versions: the releases that it means, or every version that it means.
+-- What a range text keeps of a list of versions: the releases that it means, or every version that
+-- it means.
 use Rattle.std.specs.Prelude.{Bool, true, ◌&&◌, List, filter}
 use Rattle.semver_parser.specs.Texts.{is_empty}
 use Rattle.semver_parser.specs.Versions.{VersionValue}

@@ -1,4 +1,5 @@
-//! How a version compares with the version of a comparator, by precedence (SemVer 2.0.0, section 11).
+//! How a version compares with the version of a comparator, by precedence (SemVer 2.0.0, section
+//! 11).
 
 ghost use Rattle.std.specs.Prelude.{◌≡◌, map};
 ghost use Rattle.std.specs.Cmp.Lexicographic.{slice_cmp};
@@ -10,9 +11,11 @@ use semver_parser::version::{self, Version};
 use semver_parser::{Comparator, Identifier};
 use std::cmp::Ordering;
 
-/// Compares by the three numbers, and where these are equal by the pre-releases. The build of the version doesn't count.
+/// Compares by the three numbers, and where these are equal by the pre-releases. The build of the
+/// version doesn't count.
 pub fn compare(version: &Version, comparator: &Comparator) -> Ordering
-    ensures { result ≡ precedence (version_value version.now).plain (comparator_of comparator.now).version }
+    ensures { result ≡ precedence (version_value version.now).plain
+        (comparator_of comparator.now).version }
 {
     version
         .major
@@ -22,9 +25,10 @@ pub fn compare(version: &Version, comparator: &Comparator) -> Ordering
         .then_with(|| compare_pre_releases(&version.pre, &comparator.pre))
 }
 
-// No pre-release is above any. Two go identifier by identifier.
+/// No pre-release is above any. Two go identifier by identifier.
 fn compare_pre_releases(version: &[version::Identifier], comparator: &[Identifier]) -> Ordering
-    ensures { result ≡ pre_cmp (map identifier_value version.now) (map identifier_of comparator.now) }
+    ensures { result ≡ pre_cmp (map identifier_value version.now)
+        (map identifier_of comparator.now) }
 {
     match (version.is_empty(), comparator.is_empty()) {
         (true, true) => Ordering::Equal,
@@ -34,9 +38,10 @@ fn compare_pre_releases(version: &[version::Identifier], comparator: &[Identifie
     }
 }
 
-// The first identifiers that differ decide. Where there are none, the longer list is above.
+/// The first identifiers that differ decide. Where there are none, the longer list is above.
 fn compare_lists(version: &[version::Identifier], comparator: &[Identifier]) -> Ordering
-    ensures { result ≡ slice_cmp identifier_cmp (map identifier_value version.now) (map identifier_of comparator.now) }
+    ensures { result ≡ slice_cmp identifier_cmp (map identifier_value version.now)
+        (map identifier_of comparator.now) }
 {
     for (stated, bound) in version.iter().zip(comparator) {
         let ordering = compare_identifiers(stated, bound);
@@ -47,9 +52,10 @@ fn compare_lists(version: &[version::Identifier], comparator: &[Identifier]) -> 
     version.len().cmp(&comparator.len())
 }
 
-// Numbers go as numbers and texts by their bytes, and a number is below any text.
+/// Numbers go as numbers and texts by their bytes, and a number is below any text.
 fn compare_identifiers(version: &version::Identifier, comparator: &Identifier) -> Ordering
-    ensures { result ≡ identifier_cmp (identifier_value version.now) (identifier_of comparator.now) }
+    ensures { result ≡ identifier_cmp (identifier_value version.now)
+        (identifier_of comparator.now) }
 {
     match (version, comparator) {
         (version::Identifier::Numeric(stated), Identifier::Numeric(bound)) => stated.cmp(bound),

@@ -1,5 +1,5 @@
-//! The length and the Adler-32 checksum of a long answer, written in its place.
-//! A byte that is dropped, changed or moved changes them. Python's `zlib.adler32` computes the same.
+//! The length and the Adler-32 checksum of a long answer, written in its place. A byte that is
+//! dropped, changed or moved changes them. Python's `zlib.adler32` computes the same.
 
 use std::io::Write;
 use std::{fmt, io};

@@ -59,7 +59,8 @@ fn write_answer<W: Write>(kept: &Result<Vec<&Version>, RangeError>, out: &mut W)
     }
 }
 
-/// Writes the versions of a list, parted by blanks, that meet the set of a text, pre-releases too, or the fault of the text.
+/// Writes the versions of a list, parted by blanks, that meet the set of a text, pre-releases too,
+/// or the fault of the text.
 pub fn write_met<W: Write>(
     alloc: Global,
     text: &str,

@@ -20,6 +20,33 @@ pub fn write_lexed<W: Write>(text: &str, out: &mut W) -> io::Result<()> {
     write!(out, "end")
 }
 
+/// Writes each token of a text, and which of the two kinds that are asked for it is.
+pub fn write_kinds<W: Write>(text: &str, out: &mut W) -> io::Result<()> {
+    let mut first = true;
+    for item in Lexer::new(text) {
+        if !first {
+            write!(out, ", ")?;
+        }
+        first = false;
+        match item {
+            Ok(token) => write_kind(&token, out)?,
+            Err(Error::UnexpectedChar(character)) => write!(out, "UnexpectedChar({character})")?,
+        }
+    }
+    Ok(())
+}
+
+fn write_kind<W: Write>(token: &Token<'_>, out: &mut W) -> io::Result<()> {
+    write_token(token, out)?;
+    let kind = match (token.is_wildcard(), token.is_whitespace()) {
+        (true, true) => "both",
+        (true, false) => "wildcard",
+        (false, true) => "white space",
+        (false, false) => "neither",
+    };
+    write!(out, ": {kind}")
+}
+
 /// Writes a token.
 pub fn write_token<W: Write>(token: &Token<'_>, out: &mut W) -> io::Result<()> {
     match token {

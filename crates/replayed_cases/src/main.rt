@@ -1,7 +1,9 @@
-//! Replays a table of cases. Each line of standard input has a name, a call and a text, parted by tabs, and for the
-//! calls of a parser its steps, for those of the filter the versions, for `concat` what is added; the line of standard output begins with the name and
-//! tells what the call answered. Of a call behind `sum-of-` it tells the length and the checksum of that.
-//! What is expected stands in the file beside this crate's input: it comes from the published rows and from the Rust crate.
+//! Replays a table of cases. Each line of standard input has a name, a call and a text, parted by
+//! tabs, and for the calls of a parser its steps, for those of the filter the versions, for
+//! `concat` what is added; the line of standard output begins with the name and tells what the call
+//! answered. Of a call behind `sum-of-` it tells the length and the checksum of that. What is
+//! expected stands in the file beside this crate's input: it comes from the published rows and from
+//! the Rust crate.
 #![tactic(auto)]
 
 mod checksum;
@@ -61,6 +63,7 @@ fn answer<W: Write>(
 ) -> io::Result<()> {
     match call {
         "lex" => lexing::write_lexed(text, out),
+        "kinds" => lexing::write_kinds(text, out),
         "parser" => parsing::write_steps(alloc, text, steps, out),
         "version" => versions::write_version(&version::parse(alloc, text), out),
         "version-text" => versions::write_printed(alloc, text, out),

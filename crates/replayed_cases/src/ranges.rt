@@ -5,7 +5,8 @@ use std::alloc::Global;
 use std::io;
 use std::io::Write;
 
-/// Writes the fields of the set that a text is in a mode, or its fault. The mode is written where the set and each range have it.
+/// Writes the fields of the set that a text is in a mode, or its fault. The mode is written where
+/// the set and each range have it.
 pub fn write_set<W: Write>(
     alloc: Global,
     text: &str,
@@ -41,7 +42,7 @@ pub fn write_set<W: Write>(
     }
 }
 
-/// Writes what the set of a text prints, if it reads back to an equal set, or its fault.
+/// Writes what the set of a text prints, if both calls read it back to an equal set, or its fault.
 pub fn write_printed<W: Write>(
     alloc: Global,
     text: &str,
@@ -69,9 +70,19 @@ pub fn write_exact<W: Write>(
 
 fn write_read_back<W: Write>(alloc: Global, set: &RangeSet, out: &mut W) -> io::Result<()> {
     let printed = set.to_string(alloc)?;
-    match RangeSet::parse(alloc, printed.as_str(), set.compat) {
-        Ok(again) if again == *set => write!(out, "{printed}"),
-        _ => write!(out, "{printed} reads back as another set"),
+    let plain = RangeSet::parse(alloc, printed.as_str(), set.compat);
+    let exact = RangeSet::parse_exact(alloc, printed.as_str(), set.compat);
+    if is_answer(&plain, set) && is_answer(&exact, set) {
+        write!(out, "{printed}")
+    } else {
+        write!(out, "{printed} reads back as another set")
+    }
+}
+
+fn is_answer(answer: &Result<RangeSet, RangeError>, set: &RangeSet) -> bool {
+    match answer {
+        Ok(answered) => answered == set,
+        Err(_) => false,
     }
 }
 

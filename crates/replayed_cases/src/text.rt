@@ -1,5 +1,5 @@
-//! Texts of the table, where `\n`, `\r`, `\t` and `\\` stand for characters, and `\(3,a,-)` for `a-a-a`. In a unit that is so
-//! repeated `\#` stands for its place: `\(3,a\#,.)` is `a0.a1.a2`.
+//! Texts of the table, where `\n`, `\r`, `\t` and `\\` stand for characters, and `\(3,a,-)` for
+//! `a-a-a`. In a unit that is so repeated `\#` stands for its place: `\(3,a\#,.)` is `a0.a1.a2`.
 
 use std::alloc::{AllocError, Global};
 
@@ -25,7 +25,8 @@ pub fn expanded(alloc: Global, escaped: &str) -> Result<Option<String>, AllocErr
     Ok(Some(text))
 }
 
-/// Appends what `count,unit,joiner` stands for: so many units, joined. False where it isn't well written.
+/// Appends what `count,unit,joiner` stands for: so many units, joined. False where it isn't well
+/// written.
 fn push_repeated(text: &mut String, repeated: &str) -> Result<bool, AllocError> {
     let Some((count, rest)) = repeated.split_once(',') else {
         return Ok(false);
@@ -47,7 +48,8 @@ fn push_repeated(text: &mut String, repeated: &str) -> Result<bool, AllocError> 
     Ok(true)
 }
 
-/// Appends a text without repetitions, which stands at a place of a list or at none. False where an escape isn't known.
+/// Appends a text without repetitions, which stands at a place of a list or at none. False where an
+/// escape isn't known.
 fn push_unescaped(
     text: &mut String,
     escaped: &str,

@@ -16,27 +16,35 @@ use Rattle.semver_steps.specs.declared.parser.Error.{Error}
 use Rattle.semver_steps.specs.declared.parser.Error.TheVariants as error
 use Rattle.semver_texts.specs.declared.version.Version.{Version}
 use Rattle.semver_ranges.specs.RangeTree.{SetTree, Spells}
+use Rattle.semver_ranges.specs.RangeTexts.{IsRangeText, HasSet, IsTooLarge}
 use Rattle.semver_ranges.specs.RewritingTable.{PlainSet, fits, rewritten}
 use Rattle.semver_ranges.specs.PrintedRanges.{set_text}
 use Rattle.semver_parser.specs.Writing.{WritesOrBegins}
-use Rattle.semver_parser.specs.ReportLines.{VersionLine, version_printed, version_refused, version_unread, version_unprinted, version_fault_word, range_fault_word, RangeLine, set_printed, not_a_range, number_too_large, no_memory, AreLines, WritesLines, lines}
-use Rattle.semver_parser.specs.Shown.{shown_text, is_value_of}
+use Rattle.semver_parser.specs.ReportLines.{VersionLine, version_printed, version_refused, version_unread, version_unprinted}
+use Rattle.semver_parser.specs.ReportLines.{version_fault_word, range_fault_word, RangeLine, set_printed, not_a_range, number_too_large}
+use Rattle.semver_parser.specs.ReportLines.{no_memory, AreLines, WritesLines, lines}
+use Rattle.semver_parser.specs.Means.Shown.{shown_text, is_value_of}
 use Rattle.semver_parser.specs.declared.report.Shown.{Shown}
 use Rattle.semver_parser.specs.declared.report.Shown.TheVariants.{Value, Fault}
 
 -- a version that was read shows as its printed text, or as want of memory
 pub shows_version : (text : Text) (shown : Shown) (v : VersionValue) → IsOutcomeOf text (Ok v)
-    → (is_value_of shown ≡ true → shown_text shown ≡ version_text v) → (is_value_of shown ≡ false → shown_text shown ≡ codes "out-of-memory")
+    → (is_value_of shown ≡ true → shown_text shown ≡ version_text v)
+    → (is_value_of shown ≡ false → shown_text shown ≡ codes "out-of-memory")
     → VersionLine text (is_value_of shown) (shown_text shown)
-shows_version text (Value t) v outcome value other = subst (λ s. VersionLine text true s) (sym (value refl)) (version_printed text v outcome)
-shows_version text (Fault w) v outcome value other = subst (λ s. VersionLine text false s) (sym (other refl)) (version_unprinted text v outcome)
+shows_version text (Value t) v outcome value other =
+    subst (λ s. VersionLine text true s) (sym (value refl)) (version_printed text v outcome)
+shows_version text (Fault w) v outcome value other =
+    subst (λ s. VersionLine text false s) (sym (other refl)) (version_unprinted text v outcome)
 
 -- a fault shows as its word
-pub shows_fault : (text : Text) (e : Error) → UnlessOutOfMemory {T = Version} (Err e) (IsOutcomeOf text (answer_of version_value (Err e))) → IfOutOfMemory {T = Version} (Err e) (TextMayRunOut text)
+pub shows_fault : (text : Text) (e : Error) → UnlessOutOfMemory {T = Version} (Err e) (IsOutcomeOf text (answer_of version_value (Err e)))
+    → IfOutOfMemory {T = Version} (Err e) (TextMayRunOut text)
     → (word : Text) → word ≡ version_fault_word (fault_of e) → VersionLine text false word
 shows_fault text e outcome memory word is = subst (λ w. VersionLine text false w) (sym is) (go e outcome memory)
   where
-    go : (e : Error) → UnlessOutOfMemory {T = Version} (Err e) (IsOutcomeOf text (answer_of version_value (Err e))) → IfOutOfMemory {T = Version} (Err e) (TextMayRunOut text)
+    go : (e : Error) → UnlessOutOfMemory {T = Version} (Err e) (IsOutcomeOf text (answer_of version_value (Err e)))
+        → IfOutOfMemory {T = Version} (Err e) (TextMayRunOut text)
         → VersionLine text false (version_fault_word (fault_of e))
     go error.OutOfMemory outcome memory = version_unread text memory
     go error.UnexpectedEnd outcome memory = version_refused text _ outcome
@@ -47,7 +55,8 @@ shows_fault text e outcome memory word is = subst (λ w. VersionLine text false 
     go error.EmptyRange outcome memory = version_refused text _ outcome
 
 -- a set that was read shows as its printed text, or as want of memory
-pub shows_set : (mode : Compat) (text : Text) (shown : Shown) (set : PlainSet) (tree : SetTree) → Spells tree text → IsTrue (fits mode tree) → set ≡ rewritten mode tree
+pub shows_set : (mode : Compat) (text : Text) (shown : Shown) (set : PlainSet) (tree : SetTree) → Spells tree text → IsTrue (fits mode tree)
+    → set ≡ rewritten mode tree
     → (is_value_of shown ≡ true → shown_text shown ≡ set_text set) → (is_value_of shown ≡ false → shown_text shown ≡ codes "out-of-memory")
     → RangeLine mode text (is_value_of shown) (shown_text shown)
 shows_set mode text (Value t) set tree spelled fit is value other =
@@ -57,16 +66,16 @@ shows_set mode text (Fault w) set tree spelled fit is value other =
 
 -- a refusal shows as its word
 pub shows_refusal : (mode : Compat) (text : Text) (e : RangeError)
-    → (◌≡◌ {A = Result RangeSet RangeError} (Err e) (Err NotARange)) ↔ ((tree : SetTree) → Spells tree text → ⊥)
-    → (◌≡◌ {A = Result RangeSet RangeError} (Err e) (Err NumberTooLarge)) ↔ ((tree : SetTree) × Spells tree text × (fits mode tree ≡ false))
-    → (◌≡◌ {A = Result RangeSet RangeError} (Err e) (Err OutOfMemory) → (tree : SetTree) × Spells tree text × IsTrue (fits mode tree))
+    → (◌≡◌ {A = Result RangeSet RangeError} (Err e) (Err NotARange)) ↔ ¬ (IsRangeText text)
+    → (◌≡◌ {A = Result RangeSet RangeError} (Err e) (Err NumberTooLarge)) ↔ IsTooLarge mode text
+    → (◌≡◌ {A = Result RangeSet RangeError} (Err e) (Err OutOfMemory) → HasSet mode text)
     → (word : Text) → word ≡ range_fault_word e → RangeLine mode text false word
 shows_refusal mode text e none large memory word is = subst (λ w. RangeLine mode text false w) (sym is) (go e none large memory)
   where
     go : (e : RangeError)
-        → (◌≡◌ {A = Result RangeSet RangeError} (Err e) (Err NotARange)) ↔ ((tree : SetTree) → Spells tree text → ⊥)
-        → (◌≡◌ {A = Result RangeSet RangeError} (Err e) (Err NumberTooLarge)) ↔ ((tree : SetTree) × Spells tree text × (fits mode tree ≡ false))
-        → (◌≡◌ {A = Result RangeSet RangeError} (Err e) (Err OutOfMemory) → (tree : SetTree) × Spells tree text × IsTrue (fits mode tree))
+        → (◌≡◌ {A = Result RangeSet RangeError} (Err e) (Err NotARange)) ↔ ¬ (IsRangeText text)
+        → (◌≡◌ {A = Result RangeSet RangeError} (Err e) (Err NumberTooLarge)) ↔ IsTooLarge mode text
+        → (◌≡◌ {A = Result RangeSet RangeError} (Err e) (Err OutOfMemory) → HasSet mode text)
         → RangeLine mode text false (range_fault_word e)
     go NotARange none large memory = not_a_range mode text (none.0 refl)
     go NumberTooLarge none large memory = let found = large.0 refl in number_too_large mode text found.0 found.1 found.2
@@ -76,7 +85,8 @@ are_lines : (text : Text) (version cargo npm : Shown)
     → VersionLine text (is_value_of version) (shown_text version)
     → RangeLine Cargo text (is_value_of cargo) (shown_text cargo)
     → RangeLine Npm text (is_value_of npm) (shown_text npm)
-    → AreLines text (is_value_of version || (is_value_of cargo || is_value_of npm)) (lines (shown_text version) (shown_text cargo) (shown_text npm))
+    → AreLines text (is_value_of version || (is_value_of cargo || is_value_of npm))
+    (lines (shown_text version) (shown_text cargo) (shown_text npm))
 are_lines text version cargo npm p q s = record {
   version = shown_text version;
   cargo = shown_text cargo;
@@ -98,6 +108,10 @@ pub writes_lines : {E : Type 0} (text : Text) (version cargo npm : Shown) (a b :
     → RangeLine Npm text (is_value_of npm) (shown_text npm)
     → WritesOrBegins a b r (lines (shown_text version) (shown_text cargo) (shown_text npm))
     → IfOk r (λ good. good ≡ (is_value_of version || (is_value_of cargo || is_value_of npm))) → WritesLines text a b r
-writes_lines text version cargo npm a b (Ok good) p q s wrote is =
-    (_, subst (λ g. AreLines text g (lines (shown_text version) (shown_text cargo) (shown_text npm))) (sym is) (are_lines text version cargo npm p q s), wrote)
+writes_lines text version cargo npm a b (Ok good) p q s wrote is = (
+  _,
+  subst (λ g. AreLines text g (lines (shown_text version) (shown_text cargo) (shown_text npm))) (sym is)
+      (are_lines text version cargo npm p q s),
+  wrote,
+)
 writes_lines text version cargo npm a b (Err e) p q s wrote is = (_, _, are_lines text version cargo npm p q s, wrote)

@@ -5,7 +5,10 @@ use Rattle.std.specs.Fmt.{digits}
 use Rattle.std.specs.Ordering.{is_lt}
 use Rattle.semver_ranges.specs.declared.range.Compat.{Compat}
 use Rattle.semver_ranges.specs.declared.range.Compat.TheVariants.{Cargo, Npm}
-use Rattle.semver_ranges.specs.RangeTree.{PartialTree, one, three, Form, bare, equal, at_most, greater, tilde, caret, empty, hyphen, simples, SetTree, SpellsPartial, SpellsForm, Spells}
+use Rattle.semver_ranges.specs.RangeTexts.{IsTooLarge}
+use Rattle.semver_ranges.specs.RangeTree.{PartialTree, one, three, Form, bare, equal, at_most}
+use Rattle.semver_ranges.specs.RangeTree.{greater, tilde, caret, empty, hyphen, simples, SetTree}
+use Rattle.semver_ranges.specs.RangeTree.{SpellsPartial, SpellsForm, Spells}
 use Rattle.semver_texts.specs.Texts.{Text}
 use Rattle.semver_ranges.specs.Precedence.{precedence}
 use Rattle.semver_texts.specs.Versions.{IdentifierValue, numeric, alphanumeric, PlainVersion}
@@ -17,15 +20,16 @@ use Rattle.semver_ranges.specs.PrintedRanges.{set_text}
 
 -- a tree that spells the text fits in the mode, and its comparators are printed so
 abbrev pub IsRewritten : Text → Compat → Text → Type 0
-IsRewritten text mode printed = (tree : SetTree) × Spells tree text × (fits mode tree ≡ true) × (set_text (rewritten mode tree) ≡ printed)
+IsRewritten text mode printed =
+    (tree : SetTree) × Spells tree text × (fits mode tree ≡ true)
+    × (set_text (rewritten mode tree) ≡ printed)
 
--- a tree that spells the text doesn't fit in the mode
-abbrev pub IsTooLarge : Text → Compat → Type 0
-IsTooLarge text mode = (tree : SetTree) × Spells tree text × (fits mode tree ≡ false)
-
--- a tree that spells the text has this meaning of its own for the version, and comparators that are met so
+-- a tree that spells the text has this meaning of its own for the version, and comparators that are
+-- met so
 abbrev pub IsMet : Text → Compat → PlainVersion → Bool → Bool → Type 0
-IsMet text mode v own comparators = (tree : SetTree) × Spells tree text × (meets_tree mode tree v ≡ own) × (meets_set v (rewritten mode tree) ≡ comparators)
+IsMet text mode v own comparators =
+    (tree : SetTree) × Spells tree text × (meets_tree mode tree v ≡ own)
+    × (meets_set v (rewritten mode tree) ≡ comparators)
 
 -- a version without pre-release
 abbrev pub release : ℕ → ℕ → ℕ → PlainVersion
@@ -35,26 +39,52 @@ release a b c = filled (a ∷ b ∷ c ∷ []) []
 abbrev pub version : ℕ → ℕ → ℕ → List IdentifierValue → PlainVersion
 version a b c pre = filled (a ∷ b ∷ c ∷ []) pre
 
--- one simple as a range, and its text as a whole set: what stands before the partial, and the partial
+-- one simple as a range, and its text as a whole set: what stands before the partial, and the
+-- partial
 abbrev pub lone : Form → PartialTree → SetTree
 lone form p = simples (record { form = form; partial = p }) [] ∷ []
 
-pub lone-spells : (form : Form) (p : PartialTree) (front back : Text) → SpellsForm form front → SpellsPartial p back → Spells (lone form p) ((front ++ back) ++ [])
-lone-spells form p front back f b = ([], front ++ back, [], refl, (front, back, f, b, refl), refl, refl)
+pub lone-spells : (form : Form) (p : PartialTree) (front back : Text) → SpellsForm form front
+    → SpellsPartial p back → Spells (lone form p) ((front ++ back) ++ [])
+lone-spells form p front back f b =
+    ([], front ++ back, [], refl, (front, back, f, b, refl), refl, refl)
 
 -- two partials round a hyphen, and their text
-pub hyphen-spells : (left right : PartialTree) (front back : Text) → SpellsPartial left front → SpellsPartial right back
+pub hyphen-spells : (left right : PartialTree) (front back : Text) → SpellsPartial left front
+    → SpellsPartial right back
     → Spells (hyphen left right ∷ []) ((front ++ codes " " ++ codes "-" ++ codes " " ++ back) ++ [])
-hyphen-spells left right front back l r = ([], front ++ codes " " ++ codes "-" ++ codes " " ++ back, [], refl, (front, codes " ", codes " ", back, l, (refl, refl), (refl, refl), r, refl), refl, refl)
+hyphen-spells left right front back l r = (
+  [],
+  front ++ codes " " ++ codes "-" ++ codes " "
+      ++ back,
+  [],
+  refl,
+  (
+    front,
+    codes " ",
+    codes " ",
+    back,
+    l,
+    (refl, refl),
+    (refl, refl),
+    r,
+    refl,
+  ),
+  refl,
+  refl,
+)
 
 -- a pre-release keeps numbers and texts; the raised bound has none
 abbrev pub beta : PartialTree
 beta = three (codes "1") (codes "2") (codes "3") (codes "beta" ∷ codes "4" ∷ []) []
 
 pub caret_beta : Spells (lone caret beta) (codes "^1.2.3-beta.4")
-caret_beta = lone-spells caret beta (codes "^") (codes "1.2.3-beta.4") ([], refl, refl) (refl, (refl, refl), refl)
+caret_beta =
+    lone-spells caret beta (codes "^") (codes "1.2.3-beta.4") ([], refl, refl)
+    (refl, (refl, refl), refl)
 
-pub caret_beta_prints : (mode : Compat) → IsRewritten (codes "^1.2.3-beta.4") mode (codes ">=1.2.3-beta.4 <2.0.0")
+pub caret_beta_prints : (mode : Compat)
+    → IsRewritten (codes "^1.2.3-beta.4") mode (codes ">=1.2.3-beta.4 <2.0.0")
 unfolding digits
 caret_beta_prints mode = (lone caret beta, caret_beta, refl, refl)
 
@@ -63,7 +93,8 @@ pub tilde_prints : (mode : Compat) → IsRewritten (codes "~> 1.2.3") mode (code
 unfolding digits
 tilde_prints mode = (
   lone tilde (three (codes "1") (codes "2") (codes "3") [] []),
-  lone-spells tilde (three (codes "1") (codes "2") (codes "3") [] []) (codes "~> ") (codes "1.2.3") (inr (codes " ", refl, refl)) (refl, (refl, refl), refl),
+  lone-spells tilde (three (codes "1") (codes "2") (codes "3") [] []) (codes "~> ") (codes "1.2.3")
+      (inr (codes " ", refl, refl)) (refl, (refl, refl), refl),
   refl,
   refl,
 )
@@ -84,19 +115,38 @@ unfolding digits
 plain_npm = (lone bare plain, plain_spells, refl, refl)
 
 -- a caret raises the first number that isn't 0
-pub caret_zero : (mode : Compat) → IsRewritten (codes "^0.0.1-beta") mode (codes ">=0.0.1-beta <0.0.2")
+pub caret_zero : (mode : Compat)
+    → IsRewritten (codes "^0.0.1-beta") mode (codes ">=0.0.1-beta <0.0.2")
 unfolding digits
-caret_zero mode = let p : PartialTree = three (codes "0") (codes "0") (codes "1") (codes "beta" ∷ []) [] in
-    (lone caret p, lone-spells caret p (codes "^") (codes "0.0.1-beta") ([], refl, refl) (refl, (refl, refl), refl), refl, refl)
+caret_zero mode = let p : PartialTree = three (codes "0") (codes "0") (codes "1")
+    (codes "beta" ∷ []) [] in (
+      lone caret p,
+      lone-spells caret p (codes "^") (codes "0.0.1-beta") ([], refl, refl)
+          (refl, (refl, refl), refl),
+      refl,
+      refl,
+    )
 
 -- nothing stated: any version, and below 0.0.0 for `<` and `>`
 pub above_any : (mode : Compat) → IsRewritten (codes ">*") mode (codes "<0.0.0")
 unfolding digits
-above_any mode = (lone greater (one (codes "*")), lone-spells greater (one (codes "*")) (codes ">") (codes "*") ([], refl, refl) (refl, tt, refl), refl, refl)
+above_any mode = (
+  lone greater (one (codes "*")),
+  lone-spells greater (one (codes "*")) (codes ">") (codes "*")
+      ([], refl, refl) (refl, tt, refl),
+  refl,
+  refl,
+)
 
 pub up_to_any : (mode : Compat) → IsRewritten (codes "<=*") mode (codes ">=0.0.0")
 unfolding digits
-up_to_any mode = (lone at_most (one (codes "*")), lone-spells at_most (one (codes "*")) (codes "<=") (codes "*") ([], refl, refl) (refl, tt, refl), refl, refl)
+up_to_any mode = (
+  lone at_most (one (codes "*")),
+  lone-spells at_most (one (codes "*")) (codes "<=") (codes "*")
+      ([], refl, refl) (refl, tt, refl),
+  refl,
+  refl,
+)
 
 -- the empty text is one empty range, and `||` two
 pub nothing_prints : (mode : Compat) → IsRewritten [] mode (codes ">=0.0.0")
@@ -105,54 +155,107 @@ nothing_prints mode = (empty ∷ [], ([], [], [], refl, refl, refl, refl), refl,
 
 pub bars_print : (mode : Compat) → IsRewritten (codes "||") mode (codes ">=0.0.0 || >=0.0.0")
 unfolding digits
-bars_print mode = (empty ∷ empty ∷ [], ([], [], ([], [], [], refl, refl, refl, refl), ([], [], [], refl, refl, refl, refl), refl), refl, refl)
+bars_print mode = (
+  empty ∷ empty ∷ [],
+  (
+    [],
+    [],
+    ([], [], [], refl, refl, refl, refl),
+    ([], [], [], refl, refl, refl, refl),
+    refl,
+  ),
+  refl,
+  refl,
+)
 
 -- a side of a hyphen range that states nothing is left out, and two of them are one comparator
 pub right_side_prints : (mode : Compat) → IsRewritten (codes "* - 3.4.5") mode (codes "<=3.4.5")
 unfolding digits
-right_side_prints mode = let r : PartialTree = three (codes "3") (codes "4") (codes "5") [] [] in
-    (hyphen (one (codes "*")) r ∷ [], hyphen-spells (one (codes "*")) r (codes "*") (codes "3.4.5") (refl, tt, refl) (refl, (refl, refl), refl), refl, refl)
+right_side_prints mode = let r : PartialTree = three (codes "3") (codes "4") (codes "5") [] [] in (
+  hyphen (one (codes "*")) r ∷ [],
+  hyphen-spells (one (codes "*")) r (codes "*") (codes "3.4.5")
+      (refl, tt, refl) (refl, (refl, refl), refl),
+  refl,
+  refl,
+)
 
 pub no_side_prints : (mode : Compat) → IsRewritten (codes "* - *") mode (codes ">=0.0.0")
 unfolding digits
-no_side_prints mode = (hyphen (one (codes "*")) (one (codes "*")) ∷ [], hyphen-spells (one (codes "*")) (one (codes "*")) (codes "*") (codes "*") (refl, tt, refl) (refl, tt, refl), refl, refl)
+no_side_prints mode = (
+  hyphen (one (codes "*")) (one (codes "*"))
+      ∷ [],
+  hyphen-spells (one (codes "*")) (one (codes "*")) (codes "*") (codes "*")
+      (refl, tt, refl) (refl, tt, refl),
+  refl,
+  refl,
+)
 
-pub pre_side_prints : (mode : Compat) → IsRewritten (codes "1.2.3-4 - 5") mode (codes ">=1.2.3-4 <6.0.0")
+pub pre_side_prints : (mode : Compat)
+    → IsRewritten (codes "1.2.3-4 - 5") mode (codes ">=1.2.3-4 <6.0.0")
 unfolding digits
-pre_side_prints mode = let l : PartialTree = three (codes "1") (codes "2") (codes "3") (codes "4" ∷ []) [] in
-    (hyphen l (one (codes "5")) ∷ [], hyphen-spells l (one (codes "5")) (codes "1.2.3-4") (codes "5") (refl, (refl, refl), refl) (refl, tt, refl), refl, refl)
+pre_side_prints mode = let l : PartialTree = three (codes "1") (codes "2") (codes "3")
+    (codes "4" ∷ []) [] in (
+      hyphen l (one (codes "5")) ∷ [],
+      hyphen-spells l (one (codes "5")) (codes "1.2.3-4")
+          (codes "5") (refl, (refl, refl), refl) (refl, tt, refl),
+      refl,
+      refl,
+    )
 
 -- what stands behind a wildcard isn't stated, and may be of any size
-pub behind_wildcard : (mode : Compat) → IsRewritten (codes "1.*.99999999999999999999") mode (codes ">=1.0.0 <2.0.0")
+pub behind_wildcard : (mode : Compat)
+    → IsRewritten (codes "1.*.99999999999999999999") mode (codes ">=1.0.0 <2.0.0")
 unfolding digits
-behind_wildcard mode = let p : PartialTree = three (codes "1") (codes "*") (codes "99999999999999999999") [] [] in
-    (lone bare p, lone-spells bare p [] (codes "1.*.99999999999999999999") refl (refl, (refl, refl), refl), refl, refl)
+behind_wildcard mode = let p : PartialTree = three (codes "1") (codes "*")
+    (codes "99999999999999999999") [] [] in (
+      lone bare p,
+      lone-spells bare p [] (codes "1.*.99999999999999999999") refl
+          (refl, (refl, refl), refl),
+      refl,
+      refl,
+    )
 
 -- a raised bound may be too large where the number itself isn't
 abbrev pub last : PartialTree
 last = three (codes "0") (codes "0") (codes "18446744073709551615") [] []
 
 pub last_spells : Spells (lone bare last) (codes "0.0.18446744073709551615")
-last_spells = lone-spells bare last [] (codes "0.0.18446744073709551615") refl (refl, (refl, refl), refl)
+last_spells =
+    lone-spells bare last [] (codes "0.0.18446744073709551615") refl (refl, (refl, refl), refl)
 
-pub last_npm : IsRewritten (codes "0.0.18446744073709551615") Npm (codes "=0.0.18446744073709551615")
+pub last_npm : IsRewritten (codes "0.0.18446744073709551615") Npm
+    (codes "=0.0.18446744073709551615")
 unfolding digits
 last_npm = (lone bare last, last_spells, refl, refl)
 
-pub last_cargo : IsTooLarge (codes "0.0.18446744073709551615") Cargo
+pub last_cargo : IsTooLarge Cargo (codes "0.0.18446744073709551615")
 last_cargo = (lone bare last, last_spells, refl)
 
 -- digits are kept as a number, but for those above 64 bits; a build is dropped
-pub kept_parts : (mode : Compat) → IsRewritten (codes "=1.2.3-007.99999999999999999999+x.y") mode (codes "=1.2.3-7.99999999999999999999")
+pub kept_parts : (mode : Compat)
+    → IsRewritten (codes "=1.2.3-007.99999999999999999999+x.y") mode
+    (codes "=1.2.3-7.99999999999999999999")
 unfolding digits
-kept_parts mode = let p : PartialTree = three (codes "1") (codes "2") (codes "3") (codes "007" ∷ codes "99999999999999999999" ∷ []) (codes "x" ∷ codes "y" ∷ []) in
-    (lone equal p, lone-spells equal p (codes "=") (codes "1.2.3-007.99999999999999999999+x.y") ([], refl, refl) (refl, (refl, refl), refl), refl, refl)
+kept_parts mode = let p : PartialTree = three (codes "1") (codes "2") (codes "3")
+    (codes "007" ∷ codes "99999999999999999999" ∷ []) (codes "x" ∷ codes "y" ∷ []) in (
+      lone equal p,
+      lone-spells equal p (codes "=") (codes "1.2.3-007.99999999999999999999+x.y")
+          ([], refl, refl) (refl, (refl, refl), refl),
+      refl,
+      refl,
+    )
 
 -- a hyphen may begin a part
 pub hyphen_part : (mode : Compat) → IsRewritten (codes "=1.2.3--1") mode (codes "=1.2.3--1")
 unfolding digits
-hyphen_part mode = let p : PartialTree = three (codes "1") (codes "2") (codes "3") (codes "-1" ∷ []) [] in
-    (lone equal p, lone-spells equal p (codes "=") (codes "1.2.3--1") ([], refl, refl) (refl, (refl, refl), refl), refl, refl)
+hyphen_part mode = let p : PartialTree = three (codes "1") (codes "2") (codes "3")
+    (codes "-1" ∷ []) [] in (
+      lone equal p,
+      lone-spells equal p (codes "=") (codes "1.2.3--1") ([], refl, refl)
+          (refl, (refl, refl), refl),
+      refl,
+      refl,
+    )
 
 -- whether each version is below the next
 abbrev pub ascends : List PlainVersion → Bool
@@ -161,11 +264,15 @@ ascends (v ∷ []) = true
 ascends (v ∷ w ∷ others) = is_lt (precedence v w) && ascends (w ∷ others)
 
 -- the examples of SemVer 2.0.0, section 11
-pub numbers_ascend : ascends (release 1 0 0 ∷ release 2 0 0 ∷ release 2 1 0 ∷ release 2 1 1 ∷ []) ≡ true
+pub numbers_ascend : ascends (release 1 0 0 ∷ release 2 0 0 ∷ release 2 1 0 ∷ release 2 1 1 ∷ [])
+    ≡ true
 numbers_ascend = refl
 
-pub pre_releases_ascend : ascends (version 1 0 0 (alphanumeric (codes "alpha") ∷ []) ∷ version 1 0 0 (alphanumeric (codes "alpha") ∷ numeric 1 ∷ [])
-    ∷ version 1 0 0 (alphanumeric (codes "alpha") ∷ alphanumeric (codes "beta") ∷ []) ∷ version 1 0 0 (alphanumeric (codes "beta") ∷ [])
-    ∷ version 1 0 0 (alphanumeric (codes "beta") ∷ numeric 2 ∷ []) ∷ version 1 0 0 (alphanumeric (codes "beta") ∷ numeric 11 ∷ [])
+pub pre_releases_ascend : ascends (version 1 0 0 (alphanumeric (codes "alpha") ∷ [])
+    ∷ version 1 0 0 (alphanumeric (codes "alpha") ∷ numeric 1 ∷ [])
+    ∷ version 1 0 0 (alphanumeric (codes "alpha") ∷ alphanumeric (codes "beta") ∷ [])
+    ∷ version 1 0 0 (alphanumeric (codes "beta") ∷ [])
+    ∷ version 1 0 0 (alphanumeric (codes "beta") ∷ numeric 2 ∷ [])
+    ∷ version 1 0 0 (alphanumeric (codes "beta") ∷ numeric 11 ∷ [])
     ∷ version 1 0 0 (alphanumeric (codes "rc") ∷ numeric 1 ∷ []) ∷ release 1 0 0 ∷ []) ≡ true
 pre_releases_ascend = refl

@@ -1,16 +1,19 @@
 -- The lines of a text: what the report writes of it.
-use Rattle.std.specs.Prelude.{◌≡◌, ℕ, Bool, true, false, ◌||◌, List, [], ◌∷◌, ◌++◌, IsTrue, Option, Result, Ok, Err, MatchResult, codes}
+use Rattle.std.specs.Prelude.{◌≡◌, ℕ, Bool, true, false, ◌||◌, List, [], ◌∷◌, ◌++◌, IsTrue, Option}
+use Rattle.std.specs.Prelude.{Result, Ok, Err, MatchResult, codes}
 use Rattle.std.specs.Io.KnownBytes.{Appends}
 use Rattle.semver_ranges.specs.declared.range.Compat.{Compat}
 use Rattle.semver_ranges.specs.declared.range.Compat.TheVariants.{Cargo, Npm}
 use Rattle.semver_ranges.specs.declared.range_set.RangeError.{RangeError}
-use Rattle.semver_ranges.specs.declared.range_set.RangeError.TheVariants.{NotARange, NumberTooLarge, OutOfMemory}
+use Rattle.semver_ranges.specs.declared.range_set.RangeError.TheVariants.{NotARange, NumberTooLarge}
+use Rattle.semver_ranges.specs.declared.range_set.RangeError.TheVariants.{OutOfMemory}
 use Rattle.semver_texts.specs.Texts.{Text}
 use Rattle.semver_texts.specs.Versions.{VersionValue}
 use Rattle.semver_texts.specs.PrintedText.{version_text}
 use Rattle.semver_tokens.specs.ParserState as fault
 use Rattle.semver_tokens.specs.ParserState.{Fault}
 use Rattle.semver_steps.specs.VersionReading.{IsOutcomeOf, TextMayRunOut}
+use Rattle.semver_ranges.specs.RangeTexts.{IsRangeText}
 use Rattle.semver_ranges.specs.RangeTree.{SetTree, Spells}
 use Rattle.semver_ranges.specs.RewritingTable.{fits, rewritten}
 use Rattle.semver_ranges.specs.PrintedRanges.{set_text}
@@ -35,24 +38,32 @@ range_fault_word OutOfMemory = codes "out-of-memory"
 -- what stands behind `version: ` for a text, and whether it is no fault word
 pub data VersionLine : Text → Bool → Text → Type 0 where
   -- the version that the text is, printed
-  version_printed : (text : Text) (v : VersionValue) → IsOutcomeOf text (Ok v) → VersionLine text true (version_text v)
+  version_printed : (text : Text) (v : VersionValue) → IsOutcomeOf text (Ok v)
+      → VersionLine text true (version_text v)
   -- the word of the text's fault
-  version_refused : (text : Text) (e : Fault) → IsOutcomeOf text (Err e) → VersionLine text false (version_fault_word e)
+  version_refused : (text : Text) (e : Fault) → IsOutcomeOf text (Err e)
+      → VersionLine text false (version_fault_word e)
   -- where reading the text may run out of memory
-  version_unread : (text : Text) → TextMayRunOut text → VersionLine text false (version_fault_word fault.OutOfMemory)
+  version_unread : (text : Text) → TextMayRunOut text
+      → VersionLine text false (version_fault_word fault.OutOfMemory)
   -- in place of a printed version
-  version_unprinted : (text : Text) (v : VersionValue) → IsOutcomeOf text (Ok v) → VersionLine text false (version_fault_word fault.OutOfMemory)
+  version_unprinted : (text : Text) (v : VersionValue) → IsOutcomeOf text (Ok v)
+      → VersionLine text false (version_fault_word fault.OutOfMemory)
 
 -- what stands behind `cargo: ` and `npm: ` for a text, and whether it is no fault word
 pub data RangeLine : Compat → Text → Bool → Text → Type 0 where
   -- the comparators of the tree that spells the text, printed
-  set_printed : (mode : Compat) (text : Text) (tree : SetTree) → Spells tree text → IsTrue (fits mode tree) → RangeLine mode text true (set_text (rewritten mode tree))
+  set_printed : (mode : Compat) (text : Text) (tree : SetTree) → Spells tree text
+      → IsTrue (fits mode tree) → RangeLine mode text true (set_text (rewritten mode tree))
   -- no tree spells the text
-  not_a_range : (mode : Compat) (text : Text) → ((tree : SetTree) → Spells tree text → ⊥) → RangeLine mode text false (range_fault_word NotARange)
+  not_a_range : (mode : Compat) (text : Text) → ¬ (IsRangeText text)
+      → RangeLine mode text false (range_fault_word NotARange)
   -- one does, and doesn't fit
-  number_too_large : (mode : Compat) (text : Text) (tree : SetTree) → Spells tree text → fits mode tree ≡ false → RangeLine mode text false (range_fault_word NumberTooLarge)
+  number_too_large : (mode : Compat) (text : Text) (tree : SetTree) → Spells tree text
+      → fits mode tree ≡ false → RangeLine mode text false (range_fault_word NumberTooLarge)
   -- in place of a set, or of a printed set
-  no_memory : (mode : Compat) (text : Text) (tree : SetTree) → Spells tree text → IsTrue (fits mode tree) → RangeLine mode text false (range_fault_word OutOfMemory)
+  no_memory : (mode : Compat) (text : Text) (tree : SetTree) → Spells tree text
+      → IsTrue (fits mode tree) → RangeLine mode text false (range_fault_word OutOfMemory)
 
 -- a line: its label, what it shows, and a line feed
 abbrev pub line : Text → Text → Text
@@ -60,7 +71,8 @@ line label shown = label ++ shown ++ 10 ∷ []
 
 -- the three lines that show these
 abbrev pub lines : Text → Text → Text → Text
-lines version cargo npm = line (codes "version: ") version ++ line (codes "cargo: ") cargo ++ line (codes "npm: ") npm
+lines version cargo npm =
+    line (codes "version: ") version ++ line (codes "cargo: ") cargo ++ line (codes "npm: ") npm
 
 -- the bytes are the lines of the text, of which at least one holds no fault word exactly if `good`
 pub record AreLines (text : Text) (good : Bool) (bytes : Text) : Type 0 where
@@ -77,10 +89,12 @@ pub record AreLines (text : Text) (good : Bool) (bytes : Text) : Type 0 where
   pub whole : bytes ≡ lines version cargo npm
 
 -- `Ok(good)`: exactly the lines were written; `Err`: a beginning of such lines was
-abbrev pub WritesLines : {E : Type 0} → Text → Option (List ℕ) → Option (List ℕ) → Result Bool E → Type 0
+abbrev pub WritesLines : {E : Type 0} → Text → Option (List ℕ) → Option (List ℕ) → Result Bool E
+    → Type 0
 WritesLines text old new r = MatchResult r
     (λ good. (bytes : Text) × AreLines text good bytes × Appends old new bytes)
-    (λ _. (good : Bool) × (bytes : Text) × AreLines text good bytes × AppendsBeginning old new bytes)
+    (λ _. (good : Bool) × (bytes : Text) × AreLines text good bytes
+    × AppendsBeginning old new bytes)
 
 -- 0 where some line holds no fault word, 1 where each holds one, 2 after a failed write
 abbrev pub status_of : {E : Type 0} → Result Bool E → ℕ

@@ -3,7 +3,7 @@ ghost use Rattle.std.specs.Prelude.{[], ◌∷◌, true, false, codes};
 ghost use Rattle.semver_ranges.specs.declared.range.Compat.{Compat};
 ghost use Rattle.semver_ranges.specs.declared.range.Compat.TheVariants.{Cargo, Npm};
 ghost use Rattle.semver_texts.specs.Versions.{VersionValue, numeric, alphanumeric};
-ghost use Rattle.semver_steps.specs.VersionGrammar.{SpellsVersion};
+ghost use Rattle.semver_texts.specs.VersionGrammar.{SpellsVersion};
 ghost use Rattle.semver_parser.specs.Examples.{IsMet, release, version};
 
 pub use semver_ranges::laws::{
@@ -15,17 +15,32 @@ pub use semver_versions::laws::{one_outcome, one_version};
 
 /// What some versions meet: first by the text's own meaning, and then by its comparators.
 pub fn row_facts()
-    // A version keeps `01` as a text, and a range as a number: the version read from `1.2.3-01` doesn't meet `=1.2.3-01`.
-    ensures leading_zero { (mode : Compat) (v : VersionValue) → SpellsVersion v (codes "1.2.3-01") → IsMet (codes "=1.2.3-01") mode v.plain false false }
-    ensures later_pre_release { (mode : Compat) → IsMet (codes "^1.2.3-beta.4") mode (version 1 2 3 (alphanumeric (codes "rc") ∷ [])) true true }
-    ensures later_minor { (mode : Compat) → IsMet (codes "^1.2.3-beta.4") mode (release 1 9 0) true true }
-    ensures earlier_pre_release { (mode : Compat) → IsMet (codes "^1.2.3-beta.4") mode (version 1 2 3 (alphanumeric (codes "beta") ∷ numeric 3 ∷ [])) false false }
-    ensures pre_release_of_the_bound { (mode : Compat) → IsMet (codes "^1.2.3-beta.4") mode (version 2 0 0 (alphanumeric (codes "alpha") ∷ [])) false true }
+    // A version keeps `01` as a text, and a range as a number: the version read from `1.2.3-01`
+    // doesn't meet `=1.2.3-01`.
+    ensures leading_zero { (mode : Compat) (v : VersionValue) → SpellsVersion v (codes "1.2.3-01")
+        → IsMet (codes "=1.2.3-01") mode v.plain false false }
+    ensures later_pre_release { (mode : Compat)
+        → IsMet (codes "^1.2.3-beta.4") mode (version 1 2 3 (alphanumeric (codes "rc") ∷ [])) true
+        true }
+    ensures later_minor { (mode : Compat) → IsMet (codes "^1.2.3-beta.4") mode
+        (release 1 9 0) true true }
+    ensures earlier_pre_release { (mode : Compat)
+        → IsMet (codes "^1.2.3-beta.4") mode (version 1 2 3
+        (alphanumeric (codes "beta") ∷ numeric 3 ∷ [])) false false }
+    ensures pre_release_of_the_bound { (mode : Compat)
+        → IsMet (codes "^1.2.3-beta.4") mode (version 2 0 0 (alphanumeric (codes "alpha") ∷ []))
+        false true }
     ensures caret_keeps_the_minor { IsMet (codes "^0.2.3") Cargo (release 0 9 0) false false }
     ensures bare_is_exact { IsMet (codes "1.2.3") Npm (release 1 3 0) false false }
-    ensures bound_of_at_most { (mode : Compat) → IsMet (codes "<=1.2") mode (version 1 3 0 (alphanumeric (codes "a") ∷ [])) false true }
-    ensures at_most_keeps_patches { (mode : Compat) → IsMet (codes "<=1.2") mode (release 1 2 9) true true }
-    ensures below_the_release { (mode : Compat) → IsMet (codes "~1") mode (version 1 0 0 (alphanumeric (codes "a") ∷ [])) false false }
-    ensures below_zero { (mode : Compat) → IsMet (codes "<*") mode (version 0 0 0 (alphanumeric (codes "a") ∷ [])) true true }
-    ensures bound_of_one_term { (mode : Compat) → IsMet (codes "^1 <=1.5") mode (version 1 6 0 (alphanumeric (codes "rc") ∷ [])) false true }
+    ensures bound_of_at_most { (mode : Compat)
+        → IsMet (codes "<=1.2") mode (version 1 3 0 (alphanumeric (codes "a") ∷ [])) false true }
+    ensures at_most_keeps_patches { (mode : Compat)
+        → IsMet (codes "<=1.2") mode (release 1 2 9) true true }
+    ensures below_the_release { (mode : Compat)
+        → IsMet (codes "~1") mode (version 1 0 0 (alphanumeric (codes "a") ∷ [])) false false }
+    ensures below_zero { (mode : Compat) → IsMet (codes "<*") mode
+        (version 0 0 0 (alphanumeric (codes "a") ∷ [])) true true }
+    ensures bound_of_one_term { (mode : Compat)
+        → IsMet (codes "^1 <=1.5") mode (version 1 6 0 (alphanumeric (codes "rc") ∷ [])) false
+        true }
 {}

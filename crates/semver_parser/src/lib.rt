@@ -1,6 +1,8 @@
-//! Version texts and range texts as plain data: tokens, a `Version` that prints again, and a `RangeSet` of plain comparators.
+//! Version texts and range texts as plain data: tokens, a `Version` that prints again, and a
+//! `RangeSet` of plain comparators.
 //!
-//! Its parts stand in crates below it: tokens, the steps of a parser, versions, and ranges. Here is their whole surface.
+//! Its parts stand in crates below it: tokens, the steps of a parser, versions, and ranges. Here is
+//! their whole surface.
 #![tactic(auto)]
 
 pub mod laws;

@@ -1,13 +1,15 @@
 //! The lines of the program, and its status.
 ghost use Rattle.std.specs.Prelude.{◌≡◌, true, false, ◌++◌, ◌||◌, IfOk, codes};
 ghost use Rattle.semver_parser.specs.Writing.{WritesOrBegins};
-ghost use Rattle.semver_parser.specs.ReportLines.{VersionLine, RangeLine, version_fault_word, range_fault_word, line, lines, WritesLines, status_of};
+ghost use Rattle.semver_parser.specs.ReportLines.{VersionLine, RangeLine, version_fault_word};
+ghost use Rattle.semver_parser.specs.ReportLines.{range_fault_word, line, lines, WritesLines};
+ghost use Rattle.semver_parser.specs.ReportLines.{status_of};
 ghost use Rattle.semver_ranges.specs.RangeViews.{set_of};
 ghost use Rattle.semver_ranges.specs.PrintedRanges.{set_text};
 ghost use Rattle.semver_steps.specs.ParserViews.{fault_of};
 ghost use Rattle.semver_texts.specs.VersionViews.{version_value};
 ghost use Rattle.semver_texts.specs.PrintedText.{version_text};
-ghost use Rattle.semver_parser.specs.Shown.{shown_text, is_value_of};
+ghost use Rattle.semver_parser.specs.Means.Shown.{shown_text, is_value_of};
 
 use crate::writing::write_whole;
 use semver_ranges::{Compat, RangeError, RangeSet};
@@ -25,16 +27,17 @@ enum Shown {
     Fault(&'static str),
 }
 
-/// Writes the three lines of a text, each with a printed value or a fault word, and a line feed: `version: ` with the
-/// version, `cargo: ` and `npm: ` with the range set in Cargo and in npm mode. It answers true where at least one line holds
-/// no fault word.
+/// Writes the three lines of a text, each with a printed value or a fault word, and a line feed:
+/// `version: ` with the version, `cargo: ` and `npm: ` with the range set in Cargo and in npm mode.
+/// It answers true where at least one line holds no fault word.
 ///
-/// Of `1.2.3` it writes `version: 1.2.3`, `cargo: >=1.2.3 <2.0.0` and `npm: =1.2.3`; of `1.2` the first line is
-/// `version: unexpected-end`. The fault words are `unexpected-end`, `unexpected-token`, `unexpected-char` and `more-input` for
-/// versions, `not-a-range` and `number-too-large` for ranges, and `out-of-memory` for each.
+/// Of `1.2.3` it writes `version: 1.2.3`, `cargo: >=1.2.3 <2.0.0` and `npm: =1.2.3`; of `1.2` the
+/// first line is `version: unexpected-end`. The fault words are `unexpected-end`,
+/// `unexpected-token`, `unexpected-char` and `more-input` for versions, `not-a-range` and
+/// `number-too-large` for ranges, and `out-of-memory` for each.
 ///
-/// `Err` only where a write failed, was interrupted, or took no byte; then nothing more is written, and `out` got a
-/// beginning of the lines.
+/// `Err` only where a write failed, was interrupted, or took no byte; then nothing more is written,
+/// and `out` got a beginning of the lines.
 pub fn run<W: Write>(alloc: Global, text: &str, out: &mut W) -> Result<bool, io::Error>
     ensures lines { WritesLines text.now (W.contents out.old) (W.contents out.new) result }
 {
@@ -44,7 +47,7 @@ pub fn run<W: Write>(alloc: Global, text: &str, out: &mut W) -> Result<bool, io:
     write_lines(out, &version, &cargo, &npm)
 }
 
-// Writes the lines, and tells whether some line holds no fault word.
+/// Writes the lines, and tells whether some line holds no fault word.
 fn write_lines<W: Write>(
     out: &mut W,
     version: &Shown,
@@ -53,7 +56,8 @@ fn write_lines<W: Write>(
 ) -> io::Result<bool>
     ensures writes { WritesOrBegins (W.contents out.old) (W.contents out.new) result
         (lines (shown_text version.now) (shown_text cargo.now) (shown_text npm.now)) }
-    ensures good { IfOk result (λ good. good ≡ is_value_of version.now || (is_value_of cargo.now || is_value_of npm.now)) }
+    ensures good { IfOk result (λ good. good ≡ is_value_of version.now
+        || (is_value_of cargo.now || is_value_of npm.now)) }
 {
     write_line(out, "version: ", version)?;
     write_line(out, "cargo: ", cargo)?;
@@ -61,7 +65,8 @@ fn write_lines<W: Write>(
     Ok(version.is_value() || (cargo.is_value() || npm.is_value()))
 }
 
-/// The exit status of a run: 0 where some line holds no fault word, 1 where each holds one, 2 after a failed write.
+/// The exit status of a run: 0 where some line holds no fault word, 1 where each holds one, 2 after
+/// a failed write.
 ///
 /// Of `Ok(false)` it is 1.
 pub fn status(ran: &Result<bool, io::Error>) -> u8
@@ -74,7 +79,7 @@ pub fn status(ran: &Result<bool, io::Error>) -> u8
     }
 }
 
-// What the line of the version shows.
+/// What the line of the version shows.
 fn version_shown(alloc: Global, text: &str) -> Shown
     ensures { VersionLine text.now (is_value_of result) (shown_text result) }
 {
@@ -84,9 +89,10 @@ fn version_shown(alloc: Global, text: &str) -> Shown
     }
 }
 
-// The printed version, or the word for want of memory.
+/// The printed version, or the word for want of memory.
 fn printed_version(alloc: Global, version: &Version) -> Shown
-    ensures value { is_value_of result ≡ true → shown_text result ≡ version_text (version_value version.now) }
+    ensures value { is_value_of result ≡ true → shown_text result
+        ≡ version_text (version_value version.now) }
     ensures fault { is_value_of result ≡ false → shown_text result ≡ codes "out-of-memory" }
 {
     match version.to_string(alloc) {
@@ -95,7 +101,7 @@ fn printed_version(alloc: Global, version: &Version) -> Shown
     }
 }
 
-// What the line of a range set in a mode shows.
+/// What the line of a range set in a mode shows.
 fn range_shown(alloc: Global, text: &str, compat: Compat) -> Shown
     ensures { RangeLine compat text.now (is_value_of result) (shown_text result) }
 {
@@ -105,7 +111,7 @@ fn range_shown(alloc: Global, text: &str, compat: Compat) -> Shown
     }
 }
 
-// The word for a fault of a range text.
+/// The word for a fault of a range text.
 fn range_fault_word(error: &RangeError) -> &'static str
     ensures { result.now ≡ range_fault_word error.now }
 {
@@ -116,7 +122,7 @@ fn range_fault_word(error: &RangeError) -> &'static str
     }
 }
 
-// The printed set, or the word for want of memory.
+/// The printed set, or the word for want of memory.
 fn printed_set(alloc: Global, set: &RangeSet) -> Shown
     ensures value { is_value_of result ≡ true → shown_text result ≡ set_text (set_of set.now) }
     ensures fault { is_value_of result ≡ false → shown_text result ≡ codes "out-of-memory" }
@@ -127,7 +133,7 @@ fn printed_set(alloc: Global, set: &RangeSet) -> Shown
     }
 }
 
-// The word for a fault of a version text.
+/// The word for a fault of a version text.
 fn version_fault_word(error: &parser::Error<'_>) -> &'static str
     ensures { result.now ≡ version_fault_word (fault_of error.now) }
 {
@@ -143,14 +149,14 @@ fn version_fault_word(error: &parser::Error<'_>) -> &'static str
 }
 
 impl Shown {
-    // Whether it is a printed value.
+    /// Whether it is a printed value.
     fn is_value(&self) -> bool
         ensures { result ≡ is_value_of self.now }
     {
         matches!(self, Shown::Value(_))
     }
 
-    // Its text.
+    /// Its text.
     fn as_str(&self) -> &str
         ensures { result.now ≡ shown_text self.now }
     {
@@ -161,16 +167,17 @@ impl Shown {
     }
 }
 
-// Writes one line: the label, what is shown, and a line feed.
+/// Writes one line: the label, what is shown, and a line feed.
 fn write_line<W: Write>(out: &mut W, label: &str, shown: &Shown) -> io::Result<()>
-    ensures { WritesOrBegins (W.contents out.old) (W.contents out.new) result (line label.now (shown_text shown.now)) }
+    ensures { WritesOrBegins (W.contents out.old) (W.contents out.new) result
+        (line label.now (shown_text shown.now)) }
 {
     write_text(out, label)?;
     write_text(out, shown.as_str())?;
     write_text(out, "\n")
 }
 
-// Writes all of a text.
+/// Writes all of a text.
 fn write_text<W: Write>(out: &mut W, text: &str) -> io::Result<()>
     ensures { WritesOrBegins (W.contents out.old) (W.contents out.new) result text.now }
 {

@@ -1,5 +1,6 @@
 -- The bytes at the places of the parts are the identifiers, joined by dots.
-use Rattle.std.proofs.Common.{◌≡◌, ℕ, suc, ◌+◌, List, [], ◌∷◌, ◌++◌, length, take, drop, map, sym, refl, ap, ◌∙◌, arith, append_assoc, length-append, decimal}
+use Rattle.std.proofs.Common.{◌≡◌, ℕ, suc, ◌+◌, List, [], ◌∷◌, ◌++◌, length, take, drop, map, sym, refl, ap, ◌∙◌, arith, append_assoc}
+use Rattle.std.proofs.Common.{length-append, decimal}
 use Rattle.std.specs.List.{AllZip, join_with_byte}
 use Rattle.std.proofs.lemmas.List.{take_at, drop_at}
 use Rattle.semver_parser.specs.Texts.{marked}
@@ -23,10 +24,12 @@ module _ (text lead part rest : List ℕ) (mark at : ℕ) (whole : text ≡ lead
   marked_bytes [] is = ap (λ (p : List ℕ). bytes_at (behind_mark at p) text) is
   marked_bytes (t ∷ texts) is =
       let joined : List ℕ = join_with_byte 46 (t ∷ texts) in
-      let split : text ≡ (lead ++ (mark ∷ [])) ++ (joined ++ rest) = whole ∙ ap (λ (p : List ℕ). lead ++ (p ++ rest)) is ∙ regroup lead joined rest in
+      let split : text ≡ (lead ++ (mark ∷ [])) ++ (joined ++ rest) = whole ∙ ap (λ (p : List ℕ). lead ++ (p ++ rest)) is
+      ∙ regroup lead joined rest in
       ap (λ (p : List ℕ). bytes_at (behind_mark at p) text) is
       ∙ ap (λ (t : List ℕ). take (length joined) (drop (suc at) t)) split
-      ∙ ap (take (length joined)) (drop_at (lead ++ (mark ∷ [])) (joined ++ rest) (suc at) (omega (arith, place, length-append lead (mark ∷ []))))
+      ∙ ap (take (length joined)) (drop_at (lead ++ (mark ∷ [])) (joined ++ rest) (suc at)
+      (omega (arith, place, length-append lead (mark ∷ []))))
       ∙ take_at joined rest (length joined) refl
     where
       regroup : (a b c : List ℕ) → a ++ ((mark ∷ b) ++ c) ≡ (a ++ (mark ∷ [])) ++ (b ++ c)
@@ -35,12 +38,15 @@ module _ (text lead part rest : List ℕ) (mark at : ℕ) (whole : text ≡ lead
   part_bytes : (ids : List IdentifierValue) → SpellsPart (mark ∷ []) ids part → bytes_at (behind_mark at part) text ≡ dotted ids
   part_bytes ids w = marked_bytes w.texts w.joined ∙ ap (join_with_byte 46) (spelled_texts ids w.texts w.each)
 
-pub told_bytes : (v : VersionValue) (text : List ℕ) (w : SpellsVersion v text) → (bytes_at (told w).pre text ≡ dotted v.plain.pre) × (bytes_at (told w).build text ≡ dotted v.build)
+pub told_bytes : (v : VersionValue) (text : List ℕ) (w : SpellsVersion v text)
+    → (bytes_at (told w).pre text ≡ dotted v.plain.pre) × (bytes_at (told w).build text ≡ dotted v.build)
 told_bytes v text w =
     let front : List ℕ = join_with_byte 46 (map decimal (numbers v.plain)) in
     let lead : numbers_end w ≡ length (w.before ++ front) = sym (length-append w.before front) in (
-      part_bytes text (w.before ++ front) w.pre_text (w.build_text ++ w.after) 45 (numbers_end w) (w.spelled ∙ at_pre w.before front w.pre_text w.build_text w.after) lead v.plain.pre w.pre,
-      part_bytes text ((w.before ++ front) ++ w.pre_text) w.build_text w.after 43 (numbers_end w + length w.pre_text) (w.spelled ∙ at_build w.before front w.pre_text w.build_text w.after)
+      part_bytes text (w.before ++ front) w.pre_text (w.build_text ++ w.after) 45 (numbers_end w)
+          (w.spelled ∙ at_pre w.before front w.pre_text w.build_text w.after) lead v.plain.pre w.pre,
+      part_bytes text ((w.before ++ front) ++ w.pre_text) w.build_text w.after 43 (numbers_end w + length w.pre_text)
+          (w.spelled ∙ at_build w.before front w.pre_text w.build_text w.after)
           (omega (arith, lead, length-append (w.before ++ front) w.pre_text)) v.build w.build,
     )
   where

@@ -1,5 +1,6 @@
 -- The numbers of what reading a version text or a range text answers.
-use Rattle.std.proofs.Common.{◌≡◌, ◌≢◌, ◌⊎◌, ◌↔◌, ℕ, ℤ, Bool, true, false, List, [], ◌∷◌, Option, Some, None, Result, Ok, Err, refl, sym, ap, ◌∙◌, inl, inr, ⊎_elim, ◌||◌, ◌&&◌, IsUtf8}
+use Rattle.std.proofs.Common.{◌≡◌, ◌≢◌, ◌⊎◌, ◌↔◌, ℕ, ℤ, Bool, true, false, List, [], ◌∷◌, Option, Some, None, Result, Ok, Err, refl, sym}
+use Rattle.std.proofs.Common.{ap, ◌∙◌, inl, inr, ⊎_elim, ◌||◌, ◌&&◌, IsUtf8}
 use Rattle.semver_parser.specs.Texts.{Text}
 use Rattle.semver_parser.specs.Tokens.{TokenValue}
 use Rattle.semver_parser.specs.declared.version.Version.{Version}
@@ -16,13 +17,15 @@ use Rattle.semver_parser.specs.ParserState.{ParserState, Fault}
 use Rattle.semver_parser.specs.ParserViews.{fault_of, answer_of, UnlessOutOfMemory}
 use Rattle.semver_parser.specs.VersionViews.{version_value}
 use Rattle.semver_parser.specs.declared.Compat.{Compat}
+use Rattle.semver_parser.specs.RangeTexts.{IsRangeText, IsTooLarge}
 use Rattle.semver_parser.specs.RangeTree.{SetTree, Spells}
 use Rattle.semver_parser.specs.RewritingTable.{fits}
 use Rattle.semver_parser.specs.OwnMeaning.{meets_tree}
 use Rattle.semver_parser.proofs.ReadingComplete.{same_tree}
 use Rattle.release_filter.specs.KeptReleases.{is_release}
 use Rattle.semver_parser_c.specs.Numbers.{ok, version_out_of_memory, range_not_utf8, not_a_range, number_too_large}
-use Rattle.semver_parser_c.specs.Faults.{IsOneOf, RangeIsRead, is_met, fault_number, range_fault_number, outcome_number, version_faults, range_faults}
+use Rattle.semver_parser_c.specs.Faults.{IsOneOf, RangeIsRead, is_met, fault_number, range_fault_number, outcome_number, version_faults}
+use Rattle.semver_parser_c.specs.Faults.{range_faults}
 
 -- ---- the faults that a version text has
 
@@ -31,7 +34,8 @@ is_of_text fault.EmptyPredicate = false
 is_of_text fault.EmptyRange = false
 is_of_text _ = true
 
-refused_is : (ts : List TokenValue) (pending : Option ℕ) (rest : List TokenValue) (e : Fault) (left : List TokenValue) → Refuses ts pending rest e left → is_of_text e ≡ true
+refused_is : (ts : List TokenValue) (pending : Option ℕ) (rest : List TokenValue) (e : Fault) (left : List TokenValue)
+    → Refuses ts pending rest e left → is_of_text e ≡ true
 refused_is ts (Some c) [] e left w = ap is_of_text w.0
 refused_is ts (Some c) (t ∷ []) e left w = ap is_of_text w.0
 refused_is ts (Some c) (t ∷ u ∷ rest) e left w = ap is_of_text w.0
@@ -48,7 +52,8 @@ left_is v [] pending = refl
 left_is v (t ∷ left) None = refl
 left_is v (t ∷ left) (Some c) = refl
 
-read_is : (s t : ParserState) (answer : Result VersionValue Fault) → ReadsVersion s answer t → answer_is_of_text (whole_answer answer t.remaining t.pending) ≡ true
+read_is : (s t : ParserState) (answer : Result VersionValue Fault) → ReadsVersion s answer t
+    → answer_is_of_text (whole_answer answer t.remaining t.pending) ≡ true
 read_is s t (Ok v) reads = left_is v t.remaining t.pending
 read_is s t (Err e) reads = refused_is s.remaining s.pending reads.rest e t.remaining reads.answer.1
 
@@ -59,7 +64,8 @@ no_such : {P : Type 0} → false ≡ true → P
 no_such h = cc
 
 -- a refused version text has the number of one of these
-pub version_number : (text : Text) (e : Error) (z : ℤ) → z ≡ fault_number (fault_of e) → UnlessOutOfMemory {T = Version} (Err e) (IsOutcomeOf text (answer_of version_value (Err e))) → IsOneOf version_faults z
+pub version_number : (text : Text) (e : Error) (z : ℤ) → z ≡ fault_number (fault_of e)
+    → UnlessOutOfMemory {T = Version} (Err e) (IsOutcomeOf text (answer_of version_value (Err e))) → IsOneOf version_faults z
 version_number text error.UnexpectedEnd z is w = inr (inl is)
 version_number text (error.UnexpectedToken t) z is w = inr (inr (inl is))
 version_number text (error.Lexer (lexer_error.UnexpectedChar c)) z is w = inr (inr (inr (inl is)))
@@ -122,13 +128,13 @@ has_outcome text e z is outcome other =
 -- a text that was refused with the number of a fault of ranges isn't read
 pub isnt_read : (mode : Compat) (text : Text) (z n : ℤ) → z ≡ n → IsOneOf range_faults n
     → ((n ≡ range_not_utf8) ↔ ¬ (IsUtf8 text))
-    → (IsUtf8 text → (n ≡ not_a_range) ↔ ((tree : SetTree) → Spells tree text → ⊥))
-    → (IsUtf8 text → (n ≡ number_too_large) ↔ ((tree : SetTree) × Spells tree text × (fits mode tree ≡ false)))
+    → (IsUtf8 text → (n ≡ not_a_range) ↔ ¬ (IsRangeText text))
+    → (IsUtf8 text → (n ≡ number_too_large) ↔ IsTooLarge mode text)
     → RangeIsRead mode text z → ⊥
 isnt_read mode text z n same one not_utf8 no_range large read = ⊎_elim
     (λ is. not_utf8.0 is read.utf8)
     (λ others. ⊎_elim
-    (λ is. (no_range read.utf8).0 is read.tree read.spells)
+    (λ is. (no_range read.utf8).0 is (read.tree, read.spells))
     (λ others. ⊎_elim
     (λ is. let h = (large read.utf8).0 is in clash (sym h.2 ∙ ap (fits mode) (same_tree h.0 read.tree text h.1 read.spells) ∙ read.fit))
     (λ others. ⊎_elim (λ is. read.memory (same ∙ is)) (λ none. none) others)
@@ -140,6 +146,8 @@ isnt_read mode text z n same one not_utf8 no_range large read = ⊎_elim
     clash h = cc
 
 -- what was met by the set is met by the text's own meaning
-pub met_is : (pre_releases : Bool) (mode : Compat) (tree : SetTree) (read v : VersionValue) (met by_set : Bool) → read ≡ v → by_set ≡ meets_tree mode tree read.plain
+pub met_is : (pre_releases : Bool) (mode : Compat) (tree : SetTree) (read v : VersionValue) (met by_set : Bool) → read ≡ v
+    → by_set ≡ meets_tree mode tree read.plain
     → met ≡ ((pre_releases || is_release read) && by_set) → met ≡ is_met pre_releases mode tree v
-met_is pre_releases mode tree read v met by_set same meaning is = is ∙ ap (λ (b : Bool). (pre_releases || is_release read) && b) meaning ∙ ap (is_met pre_releases mode tree) same
+met_is pre_releases mode tree read v met by_set same meaning is = is ∙ ap (λ (b : Bool). (pre_releases || is_release read) && b) meaning
+    ∙ ap (is_met pre_releases mode tree) same

@@ -1,5 +1,6 @@
 -- Which number stands for which fault and answer, and what C says by a bool.
-use Rattle.std.specs.Prelude.{ℤ, Bool, true, false, ◌≡◌, ◌≢◌, ◌⊎◌, ◌||◌, ◌&&◌, IsTrue, IsUtf8, List, [], ◌∷◌, Result, Ok, Err}
+use Rattle.std.specs.Prelude.{ℤ, Bool, true, false, ◌≡◌, ◌≢◌, ◌⊎◌, ◌||◌, ◌&&◌, IsTrue, IsUtf8, List}
+use Rattle.std.specs.Prelude.{[], ◌∷◌, Result, Ok, Err}
 use Rattle.semver_parser.specs.Texts.{Text}
 use Rattle.semver_parser.specs.Versions.{VersionValue}
 use Rattle.semver_parser.specs.declared.Compat.{Compat}
@@ -49,11 +50,15 @@ IsOneOf (m ∷ ms) n = (n ≡ m) ⊎ IsOneOf ms n
 
 -- the numbers that reading a version text answers, but for `ok`
 abbrev pub version_faults : List ℤ
-version_faults = number.version_not_utf8 ∷ number.unexpected_end ∷ number.unexpected_token ∷ number.unexpected_char ∷ number.more_input ∷ number.version_out_of_memory ∷ []
+version_faults =
+    number.version_not_utf8 ∷ number.unexpected_end ∷ number.unexpected_token
+    ∷ number.unexpected_char ∷ number.more_input ∷ number.version_out_of_memory ∷ []
 
 -- the numbers that reading a range text answers, but for `ok`
 abbrev pub range_faults : List ℤ
-range_faults = number.range_not_utf8 ∷ number.not_a_range ∷ number.number_too_large ∷ number.range_out_of_memory ∷ []
+range_faults =
+    number.range_not_utf8 ∷ number.not_a_range ∷ number.number_too_large
+    ∷ number.range_out_of_memory ∷ []
 
 -- the mode that C names by a bool
 abbrev pub mode_of : Bool → Compat
@@ -73,7 +78,8 @@ pub record RangeIsRead (mode : Compat) (text : Text) (answer : ℤ) : Type 0 whe
   pub fit : IsTrue (fits mode tree)
   pub memory : answer ≢ range_out_of_memory
 
--- whether a version meets the own meaning of a range; a pre-release does only where they are asked for
+-- whether a version meets the own meaning of a range; a pre-release does only where they are asked
+-- for
 abbrev pub is_met : Bool → Compat → SetTree → VersionValue → Bool
 is_met pre_releases mode tree v = (pre_releases || is_release v) && meets_tree mode tree v.plain
 

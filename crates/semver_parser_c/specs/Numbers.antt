@@ -1,4 +1,5 @@
--- The numbers that the calls for C answer; include/semver_parser.h has the same under the same names.
+-- The numbers that the calls for C answer; include/semver_parser.h has the same under the same
+-- names.
 use Rattle.std.specs.Prelude.{ℤ, pos}
 
 -- a version was read, or a range rewritten

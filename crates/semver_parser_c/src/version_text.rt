@@ -1,6 +1,8 @@
-//! Version texts: the version of one, or the number of its fault, and where it has its pre-release and its build.
+//! Version texts: the version of one, or the number of its fault, and where it has its pre-release
+//! and its build.
 
-ghost use Rattle.std.specs.Prelude.{◌≡◌, ◌≢◌, ◌⊎◌, ◌↔◌, ◌+◌, ◌≤◌, [], length, drop, IsUtf8, IfOk, IfErr, Result};
+ghost use Rattle.std.specs.Prelude.{◌≡◌, ◌≢◌, ◌⊎◌, ◌↔◌, ◌+◌, ◌≤◌, [], length, drop, IsUtf8, IfOk};
+ghost use Rattle.std.specs.Prelude.{IfErr, Result};
 ghost use Rattle.std.specs.List.{prefix_len};
 ghost use Rattle.semver_parser.specs.Versions.{VersionValue};
 ghost use Rattle.semver_parser.specs.VersionGrammar.{SpellsVersion};
@@ -9,7 +11,8 @@ ghost use Rattle.semver_parser.specs.VersionViews.{version_value};
 ghost use Rattle.semver_parser.specs.ParserState.{Fault};
 ghost use Rattle.semver_parser.specs.ParserViews.{fault_of};
 ghost use Rattle.semver_parser_c.specs.Numbers as number;
-ghost use Rattle.semver_parser_c.specs.Faults.{IsOneOf, fault_number, number_of, outcome_number, version_faults};
+ghost use Rattle.semver_parser_c.specs.Faults.{IsOneOf, fault_number, number_of, outcome_number};
+ghost use Rattle.semver_parser_c.specs.Faults.{version_faults};
 ghost use Rattle.semver_parser_c.specs.Places.{told};
 ghost use Rattle.semver_parser_c.specs.Scanning.{found, is_dotted_byte, is_front_byte};
 
@@ -21,13 +24,19 @@ use std::alloc::Global;
 /// The version of a text, or the number of its fault.
 pub fn read(alloc: Global, text: &[u8]) -> Result<Version, i32>
     ensures version { IfOk result (λ v. SpellsVersion (version_value v) text.now) }
-    ensures accepted { (v : VersionValue) → IsUtf8 text.now → SpellsVersion v text.now → (number_of result ≡ number.ok) ⊎ (number_of result ≡ number.version_out_of_memory) }
-    ensures plain { (v : VersionValue) → IsUtf8 text.now → SpellsVersion v text.now → v.plain.pre ≡ [] → v.build ≡ [] → number_of result ≡ number.ok }
+    ensures accepted { (v : VersionValue) → IsUtf8 text.now → SpellsVersion v text.now
+        → (number_of result ≡ number.ok) ⊎ (number_of result ≡ number.version_out_of_memory) }
+    ensures plain { (v : VersionValue) → IsUtf8 text.now → SpellsVersion v text.now
+        → v.plain.pre ≡ [] → v.build ≡ [] → number_of result ≡ number.ok }
     ensures numbers { IfErr result (λ n. IsOneOf version_faults n) }
     ensures not_utf8 { (number_of result ≡ number.version_not_utf8) ↔ ¬ (IsUtf8 text.now) }
-    ensures outcome { IsUtf8 text.now → number_of result ≢ number.version_out_of_memory → (r : Result VersionValue Fault) × IsOutcomeOf text.now r × (number_of result ≡ outcome_number r) }
-    ensures refused { IfErr result (λ n. IsUtf8 text.now → n ≢ number.version_out_of_memory → (e : Fault) × IsOutcomeOf text.now (Err e) × (n ≡ fault_number e)) }
-    ensures out_of_memory { number_of result ≡ number.version_out_of_memory → TextMayRunOut text.now }
+    ensures outcome { IsUtf8 text.now → number_of result ≢ number.version_out_of_memory
+        → (r : Result VersionValue Fault) × IsOutcomeOf text.now r
+        × (number_of result ≡ outcome_number r) }
+    ensures refused { IfErr result (λ n. IsUtf8 text.now → n ≢ number.version_out_of_memory
+        → (e : Fault) × IsOutcomeOf text.now (Err e) × (n ≡ fault_number e)) }
+    ensures out_of_memory { number_of result ≡ number.version_out_of_memory
+        → TextMayRunOut text.now }
 {
     let Ok(text) = std::str::from_utf8(text) else {
         return Err(numbers::VERSION_NOT_UTF8);
@@ -38,7 +47,7 @@ pub fn read(alloc: Global, text: &[u8]) -> Result<Version, i32>
     }
 }
 
-// The number of a fault.
+/// The number of a fault.
 fn fault_number(error: &Error<'_>) -> i32
     ensures { result ≡ fault_number (fault_of error.now) }
 {
@@ -55,7 +64,8 @@ fn fault_number(error: &Error<'_>) -> i32
 
 /// Where a version text has its pre-release and its build.
 pub fn parts(text: &[u8]) -> (Part, Part)
-    ensures { (v : VersionValue) (w : SpellsVersion v text.now) → (result.0 ≡ (told w).pre) × (result.1 ≡ (told w).build) }
+    ensures { (v : VersionValue) (w : SpellsVersion v text.now)
+        → (result.0 ≡ (told w).pre) × (result.1 ≡ (told w).build) }
 {
     let numbers_end = front_len(text);
     let pre = part_at(text, numbers_end, b'-');
@@ -67,7 +77,7 @@ pub fn parts(text: &[u8]) -> (Part, Part)
     (pre, part_at(text, pre_end, b'+'))
 }
 
-// How many bytes at the front are white space, numbers and dots.
+/// How many bytes at the front are white space, numbers and dots.
 fn front_len(text: &[u8]) -> usize
     ensures { result ≡ prefix_len is_front_byte text.now }
 {
@@ -80,7 +90,7 @@ fn is_front_byte(byte: u8) -> bool
     matches!(byte, b' ' | b'\t' | b'\n' | b'\r' | b'.') || byte.is_ascii_alphanumeric()
 }
 
-// The part whose mark stands at the place; nowhere where another byte stands there, or none.
+/// The part whose mark stands at the place; nowhere where another byte stands there, or none.
 fn part_at(text: &[u8], place: usize, mark: u8) -> Part
     ensures part { result ≡ found place mark (drop place text.now) }
     ensures inside { result.offset + result.length ≤ length text.now }
@@ -99,7 +109,7 @@ fn part_at(text: &[u8], place: usize, mark: u8) -> Part
     }
 }
 
-// How many bytes at the front are identifiers and dots.
+/// How many bytes at the front are identifiers and dots.
 fn dotted_len(bytes: &[u8]) -> usize
     ensures { result ≡ prefix_len is_dotted_byte bytes.now }
 {

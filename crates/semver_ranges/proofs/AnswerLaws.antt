@@ -1,5 +1,5 @@
 -- What an answer by the reader says in the words of trees and texts.
-use Rattle.std.proofs.Common.{◌≡◌, ◌↔◌, ◌⊎◌, true, false, [], refl, sym, ap, ◌∙◌, subst, inl, inr, IsTrue, Result, Ok, Err, Some, None}
+use Rattle.std.proofs.Common.{◌≡◌, ◌↔◌, ◌⊎◌, true, [], refl, sym, ap, ◌∙◌, subst, inl, inr, IsTrue, Result, Ok, Err, Some, None}
 use Rattle.std.proofs.lemmas.Bool.{both_ways}
 use Rattle.std.specs.Prelude.{IfOk}
 use Rattle.std.specs.Result.{IsOkAnd}
@@ -8,6 +8,7 @@ use Rattle.semver_ranges.specs.declared.range_set.RangeSet.{RangeSet}
 use Rattle.semver_ranges.specs.declared.range_set.RangeError.{RangeError}
 use Rattle.semver_ranges.specs.declared.range_set.RangeError.TheVariants.{NotARange, NumberTooLarge, OutOfMemory}
 use Rattle.semver_ranges.specs.RangeTree.{SetTree, Spells}
+use Rattle.semver_ranges.specs.RangeTexts.{IsRangeText, HasSet, IsTooLarge}
 use Rattle.semver_texts.specs.Texts.{Text}
 use Rattle.semver_texts.specs.Versions.{PlainVersion}
 use Rattle.semver_ranges.specs.OwnMeaning.{meets_tree}
@@ -32,79 +33,92 @@ read_one t tree tree' e h = let same : Some tree ≡ Some tree' = sym e ∙ tree
 none_read : (t : Text) (tree : SetTree) → read t ≡ None → Spells tree t → ⊥
 none_read t tree e h = let same : None ≡ Some tree = sym e ∙ tree_read tree t h in cc
 
-pub accepted : (write : PlainVersion → PlainVersion) (t : Text) (mode : Compat) (r : Result RangeSet RangeError) → IsAnswer write t mode r → IfOk r (λ set. (tree : SetTree) × Spells tree t × IsTrue (fits mode tree))
-accepted write t mode (Ok set) h = (h.0, read_sound t h.0 h.1, h.2)
-accepted write t mode (Err e) h = tt
-
-pub as_rewritten : (write : PlainVersion → PlainVersion) (t : Text) (mode : Compat) (r : Result RangeSet RangeError) → IsAnswer write t mode r → IfOk r (λ set. (tree : SetTree) → Spells tree t → set_of set ≡ written_set write mode tree)
-as_rewritten write t mode (Ok set) h = λ tree s. h.3 ∙ ap (written_set write mode) (read_one t h.0 tree h.1 s)
-as_rewritten write t mode (Err e) h = tt
-
-pub not_a_range : (write : PlainVersion → PlainVersion) (t : Text) (mode : Compat) (r : Result RangeSet RangeError) → IsAnswer write t mode r → (r ≡ Err NotARange) ↔ ((tree : SetTree) → Spells tree t → ⊥)
-not_a_range write t mode (Ok set) h = (λ e. cc, λ no. absurd (no h.0 (read_sound t h.0 h.1)))
-not_a_range write t mode (Err NotARange) h = (λ e tree s. none_read t tree h s, λ no. refl)
-not_a_range write t mode (Err NumberTooLarge) h = (λ e. cc, λ no. absurd (no h.0 (read_sound t h.0 h.1)))
-not_a_range write t mode (Err OutOfMemory) h = (λ e. cc, λ no. absurd (no h.0 (read_sound t h.0 h.1)))
-
-unfit : (t : Text) (mode : Compat) (tree : SetTree) → read t ≡ Some tree → fits mode tree ≡ true → (tree' : SetTree) × Spells tree' t × (fits mode tree' ≡ false) → ⊥
+unfit : (t : Text) (mode : Compat) (tree : SetTree) → read t ≡ Some tree → fits mode tree ≡ true → IsTooLarge mode t → ⊥
 unfit t mode tree e f (tree', s, large) = both_ways (fits mode tree') large (sym (ap (fits mode) (read_one t tree tree' e s)) ∙ f)
 
-pub too_large : (write : PlainVersion → PlainVersion) (t : Text) (mode : Compat) (r : Result RangeSet RangeError) → IsAnswer write t mode r → (r ≡ Err NumberTooLarge) ↔ ((tree : SetTree) × Spells tree t × (fits mode tree ≡ false))
-too_large write t mode (Ok set) h = (λ e. cc, λ s. absurd (unfit t mode h.0 h.1 h.2 s))
-too_large write t mode (Err NotARange) h = (λ e. cc, λ (tree, s, large). absurd (none_read t tree h s))
-too_large write t mode (Err NumberTooLarge) h = (λ e. (h.0, read_sound t h.0 h.1, h.2), λ s. refl)
-too_large write t mode (Err OutOfMemory) h = (λ e. cc, λ s. absurd (unfit t mode h.0 h.1 h.2 s))
+-- what an answer says, however raised bounds are written
+module _ (write : PlainVersion → PlainVersion) (t : Text) (mode : Compat) where
+  pub accepted : (r : Result RangeSet RangeError) → IsAnswer write t mode r → IfOk r (λ set. HasSet mode t)
+  accepted (Ok set) h = (h.0, read_sound t h.0 h.1, h.2)
+  accepted (Err e) h = tt
 
-pub meaning : (t : Text) (mode : Compat) (r : Result RangeSet RangeError) → IsAnswer (λ bound. bound) t mode r
-    → IfOk r (λ set. (tree : SetTree) (v : PlainVersion) → Spells tree t → meets_set v (set_of set) ≡ meets_tree_or_bounds mode tree v)
-meaning t mode (Ok set) h = λ tree v s. ap (meets_set v) (h.3 ∙ ap (rewritten mode) (read_one t h.0 tree h.1 s)) ∙ some_agrees mode tree v
-meaning t mode (Err e) h = tt
+  pub as_rewritten : (r : Result RangeSet RangeError) → IsAnswer write t mode r
+      → IfOk r (λ set. (tree : SetTree) → Spells tree t → set_of set ≡ written_set write mode tree)
+  as_rewritten (Ok set) h = λ tree s. h.3 ∙ ap (written_set write mode) (read_one t h.0 tree h.1 s)
+  as_rewritten (Err e) h = tt
 
-pub releases : (t : Text) (mode : Compat) (r : Result RangeSet RangeError) → IsAnswer (λ bound. bound) t mode r
-    → IfOk r (λ set. (tree : SetTree) (v : PlainVersion) → Spells tree t → v.pre ≡ [] → meets_set v (set_of set) ≡ meets_tree mode tree v)
-releases t mode (Ok set) h = λ tree v s e. ap (meets_set v) (h.3 ∙ ap (rewritten mode) (read_one t h.0 tree h.1 s)) ∙ agree_on_releases mode tree v e
-releases t mode (Err e) h = tt
+  pub not_a_range : (r : Result RangeSet RangeError) → IsAnswer write t mode r
+      → (r ≡ Err NotARange) ↔ ¬ (IsRangeText t)
+  not_a_range (Ok set) h = (λ e. cc, λ no. absurd (no (h.0, read_sound t h.0 h.1)))
+  not_a_range (Err NotARange) h = (λ e (tree, s). none_read t tree h s, λ no. refl)
+  not_a_range (Err NumberTooLarge) h = (λ e. cc, λ no. absurd (no (h.0, read_sound t h.0 h.1)))
+  not_a_range (Err OutOfMemory) h = (λ e. cc, λ no. absurd (no (h.0, read_sound t h.0 h.1)))
 
-pub out_of_memory : (write : PlainVersion → PlainVersion) (t : Text) (mode : Compat) (r : Result RangeSet RangeError) → IsAnswer write t mode r → r ≡ Err OutOfMemory → (tree : SetTree) × Spells tree t × IsTrue (fits mode tree)
-out_of_memory write t mode r h e = let found = subst (IsAnswer write t mode) e h in (found.0, read_sound t found.0 found.1, found.2)
+  pub too_large : (r : Result RangeSet RangeError) → IsAnswer write t mode r → (r ≡ Err NumberTooLarge) ↔ IsTooLarge mode t
+  too_large (Ok set) h = (λ e. cc, λ s. absurd (unfit t mode h.0 h.1 h.2 s))
+  too_large (Err NotARange) h = (λ e. cc, λ (tree, s, large). absurd (none_read t tree h s))
+  too_large (Err NumberTooLarge) h = (λ e. (h.0, read_sound t h.0 h.1, h.2), λ s. refl)
+  too_large (Err OutOfMemory) h = (λ e. cc, λ s. absurd (unfit t mode h.0 h.1 h.2 s))
 
-pub implied : (t : Text) (mode : Compat) (r : Result RangeSet RangeError) → IsAnswer (λ bound. bound) t mode r
-    → IfOk r (λ set. (tree : SetTree) (v : PlainVersion) → Spells tree t → IsTrue (meets_tree mode tree v) → IsTrue (meets_set v (set_of set)))
-implied t mode (Ok set) h = λ tree v s own. ap (meets_set v) (h.3 ∙ ap (rewritten mode) (read_one t h.0 tree h.1 s)) ∙ own_meaning_meets mode tree v own
-implied t mode (Err e) h = tt
+  pub out_of_memory : (r : Result RangeSet RangeError) → IsAnswer write t mode r → r ≡ Err OutOfMemory → HasSet mode t
+  out_of_memory r h e = let found = subst (IsAnswer write t mode) e h in (found.0, read_sound t found.0 found.1, found.2)
 
-pub printable : (write : PlainVersion → PlainVersion) → ((v : PlainVersion) → is_printable_version v ≡ true → is_printable_version (write v) ≡ true)
+  pub reads_back : (r : Result RangeSet RangeError) → IsAnswer write t mode r
+      → (s : PlainSet) → IsPrintableSet s → s.compat ≡ mode → t ≡ set_text s → (r ≡ Err OutOfMemory) ⊎ IsOkAnd r (λ set. set_of set ≡ s)
+  reads_back r h s p m e =
+      let found = printed_again write s p in
+      let spelled : Spells found.0 t = subst (λ x. Spells found.0 x) (sym e) found.1 in
+      let fit : fits mode found.0 ≡ true = subst (λ x. fits x found.0 ≡ true) m found.2 in
+      let again : written_set write mode found.0 ≡ s = subst (λ x. written_set write x found.0 ≡ s) m found.3 in
+      go r h found.0 spelled fit again where
+        go : (r : Result RangeSet RangeError) → IsAnswer write t mode r → (tree : SetTree) → Spells tree t → fits mode tree ≡ true
+            → written_set write mode tree ≡ s → (r ≡ Err OutOfMemory) ⊎ IsOkAnd r (λ set. set_of set ≡ s)
+        go (Ok set) h tree spelled fit again = inr (h.3 ∙ ap (written_set write mode) (read_one t h.0 tree h.1 spelled) ∙ again)
+        go (Err NotARange) h tree spelled fit again = absurd (none_read t tree h spelled)
+        go (Err NumberTooLarge) h tree spelled fit again =
+            absurd (both_ways (fits mode tree) (sym (ap (fits mode) (read_one t h.0 tree h.1 spelled)) ∙ h.2) fit)
+        go (Err OutOfMemory) h tree spelled fit again = inl refl
+
+pub printable : (write : PlainVersion → PlainVersion)
+    → ((v : PlainVersion) → is_printable_version v ≡ true → is_printable_version (write v) ≡ true)
     → (t : Text) (mode : Compat) (r : Result RangeSet RangeError) → IsAnswer write t mode r → IfOk r (λ set. IsPrintableSet (set_of set))
 printable write kept t mode (Ok set) h = subst IsPrintableSet (sym h.3) (written_printable write kept mode h.0 t (read_sound t h.0 h.1) h.2)
 printable write kept t mode (Err e) h = tt
 
--- with exact bounds
-pub exact_meaning : (t : Text) (mode : Compat) (r : Result RangeSet RangeError) → IsAnswer exact_bound t mode r
-    → IfOk r (λ set. (tree : SetTree) (v : PlainVersion) → Spells tree t → meets_set v (set_of set) ≡ meets_tree mode tree v)
-exact_meaning t mode (Ok set) h = λ tree v s. ap (meets_set v) (h.3 ∙ ap (rewritten_exactly mode) (read_one t h.0 tree h.1 s)) ∙ some_means mode tree v
-exact_meaning t mode (Err e) h = tt
+module _ (t : Text) (mode : Compat) where
+  pub meaning : (r : Result RangeSet RangeError) → IsAnswer (λ bound. bound) t mode r
+      → IfOk r (λ set. (tree : SetTree) (v : PlainVersion) → Spells tree t → meets_set v (set_of set) ≡ meets_tree_or_bounds mode tree v)
+  meaning (Ok set) h = λ tree v s. ap (meets_set v) (h.3 ∙ ap (rewritten mode) (read_one t h.0 tree h.1 s)) ∙ some_agrees mode tree v
+  meaning (Err e) h = tt
 
-pub exact_printable : (t : Text) (mode : Compat) (r : Result RangeSet RangeError) → IsAnswer exact_bound t mode r → IfOk r (λ set. IsPrintableSet (set_of set))
-exact_printable t mode r h = printable exact_bound exact_kept t mode r h
+  pub releases : (r : Result RangeSet RangeError) → IsAnswer (λ bound. bound) t mode r
+      → IfOk r (λ set. (tree : SetTree) (v : PlainVersion) → Spells tree t → v.pre ≡ [] → meets_set v (set_of set) ≡ meets_tree mode tree v)
+  releases (Ok set) h = λ tree v s e. ap (meets_set v) (h.3 ∙ ap (rewritten mode) (read_one t h.0 tree h.1 s))
+      ∙ agree_on_releases mode tree v e
+  releases (Err e) h = tt
 
-pub printed_back : (t : Text) (mode : Compat) (r : Result RangeSet RangeError) → IsAnswer exact_bound t mode r
-    → IfOk r (λ set. (tree : SetTree) × Spells tree (set_text (set_of set)) × IsTrue (fits mode tree) × (rewritten mode tree ≡ set_of set))
-printed_back t mode (Ok set) h =
-    let found = printed_again (set_of set) (exact_printable t mode (Ok set) h) in
-    let same : (set_of set).compat ≡ mode = ap (λ (s : PlainSet). s.compat) h.3 in
-    (found.0, found.1, subst (λ x. fits x found.0 ≡ true) same found.2, subst (λ x. rewritten x found.0 ≡ set_of set) same found.3)
-printed_back t mode (Err e) h = tt
+  pub implied : (r : Result RangeSet RangeError) → IsAnswer (λ bound. bound) t mode r
+      → IfOk r (λ set. (tree : SetTree) (v : PlainVersion) → Spells tree t → IsTrue (meets_tree mode tree v)
+      → IsTrue (meets_set v (set_of set)))
+  implied (Ok set) h = λ tree v s own. ap (meets_set v) (h.3 ∙ ap (rewritten mode) (read_one t h.0 tree h.1 s))
+      ∙ own_meaning_meets mode tree v own
+  implied (Err e) h = tt
 
-pub reads_back : (t : Text) (mode : Compat) (r : Result RangeSet RangeError) → IsAnswer (λ bound. bound) t mode r
-    → (s : PlainSet) → IsPrintableSet s → s.compat ≡ mode → t ≡ set_text s → (r ≡ Err OutOfMemory) ⊎ IsOkAnd r (λ set. set_of set ≡ s)
-reads_back t mode r h s p m e =
-    let found = printed_again s p in
-    let spelled : Spells found.0 t = subst (λ x. Spells found.0 x) (sym e) found.1 in
-    let fit : fits mode found.0 ≡ true = subst (λ x. fits x found.0 ≡ true) m found.2 in
-    let again : rewritten mode found.0 ≡ s = subst (λ x. rewritten x found.0 ≡ s) m found.3 in
-    go r h found.0 spelled fit again where
-      go : (r : Result RangeSet RangeError) → IsAnswer (λ bound. bound) t mode r → (tree : SetTree) → Spells tree t → fits mode tree ≡ true → rewritten mode tree ≡ s → (r ≡ Err OutOfMemory) ⊎ IsOkAnd r (λ set. set_of set ≡ s)
-      go (Ok set) h tree spelled fit again = inr (h.3 ∙ ap (rewritten mode) (read_one t h.0 tree h.1 spelled) ∙ again)
-      go (Err NotARange) h tree spelled fit again = absurd (none_read t tree h spelled)
-      go (Err NumberTooLarge) h tree spelled fit again = absurd (both_ways (fits mode tree) (sym (ap (fits mode) (read_one t h.0 tree h.1 spelled)) ∙ h.2) fit)
-      go (Err OutOfMemory) h tree spelled fit again = inl refl
+  -- with exact bounds
+  pub exact_meaning : (r : Result RangeSet RangeError) → IsAnswer exact_bound t mode r
+      → IfOk r (λ set. (tree : SetTree) (v : PlainVersion) → Spells tree t → meets_set v (set_of set) ≡ meets_tree mode tree v)
+  exact_meaning (Ok set) h = λ tree v s. ap (meets_set v) (h.3 ∙ ap (rewritten_exactly mode) (read_one t h.0 tree h.1 s))
+      ∙ some_means mode tree v
+  exact_meaning (Err e) h = tt
+
+  pub exact_printable : (r : Result RangeSet RangeError) → IsAnswer exact_bound t mode r → IfOk r (λ set. IsPrintableSet (set_of set))
+  exact_printable r h = printable exact_bound exact_kept t mode r h
+
+  pub printed_back : (r : Result RangeSet RangeError) → IsAnswer exact_bound t mode r
+      → IfOk r (λ set. (tree : SetTree) × Spells tree (set_text (set_of set)) × IsTrue (fits mode tree)
+      × (rewritten mode tree ≡ set_of set))
+  printed_back (Ok set) h =
+      let found = printed_again (λ bound. bound) (set_of set) (exact_printable (Ok set) h) in
+      let same : (set_of set).compat ≡ mode = ap (λ (s : PlainSet). s.compat) h.3 in
+      (found.0, found.1, subst (λ x. fits x found.0 ≡ true) same found.2, subst (λ x. rewritten x found.0 ≡ set_of set) same found.3)
+  printed_back (Err e) h = tt

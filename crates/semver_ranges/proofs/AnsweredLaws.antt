@@ -1,5 +1,6 @@
 -- What a tree that fits is rewritten to is printable.
-use Rattle.std.proofs.Common.{◌≡◌, ℕ, Bool, true, false, not, ◌&&◌, ◌==◌, if◌then◌else◌, List, [], ◌∷◌, ◌++◌, length, map, refl, ◌∙◌, inl, inr, IsTrue, All}
+use Rattle.std.proofs.Common.{◌≡◌, ℕ, Bool, true, false, not, ◌&&◌, ◌==◌, if◌then◌else◌, List, [], ◌∷◌, ◌++◌, length, map, refl, ◌∙◌, inl}
+use Rattle.std.proofs.Common.{inr, IsTrue, All}
 use Rattle.std.proofs.lemmas.Bool.{cases_Bool, and_parts, and_from, not_from_false}
 use Rattle.std.proofs.lemmas.List.Elements.{All-nil, All-cons}
 use Rattle.std.proofs.lemmas.List.Folds.{list_all-append}
@@ -7,16 +8,19 @@ use Rattle.std.specs.List.{list_all, flat_map}
 use Rattle.std.specs.Str.{all_ascii_digits}
 use Rattle.std.specs.Str.Parse.{digits_value}
 use Rattle.semver_ranges.specs.declared.range.Compat.{Compat}
-use Rattle.semver_ranges.specs.RangeTree.{PartialTree, Simple, RangeTree, empty, hyphen, simples, SetTree, is_part, HasParts, SpellsSimples, SpellsRange, SpellsPadded, Spells}
+use Rattle.semver_ranges.specs.RangeTree.{PartialTree, Simple, RangeTree, empty, hyphen, simples, SetTree, is_part, HasParts, SpellsSimples}
+use Rattle.semver_ranges.specs.RangeTree.{SpellsRange, SpellsPadded, Spells}
 use Rattle.semver_texts.specs.Texts.{Text, is_empty}
 use Rattle.semver_texts.specs.Versions.{numbers, IdentifierValue, PlainVersion}
 use Rattle.semver_ranges.specs.Partials.{fits_u64, kept, stated, states_nothing, pre_parts, pre_release, filled, zero_filled}
 use Rattle.semver_ranges.specs.Terms.{of_simple, left_side, right_side, terms}
-use Rattle.semver_ranges.specs.RewritingTable.{PlainComparator, Cell, from_zero, below_zero, against, below, between, cell, written_cell, cell_raised, up, bound_fits, written_simple, written_range, written_set, rewritten, fits, term_fits}
+use Rattle.semver_ranges.specs.RewritingTable.{PlainComparator, Cell, from_zero, below_zero, against, below, between, cell, written_cell}
+use Rattle.semver_ranges.specs.RewritingTable.{cell_raised, up, bound_fits, written_simple, written_range, written_set, rewritten, fits}
+use Rattle.semver_ranges.specs.RewritingTable.{term_fits}
 use Rattle.semver_ranges.specs.ExactBounds.{exact_bound}
 use Rattle.semver_ranges.specs.PrintedRanges.{is_kept, is_printable_version, IsPrintableRange, IsPrintableSet}
 use Rattle.semver_ranges.proofs.Rows.{Shape}
-use Rattle.semver_ranges.proofs.Meanings.{stated_shape}
+use Rattle.semver_ranges.proofs.SetMeanings.{stated_shape}
 
 abbrev are_printable : List PlainComparator → Bool
 are_printable cs = list_all (λ c. is_printable_version c.version) cs
@@ -30,7 +34,8 @@ part_kept part e = elim (cases_Bool (all_ascii_digits part && fits_u64 (digits_v
 
 parts_kept : (parts : List Text) → list_all is_part parts ≡ true → list_all is_kept (map kept parts) ≡ true
 parts_kept [] e = refl
-parts_kept (part ∷ parts) e = let h = and_parts (is_part part) (list_all is_part parts) e in and_from _ _ (part_kept part h.0) (parts_kept parts h.1)
+parts_kept (part ∷ parts) e =
+    let h = and_parts (is_part part) (list_all is_part parts) e in and_from _ _ (part_kept part h.0) (parts_kept parts h.1)
 
 pre_parts_kept : (p : PartialTree) → HasParts p → list_all is_kept (map kept (pre_parts p)) ≡ true
 pre_parts_kept (PartialTree.one a) h = refl
@@ -44,106 +49,119 @@ pre_kept p h = go (length (stated p) == 3) where
   go false = refl
 
 -- stated numbers that fit, filled with zeros
-filled_fits : {s : List ℕ} → Shape s → (pre : List IdentifierValue) → list_all fits_u64 s ≡ true → list_all fits_u64 (numbers (filled s pre)) ≡ true
+filled_fits : {s : List ℕ} → Shape s → (pre : List IdentifierValue) → list_all fits_u64 s ≡ true
+    → list_all fits_u64 (numbers (filled s pre)) ≡ true
 filled_fits Shape.none pre e = refl
 filled_fits (Shape.one x) pre e = and_from _ _ (and_parts (fits_u64 x) true e).0 refl
-filled_fits (Shape.two x y) pre e = let h = and_parts (fits_u64 x) (fits_u64 y && true) e in and_from _ _ h.0 (and_from _ _ (and_parts (fits_u64 y) true h.1).0 refl)
+filled_fits (Shape.two x y) pre e =
+    let h = and_parts (fits_u64 x) (fits_u64 y && true) e in and_from _ _ h.0 (and_from _ _ (and_parts (fits_u64 y) true h.1).0 refl)
 filled_fits (Shape.three x y w) pre e = e
 
 -- a raised bound that is printable stays so where it is written
 abbrev Keeps : (PlainVersion → PlainVersion) → Type 0
 Keeps write = (v : PlainVersion) → is_printable_version v ≡ true → is_printable_version (write v) ≡ true
 
--- the comparators of a cell
-cell_printable : (write : PlainVersion → PlainVersion) → Keeps write → (c : Cell) (s : List ℕ) (z : PlainVersion) → is_printable_version z ≡ true → bound_fits (cell_raised c s) ≡ true → are_printable (written_cell write c s z) ≡ true
-cell_printable write keeps from_zero s z e h = refl
-cell_printable write keeps below_zero s z e h = refl
-cell_printable write keeps (against op) s z e h = and_from _ _ e refl
-cell_printable write keeps (below k) s z e h = and_from _ _ (keeps (up k s) (and_from _ _ h refl)) refl
-cell_printable write keeps (between k) s z e h = and_from _ _ e (and_from _ _ (keeps (up k s) (and_from _ _ h refl)) refl)
+module _ (write : PlainVersion → PlainVersion) (keeps : Keeps write) (mode : Compat) where
+  -- the comparators of a cell
+  cell_printable : (c : Cell) (s : List ℕ) (z : PlainVersion) → is_printable_version z ≡ true → bound_fits (cell_raised c s) ≡ true
+      → are_printable (written_cell write c s z) ≡ true
+  cell_printable from_zero s z e h = refl
+  cell_printable below_zero s z e h = refl
+  cell_printable (against op) s z e h = and_from _ _ e refl
+  cell_printable (below k) s z e h = and_from _ _ (keeps (up k s) (and_from _ _ h refl)) refl
+  cell_printable (between k) s z e h = and_from _ _ e (and_from _ _ (keeps (up k s) (and_from _ _ h refl)) refl)
 
-cell_some : (write : PlainVersion → PlainVersion) (c : Cell) (s : List ℕ) (z : PlainVersion) → is_empty (written_cell write c s z) ≡ false
-cell_some write from_zero s z = refl
-cell_some write below_zero s z = refl
-cell_some write (against op) s z = refl
-cell_some write (below k) s z = refl
-cell_some write (between k) s z = refl
+  cell_some : (c : Cell) (s : List ℕ) (z : PlainVersion) → is_empty (written_cell write c s z) ≡ false
+  cell_some from_zero s z = refl
+  cell_some _ s z = refl
 
-simple_printable : (write : PlainVersion → PlainVersion) → Keeps write → (mode : Compat) (s : Simple) → HasParts s.partial → term_fits mode (of_simple s) ≡ true → are_printable (written_simple write mode s) ≡ true
-simple_printable write keeps mode s h e =
-    let c = cell mode s.form (stated s.partial) in
-    let fit = and_parts (list_all fits_u64 (stated s.partial)) (bound_fits (cell_raised c (stated s.partial))) e in
-    cell_printable write keeps c (stated s.partial) (zero_filled s.partial)
-    (and_from _ _ (filled_fits (stated_shape s.partial) (pre_release s.partial) fit.0) (pre_kept s.partial h)) fit.1
+  simple_printable : (s : Simple) → HasParts s.partial → term_fits mode (of_simple s) ≡ true
+      → are_printable (written_simple write mode s) ≡ true
+  simple_printable s h e =
+      let c = cell mode s.form (stated s.partial) in
+      let fit = and_parts (list_all fits_u64 (stated s.partial)) (bound_fits (cell_raised c (stated s.partial))) e in
+      cell_printable c (stated s.partial) (zero_filled s.partial)
+      (and_from _ _ (filled_fits (stated_shape s.partial) (pre_release s.partial) fit.0) (pre_kept s.partial h)) fit.1
 
--- simples whose partials have parts
-HaveParts : List Simple → Type 0
-HaveParts [] = Unit {0}
-HaveParts (s ∷ ss) = HasParts s.partial × HaveParts ss
+  -- simples whose partials have parts
+  HaveParts : List Simple → Type 0
+  HaveParts [] = Unit {0}
+  HaveParts (s ∷ ss) = HasParts s.partial × HaveParts ss
 
-simples_printable : (write : PlainVersion → PlainVersion) → Keeps write → (mode : Compat) (ss : List Simple) → HaveParts ss → list_all (term_fits mode) (map of_simple ss) ≡ true → are_printable (flat_map (written_simple write mode) ss) ≡ true
-unfolding HaveParts
-simples_printable write keeps mode [] h e = refl
-simples_printable write keeps mode (s ∷ ss) h e =
-    let fit = and_parts (term_fits mode (of_simple s)) (list_all (term_fits mode) (map of_simple ss)) e in
-    list_all-append (λ c. is_printable_version c.version) (written_simple write mode s) (flat_map (written_simple write mode) ss)
-    ∙ and_from _ _ (simple_printable write keeps mode s h.0 fit.0) (simples_printable write keeps mode ss h.1 fit.1)
+  simples_printable : (ss : List Simple) → HaveParts ss → list_all (term_fits mode) (map of_simple ss) ≡ true
+      → are_printable (flat_map (written_simple write mode) ss) ≡ true
+  unfolding HaveParts
+  simples_printable [] h e = refl
+  simples_printable (s ∷ ss) h e =
+      let fit = and_parts (term_fits mode (of_simple s)) (list_all (term_fits mode) (map of_simple ss)) e in
+      list_all-append (λ c. is_printable_version c.version) (written_simple write mode s) (flat_map (written_simple write mode) ss)
+      ∙ and_from _ _ (simple_printable s h.0 fit.0) (simples_printable ss h.1 fit.1)
 
-simples_some : (write : PlainVersion → PlainVersion) (mode : Compat) (s : Simple) (ss : List Simple) → is_empty (flat_map (written_simple write mode) (s ∷ ss)) ≡ false
-simples_some write mode s ss = go (written_simple write mode s) (cell_some write (cell mode s.form (stated s.partial)) (stated s.partial) (zero_filled s.partial)) where
-  go : (cs : List PlainComparator) → is_empty cs ≡ false → is_empty (cs ++ flat_map (written_simple write mode) ss) ≡ false
-  go [] e = cc
-  go (c ∷ cs) e = refl
+  simples_some : (s : Simple) (ss : List Simple) → is_empty (flat_map (written_simple write mode) (s ∷ ss)) ≡ false
+  simples_some s ss =
+      go (written_simple write mode s) (cell_some (cell mode s.form (stated s.partial)) (stated s.partial) (zero_filled s.partial)) where
+        go : (cs : List PlainComparator) → is_empty cs ≡ false → is_empty (cs ++ flat_map (written_simple write mode) ss) ≡ false
+        go [] e = cc
+        go (c ∷ cs) e = refl
 
-simples_parts : (first : Simple) (others : List Simple) (t : Text) → SpellsSimples first others t → HaveParts (first ∷ others)
-unfolding HaveParts
-simples_parts first [] t (head, tail, f, p, eq) = (p.1, tt)
-simples_parts first (next ∷ others) t (front, gap, back, (head, tail, f, p, eq), g, more, eq') = (p.1, simples_parts next others back more)
+  simples_parts : (first : Simple) (others : List Simple) (t : Text) → SpellsSimples first others t → HaveParts (first ∷ others)
+  unfolding HaveParts
+  simples_parts first [] t (head, tail, f, p, eq) = (p.1, tt)
+  simples_parts first (next ∷ others) t (front, gap, back, (head, tail, f, p, eq), g, more, eq') =
+      (p.1, simples_parts next others back more)
 
--- the comparators of a range: some, and each printable
-abbrev ArePrintable : List PlainComparator → Type 0
-ArePrintable cs = IsTrue (not (is_empty cs)) × IsTrue (are_printable cs)
+  -- the comparators of a range: some, and each printable
+  abbrev ArePrintable : List PlainComparator → Type 0
+  ArePrintable cs = IsTrue (not (is_empty cs)) × IsTrue (are_printable cs)
 
-range_printable : (write : PlainVersion → PlainVersion) → Keeps write → (mode : Compat) (r : RangeTree) (t : Text) → SpellsRange r t → list_all (term_fits mode) (terms r) ≡ true → ArePrintable (written_range write mode r)
-unfolding HaveParts
-range_printable write keeps mode empty t h e = (refl, refl)
-range_printable write keeps mode (simples first others) t h e =
-    (not_from_false (is_empty (flat_map (written_simple write mode) (first ∷ others))) (simples_some write mode first others), simples_printable write keeps mode (first ∷ others) (simples_parts first others t h) e)
-range_printable write keeps mode (hyphen left right) t (l, gap, gap', r, h, g, g', h', eq) e = elim (cases_Bool (states_nothing left)) [
-  | inl a ↦ elim (cases_Bool (states_nothing right)) [
-    | inl b ↦ rw (a, b) (refl, refl)
-    | inr b ↦ rw (a, b) (made (right_side right) [] (h'.1, tt) (rw (a, b) at e))
-  ]
-  | inr a ↦ elim (cases_Bool (states_nothing right)) [
-    | inl b ↦ rw (a, b) (made (left_side left) [] (h.1, tt) (rw (a, b) at e))
-    | inr b ↦ rw (a, b) (made (left_side left) (right_side right ∷ []) (h.1, (h'.1, tt)) (rw (a, b) at e))
-  ]
-] where
-  made : (s : Simple) (ss : List Simple) → HaveParts (s ∷ ss) → list_all (term_fits mode) (map of_simple (s ∷ ss)) ≡ true → ArePrintable (flat_map (written_simple write mode) (s ∷ ss))
-  made s ss h e = (not_from_false (is_empty (flat_map (written_simple write mode) (s ∷ ss))) (simples_some write mode s ss), simples_printable write keeps mode (s ∷ ss) h e)
+  range_printable : (r : RangeTree) (t : Text) → SpellsRange r t → list_all (term_fits mode) (terms r) ≡ true
+      → ArePrintable (written_range write mode r)
+  unfolding HaveParts
+  range_printable empty t h e = (refl, refl)
+  range_printable (simples first others) t h e = (
+    not_from_false (is_empty (flat_map (written_simple write mode) (first ∷ others))) (simples_some first others),
+    simples_printable (first ∷ others) (simples_parts first others t h) e,
+  )
+  range_printable (hyphen left right) t (l, gap, gap', r, h, g, g', h', eq) e = elim (cases_Bool (states_nothing left)) [
+    | inl a ↦ elim (cases_Bool (states_nothing right)) [
+      | inl b ↦ rw (a, b) (refl, refl)
+      | inr b ↦ rw (a, b) (made (right_side right) [] (h'.1, tt) (rw (a, b) at e))
+    ]
+    | inr a ↦ elim (cases_Bool (states_nothing right)) [
+      | inl b ↦ rw (a, b) (made (left_side left) [] (h.1, tt) (rw (a, b) at e))
+      | inr b ↦ rw (a, b) (made (left_side left) (right_side right ∷ []) (h.1, (h'.1, tt)) (rw (a, b) at e))
+    ]
+  ] where
+    made : (s : Simple) (ss : List Simple) → HaveParts (s ∷ ss) → list_all (term_fits mode) (map of_simple (s ∷ ss)) ≡ true
+        → ArePrintable (flat_map (written_simple write mode) (s ∷ ss))
+    made s ss h e =
+        (not_from_false (is_empty (flat_map (written_simple write mode) (s ∷ ss))) (simples_some s ss), simples_printable (s ∷ ss) h e)
 
-padded_printable : (write : PlainVersion → PlainVersion) → Keeps write → (mode : Compat) (r : RangeTree) (t : Text) → SpellsPadded r t → list_all (term_fits mode) (terms r) ≡ true
-    → IsPrintableRange mode (record { comparators = written_range write mode r; compat = mode })
-padded_printable write keeps mode r t (before, inner, after, b, h, a, eq) e = let p = range_printable write keeps mode r inner h e in (p.0, refl, p.1)
+  padded_printable : (r : RangeTree) (t : Text) → SpellsPadded r t → list_all (term_fits mode) (terms r) ≡ true
+      → IsPrintableRange mode (record { comparators = written_range write mode r; compat = mode })
+  padded_printable r t (before, inner, after, b, h, a, eq) e = let p = range_printable r inner h e in (p.0, refl, p.1)
 
-ranges_printable : (write : PlainVersion → PlainVersion) → Keeps write → (mode : Compat) (tree : SetTree) (t : Text) → Spells tree t → fits mode tree ≡ true → All (IsPrintableRange mode) (written_set write mode tree).ranges
-ranges_printable write keeps mode [] t h e = absurd h
-ranges_printable write keeps mode (r ∷ []) t h e =
-    All-cons (IsPrintableRange mode) (record { comparators = written_range write mode r; compat = mode }) []
-    (padded_printable write keeps mode r t h (and_parts (list_all (term_fits mode) (terms r)) true e).0) (All-nil (IsPrintableRange mode))
-ranges_printable write keeps mode (r ∷ next ∷ others) t (head, tail, h, more, eq) e =
-    let parts = and_parts (list_all (term_fits mode) (terms r)) (fits mode (next ∷ others)) e in
-    All-cons (IsPrintableRange mode) (record { comparators = written_range write mode r; compat = mode }) (written_set write mode (next ∷ others)).ranges
-    (padded_printable write keeps mode r head h parts.0) (ranges_printable write keeps mode (next ∷ others) tail more parts.1)
+  ranges_printable : (tree : SetTree) (t : Text) → Spells tree t → fits mode tree ≡ true
+      → All (IsPrintableRange mode) (written_set write mode tree).ranges
+  ranges_printable [] t h e = absurd h
+  ranges_printable (r ∷ []) t h e =
+      All-cons (IsPrintableRange mode) (record { comparators = written_range write mode r; compat = mode }) []
+      (padded_printable r t h (and_parts (list_all (term_fits mode) (terms r)) true e).0) (All-nil (IsPrintableRange mode))
+  ranges_printable (r ∷ next ∷ others) t (head, tail, h, more, eq) e =
+      let parts = and_parts (list_all (term_fits mode) (terms r)) (fits mode (next ∷ others)) e in
+      All-cons (IsPrintableRange mode) (record { comparators = written_range write mode r; compat = mode })
+      (written_set write mode (next ∷ others)).ranges
+      (padded_printable r head h parts.0) (ranges_printable (next ∷ others) tail more parts.1)
 
--- what a tree that spells a text and fits is rewritten to is printable
-pub written_printable : (write : PlainVersion → PlainVersion) → Keeps write → (mode : Compat) (tree : SetTree) (t : Text) → Spells tree t → fits mode tree ≡ true → IsPrintableSet (written_set write mode tree)
-written_printable write keeps mode tree t h e = (some tree h, ranges_printable write keeps mode tree t h e) where
-  some : (tree : SetTree) → Spells tree t → not (is_empty (written_set write mode tree).ranges) ≡ true
-  some [] h = absurd h
-  some (r ∷ rs) h = refl
+  -- what a tree that spells a text and fits is rewritten to is printable
+  pub written_printable : (tree : SetTree) (t : Text) → Spells tree t → fits mode tree ≡ true → IsPrintableSet (written_set write mode tree)
+  written_printable tree t h e = (some tree h, ranges_printable tree t h e) where
+    some : (tree : SetTree) → Spells tree t → not (is_empty (written_set write mode tree).ranges) ≡ true
+    some [] h = absurd h
+    some (r ∷ rs) h = refl
 
-pub rewritten_printable : (mode : Compat) (tree : SetTree) (t : Text) → Spells tree t → fits mode tree ≡ true → IsPrintableSet (rewritten mode tree)
+pub rewritten_printable : (mode : Compat) (tree : SetTree) (t : Text) → Spells tree t → fits mode tree ≡ true
+    → IsPrintableSet (rewritten mode tree)
 rewritten_printable mode tree t h e = written_printable (λ bound. bound) (λ v e. e) mode tree t h e
 
 -- an exact bound has the numbers of the bound, and one identifier that prints

@@ -20,7 +20,8 @@ small_byte b e = grind (arith, nat_tests)
 
 small_part : (t : Text) → list_all is_part_byte t ≡ true → All IsSmall t
 small_part [] e = All-nil IsSmall
-small_part (b ∷ t) e = let both = and_parts (is_part_byte b) (list_all is_part_byte t) e in All-cons IsSmall b t (small_byte b both.0) (small_part t both.1)
+small_part (b ∷ t) e =
+    let both = and_parts (is_part_byte b) (list_all is_part_byte t) e in All-cons IsSmall b t (small_byte b both.0) (small_part t both.1)
 
 some_part : (t : Text) → is_part t ≡ true → All IsSmall t
 some_part [] e = All-nil IsSmall
@@ -35,4 +36,5 @@ small_parts (p ∷ next ∷ parts) e =
     All-append IsSmall p (46 ∷ rest) (some_part p both.0) (All-cons IsSmall 46 rest (lit< tt) (small_parts (next ∷ parts) both.1))
 
 pub parts_are_text : (t : Text) → list_all is_part (slice_split is_dot t) ≡ true → IsUtf8 t
-parts_are_text t e = IsUtf8-from_ascii t (IsAscii-from_all t (subst (All IsSmall) (join_with_byte-slice_split 46 t) (small_parts (slice_split is_dot t) e)))
+parts_are_text t e =
+    IsUtf8-from_ascii t (IsAscii-from_all t (subst (All IsSmall) (join_with_byte-slice_split 46 t) (small_parts (slice_split is_dot t) e)))

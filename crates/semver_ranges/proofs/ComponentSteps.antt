@@ -1,5 +1,6 @@
 -- Components, as they are read byte by byte.
-use Rattle.std.proofs.Common.{◌≡◌, ℕ, suc, ◌+◌, ◌-◌, ◌*◌, ◌<◌, ◌≤◌, true, false, ◌||◌, ◌==◌, [], ◌∷◌, ◌++◌, length, get_or, take, drop, Option, Some, refl, sym, ap, ◌∙◌, subst, arith, inl, inr}
+use Rattle.std.proofs.Common.{◌≡◌, ℕ, suc, ◌+◌, ◌-◌, ◌*◌, ◌<◌, ◌≤◌, true, false, ◌||◌, ◌==◌, [], ◌∷◌, ◌++◌, length, get_or, take, drop}
+use Rattle.std.proofs.Common.{Option, Some, refl, sym, ap, ◌∙◌, subst, arith, inl, inr}
 use Rattle.std.specs.Char.{is_ascii_digit, digit_value}
 use Rattle.std.specs.Str.Parse.{digits_value}
 use Rattle.std.proofs.Math.Seq.{take-length, take-suc}
@@ -23,14 +24,26 @@ first_apart (x ∷ xs) some =
 one_byte : (b : ℕ) (t : Text) → (is_wildcard (b ∷ []) || (b == 48)) ≡ true → component (b ∷ t) ≡ Some (b ∷ [], t)
 one_byte b t e = rw e refl
 
-pub wildcard_front : (t : Text) → 1 ≤ length t → is_wildcard (get_or t 0 0 ∷ []) ≡ true → (x : Text) × (component t ≡ Some (x, take (length t - 1) (drop 1 t))) × (is_wildcard x ≡ true)
-wildcard_front t some e =
-    (get_or t 0 0 ∷ [], ap component (first_apart t some) ∙ one_byte (get_or t 0 0) _ (or_left (is_wildcard (get_or t 0 0 ∷ [])) (get_or t 0 0 == 48) e), e)
+pub wildcard_front : (t : Text) → 1 ≤ length t → is_wildcard (get_or t 0 0 ∷ []) ≡ true → (x : Text)
+    × (component t ≡ Some (x, take (length t - 1) (drop 1 t))) × (is_wildcard x ≡ true)
+wildcard_front t some e = (
+  get_or t 0 0 ∷ [],
+  ap component (first_apart t some)
+      ∙ one_byte (get_or t 0 0) _ (or_left (is_wildcard (get_or t 0 0 ∷ [])) (get_or t 0 0 == 48) e),
+  e,
+)
 
 pub zero_front : (t : Text) → 1 ≤ length t → get_or t 0 0 ≡ 48
-    → (x : Text) × (component t ≡ Some (x, take (length t - 1) (drop 1 t))) × (is_wildcard x ≡ false) × (fits_u64 (digits_value 10 x) ≡ true) × (0 ≡ digits_value 10 x)
-zero_front t some e =
-    (48 ∷ [], ap component (first_apart t some ∙ ap (λ (b : ℕ). b ∷ take (length t - 1) (drop 1 t)) e) ∙ one_byte 48 _ refl, refl, refl, refl)
+    → (x : Text) × (component t ≡ Some (x, take (length t - 1) (drop 1 t))) × (is_wildcard x ≡ false)
+    × (fits_u64 (digits_value 10 x) ≡ true) × (0 ≡ digits_value 10 x)
+zero_front t some e = (
+  48 ∷ [],
+  ap component (first_apart t some ∙ ap (λ (b : ℕ). b ∷ take (length t - 1) (drop 1 t)) e)
+      ∙ one_byte 48 _ refl,
+  refl,
+  refl,
+  refl,
+)
 
 -- digits
 digit_bounds : (b : ℕ) → is_ascii_digit b ≡ true → (48 ≤ b) × (b ≤ 57)
@@ -49,11 +62,14 @@ no_wildcard b [] e = elim (cases_Bool (is_wildcard (b ∷ []))) [
 ]
 no_wildcard b (c ∷ t) e = refl
 
-digit_component : (b : ℕ) (t : Text) → is_ascii_digit b ≡ true → (b == 48) ≡ false → component (b ∷ t) ≡ Some (b ∷ front is_ascii_digit t, back is_ascii_digit t)
+digit_component : (b : ℕ) (t : Text) → is_ascii_digit b ≡ true → (b == 48) ≡ false
+    → component (b ∷ t) ≡ Some (b ∷ front is_ascii_digit t, back is_ascii_digit t)
 digit_component b t e other = rw (no_wildcard b [] e, other, e) refl
 
-pub digits_front : (t rest : Text) (n : ℕ) (value : Option ℕ) → 1 ≤ length t → is_ascii_digit (get_or t 0 0) ≡ true → (get_or t 0 0 == 48) ≡ false → n ≡ get_or t 0 0 - 48
-    → IsValue (digits_value 10 ((48 + n) ∷ front is_ascii_digit (take (length t - 1) (drop 1 t)))) value → rest ≡ back is_ascii_digit (take (length t - 1) (drop 1 t))
+pub digits_front : (t rest : Text) (n : ℕ) (value : Option ℕ) → 1 ≤ length t → is_ascii_digit (get_or t 0 0) ≡ true
+    → (get_or t 0 0 == 48) ≡ false → n ≡ get_or t 0 0 - 48
+    → IsValue (digits_value 10 ((48 + n) ∷ front is_ascii_digit (take (length t - 1) (drop 1 t)))) value
+    → rest ≡ back is_ascii_digit (take (length t - 1) (drop 1 t))
     → (x : Text) × (component t ≡ Some (x, rest)) × ((is_wildcard x ≡ false) × IsValue (digits_value 10 x) value)
 digits_front t rest n value some e other first v is =
     let b : ℕ = get_or t 0 0 in
@@ -66,7 +82,8 @@ digits_front t rest n value some e other first v is =
     )
 
 -- one digit more
-pub value_more : (c : ℕ) (t : Text) (i : ℕ) (value : Option ℕ) → i < length t → is_ascii_digit (get_or t i 0) ≡ true → IsValue (digits_value 10 (c ∷ take i t) * 10 + (get_or t i 0 - 48)) value
+pub value_more : (c : ℕ) (t : Text) (i : ℕ) (value : Option ℕ) → i < length t → is_ascii_digit (get_or t i 0) ≡ true
+    → IsValue (digits_value 10 (c ∷ take i t) * 10 + (get_or t i 0 - 48)) value
     → IsValue (digits_value 10 (c ∷ take (i + 1) t)) value
 value_more c t i value within e v =
     let range = digit_bounds (get_or t i 0) e in
@@ -74,5 +91,6 @@ value_more c t i value within e v =
     let next : i + 1 ≡ suc i = omega arith in
     let more : take (i + 1) t ≡ take i t ++ get_or t i 0 ∷ [] = ap (λ (k : ℕ). take k t) next ∙ take-suc t i 0 within in
     let whole : digits_value 10 (c ∷ take (i + 1) t) ≡ digits_value 10 (c ∷ take i t) * 10 + (get_or t i 0 - 48) =
-    ap (λ (u : Text). digits_value 10 (c ∷ u)) more ∙ digits_value_push 10 (c ∷ take i t) (get_or t i 0) ∙ ap (λ (d : ℕ). digits_value 10 (c ∷ take i t) * 10 + d) digit in
+    ap (λ (u : Text). digits_value 10 (c ∷ u)) more ∙ digits_value_push 10 (c ∷ take i t) (get_or t i 0)
+    ∙ ap (λ (d : ℕ). digits_value 10 (c ∷ take i t) * 10 + d) digit in
     subst (λ (n : ℕ). IsValue n value) (sym whole) v

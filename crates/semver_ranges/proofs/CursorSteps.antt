@@ -3,18 +3,23 @@ use Rattle.std.proofs.Common.{◌≡◌, false, ◌==◌, ◌||◌, List, [], �
 use Rattle.std.proofs.lemmas.Bool.{cases_Bool, or_parts}
 use Rattle.semver_ranges.specs.RangeTree.{PartialTree, one, two, three, Form}
 use Rattle.semver_texts.specs.Texts.{Text}
-use Rattle.semver_ranges.specs.Reading.{begins_with, behind_blanks, operator, partial, simple, with_form, parts, behind_pre, behind_three, behind_two, behind_one}
+use Rattle.semver_ranges.specs.Reading.{begins_with, behind_blanks, operator, partial, simple, with_form, parts, behind_pre, behind_three}
+use Rattle.semver_ranges.specs.Reading.{behind_two, behind_one}
 use Rattle.semver_ranges.specs.CursorViews.{marked_parts}
 
 -- a pre-release and a build, each where its mark is there
-build_found : (a b c : Text) (pre build : List Text) (u v : Text) → marked_parts 43 u ≡ Some (build, v) → behind_pre a b c pre u ≡ Some (three a b c pre build, v)
-build_found a b c pre build [] v e = let same : ([], []) ≡ (build, v) = cc in ap (λ (f : List Text × Text). Some (three a b c pre f.0, f.1)) same
+build_found : (a b c : Text) (pre build : List Text) (u v : Text) → marked_parts 43 u ≡ Some (build, v)
+    → behind_pre a b c pre u ≡ Some (three a b c pre build, v)
+build_found a b c pre build [] v e =
+    let same : ([], []) ≡ (build, v) = cc in ap (λ (f : List Text × Text). Some (three a b c pre f.0, f.1)) same
 build_found a b c pre build (m ∷ u) v e = elim (cases_Bool (m == 43)) [
   | inl y ↦ let found : parts u ≡ Some (build, v) = rw y at e in rw (y, found) refl
-  | inr n ↦ let found : Some ([], m ∷ u) ≡ Some (build, v) = rw n at e in let same : ([], m ∷ u) ≡ (build, v) = cc in rw n (ap (λ (f : List Text × Text). Some (three a b c pre f.0, f.1)) same)
+  | inr n ↦ let found : Some ([], m ∷ u) ≡ Some (build, v) = rw n at e in let same : ([], m ∷ u) ≡ (build, v) = cc in
+      rw n (ap (λ (f : List Text × Text). Some (three a b c pre f.0, f.1)) same)
 ]
 
-pub qualifier_found : (a b c : Text) (pre build : List Text) (t u v : Text) → marked_parts 45 t ≡ Some (pre, u) → marked_parts 43 u ≡ Some (build, v) → behind_three a b c t ≡ Some (three a b c pre build, v)
+pub qualifier_found : (a b c : Text) (pre build : List Text) (t u v : Text) → marked_parts 45 t ≡ Some (pre, u)
+    → marked_parts 43 u ≡ Some (build, v) → behind_three a b c t ≡ Some (three a b c pre build, v)
 qualifier_found a b c pre build [] u v e f =
     let same : ([], []) ≡ (pre, u) = cc in
     let none : [] ≡ pre = ap (λ (f : List Text × Text). f.0) same in
@@ -27,7 +32,8 @@ qualifier_found a b c pre build (m ∷ t) u v e f = elim (cases_Bool (m == 45)) 
       let same : ([], m ∷ t) ≡ (pre, u) = cc in
       let none : [] ≡ pre = ap (λ (f : List Text × Text). f.0) same in
       let rest : m ∷ t ≡ u = ap (λ (f : List Text × Text). f.1) same in
-      rw n (build_found a b c [] build (m ∷ t) v (ap (marked_parts 43) rest ∙ f) ∙ ap (λ (p : List Text). Some (three a b c p build, v)) none)
+      rw n (build_found a b c [] build (m ∷ t) v (ap (marked_parts 43) rest ∙ f)
+      ∙ ap (λ (p : List Text). Some (three a b c p build, v)) none)
 ]
 
 pub no_qualifier : (a b c t : Text) → (begins_with 45 t || begins_with 43 t) ≡ false → behind_three a b c t ≡ Some (three a b c [] [], t)
@@ -44,6 +50,8 @@ major_end a [] e = refl
 major_end a (m ∷ t) e = rw e refl
 
 -- a simple of its operator and its partial
-pub simple_found : (t u v w : Text) (form : Form) (p : PartialTree) → (form, u) ≡ operator t → partial u ≡ Some (p, v) → w ≡ behind_blanks v → simple t ≡ Some (record { form = form; partial = p }, w)
+pub simple_found : (t u v w : Text) (form : Form) (p : PartialTree) → (form, u) ≡ operator t → partial u ≡ Some (p, v) → w ≡ behind_blanks v
+    → simple t ≡ Some (record { form = form; partial = p }, w)
 simple_found t u v w form p sign found blanks =
-    ap (λ (o : Form × Text). with_form o.0 (partial o.1)) (sym sign) ∙ ap (with_form form) found ∙ ap (λ (x : Text). Some (record { form = form; partial = p }, x)) (sym blanks)
+    ap (λ (o : Form × Text). with_form o.0 (partial o.1)) (sym sign) ∙ ap (with_form form) found
+    ∙ ap (λ (x : Text). Some (record { form = form; partial = p }, x)) (sym blanks)

@@ -1,5 +1,6 @@
 -- The longest front of a text whose bytes pass, as a loop over its places finds it.
-use Rattle.std.proofs.Common.{◌≡◌, ℕ, zero, suc, ◌+◌, ◌<◌, ◌≤◌, Bool, true, false, [], ◌∷◌, ◌++◌, length, get_or, take, drop, refl, sym, ap, ◌∙◌, arith, append-nil, append_assoc}
+use Rattle.std.proofs.Common.{◌≡◌, ℕ, zero, suc, ◌+◌, ◌<◌, ◌≤◌, Bool, true, false, [], ◌∷◌, ◌++◌, length, get_or, take, drop, refl, sym, ap}
+use Rattle.std.proofs.Common.{◌∙◌, arith, append-nil, append_assoc}
 use Rattle.std.proofs.Math.Seq.{take-suc}
 use Rattle.semver_texts.specs.Texts.{Text}
 use Rattle.semver_ranges.specs.Reading.{front, back}
@@ -21,7 +22,8 @@ back_ends p [] (suc i) within = refl
 back_ends p (b ∷ t) zero within = absurd (omega arith)
 back_ends p (b ∷ t) (suc i) within = back_ends p t i (omega arith)
 
-front_more : (p : ℕ → Bool) (t : Text) (i : ℕ) → i < length t → p (get_or t i 0) ≡ true → front p (drop i t) ≡ get_or t i 0 ∷ front p (drop (i + 1) t)
+front_more : (p : ℕ → Bool) (t : Text) (i : ℕ) → i < length t → p (get_or t i 0) ≡ true
+    → front p (drop i t) ≡ get_or t i 0 ∷ front p (drop (i + 1) t)
 front_more p [] i within e = absurd (omega arith)
 front_more p (b ∷ t) zero within e = rw e refl
 front_more p (b ∷ t) (suc i) within e = let next : suc i + 1 ≡ suc (i + 1) = omega arith in rw next (front_more p t i (omega arith) e)
@@ -38,13 +40,16 @@ front_ends p (b ∷ t) zero within = absurd (omega arith)
 front_ends p (b ∷ t) (suc i) within = front_ends p t i (omega arith)
 
 -- the front so far, as a loop keeps it
-pub taken_more : (p : ℕ → Bool) (t : Text) (i : ℕ) → i < length t → p (get_or t i 0) ≡ true → front p t ≡ take i t ++ front p (drop i t) → front p t ≡ take (i + 1) t ++ front p (drop (i + 1) t)
+pub taken_more : (p : ℕ → Bool) (t : Text) (i : ℕ) → i < length t → p (get_or t i 0) ≡ true → front p t ≡ take i t ++ front p (drop i t)
+    → front p t ≡ take (i + 1) t ++ front p (drop (i + 1) t)
 taken_more p t i within e so_far =
     let next : suc i ≡ i + 1 = omega arith in
-    so_far ∙ ap (λ (u : Text). take i t ++ u) (front_more p t i within e) ∙ sym (append_assoc (take i t) (get_or t i 0 ∷ []) (front p (drop (i + 1) t)))
+    so_far ∙ ap (λ (u : Text). take i t ++ u) (front_more p t i within e)
+    ∙ sym (append_assoc (take i t) (get_or t i 0 ∷ []) (front p (drop (i + 1) t)))
     ∙ ap (λ (u : Text). u ++ front p (drop (i + 1) t)) (sym (take-suc t i 0 within) ∙ ap (λ (n : ℕ). take n t) next)
 
-pub taken_stops : (p : ℕ → Bool) (t : Text) (i : ℕ) → i < length t → p (get_or t i 0) ≡ false → front p t ≡ take i t ++ front p (drop i t) → front p t ≡ take i t
+pub taken_stops : (p : ℕ → Bool) (t : Text) (i : ℕ) → i < length t → p (get_or t i 0) ≡ false → front p t ≡ take i t ++ front p (drop i t)
+    → front p t ≡ take i t
 taken_stops p t i within e so_far = so_far ∙ ap (λ (u : Text). take i t ++ u) (front_stops p t i within e) ∙ append-nil (take i t)
 
 pub taken_ends : (p : ℕ → Bool) (t : Text) (i : ℕ) → length t ≤ i → front p t ≡ take i t ++ front p (drop i t) → front p t ≡ take i t

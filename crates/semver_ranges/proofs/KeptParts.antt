@@ -1,5 +1,6 @@
 -- Numbers and parts, as `parse` of a `u64` reads them.
-use Rattle.std.proofs.Common.{◌≡◌, ℕ, ◌^◌, ◌<◌, Bool, true, ◌&&◌, [], ◌∷◌, length, get_or, Ok, Err, if◌then◌else◌, inl, inr, sym, ap, ◌∙◌, arith}
+use Rattle.std.proofs.Common.{◌≡◌, ℕ, ◌^◌, ◌<◌, Bool, true, ◌&&◌, [], ◌∷◌, length, get_or, Ok, Err, if◌then◌else◌, inl, inr, sym, ap, ◌∙◌}
+use Rattle.std.proofs.Common.{arith}
 use Rattle.std.specs.Str.{all_ascii_digits}
 use Rattle.std.specs.Str.Parse.{digits_value, ParsesUnsigned}
 use Rattle.std.specs.List.{list_all}
@@ -38,6 +39,7 @@ pub kept_text : (t : Text) → is_part t ≡ true → ParsesUnsigned {E = Unit {
 kept_text t e h =
     let p = parse_plain own {E = Unit {0}} 64 t (Err tt) h (part_plus t e) in
     elim (cases_Bool (all_ascii_digits t && fits_u64 (digits_value 10 t))) [
-      | inl y ↦ let parts = and_parts (all_ascii_digits t) (fits_u64 (digits_value 10 t)) y in absurd (p (parts.0, part_some t e, fits_small (digits_value 10 t) parts.1))
+      | inl y ↦ let parts = and_parts (all_ascii_digits t) (fits_u64 (digits_value 10 t)) y in
+          absurd (p (parts.0, part_some t e, fits_small (digits_value 10 t) parts.1))
       | inr n ↦ sym (ap (λ (b : Bool). if b then numeric (digits_value 10 t) else alphanumeric t) n)
     ]

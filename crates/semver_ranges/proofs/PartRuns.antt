@@ -1,6 +1,7 @@
 -- Parts and dots at the front of a text, byte by byte.
 use Rattle.std.specs.Prelude.{MatchOption}
-use Rattle.std.proofs.Common.{◌≡◌, ℕ, zero, suc, ◌+◌, ◌<◌, ◌≤◌, Bool, true, false, ◌&&◌, ◌==◌, Option, Some, None, List, [], ◌∷◌, length, get_or, take, drop, if◌then◌else◌, refl, sym, ◌∙◌, arith, inl, inr}
+use Rattle.std.proofs.Common.{◌≡◌, ℕ, zero, suc, ◌+◌, ◌<◌, ◌≤◌, Bool, true, false, ◌&&◌, ◌==◌, Option, Some, None, List, [], ◌∷◌, length}
+use Rattle.std.proofs.Common.{get_or, take, drop, if◌then◌else◌, refl, sym, ◌∙◌, arith, inl, inr}
 use Rattle.std.specs.List.{list_all, slice_split}
 use Rattle.std.proofs.lemmas.Bool.{cases_Bool, eqb-true, false_from_ne_true}
 use Rattle.semver_ranges.specs.RangeTree.{is_part}
@@ -32,7 +33,9 @@ and_assoc : (a b c : Bool) → (a && b) && c ≡ a && (b && c)
 and_assoc true b c = refl
 and_assoc false b c = refl
 
-both_parts : (t : Text) → (parts_pass true t ≡ list_all is_part_byte (first_piece (slice_split is_dot t)) && list_all is_part (other_pieces (slice_split is_dot t)))
+both_parts : (t : Text)
+    → (parts_pass true t ≡ list_all is_part_byte (first_piece (slice_split is_dot t))
+    && list_all is_part (other_pieces (slice_split is_dot t)))
     × (parts_pass false t ≡ list_all is_part (slice_split is_dot t))
 both_parts [] = (refl, refl)
 both_parts (b ∷ t) =
@@ -40,8 +43,10 @@ both_parts (b ∷ t) =
     elim (cases_Bool (is_dot b)) [
       | inl e ↦ rw e (h.1, refl)
       | inr e ↦ rw e (rw (pieces t) (
-        rw h.0 (sym (and_assoc (is_part_byte b) (list_all is_part_byte (first_piece (slice_split is_dot t))) (list_all is_part (other_pieces (slice_split is_dot t))))),
-        rw h.0 (sym (and_assoc (is_part_byte b) (list_all is_part_byte (first_piece (slice_split is_dot t))) (list_all is_part (other_pieces (slice_split is_dot t))))),
+        rw h.0 (sym (and_assoc (is_part_byte b) (list_all is_part_byte (first_piece (slice_split is_dot t)))
+            (list_all is_part (other_pieces (slice_split is_dot t))))),
+        rw h.0 (sym (and_assoc (is_part_byte b) (list_all is_part_byte (first_piece (slice_split is_dot t)))
+            (list_all is_part (other_pieces (slice_split is_dot t))))),
       ))
     ]
 
@@ -59,7 +64,8 @@ run_decides t = parts_pass-split (front in_parts t)
 in_dot : (b : ℕ) → b ≡ 46 → (is_dot b ≡ true) × (in_parts b ≡ true)
 in_dot b e = rw e (refl, refl)
 
-pub run-dot : (begun : Bool) (t : Text) (i : ℕ) → i < length t → get_or t i 0 ≡ 46 → run_pass begun (drop i t) ≡ (begun && run_pass false (drop (i + 1) t))
+pub run-dot : (begun : Bool) (t : Text) (i : ℕ) → i < length t → get_or t i 0 ≡ 46
+    → run_pass begun (drop i t) ≡ (begun && run_pass false (drop (i + 1) t))
 run-dot begun [] i within e = absurd (omega arith)
 run-dot begun (b ∷ t) zero within e = let h = in_dot b e in rw h.1 (rw h.0 refl)
 run-dot begun (b ∷ t) (suc i) within e = let next : suc i + 1 ≡ suc (i + 1) = omega arith in rw next (run-dot begun t i (omega arith) e)
@@ -67,12 +73,14 @@ run-dot begun (b ∷ t) (suc i) within e = let next : suc i + 1 ≡ suc (i + 1) 
 in_byte : (b : ℕ) → is_part_byte b ≡ true → in_parts b ≡ true
 in_byte b e = rw e refl
 
-pub run-byte : (begun : Bool) (t : Text) (i : ℕ) → i < length t → (get_or t i 0 ≡ 46 → ⊥) → is_part_byte (get_or t i 0) ≡ true → run_pass begun (drop i t) ≡ run_pass true (drop (i + 1) t)
+pub run-byte : (begun : Bool) (t : Text) (i : ℕ) → i < length t → (get_or t i 0 ≡ 46 → ⊥) → is_part_byte (get_or t i 0) ≡ true
+    → run_pass begun (drop i t) ≡ run_pass true (drop (i + 1) t)
 run-byte begun [] i within other e = absurd (omega arith)
 run-byte begun (b ∷ t) zero within other e =
     let no : is_dot b ≡ false = false_from_ne_true (b == 46) (λ h. other (eqb-true b 46 h)) in
     rw (in_byte b e) (rw no (rw e refl))
-run-byte begun (b ∷ t) (suc i) within other e = let next : suc i + 1 ≡ suc (i + 1) = omega arith in rw next (run-byte begun t i (omega arith) other e)
+run-byte begun (b ∷ t) (suc i) within other e =
+    let next : suc i + 1 ≡ suc (i + 1) = omega arith in rw next (run-byte begun t i (omega arith) other e)
 
 pub in_parts-not : (b : ℕ) → (b ≡ 46 → ⊥) → is_part_byte b ≡ false → in_parts b ≡ false
 in_parts-not b other e = let no : is_dot b ≡ false = false_from_ne_true (b == 46) (λ h. other (eqb-true b 46 h)) in rw (e, no) refl
@@ -89,8 +97,10 @@ run-end begun (b ∷ t) zero within = absurd (omega arith)
 run-end begun (b ∷ t) (suc i) within = run-end begun t i (omega arith)
 
 -- what a loop answers at the end of the run
-pub run_length : (t : Text) (i : ℕ) (begun : Bool) (o : Option ℕ) → (if begun then Some i else None) ≡ o → run_pass false t ≡ begun → i ≤ length t → front in_parts t ≡ take i t → back in_parts t ≡ drop i t
+pub run_length : (t : Text) (i : ℕ) (begun : Bool) (o : Option ℕ) → (if begun then Some i else None) ≡ o → run_pass false t ≡ begun
+    → i ≤ length t → front in_parts t ≡ take i t → back in_parts t ≡ drop i t
     → MatchOption o (list_all is_part (slice_split is_dot (front in_parts t)) ≡ false)
-    (λ len. (list_all is_part (slice_split is_dot (front in_parts t)) ≡ true) × (len ≤ length t) × (take len t ≡ front in_parts t) × (drop len t ≡ back in_parts t))
+    (λ len. (list_all is_part (slice_split is_dot (front in_parts t)) ≡ true) × (len ≤ length t) × (take len t ≡ front in_parts t)
+    × (drop len t ≡ back in_parts t))
 run_length t i true o is pass within taken left = rw (← is) (sym (run_decides t) ∙ pass, within, sym taken, sym left)
 run_length t i false o is pass within taken left = rw (← is) (sym (run_decides t) ∙ pass)

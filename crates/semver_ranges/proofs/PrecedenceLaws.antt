@@ -36,7 +36,8 @@ text : IdentifierValue → Text
 text (numeric n) = []
 text (alphanumeric t) = t
 
-by_class : (x y : IdentifierValue) → identifier_cmp x y ≡ then_cmp (on class nat_cmp) (then_cmp (on number nat_cmp) (on text (slice_cmp nat_cmp))) x y
+by_class : (x y : IdentifierValue)
+    → identifier_cmp x y ≡ then_cmp (on class nat_cmp) (then_cmp (on number nat_cmp) (on text (slice_cmp nat_cmp))) x y
 unfolding class number text
 by_class (numeric m) (numeric n) = sym (then-equal (nat_cmp m n))
 by_class (numeric m) (alphanumeric t) = refl
@@ -44,7 +45,9 @@ by_class (alphanumeric s) (numeric n) = refl
 by_class (alphanumeric s) (alphanumeric t) = refl
 
 pub identifier_total : IsTotalOrder identifier_cmp
-identifier_total = same_total by_class (then_total (on_total class nat_cmp_total) (then_total (on_total number nat_cmp_total) (on_total text nat_list_cmp_total)))
+identifier_total =
+    same_total by_class (then_total (on_total class nat_cmp_total)
+    (then_total (on_total number nat_cmp_total) (on_total text nat_list_cmp_total)))
 
 -- pre-releases by whether there is one, then from the left
 rank : List IdentifierValue → ℕ
@@ -63,7 +66,8 @@ pre_total = same_total by_rank (then_total (on_total rank nat_cmp_total) (lists_
 
 -- precedence is total
 pub precedence_total : IsTotalOrder precedence
-precedence_total = then_total (on_total (λ (v : PlainVersion). v.major) nat_cmp_total) (then_total (on_total (λ (v : PlainVersion). v.minor) nat_cmp_total)
+precedence_total =
+    then_total (on_total (λ (v : PlainVersion). v.major) nat_cmp_total) (then_total (on_total (λ (v : PlainVersion). v.minor) nat_cmp_total)
     (then_total (on_total (λ (v : PlainVersion). v.patch) nat_cmp_total) (on_total (λ (v : PlainVersion). v.pre) pre_total)))
 
 -- what ties is the same
@@ -93,7 +97,8 @@ then_second Greater s e = cc
 same_fields : (v w : PlainVersion) → v.major ≡ w.major → v.minor ≡ w.minor → v.patch ≡ w.patch → v.pre ≡ w.pre → v ≡ w
 same_fields v w a b c d =
     let made : ℕ → ℕ → ℕ → List IdentifierValue → PlainVersion = λ x y z p. record { major = x; minor = y; patch = z; pre = p } in
-    ap (λ x. made x v.minor v.patch v.pre) a ∙ ap (λ y. made w.major y v.patch v.pre) b ∙ ap (λ z. made w.major w.minor z v.pre) c ∙ ap (λ p. made w.major w.minor w.patch p) d
+    ap (λ x. made x v.minor v.patch v.pre) a ∙ ap (λ y. made w.major y v.patch v.pre) b ∙ ap (λ z. made w.major w.minor z v.pre) c
+    ∙ ap (λ p. made w.major w.minor w.patch p) d
 
 pub precedence-same : IsAntisymmetric precedence
 precedence-same v w e =

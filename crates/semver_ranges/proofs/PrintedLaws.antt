@@ -1,5 +1,6 @@
 -- Printed sets read back, and what is answered is printable.
-use Rattle.std.proofs.Common.{◌≡◌, ℕ, zero, suc, length, ◌<◌, ◌^◌, true, false, not, ◌&&◌, ◌||◌, ◌==◌, if◌then◌else◌, List, [], ◌∷◌, ◌++◌, map, codes, refl, sym, ap, ◌∙◌, None, All, append_assoc, append-nil, decimal, get_or, arith}
+use Rattle.std.proofs.Common.{◌≡◌, ℕ, zero, suc, length, ◌<◌, ◌^◌, true, false, not, ◌&&◌, ◌||◌, ◌==◌, if◌then◌else◌, List, [], ◌∷◌, ◌++◌}
+use Rattle.std.proofs.Common.{map, codes, refl, sym, ap, ◌∙◌, None, All, append_assoc, append-nil, decimal, get_or, arith}
 use Rattle.std.proofs.lemmas.Bool.{and_parts, and_from, or_right, ltb-true, ne_eqb, not-true, not_from_false}
 use Rattle.std.proofs.lemmas.List.Elements.{All-head, All-tail}
 use Rattle.std.proofs.lemmas.Fmt.{digits_decimal, digits_value-decimal, first_decimal, decimal_digit}
@@ -11,14 +12,18 @@ use Rattle.std.specs.Char.{is_ascii_digit}
 use Rattle.semver_ranges.specs.declared.range.Op.{Op}
 use Rattle.semver_ranges.specs.declared.range.Op.TheVariants.{Lt, Lte, Gt, Gte, Eq}
 use Rattle.semver_ranges.specs.declared.range.Compat.{Compat}
-use Rattle.semver_ranges.specs.RangeTree.{PartialTree, three, Form, equal, less, at_most, greater, at_least, Simple, RangeTree, empty, simples, SetTree, is_blank, is_number, is_wildcard, is_component, is_part, SpellsPartial, SpellsForm, SpellsSimple, SpellsSimples, SpellsRange, Spells}
+use Rattle.semver_ranges.specs.RangeTree.{PartialTree, three, Form, equal, less, at_most, greater, at_least, Simple, RangeTree, empty}
+use Rattle.semver_ranges.specs.RangeTree.{simples, SetTree, is_blank, is_number, is_wildcard, is_component, is_part, SpellsPartial}
+use Rattle.semver_ranges.specs.RangeTree.{SpellsForm, SpellsSimple, SpellsSimples, SpellsRange, Spells}
 use Rattle.semver_texts.specs.Texts.{is_part_byte, Text, is_empty, marked, joined}
 use Rattle.semver_texts.specs.Versions.{numbers, IdentifierValue, numeric, alphanumeric, PlainVersion}
 use Rattle.semver_ranges.specs.Partials.{fits_u64, kept, stated, pre_release, filled}
-use Rattle.semver_ranges.specs.RewritingTable.{PlainComparator, PlainRange, PlainSet, simple_comparators, range_comparators, cell, cell_comparators, cell_raised, bound_fits, rewritten, fits, term_fits, comparator}
+use Rattle.semver_ranges.specs.RewritingTable.{PlainComparator, PlainRange, PlainSet, written_cell, written_simple, written_range}
+use Rattle.semver_ranges.specs.RewritingTable.{written_set, cell, cell_raised, bound_fits, fits, term_fits, comparator}
 use Rattle.semver_ranges.specs.Terms.{of_simple, terms}
 use Rattle.semver_ranges.proofs.WrittenPieces.{apart}
-use Rattle.semver_ranges.specs.PrintedRanges.{op_text, comparator_text, range_text, set_text, is_kept, is_printable_version, IsPrintableRange, IsPrintableSet}
+use Rattle.semver_ranges.specs.PrintedRanges.{op_text, comparator_text, range_text, set_text, is_kept, is_printable_version}
+use Rattle.semver_ranges.specs.PrintedRanges.{IsPrintableRange, IsPrintableSet}
 use Rattle.semver_texts.specs.PrintedText.{identifier_text, plain_text}
 
 -- the digits of std are the decimals of this crate
@@ -37,11 +42,13 @@ decimal_value n e = digits_value-decimal own n (fits_below n e)
 -- digits that don't begin with 0 are a number
 no_zero_first : (t : Text) → all_ascii_digits t ≡ true → 48 < get_or t 0 0 → is_number t ≡ true
 no_zero_first [] e h = absurd (omega arith)
-no_zero_first (c ∷ t) e h = and_from _ _ e (or_right (is_empty t) (not (c == 48)) (not_from_false (c == 48) (ne_eqb c 48 (λ same. omega arith))))
+no_zero_first (c ∷ t) e h =
+    and_from _ _ e (or_right (is_empty t) (not (c == 48)) (not_from_false (c == 48) (ne_eqb c 48 (λ same. omega arith))))
 
 decimal_number : (n : ℕ) → fits_u64 n ≡ true → is_number (decimal n) ≡ true
 decimal_number zero e = rw (decimal_digit 0 (omega arith)) refl
-decimal_number (suc n) e = no_zero_first (decimal (suc n)) (decimal_digits (suc n) e) (first_decimal (suc n) (omega arith) (fits_below (suc n) e))
+decimal_number (suc n) e =
+    no_zero_first (decimal (suc n)) (decimal_digits (suc n) e) (first_decimal (suc n) (omega arith) (fits_below (suc n) e))
 
 -- digits are no wildcard
 digits_no_wildcard : (t : Text) → all_ascii_digits t ≡ true → is_wildcard t ≡ false
@@ -75,7 +82,8 @@ identifier_kept (alphanumeric t) e =
 
 identifiers_parts : (is : List IdentifierValue) → list_all is_kept is ≡ true → list_all is_part (map identifier_text is) ≡ true
 identifiers_parts [] e = refl
-identifiers_parts (i ∷ is) e = let parts = and_parts (is_kept i) (list_all is_kept is) e in and_from _ _ (identifier_part i parts.0) (identifiers_parts is parts.1)
+identifiers_parts (i ∷ is) e =
+    let parts = and_parts (is_kept i) (list_all is_kept is) e in and_from _ _ (identifier_part i parts.0) (identifiers_parts is parts.1)
 
 identifiers_kept : (is : List IdentifierValue) → list_all is_kept is ≡ true → map kept (map identifier_text is) ≡ is
 identifiers_kept [] e = refl
@@ -111,14 +119,16 @@ stated_numbers v h = rw (
 ) refl
 
 stated_pre : (v : PlainVersion) → Printable v → pre_release (version_tree v) ≡ v.pre
-stated_pre v h = ap (λ s. if length s == 3 then map kept (map identifier_text v.pre) else []) (stated_numbers v h) ∙ identifiers_kept v.pre h.pre
+stated_pre v h = ap (λ s. if length s == 3 then map kept (map identifier_text v.pre) else []) (stated_numbers v h)
+    ∙ identifiers_kept v.pre h.pre
 
 decimal_component : (n : ℕ) → fits_u64 n ≡ true → is_component (decimal n) ≡ true
 decimal_component n e = or_right (is_wildcard (decimal n)) (is_number (decimal n)) (decimal_number n e)
 
 version_spells : (v : PlainVersion) → Printable v → SpellsPartial (version_tree v) (plain_text v)
 version_spells v h = (
-  and_from _ _ (decimal_component v.major h.major) (and_from _ _ (decimal_component v.minor h.minor) (and_from _ _ (decimal_component v.patch h.patch) refl)),
+  and_from _ _ (decimal_component v.major h.major) (and_from _ _ (decimal_component v.minor h.minor)
+      (and_from _ _ (decimal_component v.patch h.patch) refl)),
   (identifiers_parts v.pre h.pre, refl),
   ap (λ x. join_with_byte 46 (map decimal (numbers v)) ++ x) (sym (append-nil (marked (codes "-") (map identifier_text v.pre)))),
 )
@@ -136,33 +146,28 @@ simple_of c = record { form = form_of c.op; partial = version_tree c.version }
 
 form_spells : (op : Op) → SpellsForm (form_of op) (op_text op)
 form_spells Lt = ([], refl, refl)
-form_spells Lte = ([], refl, refl)
-form_spells Gt = ([], refl, refl)
-form_spells Gte = ([], refl, refl)
-form_spells Eq = ([], refl, refl)
+form_spells _ = ([], refl, refl)
 
 comparator_spells : (c : PlainComparator) → Printable c.version → SpellsSimple (simple_of c) (comparator_text c)
 comparator_spells c h = (op_text c.op, plain_text c.version, form_spells c.op, version_spells c.version h, refl)
 
-of_three : (mode : Compat) (op : Op) (v : PlainVersion) → cell_comparators (cell mode (form_of op) (numbers v)) (numbers v) v ≡ comparator op v ∷ []
-of_three mode Lt v = refl
-of_three mode Lte v = refl
-of_three mode Gt v = refl
-of_three mode Gte v = refl
-of_three mode Eq v = refl
+-- none of these has a raised bound, so they are the same however one is written
+of_three : (write : PlainVersion → PlainVersion) (mode : Compat) (op : Op) (v : PlainVersion)
+    → written_cell write (cell mode (form_of op) (numbers v)) (numbers v) v ≡ comparator op v ∷ []
+of_three write mode Lt v = refl
+of_three write mode _ v = refl
 
-comparator_again : (mode : Compat) (c : PlainComparator) → Printable c.version → simple_comparators mode (simple_of c) ≡ c ∷ []
-comparator_again mode c h =
-    ap (λ s. cell_comparators (cell mode (form_of c.op) s) s (filled s (pre_release (version_tree c.version)))) (stated_numbers c.version h)
-    ∙ ap (λ p. cell_comparators (cell mode (form_of c.op) (numbers c.version)) (numbers c.version) (filled (numbers c.version) p)) (stated_pre c.version h)
-    ∙ of_three mode c.op c.version
+comparator_again : (write : PlainVersion → PlainVersion) (mode : Compat) (c : PlainComparator) → Printable c.version
+    → written_simple write mode (simple_of c) ≡ c ∷ []
+comparator_again write mode c h =
+    let cell_of = cell mode (form_of c.op) in
+    ap (λ s. written_cell write (cell_of s) s (filled s (pre_release (version_tree c.version)))) (stated_numbers c.version h)
+    ∙ ap (λ p. written_cell write (cell_of (numbers c.version)) (numbers c.version) (filled (numbers c.version) p)) (stated_pre c.version h)
+    ∙ of_three write mode c.op c.version
 
 no_bound : (mode : Compat) (op : Op) (v : PlainVersion) → cell_raised (cell mode (form_of op) (numbers v)) (numbers v) ≡ None
 no_bound mode Lt v = refl
-no_bound mode Lte v = refl
-no_bound mode Gt v = refl
-no_bound mode Gte v = refl
-no_bound mode Eq v = refl
+no_bound mode _ v = refl
 
 comparator_fits : (mode : Compat) (c : PlainComparator) → Printable c.version → term_fits mode (of_simple (simple_of c)) ≡ true
 comparator_fits mode c h =
@@ -175,16 +180,26 @@ simples_spell : (c : PlainComparator) (cs : List PlainComparator) → list_all (
     → SpellsSimples (simple_of c) (map simple_of cs) (joined (codes " ") (map comparator_text (c ∷ cs)))
 simples_spell c [] e = comparator_spells c (printable c.version (and_parts (is_printable_version c.version) true e).0)
 simples_spell c (next ∷ cs) e =
-    let parts = and_parts (is_printable_version c.version) (list_all (λ c. is_printable_version c.version) (next ∷ cs)) e in
-    (comparator_text c, codes " ", joined (codes " ") (map comparator_text (next ∷ cs)), comparator_spells c (printable c.version parts.0), (refl, refl), simples_spell next cs parts.1, refl)
+    let parts = and_parts (is_printable_version c.version) (list_all (λ c. is_printable_version c.version) (next ∷ cs)) e in (
+      comparator_text c,
+      codes " ",
+      joined (codes " ") (map comparator_text (next ∷ cs)),
+      comparator_spells c (printable c.version parts.0),
+      (refl, refl),
+      simples_spell next cs parts.1,
+      refl,
+    )
 
-comparators_again : (mode : Compat) (cs : List PlainComparator) → list_all (λ c. is_printable_version c.version) cs ≡ true → flat_map (simple_comparators mode) (map simple_of cs) ≡ cs
-comparators_again mode [] e = refl
-comparators_again mode (c ∷ cs) e =
+comparators_again : (write : PlainVersion → PlainVersion) (mode : Compat) (cs : List PlainComparator)
+    → list_all (λ c. is_printable_version c.version) cs ≡ true → flat_map (written_simple write mode) (map simple_of cs) ≡ cs
+comparators_again write mode [] e = refl
+comparators_again write mode (c ∷ cs) e =
     let parts = and_parts (is_printable_version c.version) (list_all (λ c. is_printable_version c.version) cs) e in
-    ap (λ x. x ++ flat_map (simple_comparators mode) (map simple_of cs)) (comparator_again mode c (printable c.version parts.0)) ∙ ap (λ x. c ∷ x) (comparators_again mode cs parts.1)
+    ap (λ x. x ++ flat_map (written_simple write mode) (map simple_of cs)) (comparator_again write mode c (printable c.version parts.0))
+    ∙ ap (λ x. c ∷ x) (comparators_again write mode cs parts.1)
 
-comparators_fit : (mode : Compat) (cs : List PlainComparator) → list_all (λ c. is_printable_version c.version) cs ≡ true → list_all (term_fits mode) (map of_simple (map simple_of cs)) ≡ true
+comparators_fit : (mode : Compat) (cs : List PlainComparator) → list_all (λ c. is_printable_version c.version) cs ≡ true
+    → list_all (term_fits mode) (map of_simple (map simple_of cs)) ≡ true
 comparators_fit mode [] e = refl
 comparators_fit mode (c ∷ cs) e =
     let parts = and_parts (is_printable_version c.version) (list_all (λ c. is_printable_version c.version) cs) e in
@@ -200,36 +215,49 @@ tree_of ranges = map (λ r. range_of r.comparators) ranges
 
 range_spells : (mode : Compat) (r : PlainRange) → IsPrintableRange mode r → SpellsRange (range_of r.comparators) (range_text r)
 range_spells mode r h = go r.comparators h.0 h.2 where
-  go : (cs : List PlainComparator) → not (is_empty cs) ≡ true → list_all (λ c. is_printable_version c.version) cs ≡ true → SpellsRange (range_of cs) (joined (codes " ") (map comparator_text cs))
+  go : (cs : List PlainComparator) → not (is_empty cs) ≡ true → list_all (λ c. is_printable_version c.version) cs ≡ true
+      → SpellsRange (range_of cs) (joined (codes " ") (map comparator_text cs))
   go [] some e = cc
   go (c ∷ cs) some e = simples_spell c cs e
 
-range_again : (mode : Compat) (r : PlainRange) → IsPrintableRange mode r → record { comparators = range_comparators mode (range_of r.comparators); compat = mode } ≡ r
-range_again mode r h =
+range_again : (write : PlainVersion → PlainVersion) (mode : Compat) (r : PlainRange) → IsPrintableRange mode r
+    → record { comparators = written_range write mode (range_of r.comparators); compat = mode } ≡ r
+range_again write mode r h =
     let made : List PlainComparator → Compat → PlainRange = λ cs m. record { comparators = cs; compat = m } in
     ap (λ cs. made cs mode) (go r.comparators h.0 h.2) ∙ ap (λ m. made r.comparators m) (sym h.1) where
-      go : (cs : List PlainComparator) → not (is_empty cs) ≡ true → list_all (λ c. is_printable_version c.version) cs ≡ true → range_comparators mode (range_of cs) ≡ cs
+      go : (cs : List PlainComparator) → not (is_empty cs) ≡ true → list_all (λ c. is_printable_version c.version) cs ≡ true
+          → written_range write mode (range_of cs) ≡ cs
       go [] some e = cc
-      go (c ∷ cs) some e = comparators_again mode (c ∷ cs) e
+      go (c ∷ cs) some e = comparators_again write mode (c ∷ cs) e
 
 range_fits : (mode : Compat) (r : PlainRange) → IsPrintableRange mode r → list_all (term_fits mode) (terms (range_of r.comparators)) ≡ true
 range_fits mode r h = go r.comparators h.2 where
-  go : (cs : List PlainComparator) → list_all (λ c. is_printable_version c.version) cs ≡ true → list_all (term_fits mode) (terms (range_of cs)) ≡ true
+  go : (cs : List PlainComparator) → list_all (λ c. is_printable_version c.version) cs ≡ true
+      → list_all (term_fits mode) (terms (range_of cs)) ≡ true
   go [] e = refl
   go (c ∷ cs) e = comparators_fit mode (c ∷ cs) e
 
 -- the ranges of a set, the first behind some blanks
-set_spells : (mode : Compat) (before : Text) (r : PlainRange) (rs : List PlainRange) → list_all is_blank before ≡ true → All (IsPrintableRange mode) (r ∷ rs)
+set_spells : (mode : Compat) (before : Text) (r : PlainRange) (rs : List PlainRange) → list_all is_blank before ≡ true
+    → All (IsPrintableRange mode) (r ∷ rs)
     → Spells (tree_of (r ∷ rs)) (before ++ joined (codes " || ") (map range_text (r ∷ rs)))
-set_spells mode before r [] b h =
-    (before, range_text r, [], b, range_spells mode r (All-head (IsPrintableRange mode) r [] h), refl, sym (append-nil (before ++ range_text r)))
+set_spells mode before r [] b h = (
+  before,
+  range_text r,
+  [],
+  b,
+  range_spells mode r (All-head (IsPrintableRange mode) r [] h),
+  refl,
+  sym (append-nil (before ++ range_text r)),
+)
 set_spells mode before r (next ∷ rs) b h =
     let rest = joined (codes " || ") (map range_text (next ∷ rs)) in
     let t = range_text r in
     let head = (before ++ t) ++ codes " " in
     let text : before ++ ((t ++ codes " || ") ++ rest) ≡ (head ++ codes "||") ++ (codes " " ++ rest) =
     sym (append_assoc before (t ++ codes " || ") rest) ∙ ap (λ x. x ++ rest) (sym (append_assoc before t (codes " || ")))
-    ∙ append_assoc (before ++ t) (codes " || ") rest ∙ sym (append_assoc (before ++ t) (codes " ") (codes "||" ++ (codes " " ++ rest))) ∙ sym (append_assoc head (codes "||") (codes " " ++ rest)) in (
+    ∙ append_assoc (before ++ t) (codes " || ") rest ∙ sym (append_assoc (before ++ t) (codes " ") (codes "||" ++ (codes " " ++ rest)))
+    ∙ sym (append_assoc head (codes "||") (codes " " ++ rest)) in (
       head,
       codes " " ++ rest,
       (before, t, codes " ", b, range_spells mode r (All-head (IsPrintableRange mode) r (next ∷ rs) h), refl, refl),
@@ -237,22 +265,29 @@ set_spells mode before r (next ∷ rs) b h =
       text,
     )
 
-set_again : (mode : Compat) (rs : List PlainRange) → All (IsPrintableRange mode) rs → (rewritten mode (tree_of rs)).ranges ≡ rs
-set_again mode [] h = refl
-set_again mode (r ∷ rs) h = ap (λ x. x ∷ (rewritten mode (tree_of rs)).ranges) (range_again mode r (All-head (IsPrintableRange mode) r rs h)) ∙ ap (λ x. r ∷ x) (set_again mode rs (All-tail (IsPrintableRange mode) r rs h))
+set_again : (write : PlainVersion → PlainVersion) (mode : Compat) (rs : List PlainRange) → All (IsPrintableRange mode) rs
+    → (written_set write mode (tree_of rs)).ranges ≡ rs
+set_again write mode [] h = refl
+set_again write mode (r ∷ rs) h =
+    ap (λ x. x ∷ (written_set write mode (tree_of rs)).ranges) (range_again write mode r (All-head (IsPrintableRange mode) r rs h))
+    ∙ ap (λ x. r ∷ x) (set_again write mode rs (All-tail (IsPrintableRange mode) r rs h))
 
 set_fits : (mode : Compat) (rs : List PlainRange) → All (IsPrintableRange mode) rs → fits mode (tree_of rs) ≡ true
 set_fits mode [] h = refl
-set_fits mode (r ∷ rs) h = and_from _ _ (range_fits mode r (All-head (IsPrintableRange mode) r rs h)) (set_fits mode rs (All-tail (IsPrintableRange mode) r rs h))
+set_fits mode (r ∷ rs) h =
+    and_from _ _ (range_fits mode r (All-head (IsPrintableRange mode) r rs h)) (set_fits mode rs (All-tail (IsPrintableRange mode) r rs h))
 
--- the text of a printable set is spelled by a tree that fits, and is rewritten to the set
-pub printed_again : (s : PlainSet) → IsPrintableSet s → (tree : SetTree) × Spells tree (set_text s) × (fits s.compat tree ≡ true) × (rewritten s.compat tree ≡ s)
-printed_again s h = (
+-- the text of a printable set is spelled by a tree that fits, and is rewritten to the set, however raised bounds are written
+pub printed_again : (write : PlainVersion → PlainVersion) (s : PlainSet) → IsPrintableSet s
+    → (tree : SetTree) × Spells tree (set_text s) × (fits s.compat tree ≡ true) × (written_set write s.compat tree ≡ s)
+printed_again write s h = (
   tree_of s.ranges,
   spelled s.ranges h.0 h.1,
   set_fits s.compat s.ranges h.1,
-  (let made : List PlainRange → PlainSet = λ rs. record { ranges = rs; compat = s.compat } in ap made (set_again s.compat s.ranges h.1)),
+  (let made : List PlainRange → PlainSet = λ rs. record { ranges = rs; compat = s.compat } in
+      ap made (set_again write s.compat s.ranges h.1)),
 ) where
-  spelled : (rs : List PlainRange) → not (is_empty rs) ≡ true → All (IsPrintableRange s.compat) rs → Spells (tree_of rs) (joined (codes " || ") (map range_text rs))
+  spelled : (rs : List PlainRange) → not (is_empty rs) ≡ true → All (IsPrintableRange s.compat) rs
+      → Spells (tree_of rs) (joined (codes " || ") (map range_text rs))
   spelled [] some h = cc
   spelled (r ∷ rs) some h = set_spells s.compat [] r rs refl h

@@ -1,10 +1,14 @@
 -- The reader finds the tree that a text spells.
-use Rattle.std.proofs.Common.{◌≡◌, ℕ, Bool, true, false, ◌||◌, ◌==◌, List, [], ◌∷◌, ◌++◌, codes, refl, sym, ap, ◌∙◌, inl, inr, Some, append_assoc, append-nil}
+use Rattle.std.proofs.Common.{◌≡◌, ℕ, Bool, true, false, ◌||◌, ◌==◌, List, [], ◌∷◌, ◌++◌, codes, refl, sym, ap, ◌∙◌, inl, inr, Some}
+use Rattle.std.proofs.Common.{append_assoc, append-nil}
 use Rattle.std.proofs.lemmas.Bool.{or_left, or_right, and_parts, eqb-true}
 use Rattle.std.specs.List.{list_all}
-use Rattle.semver_ranges.specs.RangeTree.{PartialTree, Form, bare, equal, less, at_most, greater, at_least, tilde, caret, Simple, RangeTree, empty, hyphen, simples, SetTree, is_blank, AreBlanks, AreSomeBlanks, SpellsPartial, SpellsForm, SpellsSimple, SpellsSimples, SpellsRange, SpellsPadded, Spells}
+use Rattle.semver_ranges.specs.RangeTree.{PartialTree, Form, bare, equal, less, at_most, greater, at_least, tilde, caret, Simple, RangeTree}
+use Rattle.semver_ranges.specs.RangeTree.{empty, hyphen, simples, SetTree, is_blank, AreBlanks, AreSomeBlanks, SpellsPartial, SpellsForm}
+use Rattle.semver_ranges.specs.RangeTree.{SpellsSimple, SpellsSimples, SpellsRange, SpellsPadded, Spells}
 use Rattle.semver_texts.specs.Texts.{Text}
-use Rattle.semver_ranges.specs.Reading.{behind_blanks, begins_with, is_bar, ends_range, ends_word, simple, put_before, behind_simple, all_simples, right_side, range_here, range, onto, behind_range, read}
+use Rattle.semver_ranges.specs.Reading.{behind_blanks, begins_with, is_bar, ends_range, ends_word, simple, put_before, behind_simple}
+use Rattle.semver_ranges.specs.Reading.{all_simples, right_side, range_here, range, onto, behind_range, read}
 use Rattle.semver_ranges.proofs.ReadingPieces.{starts, starts-append, is_component_byte, partial_starts}
 use Rattle.semver_ranges.proofs.ReadingSteps.{simples_end, simples_step, read_step}
 use Rattle.semver_ranges.proofs.WrittenPieces.{apart, stops, partial_read, blanks_behind, no_blank, simple_read}
@@ -19,13 +23,13 @@ component_simple (b ∷ t) e = or_left (is_component_byte b) _ e
 
 form_starts : (f : Form) (sign t : Text) → SpellsForm f sign → starts is_component_byte t ≡ true → starts is_simple_byte (sign ++ t) ≡ true
 form_starts bare sign t h e = rw h (component_simple t e)
+form_starts tilde sign t (inl (blanks, h, text)) e = rw text refl
+form_starts tilde sign t (inr (blanks, h, text)) e = rw text refl
 form_starts equal sign t (blanks, h, text) e = rw text refl
 form_starts less sign t (blanks, h, text) e = rw text refl
 form_starts at_most sign t (blanks, h, text) e = rw text refl
 form_starts greater sign t (blanks, h, text) e = rw text refl
 form_starts at_least sign t (blanks, h, text) e = rw text refl
-form_starts tilde sign t (inl (blanks, h, text)) e = rw text refl
-form_starts tilde sign t (inr (blanks, h, text)) e = rw text refl
 form_starts caret sign t (blanks, h, text) e = rw text refl
 
 simple_starts : (s : Simple) (w : Text) → SpellsSimple s w → starts is_simple_byte w ≡ true
@@ -34,7 +38,8 @@ simple_starts s w (sign, text, form, spelled, whole) = rw whole (form_starts s.f
 simples_start : (first : Simple) (others : List Simple) (w u : Text) → SpellsSimples first others w → starts is_simple_byte (w ++ u) ≡ true
 simples_start first [] w u h = starts-append is_simple_byte w u (simple_starts first w h)
 simples_start first (next ∷ others) w u (head, gap, tail, h, blanks, more, text) =
-    rw (text, append_assoc head gap tail, append_assoc head (gap ++ tail) u) (starts-append is_simple_byte head ((gap ++ tail) ++ u) (simple_starts first head h))
+    rw (text, append_assoc head gap tail, append_assoc head (gap ++ tail) u)
+    (starts-append is_simple_byte head ((gap ++ tail) ++ u) (simple_starts first head h))
 
 -- what it isn't
 simple_stops : (t : Text) → starts is_simple_byte t ≡ true → stops is_blank t ≡ true
@@ -75,7 +80,8 @@ record Simples (first : Simple) (others : List Simple) (t u : Text) : Type 0 whe
   tail : all_simples rest ≡ Some (others, u)
   no_hyphen : begins_with 45 rest ≡ false
 
-simples_read : (first : Simple) (others : List Simple) (w blanks u : Text) → SpellsSimples first others w → AreBlanks blanks → ends_range u ≡ true → Simples first others (w ++ (blanks ++ u)) u
+simples_read : (first : Simple) (others : List Simple) (w blanks u : Text) → SpellsSimples first others w → AreBlanks blanks
+    → ends_range u ≡ true → Simples first others (w ++ (blanks ++ u)) u
 simples_read first [] w blanks u h b e = record {
   rest = u;
   head = simple_read first w blanks u h b (blanks_end blanks u b e) (end_stops u e);
@@ -88,22 +94,31 @@ simples_read first (next ∷ others) w blanks u (head, gap, tail, h, g, more, te
     let begins = simples_start next others tail (blanks ++ u) more in
     record {
       rest = rest;
-      head = ap (λ x. simple (x ++ (blanks ++ u))) text ∙ ap simple (append_assoc (head ++ gap) tail (blanks ++ u) ∙ append_assoc head gap rest)
+      head = ap (λ x. simple (x ++ (blanks ++ u))) text
+          ∙ ap simple (append_assoc (head ++ gap) tail (blanks ++ u) ∙ append_assoc head gap rest)
           ∙ simple_read first head gap rest h g.1 (gap_ends gap rest g) (simple_stops rest begins);
       tail = simples_step rest (simple_no_end rest begins) ∙ ap (behind_simple all_simples) found.head ∙ ap (put_before next) found.tail;
       no_hyphen = simple_no_hyphen rest begins;
     }
 
 -- the right side of a hyphen range
-right_read : (p : PartialTree) (gap w blanks u : Text) → AreSomeBlanks gap → SpellsPartial p w → AreBlanks blanks → ends_range u ≡ true → right_side (45 ∷ (gap ++ (w ++ (blanks ++ u)))) ≡ Some (p, u)
+right_read : (p : PartialTree) (gap w blanks u : Text) → AreSomeBlanks gap → SpellsPartial p w → AreBlanks blanks → ends_range u ≡ true
+    → right_side (45 ∷ (gap ++ (w ++ (blanks ++ u)))) ≡ Some (p, u)
 right_read p [] w blanks u (some, g) h b e = cc
 right_read p (c ∷ gap) w blanks u (some, g) h b e =
     let parts = and_parts (is_blank c) (list_all is_blank gap) g in
     let begins = no_blank (w ++ (blanks ++ u)) (starts-append is_component_byte w (blanks ++ u) (partial_starts p w h)) in
-    rw (parts.0, blanks_behind gap (w ++ (blanks ++ u)) parts.1 begins, partial_read p w (blanks ++ u) h (blanks_end blanks u b e), blanks_behind blanks u b (end_stops u e), e) refl
+    rw (
+      parts.0,
+      blanks_behind gap (w ++ (blanks ++ u)) parts.1 begins,
+      partial_read p w (blanks ++ u) h (blanks_end blanks u b e),
+      blanks_behind blanks u b (end_stops u e),
+      e,
+    ) refl
 
 -- a range, between blanks
-range_here_read : (r : RangeTree) (inner blanks u : Text) → SpellsRange r inner → AreBlanks blanks → ends_range u ≡ true → range_here (behind_blanks (inner ++ (blanks ++ u))) ≡ Some (r, u)
+range_here_read : (r : RangeTree) (inner blanks u : Text) → SpellsRange r inner → AreBlanks blanks → ends_range u ≡ true
+    → range_here (behind_blanks (inner ++ (blanks ++ u))) ≡ Some (r, u)
 range_here_read empty inner blanks u h b e = rw (h, blanks_behind blanks u b (end_stops u e), e) refl
 range_here_read (simples first others) inner blanks u h b e =
     let t = inner ++ (blanks ++ u) in
@@ -117,7 +132,13 @@ range_here_read (hyphen left right) inner blanks u (l, gap, gap', r, h, g, g', h
     let t = l ++ (gap ++ rest) in
     let whole : inner ++ (blanks ++ u) ≡ t = ap (λ x. x ++ (blanks ++ u)) text ∙ simp append_assoc in
     let begins = starts-append is_simple_byte l (gap ++ rest) (simple_starts s l spelled) in
-    rw (whole, blanks_behind [] t refl (simple_stops t begins), simple_no_end t begins, simple_read s l gap rest spelled g.1 (gap_ends gap rest g) refl, right_read right gap' r blanks u g' h' b e) refl
+    rw (
+      whole,
+      blanks_behind [] t refl (simple_stops t begins),
+      simple_no_end t begins,
+      simple_read s l gap rest spelled g.1 (gap_ends gap rest g) refl,
+      right_read right gap' r blanks u g' h' b e,
+    ) refl
 
 behind_more : (blanks t : Text) → AreBlanks blanks → behind_blanks (blanks ++ t) ≡ behind_blanks t
 behind_more [] t h = refl
@@ -131,7 +152,8 @@ range_read r w u (before, inner, blanks, h, spelled, b, text) e =
 -- the reader finds the tree of a text
 pub tree_read : (tree : SetTree) (t : Text) → Spells tree t → read t ≡ Some tree
 tree_read [] t h = absurd h
-tree_read (r ∷ []) t h = read_step t ∙ ap (λ x. behind_range read (range x)) (sym (append-nil t)) ∙ ap (behind_range read) (range_read r t [] h refl)
+tree_read (r ∷ []) t h =
+    read_step t ∙ ap (λ x. behind_range read (range x)) (sym (append-nil t)) ∙ ap (behind_range read) (range_read r t [] h refl)
 tree_read (r ∷ next ∷ others) t (head, tail, h, more, text) =
     read_step t ∙ ap (λ x. behind_range read (range x)) (text ∙ append_assoc head (codes "||") tail)
     ∙ ap (behind_range read) (range_read r head (124 ∷ 124 ∷ tail) h refl) ∙ ap (onto r) (tree_read (next ∷ others) tail more)

@@ -1,13 +1,18 @@
 -- What the reader finds at the front of a text stands there: components, parts, partials, operators and simples.
-use Rattle.std.proofs.Common.{◌≡◌, ℕ, Bool, true, false, not, ◌&&◌, ◌||◌, ◌==◌, ◌⊎◌, List, [], ◌∷◌, ◌++◌, codes, refl, sym, ap, ◌∙◌, inl, inr, Option, Some, None, append_assoc, append-nil}
+use Rattle.std.proofs.Common.{◌≡◌, ℕ, Bool, true, false, not, ◌&&◌, ◌||◌, ◌==◌, ◌⊎◌, List, [], ◌∷◌, ◌++◌, codes, refl, sym, ap, ◌∙◌, inl}
+use Rattle.std.proofs.Common.{inr, Option, Some, None, append_assoc, append-nil}
 use Rattle.std.proofs.lemmas.Bool.{cases_Bool, and_parts, and_from, or_cases, or_left, or_right, or_parts, eqb-true, not_from_false}
 use Rattle.std.proofs.lemmas.List.Splits.{join_with_byte-slice_split}
 use Rattle.std.specs.Char.{is_ascii_digit}
 use Rattle.std.specs.Str.{all_ascii_digits}
 use Rattle.std.specs.List.{list_all, slice_split, join_with_byte}
-use Rattle.semver_ranges.specs.RangeTree.{PartialTree, one, two, three, Form, Simple, is_blank, is_wildcard, is_number, is_component, is_part, AreBlanks, SpellsPartial, IsSignAndBlanks, SpellsForm, SpellsSimple}
+use Rattle.semver_ranges.specs.RangeTree.{PartialTree, one, two, three, Form, Simple, is_blank, is_wildcard, is_number, is_component}
+use Rattle.semver_ranges.specs.RangeTree.{is_part, AreBlanks, SpellsPartial, IsSignAndBlanks, SpellsForm, SpellsSimple}
 use Rattle.semver_texts.specs.Texts.{Text, is_empty, marked}
-use Rattle.semver_ranges.specs.Reading.{front, back, behind_blanks, is_bar, ends_range, ends_word, component, is_dot, in_parts, parts, with_build, behind_pre, with_pre, behind_three, with_third, behind_two, with_second, behind_one, with_first, whole_word, partial, after_less, after_greater, after_tilde, operator, with_form, simple}
+use Rattle.semver_ranges.specs.Reading.{front, back, behind_blanks, is_bar, ends_range, ends_word, component, is_dot, in_parts, parts}
+use Rattle.semver_ranges.specs.Reading.{with_build, behind_pre, with_pre, behind_three, with_third, behind_two, with_second, behind_one}
+use Rattle.semver_ranges.specs.Reading.{with_first, whole_word, partial, after_less, after_greater, after_tilde, operator, with_form}
+use Rattle.semver_ranges.specs.Reading.{simple}
 
 -- the longest front whose bytes pass
 pub front-back : (p : ℕ → Bool) (t : Text) → t ≡ front p t ++ back p t
@@ -49,7 +54,8 @@ component_sound (b ∷ t) = elim (cases_Bool (is_wildcard (b ∷ []) || (b == 48
   number : (b == 48) ≡ false → is_ascii_digit b ≡ true → is_component (b ∷ front is_ascii_digit t) ≡ true
   number e h =
       let first = or_right (is_empty (front is_ascii_digit t)) (not (b == 48)) (not_from_false (b == 48) e) in
-      or_right (is_wildcard (b ∷ front is_ascii_digit t)) (is_number (b ∷ front is_ascii_digit t)) (and_from _ _ (and_from _ _ h (digits (front is_ascii_digit t) (front_all is_ascii_digit t))) first)
+      or_right (is_wildcard (b ∷ front is_ascii_digit t)) (is_number (b ∷ front is_ascii_digit t))
+      (and_from _ _ (and_from _ _ h (digits (front is_ascii_digit t) (front_all is_ascii_digit t))) first)
 
 -- parts behind their mark
 abbrev PartsAt : Text → Option (List Text × Text) → Type 0
@@ -71,7 +77,11 @@ marked_parts mark t =
 
 parts_sound : (t : Text) → PartsAt t (parts t)
 parts_sound t = elim (cases_Bool (list_all is_part (slice_split is_dot (front in_parts t)))) [
-  | inl e ↦ rw e (e, λ mark. ap (λ x. mark ∷ x) (front-back in_parts t) ∙ ap (λ x. x ++ back in_parts t) (sym (marked_parts mark (front in_parts t))))
+  | inl e ↦ rw e (
+    e,
+    λ mark. ap (λ x. mark ∷ x) (front-back in_parts t)
+        ∙ ap (λ x. x ++ back in_parts t) (sym (marked_parts mark (front in_parts t))),
+  )
   | inr e ↦ rw e tt
 ]
 
@@ -84,15 +94,22 @@ PartialAt t (Some found) = (w : Text) × SpellsPartial found.0 w × (t ≡ w ++ 
 abbrev Components : List Text → Type 0
 Components cs = list_all is_component cs ≡ true
 
-three_sound : (a b c : Text) (pre build : List Text) (u : Text) → Components (a ∷ b ∷ c ∷ []) → list_all is_part pre ≡ true → list_all is_part build ≡ true
-    → PartialAt (join_with_byte 46 (a ∷ b ∷ c ∷ []) ++ (marked (codes "-") pre ++ (marked (codes "+") build ++ u))) (Some (three a b c pre build, u))
+three_sound : (a b c : Text) (pre build : List Text) (u : Text) → Components (a ∷ b ∷ c ∷ []) → list_all is_part pre ≡ true
+    → list_all is_part build ≡ true
+    → PartialAt (join_with_byte 46 (a ∷ b ∷ c ∷ []) ++ (marked (codes "-") pre ++ (marked (codes "+") build ++ u)))
+    (Some (three a b c pre build, u))
 three_sound a b c pre build u h p q =
     let text = join_with_byte 46 (a ∷ b ∷ c ∷ []) in
     let dashed = marked (codes "-") pre in
-    let plus = marked (codes "+") build in
-    (text ++ (dashed ++ plus), (h, (p, q), refl), ap (λ x. text ++ x) (sym (append_assoc dashed plus u)) ∙ sym (append_assoc text (dashed ++ plus) u))
+    let plus = marked (codes "+") build in (
+      text ++ (dashed ++ plus),
+      (h, (p, q), refl),
+      ap (λ x. text ++ x) (sym (append_assoc dashed plus u))
+          ∙ sym (append_assoc text (dashed ++ plus) u),
+    )
 
-build_sound : (a b c : Text) (pre : List Text) (t : Text) (o : Option (List Text × Text)) → Components (a ∷ b ∷ c ∷ []) → list_all is_part pre ≡ true → PartsAt t o
+build_sound : (a b c : Text) (pre : List Text) (t : Text) (o : Option (List Text × Text)) → Components (a ∷ b ∷ c ∷ [])
+    → list_all is_part pre ≡ true → PartsAt t o
     → PartialAt (join_with_byte 46 (a ∷ b ∷ c ∷ []) ++ (marked (codes "-") pre ++ (43 ∷ t))) (with_build a b c pre o)
 build_sound a b c pre t None h p q = tt
 build_sound a b c pre t (Some found) h p (parts, text) = rw (text 43) (three_sound a b c pre found.0 found.1 h p parts)
@@ -105,23 +122,28 @@ behind_pre_sound a b c pre (mark ∷ t) h p = elim (cases_Bool (mark == 43)) [
   | inr e ↦ rw e (three_sound a b c pre [] (mark ∷ t) h p refl)
 ]
 
-pre_sound : (a b c t : Text) (o : Option (List Text × Text)) → Components (a ∷ b ∷ c ∷ []) → PartsAt t o → PartialAt (join_with_byte 46 (a ∷ b ∷ c ∷ []) ++ (45 ∷ t)) (with_pre a b c o)
+pre_sound : (a b c t : Text) (o : Option (List Text × Text)) → Components (a ∷ b ∷ c ∷ []) → PartsAt t o
+    → PartialAt (join_with_byte 46 (a ∷ b ∷ c ∷ []) ++ (45 ∷ t)) (with_pre a b c o)
 pre_sound a b c t None h q = tt
 pre_sound a b c t (Some found) h (parts, text) = rw (text 45) (behind_pre_sound a b c found.0 found.1 h parts)
 
-behind_three_sound : (a b c t : Text) → Components (a ∷ b ∷ c ∷ []) → PartialAt (join_with_byte 46 (a ∷ b ∷ c ∷ []) ++ t) (behind_three a b c t)
+behind_three_sound : (a b c t : Text) → Components (a ∷ b ∷ c ∷ [])
+    → PartialAt (join_with_byte 46 (a ∷ b ∷ c ∷ []) ++ t) (behind_three a b c t)
 behind_three_sound a b c [] h = three_sound a b c [] [] [] h refl refl
 behind_three_sound a b c (mark ∷ t) h = elim (cases_Bool (mark == 45)) [
   | inl e ↦ rw (eqb-true mark 45 e) (pre_sound a b c t (parts t) h (parts_sound t))
   | inr e ↦ rw e (behind_pre_sound a b c [] (mark ∷ t) h refl)
 ]
 
-third_sound : (a b t : Text) (o : Option (Text × Text)) → Components (a ∷ b ∷ []) → ComponentAt t o → PartialAt (join_with_byte 46 (a ∷ b ∷ []) ++ (46 ∷ t)) (with_third a b o)
+third_sound : (a b t : Text) (o : Option (Text × Text)) → Components (a ∷ b ∷ []) → ComponentAt t o
+    → PartialAt (join_with_byte 46 (a ∷ b ∷ []) ++ (46 ∷ t)) (with_third a b o)
 third_sound a b t None h q = tt
 third_sound a b t (Some found) h (third, text) =
     let p = and_parts (is_component a) (is_component b && true) h in
-    let whole : join_with_byte 46 (a ∷ b ∷ []) ++ (46 ∷ t) ≡ join_with_byte 46 (a ∷ b ∷ found.0 ∷ []) ++ found.1 = ap (λ x. (a ++ (46 ∷ b)) ++ (46 ∷ x)) text ∙ simp append_assoc in
-    rw whole (behind_three_sound a b found.0 found.1 (and_from _ _ p.0 (and_from _ _ (and_parts (is_component b) true p.1).0 (and_from _ _ third refl))))
+    let whole : join_with_byte 46 (a ∷ b ∷ []) ++ (46 ∷ t)
+    ≡ join_with_byte 46 (a ∷ b ∷ found.0 ∷ []) ++ found.1 = ap (λ x. (a ++ (46 ∷ b)) ++ (46 ∷ x)) text ∙ simp append_assoc in
+    rw whole (behind_three_sound a b found.0 found.1 (and_from _ _ p.0
+    (and_from _ _ (and_parts (is_component b) true p.1).0 (and_from _ _ third refl))))
 
 -- one or two components, and what follows them
 two_sound : (a b u : Text) → Components (a ∷ b ∷ []) → PartialAt (join_with_byte 46 (a ∷ b ∷ []) ++ u) (Some (two a b, u))
@@ -137,7 +159,8 @@ behind_two_sound a b (dot ∷ t) h = elim (cases_Bool (dot == 46)) [
 second_sound : (a t : Text) (o : Option (Text × Text)) → Components (a ∷ []) → ComponentAt t o → PartialAt (a ++ (46 ∷ t)) (with_second a o)
 second_sound a t None h q = tt
 second_sound a t (Some found) h (second, text) =
-    let whole : a ++ (46 ∷ t) ≡ (a ++ (46 ∷ found.0)) ++ found.1 = ap (λ x. a ++ (46 ∷ x)) text ∙ sym (append_assoc a (46 ∷ found.0) found.1) in
+    let whole : a ++ (46 ∷ t) ≡ (a ++ (46 ∷ found.0)) ++ found.1 = ap (λ x. a ++ (46 ∷ x)) text
+    ∙ sym (append_assoc a (46 ∷ found.0) found.1) in
     rw whole (behind_two_sound a found.0 found.1 (and_from _ _ (and_parts (is_component a) true h).0 (and_from _ _ second refl)))
 
 one_sound : (a u : Text) → Components (a ∷ []) → PartialAt (a ++ u) (Some (one a, u))
@@ -185,25 +208,35 @@ component_starts : (t : Text) → is_component t ≡ true → starts is_componen
 component_starts [] e = cc
 component_starts (b ∷ []) e = elim (or_cases (is_wildcard (b ∷ [])) (is_number (b ∷ [])) e) [
   | inl wildcard ↦ or_right (is_ascii_digit b) (is_wildcard (b ∷ [])) wildcard
-  | inr number ↦ or_left (is_ascii_digit b) (is_wildcard (b ∷ [])) (and_parts (is_ascii_digit b) true (and_parts (all_ascii_digits (b ∷ [])) _ number).0).0
+  | inr number ↦ or_left (is_ascii_digit b) (is_wildcard (b ∷ []))
+      (and_parts (is_ascii_digit b) true (and_parts (all_ascii_digits (b ∷ [])) _ number).0).0
 ]
-component_starts (b ∷ c ∷ t) e = or_left (is_ascii_digit b) (is_wildcard (b ∷ [])) (and_parts (is_ascii_digit b) (all_ascii_digits (c ∷ t)) (and_parts (all_ascii_digits (b ∷ c ∷ t)) _ e).0).0
+component_starts (b ∷ c ∷ t) e =
+    or_left (is_ascii_digit b) (is_wildcard (b ∷ [])) (and_parts (is_ascii_digit b) (all_ascii_digits (c ∷ t))
+    (and_parts (all_ascii_digits (b ∷ c ∷ t)) _ e).0).0
 
 pub partial_starts : (p : PartialTree) (t : Text) → SpellsPartial p t → starts is_component_byte t ≡ true
 partial_starts (one a) t (h, k, e) = rw e (starts-append is_component_byte a [] (component_starts a (and_parts (is_component a) true h).0))
 partial_starts (two a b) t (h, k, e) =
-    rw (e, append_assoc a (46 ∷ b) []) (starts-append is_component_byte a ((46 ∷ b) ++ []) (component_starts a (and_parts (is_component a) (is_component b && true) h).0))
+    rw (e, append_assoc a (46 ∷ b) []) (starts-append is_component_byte a ((46 ∷ b) ++ [])
+    (component_starts a (and_parts (is_component a) (is_component b && true) h).0))
 partial_starts (three a b c pre build) t (h, k, e) =
     let more = (46 ∷ (b ++ (46 ∷ c))) in
     let q = marked (codes "-") pre ++ marked (codes "+") build in
-    rw (e, append_assoc a more q) (starts-append is_component_byte a (more ++ q) (component_starts a (and_parts (is_component a) (is_component b && (is_component c && true)) h).0))
+    rw (e, append_assoc a more q) (starts-append is_component_byte a (more ++ q)
+    (component_starts a (and_parts (is_component a) (is_component b && (is_component c && true)) h).0))
 
 -- an operator: its sign, and the blanks behind it
 abbrev FormAt : Text → Form × Text → Type 0
 FormAt t found = (w : Text) × SpellsForm found.0 w × (t ≡ w ++ found.1)
 
 signed : (sign t : Text) → (w : Text) × IsSignAndBlanks sign w × (sign ++ t ≡ w ++ behind_blanks t)
-signed sign t = (sign ++ front is_blank t, (front is_blank t, front_all is_blank t, refl), ap (λ x. sign ++ x) (front-back is_blank t) ∙ sym (append_assoc sign (front is_blank t) (behind_blanks t)))
+signed sign t = (
+  sign ++ front is_blank t,
+  (front is_blank t, front_all is_blank t, refl),
+  ap (λ x. sign ++ x) (front-back is_blank t)
+      ∙ sym (append_assoc sign (front is_blank t) (behind_blanks t)),
+)
 
 less_sound : (t : Text) → FormAt (60 ∷ t) (after_less t)
 less_sound [] = signed (codes "<") []
@@ -261,14 +294,16 @@ abbrev pub SimpleAt : Text → Option (Simple × Text) → Type 0
 SimpleAt t None = Unit {0}
 SimpleAt t (Some found) = (w : Text) × (gap : Text) × SpellsSimple found.0 w × IsGap gap found.1 × (t ≡ w ++ (gap ++ found.1))
 
-form_sound : (t : Text) (found : Form × Text) (o : Option (PartialTree × Text)) → FormAt t found → WordAt found.1 o → SimpleAt t (with_form found.0 o)
+form_sound : (t : Text) (found : Form × Text) (o : Option (PartialTree × Text)) → FormAt t found → WordAt found.1 o
+    → SimpleAt t (with_form found.0 o)
 form_sound t found None h k = tt
 form_sound t found (Some (p, u)) (sign, form, text) (w, spelled, text', ends) = (
   sign ++ w,
   front is_blank u,
   (sign, w, form, spelled, refl),
   gap_parts u ends,
-  text ∙ ap (λ x. sign ++ x) (text' ∙ ap (λ x. w ++ x) (front-back is_blank u)) ∙ sym (append_assoc sign w (front is_blank u ++ behind_blanks u)),
+  text ∙ ap (λ x. sign ++ x) (text' ∙ ap (λ x. w ++ x) (front-back is_blank u))
+      ∙ sym (append_assoc sign w (front is_blank u ++ behind_blanks u)),
 )
 
 pub simple_sound : (t : Text) → SimpleAt t (simple t)

@@ -1,22 +1,29 @@
 -- What the reader finds spells the text.
-use Rattle.std.proofs.Common.{◌≡◌, ℕ, zero, suc, true, false, ◌&&◌, ◌==◌, List, [], ◌∷◌, ◌++◌, codes, length, refl, sym, ap, ◌∙◌, subst, inl, inr, Option, Some, None, append_assoc, append-nil}
+use Rattle.std.proofs.Common.{◌≡◌, ℕ, zero, suc, true, false, ◌&&◌, ◌==◌, List, [], ◌∷◌, ◌++◌, codes, length, refl, sym, ap, ◌∙◌, subst}
+use Rattle.std.proofs.Common.{inl, inr, Option, Some, None, append_assoc, append-nil}
 use Rattle.std.proofs.lemmas.Bool.{cases_Bool, and_parts, and_from, eqb-true, both_ways, not_from_false}
-use Rattle.semver_ranges.specs.RangeTree.{PartialTree, Form, bare, equal, less, at_most, greater, at_least, tilde, caret, Simple, RangeTree, SetTree, is_blank, AreBlanks, AreSomeBlanks, SpellsPartial, SpellsSimple, SpellsSimples, SpellsRange, SpellsPadded, Spells}
+use Rattle.semver_ranges.specs.RangeTree.{PartialTree, Form, bare, equal, less, at_most, greater, at_least, tilde, caret, Simple, RangeTree}
+use Rattle.semver_ranges.specs.RangeTree.{SetTree, is_blank, AreBlanks, AreSomeBlanks, SpellsPartial, SpellsSimple, SpellsSimples}
+use Rattle.semver_ranges.specs.RangeTree.{SpellsRange, SpellsPadded, Spells}
 use Rattle.semver_texts.specs.Texts.{Text, is_empty}
-use Rattle.semver_ranges.specs.Reading.{front, behind_blanks, begins_with, is_bar, ends_range, partial, simple, put_before, behind_simple, some_simples, all_simples, range_end, right_side, is_bare, with_right, with_others, behind_first, range_here, range, behind_bars, onto, more_ranges, behind_range, some_ranges, read}
+use Rattle.semver_ranges.specs.Reading.{front, behind_blanks, begins_with, is_bar, ends_range, partial, simple, put_before, behind_simple}
+use Rattle.semver_ranges.specs.Reading.{some_simples, all_simples, range_end, right_side, is_bare, with_right, with_others, behind_first}
+use Rattle.semver_ranges.specs.Reading.{range_here, range, behind_bars, onto, more_ranges, behind_range, some_ranges, read}
 use Rattle.semver_ranges.proofs.ReadingPieces.{front-back, front_all, WordAt, partial_sound, IsGap, SimpleAt, simple_sound}
 
 -- a first simple and the others that are found behind it and its gap
 abbrev SimplesAt : Simple → Text → Option (List Simple × Text) → Type 0
 SimplesAt s t None = Unit {0}
-SimplesAt s t (Some found) = (inner : Text) × (after : Text) × SpellsSimples s found.0 inner × AreBlanks after × (t ≡ inner ++ (after ++ found.1))
+SimplesAt s t (Some found) =
+    (inner : Text) × (after : Text) × SpellsSimples s found.0 inner × AreBlanks after × (t ≡ inner ++ (after ++ found.1))
 
 -- a gap that parts two simples
 some_blanks : (gap t : Text) → IsGap gap t → ends_range t ≡ false → AreSomeBlanks gap
 some_blanks gap t (blanks, inl some) e = (not_from_false (is_empty gap) some, blanks)
 some_blanks gap t (blanks, inr ends) e = absurd (both_ways (ends_range t) e ends)
 
-put_sound : (s next : Simple) (w gap t : Text) (o : Option (List Simple × Text)) → SpellsSimple s w → AreSomeBlanks gap → SimplesAt next t o → SimplesAt s (w ++ (gap ++ t)) (put_before next o)
+put_sound : (s next : Simple) (w gap t : Text) (o : Option (List Simple × Text)) → SpellsSimple s w → AreSomeBlanks gap → SimplesAt next t o
+    → SimplesAt s (w ++ (gap ++ t)) (put_before next o)
 put_sound s next w gap t None spelled blanks h = tt
 put_sound s next w gap t (Some found) spelled blanks (inner, after, more, ends, text) =
     ((w ++ gap) ++ inner, after, (w, gap, inner, spelled, blanks, more, refl), ends, ap (λ x. w ++ (gap ++ x)) text ∙ simp append_assoc)
@@ -43,9 +50,12 @@ RangeAt t (Some found) = (inner : Text) × (after : Text) × SpellsRange found.0
 -- the right side of a hyphen range, from the hyphen on
 abbrev RightAt : Text → Option (PartialTree × Text) → Type 0
 RightAt t None = Unit {0}
-RightAt t (Some found) = (gap : Text) × (w : Text) × (after : Text) × AreSomeBlanks gap × SpellsPartial found.0 w × AreBlanks after × (t ≡ codes "-" ++ (gap ++ (w ++ (after ++ found.1))))
+RightAt t (Some found) =
+    (gap : Text) × (w : Text) × (after : Text) × AreSomeBlanks gap × SpellsPartial found.0 w × AreBlanks after
+    × (t ≡ codes "-" ++ (gap ++ (w ++ (after ++ found.1))))
 
-end_sound : (blank : ℕ) (t : Text) (o : Option (PartialTree × Text)) → is_blank blank ≡ true → WordAt (behind_blanks t) o → RightAt (45 ∷ blank ∷ t) (range_end o)
+end_sound : (blank : ℕ) (t : Text) (o : Option (PartialTree × Text)) → is_blank blank ≡ true → WordAt (behind_blanks t) o
+    → RightAt (45 ∷ blank ∷ t) (range_end o)
 end_sound blank t None e h = tt
 end_sound blank t (Some (p, u)) e (w, spelled, text, ends) = elim (cases_Bool (ends_range (behind_blanks u))) [
   | inl stops ↦ rw stops (
@@ -64,27 +74,23 @@ right_sound : (t : Text) → RightAt t (right_side t)
 right_sound [] = tt
 right_sound (dash ∷ []) = tt
 right_sound (dash ∷ blank ∷ t) = elim (cases_Bool ((dash == 45) && is_blank blank)) [
-  | inl e ↦ let p = and_parts (dash == 45) (is_blank blank) e in rw (e, eqb-true dash 45 p.0) (end_sound blank t (partial (behind_blanks t)) p.1 (partial_sound (behind_blanks t)))
+  | inl e ↦ let p = and_parts (dash == 45) (is_blank blank) e in
+      rw (e, eqb-true dash 45 p.0) (end_sound blank t (partial (behind_blanks t)) p.1 (partial_sound (behind_blanks t)))
   | inr e ↦ rw e tt
 ]
 
 -- a bare simple is a partial
 bare_form : (f : Form) → is_bare f ≡ true → f ≡ bare
 bare_form bare e = refl
-bare_form equal e = cc
-bare_form less e = cc
-bare_form at_most e = cc
-bare_form greater e = cc
-bare_form at_least e = cc
-bare_form tilde e = cc
-bare_form caret e = cc
+bare_form _ e = cc
 
 bare_partial : (s : Simple) (w : Text) → s.form ≡ bare → SpellsSimple s w → SpellsPartial s.partial w
 bare_partial s w e (sign, text, form, spelled, whole) =
     let none : sign ≡ [] = rw e at form in
     subst (λ x. SpellsPartial s.partial x) (sym (whole ∙ ap (λ x. x ++ text) none)) spelled
 
-hyphen_sound : (s : Simple) (w gap t : Text) (o : Option (PartialTree × Text)) → SpellsSimple s w → AreSomeBlanks gap → RightAt t o → RangeAt (w ++ (gap ++ t)) (with_right s o)
+hyphen_sound : (s : Simple) (w gap t : Text) (o : Option (PartialTree × Text)) → SpellsSimple s w → AreSomeBlanks gap → RightAt t o
+    → RangeAt (w ++ (gap ++ t)) (with_right s o)
 hyphen_sound s w gap t None spelled blanks h = tt
 hyphen_sound s w gap t (Some (p, u)) spelled blanks (gap', w', after, blanks', spelled', ends, text) = elim (cases_Bool (is_bare s.form)) [
   | inl e ↦ rw e (
@@ -158,15 +164,18 @@ onto_sound r w t None spelled h = tt
 onto_sound r w t (Some []) spelled h = absurd h
 onto_sound r w t (Some (next ∷ others)) spelled h = (w, t, spelled, h, refl)
 
-more_sound : (r : RangeTree) (w t : Text) (f : Text → Option SetTree) (o : Option Text) → ((t : Text) → SetAt t (f t)) → SpellsPadded r w → BarsAt t o → SetAt (w ++ t) (more_ranges f r o)
+more_sound : (r : RangeTree) (w t : Text) (f : Text → Option SetTree) (o : Option Text) → ((t : Text) → SetAt t (f t)) → SpellsPadded r w
+    → BarsAt t o → SetAt (w ++ t) (more_ranges f r o)
 more_sound r w t f None h spelled bars = tt
 more_sound r w t f (Some u) h spelled bars =
     subst (λ x. SetAt x (onto r (f u))) (append_assoc w (codes "||") u ∙ ap (λ x. w ++ x) (sym bars)) (onto_sound r w u (f u) spelled (h u))
 
-behind_range_sound : (t : Text) (f : Text → Option SetTree) (o : Option (RangeTree × Text)) → ((t : Text) → SetAt t (f t)) → PaddedAt t o → SetAt t (behind_range f o)
+behind_range_sound : (t : Text) (f : Text → Option SetTree) (o : Option (RangeTree × Text)) → ((t : Text) → SetAt t (f t)) → PaddedAt t o
+    → SetAt t (behind_range f o)
 behind_range_sound t f None h found = tt
 behind_range_sound t f (Some (r, [])) h (w, spelled, text) = subst (λ x. SpellsPadded r x) (sym (text ∙ append-nil w)) spelled
-behind_range_sound t f (Some (r, b ∷ u)) h (w, spelled, text) = rw text (more_sound r w (b ∷ u) f (behind_bars (b ∷ u)) h spelled (bars_sound (b ∷ u)))
+behind_range_sound t f (Some (r, b ∷ u)) h (w, spelled, text) =
+    rw text (more_sound r w (b ∷ u) f (behind_bars (b ∷ u)) h spelled (bars_sound (b ∷ u)))
 
 ranges_sound : (n : ℕ) (t : Text) → SetAt t (some_ranges n t)
 ranges_sound zero t = tt

@@ -1,17 +1,21 @@
 -- How the reader's counted loops go on, without the count; and that what is left of a text is shorter.
-use Rattle.std.proofs.Common.{◌≡◌, ℕ, zero, suc, ◌<◌, ◌≤◌, Bool, true, false, ◌&&◌, ◌==◌, if◌then◌else◌, List, [], ◌∷◌, length, refl, ap, subst, inl, inr, Option, Some, None, arith, length-append}
+use Rattle.std.proofs.Common.{◌≡◌, ℕ, zero, suc, ◌<◌, ◌≤◌, Bool, true, false, ◌&&◌, ◌==◌, if◌then◌else◌, List, [], ◌∷◌, length, refl, ap}
+use Rattle.std.proofs.Common.{subst, inl, inr, Option, Some, None, arith, length-append}
 use Rattle.std.proofs.lemmas.Bool.{cases_Bool}
 use Rattle.semver_ranges.specs.RangeTree.{PartialTree, Simple, RangeTree, SetTree, is_blank}
 use Rattle.semver_texts.specs.Texts.{Text}
-use Rattle.semver_ranges.proofs.ReadingPieces.{front-back, WordAt, partial_sound, starts, is_component_byte, partial_starts, SimpleAt, simple_sound}
-use Rattle.semver_ranges.specs.Reading.{back, behind_blanks, begins_with, is_bar, ends_range, partial, simple, put_before, behind_simple, some_simples, all_simples, range_end, right_side, is_bare, with_right, with_others, behind_first, range_here, range, behind_bars, onto, more_ranges, behind_range, some_ranges, read}
+use Rattle.semver_ranges.proofs.ReadingPieces.{front-back, WordAt, partial_sound, starts, is_component_byte, partial_starts, SimpleAt}
+use Rattle.semver_ranges.proofs.ReadingPieces.{simple_sound}
+use Rattle.semver_ranges.specs.Reading.{back, behind_blanks, begins_with, is_bar, ends_range, partial, simple, put_before, behind_simple}
+use Rattle.semver_ranges.specs.Reading.{some_simples, all_simples, range_end, right_side, is_bare, with_right, with_others, behind_first}
+use Rattle.semver_ranges.specs.Reading.{range_here, range, behind_bars, onto, more_ranges, behind_range, some_ranges, read}
 
 -- what is left behind an answer is at most so long
 abbrev Leaves : {X : Type 0} → ℕ → Option (X × Text) → Type 0
 Leaves n None = Unit {0}
 Leaves n (Some found) = length found.1 ≤ n
 
-back_shorter : (p : ℕ → Bool) (t : Text) → length (back p t) ≤ length t
+pub back_shorter : (p : ℕ → Bool) (t : Text) → length (back p t) ≤ length t
 back_shorter p t = omega (arith, simp length-append at (ap length (front-back p t)))
 
 some_bytes : (p : ℕ → Bool) (t : Text) → starts p t ≡ true → 0 < length t
@@ -34,7 +38,9 @@ simple_leaves n t h = left (simple t) (simple_sound t) where
 
 pub shorter_simple : (t u : Text) (s : Simple) → simple t ≡ Some (s, u) → length u < length t
 shorter_simple [] u s e = cc
-shorter_simple (b ∷ t) u s e = let h : Leaves (length t) (Some (s, u)) = subst (λ o. Leaves (length t) o) e (simple_leaves (length t) (b ∷ t) (omega arith)) in omega arith
+shorter_simple (b ∷ t) u s e =
+    let h : Leaves (length t) (Some (s, u)) = subst (λ o. Leaves (length t) o) e (simple_leaves (length t) (b ∷ t) (omega arith)) in
+    omega arith
 
 -- simples leave no more than their text, and stop at the end of a range
 record Stopped (n : ℕ) (u : Text) : Type 0 where
@@ -52,7 +58,8 @@ put_stops : (n : ℕ) (s : Simple) (o : Option (List Simple × Text)) → Stops 
 put_stops n s None h = tt
 put_stops n s (Some found) h = h
 
-behind_simple_stops : (n : ℕ) (f : Text → Option (List Simple × Text)) → ((t : Text) → length t ≤ n → Stops n (f t)) → (o : Option (Simple × Text)) → Leaves n o → Stops n (behind_simple f o)
+behind_simple_stops : (n : ℕ) (f : Text → Option (List Simple × Text)) → ((t : Text) → length t ≤ n → Stops n (f t))
+    → (o : Option (Simple × Text)) → Leaves n o → Stops n (behind_simple f o)
 behind_simple_stops n f h None l = tt
 behind_simple_stops n f h (Some found) l = put_stops n found.0 (f found.1) (h found.1 l)
 
@@ -65,9 +72,6 @@ some_simples_stop (suc k) n t h = elim (cases_Bool (ends_range t)) [
 
 all_simples_stop : (n : ℕ) (t : Text) → length t ≤ n → Stops n (all_simples t)
 all_simples_stop n t h = some_simples_stop (suc (length t)) n t h
-
-pub simples_stop : (t u : Text) (ss : List Simple) → all_simples t ≡ Some (ss, u) → ends_range u ≡ true
-simples_stop t u ss e = (stopped_found (length t) ss u (all_simples t) (all_simples_stop (length t) t (omega arith)) e).ends
 
 -- so does a range
 range_end_stops : (n : ℕ) (o : Option (PartialTree × Text)) → Leaves n o → Stops n (range_end o)
@@ -92,6 +96,16 @@ right_stops n s (Some found) h = elim (cases_Bool (is_bare s.form)) [
   | inr e ↦ rw e tt
 ]
 
+pub shorter_right : (s : Simple) (t u : Text) (r : RangeTree) → with_right s (right_side t) ≡ Some (r, u) → length u ≤ length t
+shorter_right s t u r e =
+    (stopped_found (length t) r u (with_right s (right_side t)) (right_stops (length t) s (right_side t)
+    (right_side_stops (length t) t (omega arith))) e).short
+
+pub right_ends : (s : Simple) (t u : Text) (r : RangeTree) → with_right s (right_side t) ≡ Some (r, u) → ends_range u ≡ true
+right_ends s t u r e =
+    (stopped_found (length t) r u (with_right s (right_side t)) (right_stops (length t) s (right_side t)
+    (right_side_stops (length t) t (omega arith))) e).ends
+
 others_stop : (n : ℕ) (s : Simple) (o : Option (List Simple × Text)) → Stops n o → Stops n (with_others s o)
 others_stop n s None h = tt
 others_stop n s (Some found) h = h
@@ -112,11 +126,9 @@ range_here_stops n t h = elim (cases_Bool (ends_range t)) [
 range_stopped : (n : ℕ) (t : Text) → length t ≤ n → Stops n (range t)
 range_stopped n t h = let k = back_shorter is_blank t in range_here_stops n (behind_blanks t) (omega arith)
 
-pub shorter_range : (t u : Text) (r : RangeTree) → range t ≡ Some (r, u) → length u ≤ length t
-shorter_range t u r e = (stopped_found (length t) r u (range t) (range_stopped (length t) t (omega arith)) e).short
-
 -- two readers of the rest that agree on shorter texts agree behind a simple
-agree_simples : (f g : Text → Option (List Simple × Text)) (t : Text) → ((u : Text) → length u < length t → f u ≡ g u) → (o : Option (Simple × Text)) → simple t ≡ o → behind_simple f o ≡ behind_simple g o
+agree_simples : (f g : Text → Option (List Simple × Text)) (t : Text) → ((u : Text) → length u < length t → f u ≡ g u)
+    → (o : Option (Simple × Text)) → simple t ≡ o → behind_simple f o ≡ behind_simple g o
 agree_simples f g t h None e = refl
 agree_simples f g t h (Some (s, u)) e = ap (put_before s) (h u (shorter_simple t u s e))
 
@@ -133,10 +145,11 @@ simples_end t e = rw e refl
 
 pub simples_step : (t : Text) → ends_range t ≡ false → all_simples t ≡ behind_simple all_simples (simple t)
 simples_step t e =
-    rw e (agree_simples (some_simples (length t)) all_simples t (λ u l. enough_simples (length t) (suc (length u)) u l (omega arith)) (simple t) refl)
+    rw e (agree_simples (some_simples (length t)) all_simples t (λ u l. enough_simples (length t) (suc (length u)) u l (omega arith))
+    (simple t) refl)
 
 -- what follows two bars is shorter
-shorter_bars : (t u : Text) → behind_bars t ≡ Some u → length u < length t
+pub shorter_bars : (t u : Text) → behind_bars t ≡ Some u → length u < length t
 shorter_bars [] u e = cc
 shorter_bars (b ∷ []) u e = cc
 shorter_bars (b ∷ c ∷ t) u e = elim (cases_Bool (is_bar b && is_bar c)) [
@@ -145,7 +158,8 @@ shorter_bars (b ∷ c ∷ t) u e = elim (cases_Bool (is_bar b && is_bar c)) [
 ]
 
 -- two readers of the rest that agree on shorter texts agree behind a range
-agree_behind : (f g : Text → Option SetTree) (n : ℕ) → ((t : Text) → length t < n → f t ≡ g t) → (o : Option (RangeTree × Text)) → Leaves n o → behind_range f o ≡ behind_range g o
+agree_behind : (f g : Text → Option SetTree) (n : ℕ) → ((t : Text) → length t < n → f t ≡ g t) → (o : Option (RangeTree × Text))
+    → Leaves n o → behind_range f o ≡ behind_range g o
 agree_behind f g n h None l = refl
 agree_behind f g n h (Some (r, [])) l = refl
 agree_behind f g n h (Some (r, b ∷ t)) l = same (behind_bars (b ∷ t)) refl where
@@ -164,7 +178,10 @@ enough_ranges : (n m : ℕ) (t : Text) → length t < n → length t < m → som
 enough_ranges zero m t h k = absurd (omega arith)
 enough_ranges (suc n) zero t h k = absurd (omega arith)
 enough_ranges (suc n) (suc m) t h k =
-    agree_behind (some_ranges n) (some_ranges m) (length t) (λ u l. enough_ranges n m u (omega arith) (omega arith)) (range t) (range_leaves t)
+    agree_behind (some_ranges n) (some_ranges m) (length t) (λ u l. enough_ranges n m u (omega arith) (omega arith)) (range t)
+    (range_leaves t)
 
 pub read_step : (t : Text) → read t ≡ behind_range read (range t)
-read_step t = agree_behind (some_ranges (length t)) read (length t) (λ u l. enough_ranges (length t) (suc (length u)) u l (omega arith)) (range t) (range_leaves t)
+read_step t =
+    agree_behind (some_ranges (length t)) read (length t) (λ u l. enough_ranges (length t) (suc (length u)) u l (omega arith)) (range t)
+    (range_leaves t)

@@ -1,5 +1,6 @@
 -- Each row of the table means what its form means, but for pre-releases of its raised bound; with an exact bound, without exception.
-use Rattle.std.proofs.Common.{◌≡◌, ℕ, zero, suc, ◌+◌, ◌<◌, Bool, true, false, not, ◌&&◌, ◌||◌, ◌==◌, nat_eq, if◌then◌else◌, List, [], ◌∷◌, take, refl, sym, ap, ◌∙◌, inl, inr, arith, Option, Some, None}
+use Rattle.std.proofs.Common.{◌≡◌, ℕ, zero, suc, ◌+◌, ◌<◌, Bool, true, false, not, ◌&&◌, ◌||◌, ◌==◌, nat_eq, if◌then◌else◌, List, [], ◌∷◌}
+use Rattle.std.proofs.Common.{take, refl, sym, ap, ◌∙◌, inl, inr, arith, Option, Some, None}
 use Rattle.std.proofs.lemmas.Bool.{cases_order, lt-ltb, le-ltb, eq-eqb, ne_eqb}
 use Rattle.std.specs.List.{list_all}
 use Rattle.std.specs.Ordering.{nat_cmp, ordering_then, is_eq, is_lt, is_gt, is_le, is_ge}
@@ -15,7 +16,8 @@ use Rattle.semver_ranges.specs.Precedence.{precedence, pre_cmp}
 use Rattle.semver_texts.specs.Versions.{numbers, IdentifierValue, numeric, alphanumeric, PlainVersion}
 use Rattle.semver_ranges.specs.Partials.{filled, leading_place}
 use Rattle.semver_ranges.specs.OwnMeaning.{meets_stated, agrees, agrees_past_zeros}
-use Rattle.semver_ranges.specs.RewritingTable.{PlainComparator, Cell, from_zero, below_zero, against, below, between, cell, raised, up, comparator, written_cell, cell_comparators, cell_raised}
+use Rattle.semver_ranges.specs.RewritingTable.{PlainComparator, Cell, from_zero, below_zero, against, below, between, cell, raised, up}
+use Rattle.semver_ranges.specs.RewritingTable.{comparator, written_cell, cell_comparators, cell_raised}
 use Rattle.semver_ranges.specs.ExactBounds.{lowest_pre_release, exact_bound}
 use Rattle.semver_ranges.specs.Meeting.{meets_comparator, has_pre_release, is_pre_release_of}
 use Rattle.semver_ranges.proofs.CaretPlaces.{same_agreement}
@@ -30,13 +32,27 @@ pub data Place : Ordering → Ordering → Bool → Bool → Type 0 where
 
 pub place : (a x : ℕ) → Place (nat_cmp a x) (nat_cmp a (x + 1)) (nat_eq x a) (nat_eq a (x + 1))
 place a x = elim (cases_order a x) [
-  | inl same ↦ rw (same, le-ltb x x (omega arith), eq-eqb x x refl, lt-ltb x (x + 1) (omega arith), ne_eqb x (x + 1) (λ e. omega arith)) level
+  | inl same ↦ rw (same, le-ltb x x (omega arith), eq-eqb x x refl, lt-ltb x (x + 1) (omega arith), ne_eqb x (x + 1) (λ e. omega arith))
+      level
   | inr apart ↦ elim apart [
-    | inl low ↦ rw (lt-ltb a x low, lt-ltb a (x + 1) (omega arith), ne_eqb x a (λ e. omega arith), ne_eqb a (x + 1) (λ e. omega arith)) under
+    | inl low ↦ rw (lt-ltb a x low, lt-ltb a (x + 1) (omega arith), ne_eqb x a (λ e. omega arith), ne_eqb a (x + 1) (λ e. omega arith))
+        under
     | inr above ↦ elim (cases_order a (x + 1)) [
-      | inl one ↦ rw (le-ltb a x (omega arith), ne_eqb a x (λ e. omega arith), ne_eqb x a (λ e. omega arith), le-ltb a (x + 1) (omega arith), eq-eqb a (x + 1) one) next
+      | inl one ↦ rw (
+        le-ltb a x (omega arith),
+        ne_eqb a x (λ e. omega arith),
+        ne_eqb x a (λ e. omega arith),
+        le-ltb a (x + 1) (omega arith),
+        eq-eqb a (x + 1) one,
+      ) next
       | inr more ↦ let far : x + 1 < a = elim more [ inl less_far ↦ absurd (omega arith) | inr far ↦ far ] in
-          rw (le-ltb a x (omega arith), ne_eqb a x (λ e. omega arith), ne_eqb x a (λ e. omega arith), le-ltb a (x + 1) (omega arith), ne_eqb a (x + 1) (λ e. omega arith)) over
+          rw (
+            le-ltb a x (omega arith),
+            ne_eqb a x (λ e. omega arith),
+            ne_eqb x a (λ e. omega arith),
+            le-ltb a (x + 1) (omega arith),
+            ne_eqb a (x + 1) (λ e. omega arith),
+          ) over
     ]
   ]
 ]
@@ -100,26 +116,27 @@ agreed true i = refl
 agreed false true = refl
 agreed false false = refl
 
+-- a version that isn't within the bound, and isn't the bound
+never : (i : Bool) → false ≡ (i && false)
+never true = refl
+never false = refl
+
 -- `<up(1)`: the first number isn't above the stated one, or the version is a pre-release of the bound
-below_first : {o u : Ordering} {e m : Bool} → Place o u e m → {z : Ordering} {n : Bool} → Rest z n → {z' : Ordering} {n' : Bool} → Rest z' n' → {r : Ordering} {i : Bool} → Tail r i
+below_first : {o u : Ordering} {e m : Bool} → Place o u e m → {z : Ordering} {n : Bool} → Rest z n → {z' : Ordering} {n' : Bool}
+    → Rest z' n' → {r : Ordering} {i : Bool} → Tail r i
     → (is_lt (compared u z z' r) && true) ≡ (is_le (ordering_then o Equal) || (i && (m && (n && (n' && true)))))
 below_first under b c t = refl
 below_first Place.level b c t = refl
 below_first next nothing nothing same = refl
 below_first next nothing nothing pre = refl
 below_first next nothing nothing past = refl
-below_first next nothing something same = refl
-below_first next nothing something pre = refl
-below_first next nothing something past = refl
-below_first next something c same = refl
-below_first next something c pre = refl
-below_first next something c past = refl
-below_first over b c same = refl
-below_first over b c pre = refl
-below_first over b c past = refl
+below_first next nothing something {i = i} t = never i
+below_first next something c {i = i} t = never i
+below_first over b c {i = i} t = never i
 
 -- `<up(2)`
-below_second : {o : Ordering} {e m : Bool} → Step o e m → {o' u : Ordering} {e' m' : Bool} → Place o' u e' m' → {z : Ordering} {n : Bool} → Rest z n → {r : Ordering} {i : Bool} → Tail r i
+below_second : {o : Ordering} {e m : Bool} → Step o e m → {o' u : Ordering} {e' m' : Bool} → Place o' u e' m' → {z : Ordering} {n : Bool}
+    → Rest z n → {r : Ordering} {i : Bool} → Tail r i
     → (is_lt (compared o u z r) && true) ≡ (is_le (ordering_then o (ordering_then o' Equal)) || (i && (m && (m' && (n && true)))))
 below_second lower b c t = refl
 below_second Step.level under c t = refl
@@ -127,87 +144,57 @@ below_second Step.level Place.level c t = refl
 below_second Step.level next nothing same = refl
 below_second Step.level next nothing pre = refl
 below_second Step.level next nothing past = refl
-below_second Step.level next something same = refl
-below_second Step.level next something pre = refl
-below_second Step.level next something past = refl
-below_second Step.level over c same = refl
-below_second Step.level over c pre = refl
-below_second Step.level over c past = refl
-below_second higher b c same = refl
-below_second higher b c pre = refl
-below_second higher b c past = refl
+below_second Step.level next something {i = i} t = never i
+below_second Step.level over c {i = i} t = never i
+below_second higher b c {i = i} t = never i
 
 -- `>=z <up(1)`: not below z, and agreement on the first number, or a pre-release of the bound
-between_first : {o u : Ordering} {e m : Bool} → Place o u e m → {z : Ordering} {n : Bool} → Rest z n → {z' : Ordering} {n' : Bool} → Rest z' n' → {r : Ordering} {i : Bool} → Tail r i
+between_first : {o u : Ordering} {e m : Bool} → Place o u e m → {z : Ordering} {n : Bool} → Rest z n → {z' : Ordering} {n' : Bool}
+    → Rest z' n' → {r : Ordering} {i : Bool} → Tail r i
     → (o2 o3 o4 : Ordering)
-    → (is_ge (compared o o2 o3 o4) && (is_lt (compared u z z' r) && true)) ≡ ((is_ge (compared o o2 o3 o4) && (e && true)) || (i && (m && (n && (n' && true)))))
-between_first under b c same o2 o3 o4 = refl
-between_first under b c pre o2 o3 o4 = refl
-between_first under b c past o2 o3 o4 = refl
+    → (is_ge (compared o o2 o3 o4) && (is_lt (compared u z z' r) && true))
+    ≡ ((is_ge (compared o o2 o3 o4) && (e && true)) || (i && (m && (n && (n' && true)))))
+between_first under b c {i = i} t o2 o3 o4 = never i
 between_first Place.level b c {i = i} t o2 o3 o4 = agreed (is_ge (compared Equal o2 o3 o4)) i
 between_first next nothing nothing same o2 o3 o4 = refl
 between_first next nothing nothing pre o2 o3 o4 = refl
 between_first next nothing nothing past o2 o3 o4 = refl
-between_first next nothing something same o2 o3 o4 = refl
-between_first next nothing something pre o2 o3 o4 = refl
-between_first next nothing something past o2 o3 o4 = refl
-between_first next something c same o2 o3 o4 = refl
-between_first next something c pre o2 o3 o4 = refl
-between_first next something c past o2 o3 o4 = refl
-between_first over b c same o2 o3 o4 = refl
-between_first over b c pre o2 o3 o4 = refl
-between_first over b c past o2 o3 o4 = refl
+between_first next nothing something {i = i} t o2 o3 o4 = never i
+between_first next something c {i = i} t o2 o3 o4 = never i
+between_first over b c {i = i} t o2 o3 o4 = never i
 
 -- `>=z <up(2)`
-between_second : {o : Ordering} {e m : Bool} → Step o e m → {o' u : Ordering} {e' m' : Bool} → Place o' u e' m' → {z : Ordering} {n : Bool} → Rest z n → {r : Ordering} {i : Bool} → Tail r i
+between_second : {o : Ordering} {e m : Bool} → Step o e m → {o' u : Ordering} {e' m' : Bool} → Place o' u e' m' → {z : Ordering} {n : Bool}
+    → Rest z n → {r : Ordering} {i : Bool} → Tail r i
     → (o3 o4 : Ordering)
-    → (is_ge (compared o o' o3 o4) && (is_lt (compared o u z r) && true)) ≡ ((is_ge (compared o o' o3 o4) && (e && (e' && true))) || (i && (m && (m' && (n && true)))))
-between_second lower b c same o3 o4 = refl
-between_second lower b c pre o3 o4 = refl
-between_second lower b c past o3 o4 = refl
-between_second Step.level under c same o3 o4 = refl
-between_second Step.level under c pre o3 o4 = refl
-between_second Step.level under c past o3 o4 = refl
+    → (is_ge (compared o o' o3 o4) && (is_lt (compared o u z r) && true))
+    ≡ ((is_ge (compared o o' o3 o4) && (e && (e' && true))) || (i && (m && (m' && (n && true)))))
+between_second lower b c {i = i} t o3 o4 = never i
+between_second Step.level under c {i = i} t o3 o4 = never i
 between_second Step.level Place.level c {i = i} t o3 o4 = agreed (is_ge (compared Equal Equal o3 o4)) i
 between_second Step.level next nothing same o3 o4 = refl
 between_second Step.level next nothing pre o3 o4 = refl
 between_second Step.level next nothing past o3 o4 = refl
-between_second Step.level next something same o3 o4 = refl
-between_second Step.level next something pre o3 o4 = refl
-between_second Step.level next something past o3 o4 = refl
-between_second Step.level over c same o3 o4 = refl
-between_second Step.level over c pre o3 o4 = refl
-between_second Step.level over c past o3 o4 = refl
-between_second higher b c same o3 o4 = refl
-between_second higher b c pre o3 o4 = refl
-between_second higher b c past o3 o4 = refl
+between_second Step.level next something {i = i} t o3 o4 = never i
+between_second Step.level over c {i = i} t o3 o4 = never i
+between_second higher b c {i = i} t o3 o4 = never i
 
 -- `>=z <up(3)`
-between_third : {o : Ordering} {e m : Bool} → Step o e m → {o' : Ordering} {e' m' : Bool} → Step o' e' m' → {o3 u : Ordering} {e3 m3 : Bool} → Place o3 u e3 m3 → {r : Ordering} {i : Bool} → Tail r i
+between_third : {o : Ordering} {e m : Bool} → Step o e m → {o' : Ordering} {e' m' : Bool} → Step o' e' m' → {o3 u : Ordering} {e3 m3 : Bool}
+    → Place o3 u e3 m3 → {r : Ordering} {i : Bool} → Tail r i
     → (o4 : Ordering)
-    → (is_ge (compared o o' o3 o4) && (is_lt (compared o o' u r) && true)) ≡ ((is_ge (compared o o' o3 o4) && (e && (e' && (e3 && true)))) || (i && (m && (m' && (m3 && true)))))
-between_third lower b c same o4 = refl
-between_third lower b c pre o4 = refl
-between_third lower b c past o4 = refl
-between_third Step.level lower c same o4 = refl
-between_third Step.level lower c pre o4 = refl
-between_third Step.level lower c past o4 = refl
-between_third Step.level Step.level under same o4 = refl
-between_third Step.level Step.level under pre o4 = refl
-between_third Step.level Step.level under past o4 = refl
+    → (is_ge (compared o o' o3 o4) && (is_lt (compared o o' u r) && true))
+    ≡ ((is_ge (compared o o' o3 o4) && (e && (e' && (e3 && true)))) || (i && (m && (m' && (m3 && true)))))
+between_third lower b c {i = i} t o4 = never i
+between_third Step.level lower c {i = i} t o4 = never i
+between_third Step.level Step.level under {i = i} t o4 = never i
 between_third Step.level Step.level Place.level {i = i} t o4 = agreed (is_ge (compared Equal Equal Equal o4)) i
 between_third Step.level Step.level next same o4 = refl
 between_third Step.level Step.level next pre o4 = refl
 between_third Step.level Step.level next past o4 = refl
-between_third Step.level Step.level over same o4 = refl
-between_third Step.level Step.level over pre o4 = refl
-between_third Step.level Step.level over past o4 = refl
-between_third Step.level higher c same o4 = refl
-between_third Step.level higher c pre o4 = refl
-between_third Step.level higher c past o4 = refl
-between_third higher b c same o4 = refl
-between_third higher b c pre o4 = refl
-between_third higher b c past o4 = refl
+between_third Step.level Step.level over {i = i} t o4 = never i
+between_third Step.level higher c {i = i} t o4 = never i
+between_third higher b c {i = i} t o4 = never i
 
 -- the stated lists are of none to three numbers
 pub data Shape : List ℕ → Type 0 where
@@ -230,17 +217,11 @@ bounded f (against op) s z = cell_comparators (against op) s z
 
 plain_bounds : (c : Cell) (s : List ℕ) (z : PlainVersion) → cell_comparators c s z ≡ bounded [] c s z
 plain_bounds (below k) s z = refl
-plain_bounds (between k) s z = refl
-plain_bounds from_zero s z = refl
-plain_bounds below_zero s z = refl
-plain_bounds (against op) s z = refl
+plain_bounds _ s z = refl
 
 exact_bounds : (c : Cell) (s : List ℕ) (z : PlainVersion) → written_cell exact_bound c s z ≡ bounded lowest_pre_release c s z
 exact_bounds (below k) s z = refl
-exact_bounds (between k) s z = refl
-exact_bounds from_zero s z = refl
-exact_bounds below_zero s z = refl
-exact_bounds (against op) s z = refl
+exact_bounds _ s z = refl
 
 -- whether a version with the numbers of the bound is below it, where i says so of its pre-release
 abbrev excepted : Bool → PlainVersion → Option PlainVersion → Bool
@@ -262,7 +243,8 @@ RowAgrees f i mode form s p v = list_all (meets_comparator v) (bounded f (cell m
     ≡ (meets_stated mode form s (filled s p) v || excepted i v (cell_raised (cell mode form s) s))
 
 -- nothing stated
-row_none : (f : List IdentifierValue) (i : Bool) (mode : Compat) (form : Form) (p : List IdentifierValue) (v : PlainVersion) → RowAgrees f i mode form [] p v
+row_none : (f : List IdentifierValue) (i : Bool) (mode : Compat) (form : Form) (p : List IdentifierValue) (v : PlainVersion)
+    → RowAgrees f i mode form [] p v
 row_none f i mode bare p v = alone (is_ge (precedence v (filled [] [])))
 row_none f i mode equal p v = alone (is_ge (precedence v (filled [] [])))
 row_none f i mode less p v = alone (is_lt (precedence v (filled [] [])))
@@ -275,29 +257,40 @@ row_none f i mode caret p v = alone (is_ge (precedence v (filled [] [])))
 -- the rows of a version's numbers against x, y, w and p, where t says how its pre-release compares with that of the bound
 module _ (v : PlainVersion) (f : List IdentifierValue) {i : Bool} (t : Tail (pre_cmp v.pre f) i) where
   -- `<up(1)`
-  under_one : (x : ℕ) → (is_lt (precedence v (raised_to f 1 (x ∷ []))) && true) ≡ (is_le (slice_cmp nat_cmp (take 1 (numbers v)) (x ∷ [])) || excepted i v (Some (up 1 (x ∷ []))))
+  under_one : (x : ℕ)
+      → (is_lt (precedence v (raised_to f 1 (x ∷ []))) && true) ≡ (is_le (slice_cmp nat_cmp (take 1 (numbers v)) (x ∷ []))
+      || excepted i v (Some (up 1 (x ∷ []))))
   under_one x = below_first (place v.major x) (rest v.minor) (rest v.patch) t
 
-  under_two : (x y : ℕ) → (is_lt (precedence v (raised_to f 2 (x ∷ y ∷ []))) && true) ≡ (is_le (slice_cmp nat_cmp (take 2 (numbers v)) (x ∷ y ∷ [])) || excepted i v (Some (up 2 (x ∷ y ∷ []))))
+  under_two : (x y : ℕ)
+      → (is_lt (precedence v (raised_to f 2 (x ∷ y ∷ []))) && true)
+      ≡ (is_le (slice_cmp nat_cmp (take 2 (numbers v)) (x ∷ y ∷ [])) || excepted i v (Some (up 2 (x ∷ y ∷ []))))
   under_two x y = below_second (step v.major x) (place v.minor y) (rest v.patch) t
 
   -- `>=z <up(1)`
   within_one : (x y w : ℕ) (p : List IdentifierValue) → let z = filled (x ∷ y ∷ w ∷ []) p in
-      (is_ge (precedence v z) && (is_lt (precedence v (raised_to f 1 (x ∷ []))) && true)) ≡ ((is_ge (precedence v z) && agrees 1 (x ∷ []) v) || excepted i v (Some (up 1 (x ∷ []))))
-  within_one x y w p = between_first (place v.major x) (rest v.minor) (rest v.patch) t (nat_cmp v.minor y) (nat_cmp v.patch w) (pre_cmp v.pre p)
+      (is_ge (precedence v z) && (is_lt (precedence v (raised_to f 1 (x ∷ []))) && true))
+      ≡ ((is_ge (precedence v z) && agrees 1 (x ∷ []) v) || excepted i v (Some (up 1 (x ∷ []))))
+  within_one x y w p =
+      between_first (place v.major x) (rest v.minor) (rest v.patch) t (nat_cmp v.minor y) (nat_cmp v.patch w) (pre_cmp v.pre p)
 
   within_two : (x y w : ℕ) (p : List IdentifierValue) → let z = filled (x ∷ y ∷ w ∷ []) p in
-      (is_ge (precedence v z) && (is_lt (precedence v (raised_to f 2 (x ∷ y ∷ []))) && true)) ≡ ((is_ge (precedence v z) && agrees 2 (x ∷ y ∷ []) v) || excepted i v (Some (up 2 (x ∷ y ∷ []))))
+      (is_ge (precedence v z) && (is_lt (precedence v (raised_to f 2 (x ∷ y ∷ []))) && true))
+      ≡ ((is_ge (precedence v z) && agrees 2 (x ∷ y ∷ []) v) || excepted i v (Some (up 2 (x ∷ y ∷ []))))
   within_two x y w p = between_second (step v.major x) (place v.minor y) (rest v.patch) t (nat_cmp v.patch w) (pre_cmp v.pre p)
 
   within_three : (x y w : ℕ) (p : List IdentifierValue) → let z = filled (x ∷ y ∷ w ∷ []) p in
-      (is_ge (precedence v z) && (is_lt (precedence v (raised_to f 3 (x ∷ y ∷ w ∷ []))) && true)) ≡ ((is_ge (precedence v z) && agrees 3 (x ∷ y ∷ w ∷ []) v) || excepted i v (Some (up 3 (x ∷ y ∷ w ∷ []))))
+      (is_ge (precedence v z) && (is_lt (precedence v (raised_to f 3 (x ∷ y ∷ w ∷ []))) && true))
+      ≡ ((is_ge (precedence v z) && agrees 3 (x ∷ y ∷ w ∷ []) v) || excepted i v (Some (up 3 (x ∷ y ∷ w ∷ []))))
   within_three x y w p = between_third (step v.major x) (step v.minor y) (place v.patch w) t (pre_cmp v.pre p)
 
   -- agreement up to the place that a caret raises is agreement past zeros
-  past_zeros : (s : List ℕ) (z : PlainVersion) (comparators : Bool) → comparators ≡ ((is_ge (precedence v z) && agrees (leading_place s) s v) || excepted i v (Some (up (leading_place s) s)))
+  past_zeros : (s : List ℕ) (z : PlainVersion) (comparators : Bool)
+      → comparators ≡ ((is_ge (precedence v z) && agrees (leading_place s) s v) || excepted i v (Some (up (leading_place s) s)))
       → comparators ≡ ((is_ge (precedence v z) && agrees_past_zeros s (numbers v)) || excepted i v (Some (up (leading_place s) s)))
-  past_zeros s z comparators e = e ∙ ap (λ (b : Bool). (is_ge (precedence v z) && b) || excepted i v (Some (up (leading_place s) s))) (sym (same_agreement s (numbers v)))
+  past_zeros s z comparators e = e
+      ∙ ap (λ (b : Bool). (is_ge (precedence v z) && b) || excepted i v (Some (up (leading_place s) s)))
+      (sym (same_agreement s (numbers v)))
 
   -- one number stated
   row_one : (mode : Compat) (form : Form) (x : ℕ) (p : List IdentifierValue) → RowAgrees f i mode form (x ∷ []) p v
@@ -312,7 +305,8 @@ module _ (v : PlainVersion) (f : List IdentifierValue) {i : Bool} (t : Tail (pre
   row_one mode caret x p = past_zeros (x ∷ []) (filled (x ∷ []) p) _ (within_one x 0 0 p)
 
   caret_two : (b : Bool) (x y : ℕ) (p : List IdentifierValue) → let k : ℕ = (if b then 2 else 1) in let z = filled (x ∷ y ∷ []) p in
-      (is_ge (precedence v z) && (is_lt (precedence v (raised_to f k (x ∷ y ∷ []))) && true)) ≡ ((is_ge (precedence v z) && agrees k (x ∷ y ∷ []) v) || excepted i v (Some (up k (x ∷ y ∷ []))))
+      (is_ge (precedence v z) && (is_lt (precedence v (raised_to f k (x ∷ y ∷ []))) && true))
+      ≡ ((is_ge (precedence v z) && agrees k (x ∷ y ∷ []) v) || excepted i v (Some (up k (x ∷ y ∷ []))))
   caret_two true x y p = within_two x y 0 p
   caret_two false x y p = within_one x y 0 p
 
@@ -328,8 +322,10 @@ module _ (v : PlainVersion) (f : List IdentifierValue) {i : Bool} (t : Tail (pre
   row_two mode tilde x y p = within_two x y 0 p
   row_two mode caret x y p = past_zeros (x ∷ y ∷ []) (filled (x ∷ y ∷ []) p) _ (caret_two (x == 0) x y p)
 
-  caret_three : (b c : Bool) (x y w : ℕ) (p : List IdentifierValue) → let k : ℕ = (if b then suc (if c then 2 else 1) else 1) in let z = filled (x ∷ y ∷ w ∷ []) p in
-      (is_ge (precedence v z) && (is_lt (precedence v (raised_to f k (x ∷ y ∷ w ∷ []))) && true)) ≡ ((is_ge (precedence v z) && agrees k (x ∷ y ∷ w ∷ []) v) || excepted i v (Some (up k (x ∷ y ∷ w ∷ []))))
+  caret_three : (b c : Bool) (x y w : ℕ) (p : List IdentifierValue)
+      → let k : ℕ = (if b then suc (if c then 2 else 1) else 1) in let z = filled (x ∷ y ∷ w ∷ []) p in
+      (is_ge (precedence v z) && (is_lt (precedence v (raised_to f k (x ∷ y ∷ w ∷ []))) && true))
+      ≡ ((is_ge (precedence v z) && agrees k (x ∷ y ∷ w ∷ []) v) || excepted i v (Some (up k (x ∷ y ∷ w ∷ []))))
   caret_three true true x y w p = within_three x y w p
   caret_three true false x y w p = within_two x y w p
   caret_three false c x y w p = within_one x y w p
@@ -359,7 +355,8 @@ or_false false = refl
 
 -- the comparators of a cell are met exactly if its meaning is, or the version is a pre-release of its bound
 pub row : (v : PlainVersion) (mode : Compat) (form : Form) {s : List ℕ} → Shape s → (p : List IdentifierValue)
-    → list_all (meets_comparator v) (cell_comparators (cell mode form s) s (filled s p)) ≡ (meets_stated mode form s (filled s p) v || is_pre_release_of v (cell_raised (cell mode form s) s))
+    → list_all (meets_comparator v) (cell_comparators (cell mode form s) s (filled s p))
+    ≡ (meets_stated mode form s (filled s p) v || is_pre_release_of v (cell_raised (cell mode form s) s))
 row v mode form {s = s} shape p =
     let c : Cell = cell mode form s in
     let z : PlainVersion = filled s p in

@@ -1,5 +1,6 @@
 -- What a partial states with one component more.
-use Rattle.std.proofs.Common.{◌≡◌, ℕ, Bool, true, false, ◌==◌, List, [], ◌∷◌, ◌++◌, length, if◌then◌else◌, refl, sym, ap, ◌∙◌, inl, inr, ◌⊎◌, arith}
+use Rattle.std.proofs.Common.{◌≡◌, ℕ, Bool, true, false, ◌==◌, List, [], ◌∷◌, ◌++◌, length, if◌then◌else◌, refl, sym, ap, ◌∙◌, inl, inr}
+use Rattle.std.proofs.Common.{◌⊎◌, arith}
 use Rattle.std.specs.Prelude.{map}
 use Rattle.std.specs.List.{list_all}
 use Rattle.std.specs.Str.Parse.{digits_value}
@@ -8,11 +9,11 @@ use Rattle.std.proofs.lemmas.List.Folds.{list_all-append}
 use Rattle.semver_ranges.specs.declared.partial.Partial.{Partial}
 use Rattle.semver_ranges.specs.declared.partial.PartialKind.{PartialKind}
 use Rattle.semver_ranges.specs.declared.partial.PartialKind.TheVariants.{XRangeOnly, MajorOnly, MajorMinor, MajorMinorPatch}
-use Rattle.semver_ranges.specs.RangeTree.{two, three, is_wildcard}
-use Rattle.semver_texts.specs.Texts.{Text}
+use Rattle.semver_ranges.specs.RangeTree.{PartialTree, two, three, is_wildcard}
+use Rattle.semver_texts.specs.Texts.{Text, is_empty}
 use Rattle.semver_texts.specs.Versions.{IdentifierValue, PlainVersion}
-use Rattle.semver_ranges.specs.Partials.{stated, fits_u64, kept, filled}
-use Rattle.semver_ranges.specs.PartialViews.{stated_at, parts_of, IsPartialOf}
+use Rattle.semver_ranges.specs.Partials.{stated, states_nothing, fits_u64, kept, filled}
+use Rattle.semver_ranges.specs.PartialViews.{stated_at, parts_of, states_none, IsPartialOf}
 
 -- the third component as it is: written behind two numbers, and nothing otherwise
 states_no_more : (a b c : Text) → is_wildcard c ≡ true → stated (three a b c [] []) ≡ stated (two a b)
@@ -33,7 +34,8 @@ states_fewer a b c h = elim (cases_Bool (is_wildcard a)) [
   ]
 ]
 
-states_third : (a b c : Text) → length (stated (two a b)) ≡ 2 → is_wildcard c ≡ false → stated (three a b c [] []) ≡ stated (two a b) ++ digits_value 10 c ∷ []
+states_third : (a b c : Text) → length (stated (two a b)) ≡ 2 → is_wildcard c ≡ false
+    → stated (three a b c [] []) ≡ stated (two a b) ++ digits_value 10 c ∷ []
 states_third a b c h n = elim (cases_Bool (is_wildcard a)) [
   | inl x ↦ let no : ◌≡◌ {A = ℕ} 0 2 = rw x at h in absurd (omega arith)
   | inr x ↦ elim (cases_Bool (is_wildcard b)) [
@@ -47,13 +49,15 @@ pub stays_large : (a b c : Text) → list_all fits_u64 (stated (two a b)) ≡ fa
 stays_large a b c e = elim (cases_Bool (is_wildcard c)) [
   | inl w ↦ ap (list_all fits_u64) (states_no_more a b c w) ∙ e
   | inr n ↦ elim (cases_Bool (length (stated (two a b)) == 2)) [
-    | inl y ↦ ap (list_all fits_u64) (states_third a b c (grind arith) n) ∙ list_all-append fits_u64 (stated (two a b)) (digits_value 10 c ∷ []) ∙ and_left _ _ e
+    | inl y ↦ ap (list_all fits_u64) (states_third a b c (grind arith) n)
+        ∙ list_all-append fits_u64 (stated (two a b)) (digits_value 10 c ∷ []) ∙ and_left _ _ e
     | inr m ↦ ap (list_all fits_u64) (states_fewer a b c (λ h. grind arith)) ∙ e
   ]
 ]
 
 -- a partial that states as much as another
-same_partial : (a b c : Text) (p : Partial) → stated (three a b c [] []) ≡ stated (two a b) → IsPartialOf (two a b) p → IsPartialOf (three a b c [] []) p
+same_partial : (a b c : Text) (p : Partial) → stated (three a b c [] []) ≡ stated (two a b) → IsPartialOf (two a b) p
+    → IsPartialOf (three a b c [] []) p
 same_partial a b c p e h = (
   ap (list_all fits_u64) e ∙ h.0,
   λ f. ((h.1 f).0 ∙ sym e, (h.1 f).1 ∙ sym (ap (λ (l : List ℕ). filled l (if length l == 3 then map kept [] else [])) e)),
@@ -78,10 +82,12 @@ with_nothing a b c p other h = elim (cases_Bool p.fits) [
 ]
 
 -- one that states two, with a third
-two_numbers : (a b : Text) (p : Partial) → p.kind ≡ MajorMinor → p.fits ≡ true → IsPartialOf (two a b) p → stated (two a b) ≡ p.major ∷ p.minor ∷ []
+two_numbers : (a b : Text) (p : Partial) → p.kind ≡ MajorMinor → p.fits ≡ true → IsPartialOf (two a b) p
+    → stated (two a b) ≡ p.major ∷ p.minor ∷ []
 two_numbers a b p kind f h = sym (h.1 f).0 ∙ ap (λ (k : PartialKind). stated_at k p.major p.minor p.patch) kind
 
-three_numbers : (a b c : Text) (p : Partial) → p.kind ≡ MajorMinor → p.fits ≡ true → is_wildcard c ≡ false → IsPartialOf (two a b) p → stated (three a b c [] []) ≡ p.major ∷ p.minor ∷ digits_value 10 c ∷ []
+three_numbers : (a b c : Text) (p : Partial) → p.kind ≡ MajorMinor → p.fits ≡ true → is_wildcard c ≡ false → IsPartialOf (two a b) p
+    → stated (three a b c [] []) ≡ p.major ∷ p.minor ∷ digits_value 10 c ∷ []
 three_numbers a b c p kind f n h =
     let e = two_numbers a b p kind f h in
     states_third a b c (ap length e) n ∙ ap (λ (l : List ℕ). l ++ digits_value 10 c ∷ []) e
@@ -93,7 +99,8 @@ no_parts false = refl
 abbrev version : ℕ → ℕ → ℕ → List IdentifierValue → PlainVersion
 version x y z pre = record { major = x; minor = y; patch = z; pre = pre }
 
-pub with_number : (a b c : Text) (p : Partial) (n : ℕ) → p.kind ≡ MajorMinor → is_wildcard c ≡ false → fits_u64 (digits_value 10 c) ≡ true → n ≡ digits_value 10 c → IsPartialOf (two a b) p
+pub with_number : (a b c : Text) (p : Partial) (n : ℕ) → p.kind ≡ MajorMinor → is_wildcard c ≡ false → fits_u64 (digits_value 10 c) ≡ true
+    → n ≡ digits_value 10 c → IsPartialOf (two a b) p
     → IsPartialOf (three a b c [] []) (record p { patch = n; kind = MajorMinorPatch })
 with_number a b c p n kind number fit is h = elim (cases_Bool p.fits) [
   | inl f ↦
@@ -101,10 +108,13 @@ with_number a b c p n kind number fit is h = elim (cases_Bool p.fits) [
       let three_are = three_numbers a b c p kind f number h in
       let pre : List IdentifierValue = map kept (parts_of p.pre.now) in
       let no_pre : pre ≡ [] = ap (λ (v : PlainVersion). v.pre) (h.1 f).1 ∙ no_parts (length (stated (two a b)) == 3) in (
-        ap (list_all fits_u64) (states_third a b c (ap length two_are) number) ∙ list_all-append fits_u64 (stated (two a b)) (digits_value 10 c ∷ []) ∙ and_from _ _ (h.0 ∙ f) (and_from _ true fit refl) ∙ sym f,
+        ap (list_all fits_u64) (states_third a b c (ap length two_are) number)
+            ∙ list_all-append fits_u64 (stated (two a b)) (digits_value 10 c ∷ []) ∙ and_from _ _ (h.0 ∙ f) (and_from _ true fit refl)
+            ∙ sym f,
         λ _. (
           ap (λ (m : ℕ). p.major ∷ p.minor ∷ m ∷ []) is ∙ sym three_are,
-          ap (λ (m : ℕ). version p.major p.minor m pre) is ∙ ap (version p.major p.minor (digits_value 10 c)) no_pre ∙ sym (ap (λ (l : List ℕ). filled l (if length l == 3 then map kept [] else [])) three_are),
+          ap (λ (m : ℕ). version p.major p.minor m pre) is ∙ ap (version p.major p.minor (digits_value 10 c)) no_pre
+              ∙ sym (ap (λ (l : List ℕ). filled l (if length l == 3 then map kept [] else [])) three_are),
         ),
         λ _. refl,
         h.3,
@@ -112,11 +122,28 @@ with_number a b c p n kind number fit is h = elim (cases_Bool p.fits) [
   | inr f ↦ (stays_large a b c (h.0 ∙ f) ∙ sym f, λ t. absurd (true≢false (sym t ∙ f)), λ _. refl, h.3)
 ]
 
-pub with_large : (a b c : Text) (p : Partial) → p.kind ≡ MajorMinor → is_wildcard c ≡ false → fits_u64 (digits_value 10 c) ≡ false → IsPartialOf (two a b) p
+pub with_large : (a b c : Text) (p : Partial) → p.kind ≡ MajorMinor → is_wildcard c ≡ false → fits_u64 (digits_value 10 c) ≡ false
+    → IsPartialOf (two a b) p
     → IsPartialOf (three a b c [] []) (record p { kind = MajorMinorPatch; fits = false })
 with_large a b c p kind number large h = (large_on (cases_Bool p.fits), λ t. absurd (true≢false (sym t)), λ _. refl, h.3) where
   large_on : ((p.fits ≡ true) ⊎ (p.fits ≡ false)) → list_all fits_u64 (stated (three a b c [] [])) ≡ false
   large_on (inl f) =
       let two_are = two_numbers a b p kind f h in
-      ap (list_all fits_u64) (states_third a b c (ap length two_are) number) ∙ list_all-append fits_u64 (stated (two a b)) (digits_value 10 c ∷ []) ∙ and_right _ _ (and_left _ true large)
+      ap (list_all fits_u64) (states_third a b c (ap length two_are) number)
+      ∙ list_all-append fits_u64 (stated (two a b)) (digits_value 10 c ∷ []) ∙ and_right _ _ (and_left _ true large)
   large_on (inr f) = stays_large a b c (h.0 ∙ f)
+
+-- whether it states nothing, by its kind
+some_stated : (s : List ℕ) → list_all fits_u64 s ≡ false → is_empty s ≡ false
+some_stated [] e = cc
+some_stated (n ∷ s) e = refl
+
+by_kind : (kind : PartialKind) (a b c : ℕ) → is_empty (stated_at kind a b c) ≡ states_none kind
+by_kind XRangeOnly a b c = refl
+by_kind _ a b c = refl
+
+pub states_kind : (t : PartialTree) (p : Partial) → IsPartialOf t p → states_nothing t ≡ states_none p.kind
+states_kind t p (fits, values, none, parts) = elim (cases_Bool p.fits) [
+  | inl y ↦ ap is_empty (sym (values y).0) ∙ by_kind p.kind p.major p.minor p.patch
+  | inr n ↦ some_stated (stated t) (fits ∙ n) ∙ sym (none n)
+]

@@ -1,15 +1,21 @@
 -- Each written piece, before a text that ends it, is read back: components, parts, partials, operators and simples.
-use Rattle.std.proofs.Common.{◌≡◌, ℕ, Bool, true, false, not, ◌&&◌, ◌||◌, ◌==◌, List, [], ◌∷◌, ◌++◌, codes, refl, sym, ap, ◌∙◌, inl, inr, Some, All, append_assoc, append-nil}
-use Rattle.std.proofs.lemmas.Bool.{cases_Bool, or_left, or_parts, or_cases, and_parts, and_from, not-true, not_from_false, eqb-true, false_from_ne_true, true≢false}
+use Rattle.std.proofs.Common.{◌≡◌, ℕ, Bool, true, false, not, ◌&&◌, ◌||◌, ◌==◌, List, [], ◌∷◌, ◌++◌, codes, refl, sym, ap, ◌∙◌, inl, inr}
+use Rattle.std.proofs.Common.{Some, All, append_assoc, append-nil}
+use Rattle.std.proofs.lemmas.Bool.{cases_Bool, or_left, or_parts, or_cases, and_parts, and_from, not-true, not_from_false, eqb-true}
+use Rattle.std.proofs.lemmas.Bool.{false_from_ne_true, true≢false}
 use Rattle.std.proofs.lemmas.List.Elements.{All-nil, All-cons}
 use Rattle.std.proofs.lemmas.List.Folds.{list_all-append}
 use Rattle.std.proofs.lemmas.List.Splits.{slice_split_none, slice_split_at}
 use Rattle.std.specs.Char.{is_ascii_digit}
 use Rattle.std.specs.Str.{all_ascii_digits}
 use Rattle.std.specs.List.{list_all, slice_split, join_with_byte}
-use Rattle.semver_ranges.specs.RangeTree.{PartialTree, one, two, three, Form, bare, equal, less, at_most, greater, at_least, tilde, caret, Simple, is_blank, is_wildcard, is_number, is_component, is_part, AreBlanks, SpellsPartial, SpellsForm, SpellsSimple}
+use Rattle.semver_ranges.specs.RangeTree.{PartialTree, one, two, three, Form, bare, equal, less, at_most, greater, at_least, tilde, caret}
+use Rattle.semver_ranges.specs.RangeTree.{Simple, is_blank, is_wildcard, is_number, is_component, is_part, AreBlanks, SpellsPartial}
+use Rattle.semver_ranges.specs.RangeTree.{SpellsForm, SpellsSimple}
 use Rattle.semver_texts.specs.Texts.{is_part_byte, Text, is_empty, marked}
-use Rattle.semver_ranges.specs.Reading.{front, back, behind_blanks, is_bar, ends_word, component, is_dot, in_parts, parts, behind_pre, with_pre, behind_three, with_third, behind_two, with_second, behind_one, with_first, whole_word, partial, after_less, after_greater, after_tilde, operator, with_form, simple}
+use Rattle.semver_ranges.specs.Reading.{front, back, behind_blanks, is_bar, ends_word, component, is_dot, in_parts, parts, behind_pre}
+use Rattle.semver_ranges.specs.Reading.{with_pre, behind_three, with_third, behind_two, with_second, behind_one, with_first, whole_word}
+use Rattle.semver_ranges.specs.Reading.{partial, after_less, after_greater, after_tilde, operator, with_form, simple}
 use Rattle.semver_ranges.proofs.Tests.{list_all-weaker}
 use Rattle.semver_ranges.proofs.ReadingPieces.{starts, starts-append, is_component_byte, partial_starts}
 
@@ -48,10 +54,19 @@ digit_bytes : (t : Text) → all_ascii_digits t ≡ true → list_all is_ascii_d
 digit_bytes [] e = refl
 digit_bytes (b ∷ t) e = let p = and_parts (is_ascii_digit b) (all_ascii_digits t) e in and_from _ _ p.0 (digit_bytes t p.1)
 
-digit_found : (b : ℕ) (t u : Text) → is_ascii_digit b ≡ true → (b == 48) ≡ false → all_ascii_digits t ≡ true → stops is_ascii_digit u ≡ true → component ((b ∷ t) ++ u) ≡ Some (b ∷ t, u)
+digit_found : (b : ℕ) (t u : Text) → is_ascii_digit b ≡ true → (b == 48) ≡ false → all_ascii_digits t ≡ true → stops is_ascii_digit u ≡ true
+    → component ((b ∷ t) ++ u) ≡ Some (b ∷ t, u)
 digit_found b t u e other h s =
     let bytes = digit_bytes t h in
-    rw (apart is_ascii_digit b 120 e refl, apart is_ascii_digit b 88 e refl, apart is_ascii_digit b 42 e refl, other, e, front-append is_ascii_digit t u bytes s, back-append is_ascii_digit t u bytes s) refl
+    rw (
+      apart is_ascii_digit b 120 e refl,
+      apart is_ascii_digit b 88 e refl,
+      apart is_ascii_digit b 42 e refl,
+      other,
+      e,
+      front-append is_ascii_digit t u bytes s,
+      back-append is_ascii_digit t u bytes s,
+    ) refl
 
 component_read : (t u : Text) → is_component t ≡ true → stops is_ascii_digit u ≡ true → component (t ++ u) ≡ Some (t, u)
 component_read [] u e s = cc
@@ -92,10 +107,12 @@ in_joined x (y ∷ ys) e =
     let p = and_parts (is_part x) (list_all is_part (y ∷ ys)) e in
     list_all-append in_parts x (46 ∷ join_with_byte 46 (y ∷ ys)) ∙ and_from _ _ (in_part x p.0) (in_joined y ys p.1)
 
-parts_read : (x : Text) (xs : List Text) (u : Text) → list_all is_part (x ∷ xs) ≡ true → stops in_parts u ≡ true → parts (join_with_byte 46 (x ∷ xs) ++ u) ≡ Some (x ∷ xs, u)
+parts_read : (x : Text) (xs : List Text) (u : Text) → list_all is_part (x ∷ xs) ≡ true → stops in_parts u ≡ true
+    → parts (join_with_byte 46 (x ∷ xs) ++ u) ≡ Some (x ∷ xs, u)
 parts_read x xs u e s =
     let text = join_with_byte 46 (x ∷ xs) in
-    rw (front-append in_parts text u (in_joined x xs e) s, back-append in_parts text u (in_joined x xs e) s, slice_split-join x xs e, e) refl
+    rw (front-append in_parts text u (in_joined x xs e) s, back-append in_parts text u (in_joined x xs e) s, slice_split-join x xs e, e)
+    refl
 
 -- a partial, up to the end of its word: its build, its pre-release, its components
 behind_pre_read : (a b c : Text) (pre build : List Text) (u : Text) → list_all is_part build ≡ true → ends_word u ≡ true
@@ -108,14 +125,16 @@ stops_at_build : (build : List Text) (u : Text) → ends_word u ≡ true → sto
 stops_at_build [] u e = word_stops in_parts refl refl refl u e
 stops_at_build (x ∷ xs) u e = refl
 
-behind_three_read : (a b c : Text) (pre build : List Text) (u : Text) → list_all is_part pre ≡ true → list_all is_part build ≡ true → ends_word u ≡ true
+behind_three_read : (a b c : Text) (pre build : List Text) (u : Text) → list_all is_part pre ≡ true → list_all is_part build ≡ true
+    → ends_word u ≡ true
     → behind_three a b c (marked (codes "-") pre ++ (marked (codes "+") build ++ u)) ≡ Some (three a b c pre build, u)
 behind_three_read a b c [] [] [] p q e = refl
 behind_three_read a b c [] [] (mark ∷ u) p q e =
     rw (not-true (mark == 45) (word_stops (λ b. b == 45) refl refl refl (mark ∷ u) e)) (behind_pre_read a b c [] [] (mark ∷ u) refl e)
 behind_three_read a b c [] (x ∷ xs) u p q e = behind_pre_read a b c [] (x ∷ xs) u q e
 behind_three_read a b c (y ∷ ys) build u p q e =
-    ap (with_pre a b c) (parts_read y ys (marked (codes "+") build ++ u) p (stops_at_build build u e)) ∙ behind_pre_read a b c (y ∷ ys) build u q e
+    ap (with_pre a b c) (parts_read y ys (marked (codes "+") build ++ u) p (stops_at_build build u e))
+    ∙ behind_pre_read a b c (y ∷ ys) build u q e
 
 behind_two_read : (a b u : Text) → ends_word u ≡ true → behind_two a b u ≡ Some (two a b, u)
 behind_two_read a b [] e = refl
@@ -125,7 +144,8 @@ behind_one_read : (a u : Text) → ends_word u ≡ true → behind_one a u ≡ S
 behind_one_read a [] e = refl
 behind_one_read a (dot ∷ u) e = rw (not-true (dot == 46) (word_stops (λ b. b == 46) refl refl refl (dot ∷ u) e)) refl
 
-stops_at_qualifier : (pre build : List Text) (u : Text) → ends_word u ≡ true → stops is_ascii_digit (marked (codes "-") pre ++ (marked (codes "+") build ++ u)) ≡ true
+stops_at_qualifier : (pre build : List Text) (u : Text) → ends_word u ≡ true
+    → stops is_ascii_digit (marked (codes "-") pre ++ (marked (codes "+") build ++ u)) ≡ true
 stops_at_qualifier [] [] u e = word_stops is_ascii_digit refl refl refl u e
 stops_at_qualifier [] (x ∷ xs) u e = refl
 stops_at_qualifier (y ∷ ys) build u e = refl
@@ -133,12 +153,15 @@ stops_at_qualifier (y ∷ ys) build u e = refl
 first_read : (p : PartialTree) (w u : Text) → SpellsPartial p w → ends_word u ≡ true → with_first (component (w ++ u)) ≡ Some (p, u)
 first_read (one a) w u (h, k, text) e =
     ap (λ x. with_first (component (x ++ u))) (text ∙ append-nil a)
-    ∙ ap with_first (component_read a u (and_parts (is_component a) true h).0 (word_stops is_ascii_digit refl refl refl u e)) ∙ behind_one_read a u e
+    ∙ ap with_first (component_read a u (and_parts (is_component a) true h).0 (word_stops is_ascii_digit refl refl refl u e))
+    ∙ behind_one_read a u e
 first_read (two a b) w u (h, k, text) e =
     let p = and_parts (is_component a) (is_component b && true) h in
-    ap (λ x. with_first (component (x ++ u))) (text ∙ append-nil (a ++ (46 ∷ b))) ∙ ap (λ x. with_first (component x)) (append_assoc a (46 ∷ b) u)
+    ap (λ x. with_first (component (x ++ u))) (text ∙ append-nil (a ++ (46 ∷ b)))
+    ∙ ap (λ x. with_first (component x)) (append_assoc a (46 ∷ b) u)
     ∙ ap with_first (component_read a (46 ∷ (b ++ u)) p.0 refl)
-    ∙ ap (with_second a) (component_read b u (and_parts (is_component b) true p.1).0 (word_stops is_ascii_digit refl refl refl u e)) ∙ behind_two_read a b u e
+    ∙ ap (with_second a) (component_read b u (and_parts (is_component b) true p.1).0 (word_stops is_ascii_digit refl refl refl u e))
+    ∙ behind_two_read a b u e
 first_read (three a b c pre build) w u (h, k, text) e =
     let p = and_parts (is_component a) (is_component b && (is_component c && true)) h in
     let q = and_parts (is_component b) (is_component c && true) p.1 in
@@ -146,7 +169,8 @@ first_read (three a b c pre build) w u (h, k, text) e =
     let whole : w ++ u ≡ a ++ (46 ∷ (b ++ (46 ∷ (c ++ rest)))) = ap (λ x. x ++ u) text ∙ simp append_assoc in
     ap (λ x. with_first (component x)) whole ∙ ap with_first (component_read a (46 ∷ (b ++ (46 ∷ (c ++ rest)))) p.0 refl)
     ∙ ap (with_second a) (component_read b (46 ∷ (c ++ rest)) q.0 refl)
-    ∙ ap (with_third a b) (component_read c rest (and_parts (is_component c) true q.1).0 (stops_at_qualifier pre build u e)) ∙ behind_three_read a b c pre build u k.0 k.1 e
+    ∙ ap (with_third a b) (component_read c rest (and_parts (is_component c) true q.1).0 (stops_at_qualifier pre build u e))
+    ∙ behind_three_read a b c pre build u k.0 k.1 e
 
 pub partial_read : (p : PartialTree) (w u : Text) → SpellsPartial p w → ends_word u ≡ true → partial (w ++ u) ≡ Some (p, u)
 partial_read p w u h e = ap whole_word (first_read p w u h e) ∙ rw e refl
@@ -156,10 +180,12 @@ pub blanks_behind : (blanks t : Text) → AreBlanks blanks → stops is_blank t 
 blanks_behind blanks t h s = back-append is_blank blanks t h s
 
 -- blanks before a component begin with no such byte
-no_sign : (sign : ℕ) → is_blank sign ≡ false → is_component_byte sign ≡ false → (blanks t : Text) → AreBlanks blanks → starts is_component_byte t ≡ true → stops (λ b. b == sign) (blanks ++ t) ≡ true
+no_sign : (sign : ℕ) → is_blank sign ≡ false → is_component_byte sign ≡ false → (blanks t : Text) → AreBlanks blanks
+    → starts is_component_byte t ≡ true → stops (λ b. b == sign) (blanks ++ t) ≡ true
 no_sign sign blank other [] [] h k = cc
 no_sign sign blank other [] (b ∷ t) h k = not_from_false (b == sign) (apart is_component_byte b sign k other)
-no_sign sign blank other (b ∷ blanks) t h k = not_from_false (b == sign) (apart is_blank b sign (and_parts (is_blank b) (list_all is_blank blanks) h).0 blank)
+no_sign sign blank other (b ∷ blanks) t h k =
+    not_from_false (b == sign) (apart is_blank b sign (and_parts (is_blank b) (list_all is_blank blanks) h).0 blank)
 
 less_alone : (t : Text) → stops (λ b. b == 61) t ≡ true → after_less t ≡ (less, behind_blanks t)
 less_alone [] s = refl
@@ -179,7 +205,14 @@ no_blank (b ∷ t) e = rw (apart is_component_byte b 32 e refl, apart is_compone
 
 bare_read : (t : Text) → starts is_component_byte t ≡ true → operator t ≡ (bare, t)
 bare_read [] e = cc
-bare_read (b ∷ t) e = rw (apart is_component_byte b 61 e refl, apart is_component_byte b 60 e refl, apart is_component_byte b 62 e refl, apart is_component_byte b 126 e refl, apart is_component_byte b 94 e refl) refl
+bare_read (b ∷ t) e =
+    rw (
+      apart is_component_byte b 61 e refl,
+      apart is_component_byte b 60 e refl,
+      apart is_component_byte b 62 e refl,
+      apart is_component_byte b 126 e refl,
+      apart is_component_byte b 94 e refl,
+    ) refl
 
 operator_read : (f : Form) (sign t : Text) → SpellsForm f sign → starts is_component_byte t ≡ true → operator (sign ++ t) ≡ (f, t)
 operator_read bare sign t h e = rw h (bare_read t e)
@@ -188,7 +221,8 @@ operator_read less sign t (blanks, h, text) e =
     rw text (less_alone (blanks ++ t) (no_sign 61 refl refl blanks t h e) ∙ ap (λ x. (less, x)) (blanks_behind blanks t h (no_blank t e)))
 operator_read at_most sign t (blanks, h, text) e = rw text (ap (λ x. (at_most, x)) (blanks_behind blanks t h (no_blank t e)))
 operator_read greater sign t (blanks, h, text) e =
-    rw text (greater_alone (blanks ++ t) (no_sign 61 refl refl blanks t h e) ∙ ap (λ x. (greater, x)) (blanks_behind blanks t h (no_blank t e)))
+    rw text (greater_alone (blanks ++ t) (no_sign 61 refl refl blanks t h e)
+    ∙ ap (λ x. (greater, x)) (blanks_behind blanks t h (no_blank t e)))
 operator_read at_least sign t (blanks, h, text) e = rw text (ap (λ x. (at_least, x)) (blanks_behind blanks t h (no_blank t e)))
 operator_read tilde sign t (inl (blanks, h, text)) e =
     rw text (tilde_alone (blanks ++ t) (no_sign 62 refl refl blanks t h e) ∙ ap (λ x. (tilde, x)) (blanks_behind blanks t h (no_blank t e)))
@@ -196,7 +230,8 @@ operator_read tilde sign t (inr (blanks, h, text)) e = rw text (ap (λ x. (tilde
 operator_read caret sign t (blanks, h, text) e = rw text (ap (λ x. (caret, x)) (blanks_behind blanks t h (no_blank t e)))
 
 -- a simple, and the blanks behind it
-pub simple_read : (s : Simple) (w gap u : Text) → SpellsSimple s w → AreBlanks gap → ends_word (gap ++ u) ≡ true → stops is_blank u ≡ true → simple (w ++ (gap ++ u)) ≡ Some (s, u)
+pub simple_read : (s : Simple) (w gap u : Text) → SpellsSimple s w → AreBlanks gap → ends_word (gap ++ u) ≡ true → stops is_blank u ≡ true
+    → simple (w ++ (gap ++ u)) ≡ Some (s, u)
 simple_read s w gap u (sign, text, form, spelled, whole) blanks ends first =
     let begins = starts-append is_component_byte text (gap ++ u) (partial_starts s.partial text spelled) in
     ap (λ x. simple (x ++ (gap ++ u))) whole ∙ ap simple (append_assoc sign text (gap ++ u))

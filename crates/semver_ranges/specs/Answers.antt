@@ -3,7 +3,8 @@ use Rattle.std.specs.Prelude.{◌≡◌, false, IsTrue, Result, Ok, Err, Some, N
 use Rattle.semver_ranges.specs.declared.range.Compat.{Compat}
 use Rattle.semver_ranges.specs.declared.range_set.RangeSet.{RangeSet}
 use Rattle.semver_ranges.specs.declared.range_set.RangeError.{RangeError}
-use Rattle.semver_ranges.specs.declared.range_set.RangeError.TheVariants.{NotARange, NumberTooLarge, OutOfMemory}
+use Rattle.semver_ranges.specs.declared.range_set.RangeError.TheVariants.{NotARange, NumberTooLarge}
+use Rattle.semver_ranges.specs.declared.range_set.RangeError.TheVariants.{OutOfMemory}
 use Rattle.semver_ranges.specs.RangeTree.{SetTree}
 use Rattle.semver_texts.specs.Texts.{Text}
 use Rattle.semver_texts.specs.Versions.{PlainVersion}
@@ -11,9 +12,16 @@ use Rattle.semver_ranges.specs.RewritingTable.{fits, written_set}
 use Rattle.semver_ranges.specs.Reading.{read}
 use Rattle.semver_ranges.specs.RangeViews.{set_of}
 
--- a set of a tree that is read and fits, with its raised bounds written so, or why there is none; memory may run out for a tree that fits alone
-abbrev pub IsAnswer : (PlainVersion → PlainVersion) → Text → Compat → Result RangeSet RangeError → Type 0
-IsAnswer write t mode (Ok set) = (tree : SetTree) × (read t ≡ Some tree) × IsTrue (fits mode tree) × (set_of set ≡ written_set write mode tree)
-IsAnswer write t mode (Err NotARange) = read t ≡ None
-IsAnswer write t mode (Err NumberTooLarge) = (tree : SetTree) × (read t ≡ Some tree) × (fits mode tree ≡ false)
-IsAnswer write t mode (Err OutOfMemory) = (tree : SetTree) × (read t ≡ Some tree) × IsTrue (fits mode tree)
+-- why there is no set of a text: memory may run out for a tree that fits alone
+abbrev pub IsRefusal : Text → Compat → RangeError → Type 0
+IsRefusal t mode NotARange = read t ≡ None
+IsRefusal t mode NumberTooLarge = (tree : SetTree) × (read t ≡ Some tree) × (fits mode tree ≡ false)
+IsRefusal t mode OutOfMemory = (tree : SetTree) × (read t ≡ Some tree) × IsTrue (fits mode tree)
+
+-- a set of a tree that is read and fits, with its raised bounds written so, or why there is none
+abbrev pub IsAnswer : (PlainVersion → PlainVersion) → Text → Compat → Result RangeSet RangeError
+    → Type 0
+IsAnswer write t mode (Ok set) =
+    (tree : SetTree) × (read t ≡ Some tree) × IsTrue (fits mode tree)
+    × (set_of set ≡ written_set write mode tree)
+IsAnswer write t mode (Err e) = IsRefusal t mode e

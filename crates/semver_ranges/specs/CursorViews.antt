@@ -1,22 +1,27 @@
--- A means of proof, which no public clause cites: what private contracts see of what the cursor yields.
-use Rattle.std.specs.Prelude.{◌≡◌, ◌<◌, ◌+◌, ◌^◌, false, length, ℕ, Bool, ◌==◌, if◌then◌else◌, Option, Some, None, List, [], ◌∷◌, ◌++◌}
+-- A means of proof, which no public clause cites: what private contracts see of what the cursor
+-- yields.
+use Rattle.std.specs.Prelude.{◌≡◌, ◌+◌, ◌*◌, ◌<◌, ◌≤◌, length, ℕ, Bool, true, false, ◌==◌}
+use Rattle.std.specs.Prelude.{if◌then◌else◌, Option, Some, None, is_some, Result, Ok, Err, List, []}
+use Rattle.std.specs.Prelude.{◌∷◌}
 use Rattle.std.specs.Borrow.{Bor}
-use Rattle.std.specs.List.{list_all, flat_map}
 use Rattle.semver_ranges.specs.declared.grammar.Form.{Form}
 use Rattle.semver_ranges.specs.declared.grammar.Form.TheVariants as form
 use Rattle.semver_ranges.specs.declared.grammar.Simple.{Simple}
-use Rattle.semver_ranges.specs.declared.grammar.RangeText.{RangeText}
-use Rattle.semver_ranges.specs.declared.range.Compat.{Compat}
+use Rattle.semver_ranges.specs.declared.events.Event.{Event}
+use Rattle.semver_ranges.specs.declared.events.Event.TheVariants as event
+use Rattle.semver_ranges.specs.declared.events.Events.{Events}
+use Rattle.semver_ranges.specs.declared.range_set.RangeError.{RangeError}
+use Rattle.semver_ranges.specs.declared.range_set.RangeError.TheVariants.{NotARange}
 use Rattle.semver_ranges.specs.RangeTree as tree
 use Rattle.semver_texts.specs.Texts.{Text}
-use Rattle.semver_texts.specs.Versions.{PlainVersion}
-use Rattle.semver_ranges.specs.Terms.{of_simple, terms}
-use Rattle.semver_ranges.specs.RewritingTable.{term_fits, written_simple, written_range}
-use Rattle.semver_ranges.specs.Reading.{parts, ends_range, all_simples}
+use Rattle.semver_ranges.specs.Reading.{parts}
+use Rattle.semver_ranges.specs.RangeEvents as list
+use Rattle.semver_ranges.specs.RangeEvents.{one_simple, next_range, yielded, put, events_left}
 use Rattle.semver_ranges.specs.PartialViews.{IsPartialOf}
 
 -- what is found at the front of a text, and what follows it
-abbrev pub Finds : {X A : Type 0} → (X → A → Type 0) → Option (X × Text) → Option (A × Bor Text) → Type 0
+abbrev pub Finds : {X A : Type 0} → (X → A → Type 0) → Option (X × Text) → Option (A × Bor Text)
+    → Type 0
 Finds Is o None = o ≡ None
 Finds {X = X} Is o (Some found) = (x : X) × (o ≡ Some (x, found.1.now)) × Is x found.0
 
@@ -40,46 +45,76 @@ form_of form.Caret = tree.caret
 abbrev pub IsSimpleOf : tree.Simple → Simple → Type 0
 IsSimpleOf s simple = (form_of simple.form ≡ s.form) × IsPartialOf s.partial simple.partial
 
--- the one or two simples that a range begins with
-abbrev pub AreFirst : List tree.Simple → Simple → Option Simple → Type 0
-AreFirst [] first second = ⊥
-AreFirst (s ∷ []) first second = IsSimpleOf s first × (second ≡ None)
-AreFirst (s ∷ next ∷ []) first None = ⊥
-AreFirst (s ∷ next ∷ []) first (Some simple) = IsSimpleOf s first × IsSimpleOf next simple
-AreFirst (s ∷ next ∷ third ∷ others) first second = ⊥
+-- the one or two simples that a hyphen range is yielded as
+abbrev pub AreSides : List tree.Simple → Simple → Option Simple → Type 0
+AreSides (s ∷ []) lower None = IsSimpleOf s lower
+AreSides (s ∷ next ∷ []) lower (Some upper) = IsSimpleOf s lower × IsSimpleOf next upper
+AreSides _ lower upper = ⊥
 
--- the simples that a range begins with were read, and their number leaves room to count on
-abbrev pub AreRead : RangeText → Type 0
-AreRead r = (front : List tree.Simple) × AreFirst front r.first r.second
+-- a hyphen range that was read as its sides, and what follows it
+abbrev pub FindsSides : Option (tree.RangeTree × Text) → Option (Simple × Option Simple × Bor Text)
+    → Type 0
+FindsSides o None = o ≡ None
+FindsSides o (Some found) =
+    (x : tree.RangeTree) × (o ≡ Some (x, found.2.now)) × AreSides (yielded x) found.0 found.1
 
-abbrev pub HasRoom : Text → Type 0
-HasRoom others = ends_range others ≡ false → length others + 2 < 2 ^ 63
+-- the event that was read
+abbrev pub IsEventOf : list.Event → Event → Type 0
+IsEventOf (one_simple s) (event.Simple simple) = IsSimpleOf s simple
+IsEventOf next_range event.NextRange = Unit {0}
+IsEventOf _ _ = ⊥
 
--- all simples of a range, and what follows them
-abbrev pub Has : RangeText → List tree.Simple → Text → Type 0
-Has r ss end = (front : List tree.Simple) × (others : List tree.Simple) × AreFirst front r.first r.second × (all_simples r.others.now ≡ Some (others, end)) × (ss ≡ front ++ others)
+-- the events that a cursor has left: an upper side, and those of the text from there on, or none
+-- where that isn't in the grammar
+abbrev pub HasBehind : Option Simple → Option (List list.Event) → Option (List list.Event) → Type 0
+HasBehind None behind o = o ≡ behind
+HasBehind (Some upper) behind o =
+    (s : tree.Simple) × IsSimpleOf s upper × (o ≡ put (one_simple s) behind)
 
--- whether a simple fits, and whether the terms of a range do
-abbrev pub simple_fits : Compat → tree.Simple → Bool
-simple_fits mode s = term_fits mode (of_simple s)
+abbrev pub HasLeft : Events → Option (List list.Event) → Type 0
+HasLeft cursor o = HasBehind cursor.upper (events_left cursor.begins_range cursor.rest.now) o
 
-abbrev pub range_fits : Compat → tree.RangeTree → Bool
-range_fits mode r = list_all (term_fits mode) (terms r)
+-- the first of the events that are left, and a cursor behind it
+abbrev pub IsFirst : Option (List list.Event) → Event → Events → Type 0
+IsFirst o e behind =
+    (x : list.Event) × (left : Option (List list.Event)) × IsEventOf x e × HasLeft behind left
+    × (o ≡ put x left)
 
--- a range that fits as its simples do, and has their comparators, however a raised bound is written
-abbrev pub IsMadeOf : tree.RangeTree → List tree.Simple → Type 0
-IsMadeOf x ss = (mode : Compat) → (range_fits mode x ≡ list_all (simple_fits mode) ss)
-    × ((write : PlainVersion → PlainVersion) → written_range write mode x ≡ flat_map (written_simple write mode) ss)
+-- how many bytes an event takes at least: it may be an upper side
+abbrev pub bytes_of : Event → ℕ
+bytes_of (event.Simple simple) = 0
+bytes_of event.NextRange = 1
 
--- the first simples are those of a range
-abbrev pub AreSidesOf : tree.RangeTree → Simple → Option Simple → Type 0
-AreSidesOf x first second = (front : List tree.Simple) × AreFirst front first second × IsMadeOf x front
+-- how many events are left at most: two for each byte, one for an empty range, and an upper side
+abbrev pub flag : Bool → ℕ
+flag true = 1
+flag false = 0
 
--- what a range that was read as far as its second simple is, by what follows that
-abbrev pub GoesOn : Option (tree.RangeTree × Text) → RangeText → Option (List tree.Simple × Text) → Type 0
-GoesOn o r None = o ≡ None
-GoesOn o r (Some found) = (x : tree.RangeTree) × (ss : List tree.Simple) × (o ≡ Some (x, found.1)) × Has r ss found.1 × IsMadeOf x ss
+abbrev pub size_at : Bool → Text → ℕ
+size_at begins_range t = 2 * length t + flag begins_range
 
-abbrev pub IsFrontOf : Option (tree.RangeTree × Text) → Option RangeText → Type 0
-IsFrontOf o None = o ≡ None
-IsFrontOf o (Some r) = AreRead r × HasRoom r.others.now × GoesOn o r (all_simples r.others.now)
+abbrev pub size_left : Events → ℕ
+size_left cursor = size_at cursor.begins_range cursor.rest.now + flag (is_some cursor.upper)
+
+-- the event at the front of a text that is left, and the cursor behind it
+abbrev pub TakesEvent : Bool → Text → Option Event → Events → Type 0
+TakesEvent begins_range t None behind = (events_left begins_range t ≡ None)
+    × (behind.begins_range ≡ false) × (behind.upper ≡ None) × (behind.rest.now ≡ t)
+TakesEvent begins_range t (Some e) behind = IsFirst (events_left begins_range t) e behind
+    × (size_left behind < size_at begins_range t) × (length behind.rest.now + bytes_of e ≤ length t)
+
+-- what `next` gives: the first of the events that are left; a fault where the text isn't in the
+-- grammar; None where no event is left
+abbrev pub Gives : Option (List list.Event) → Option (Result Event RangeError) → Events → Type 0
+Gives o None behind = (o ≡ Some []) × HasLeft behind o
+Gives o (Some (Ok e)) behind = IsFirst o e behind
+Gives o (Some (Err e)) behind = (o ≡ None) × (e ≡ NotARange)
+
+abbrev pub given_bytes : Option (Result Event RangeError) → ℕ
+given_bytes (Some (Ok e)) = bytes_of e
+given_bytes _ = 0
+
+abbrev pub NextGives : Events → Option (Result Event RangeError) → Events → Type 0
+NextGives before given behind =
+    ((o : Option (List list.Event)) → HasLeft before o → Gives o given behind)
+    × (length behind.rest.now + given_bytes given ≤ length before.rest.now)

@@ -4,11 +4,13 @@ pub mod Precedence
 pub mod Terms
 pub mod OwnMeaning
 pub mod RewritingTable
+pub mod RangeTexts
 pub mod ExactBounds
 pub mod Meeting
 pub mod PrintedRanges
 pub mod RangeViews
 pub mod Reading
+pub mod RangeEvents
 pub mod Answers
 pub mod PartialViews
 pub mod CursorViews

@@ -46,8 +46,10 @@ is_pre_release_of v (Some bound) = has_pre_release v && pointwise nat_eq (number
 
 -- whether a version meets a term, or is a pre-release of the term's raised bound
 abbrev pub meets_term_or_bound : Compat → Term → PlainVersion → Bool
-meets_term_or_bound mode term v = meets_term mode term v || is_pre_release_of v (raised_bound mode term)
+meets_term_or_bound mode term v =
+    meets_term mode term v || is_pre_release_of v (raised_bound mode term)
 
 -- whether some range has all its terms met so
 abbrev pub meets_tree_or_bounds : Compat → SetTree → PlainVersion → Bool
-meets_tree_or_bounds mode tree v = list_any (λ range. list_all (λ term. meets_term_or_bound mode term v) (terms range)) tree
+meets_tree_or_bounds mode tree v =
+    list_any (λ range. list_all (λ term. meets_term_or_bound mode term v) (terms range)) tree

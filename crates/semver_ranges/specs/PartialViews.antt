@@ -1,4 +1,5 @@
--- A means of proof, which no public clause cites: what private contracts see of components and partials.
+-- A means of proof, which no public clause cites: what private contracts see of components and
+-- partials.
 use Rattle.std.specs.Prelude.{◌≡◌, ℕ, Bool, true, false, Option, Some, None, List, [], ◌∷◌, map}
 use Rattle.std.specs.List.{list_all, slice_split}
 use Rattle.std.specs.Str.Parse.{digits_value}
@@ -6,17 +7,19 @@ use Rattle.semver_ranges.specs.declared.partial.Component.{Component}
 use Rattle.semver_ranges.specs.declared.partial.Component.TheVariants.{Wildcard, Number}
 use Rattle.semver_ranges.specs.declared.partial.Partial.{Partial}
 use Rattle.semver_ranges.specs.declared.partial.PartialKind.{PartialKind}
-use Rattle.semver_ranges.specs.declared.partial.PartialKind.TheVariants.{XRangeOnly, MajorOnly, MajorMinor, MajorMinorPatch}
-use Rattle.semver_ranges.specs.declared.partial.Bound.{Bound}
-use Rattle.semver_ranges.specs.declared.partial.Bound.TheVariants.{Plain, Exact}
+use Rattle.semver_ranges.specs.declared.partial.PartialKind.TheVariants.{XRangeOnly, MajorOnly}
+use Rattle.semver_ranges.specs.declared.partial.PartialKind.TheVariants.{MajorMinor}
+use Rattle.semver_ranges.specs.declared.partial.PartialKind.TheVariants.{MajorMinorPatch}
+use Rattle.semver_ranges.specs.declared.partial.RaisedBounds.{RaisedBounds}
+use Rattle.semver_ranges.specs.declared.partial.RaisedBounds.TheVariants.{Plain, Exact}
 use Rattle.semver_ranges.specs.declared.partial.Place.{Place}
 use Rattle.semver_ranges.specs.declared.partial.Place.TheVariants.{Major, Minor, Patch}
 use Rattle.semver_ranges.specs.RangeTree.{PartialTree, is_wildcard, is_part}
 use Rattle.semver_texts.specs.Texts.{Text}
-use Rattle.semver_texts.specs.Versions.{PlainVersion}
+use Rattle.semver_texts.specs.Versions.{IdentifierValue, PlainVersion}
 use Rattle.semver_ranges.specs.Partials.{fits_u64, kept, stated, zero_filled}
 use Rattle.semver_ranges.specs.Reading.{is_dot}
-use Rattle.semver_ranges.specs.ExactBounds.{exact_bound}
+use Rattle.semver_ranges.specs.ExactBounds.{lowest_pre_release, exact_bound}
 
 -- the parts of a slice between dots; none where it is empty
 abbrev pub parts_of : Text → List Text
@@ -35,7 +38,14 @@ stated_of p = stated_at p.kind p.major p.minor p.patch
 
 -- the zero-filled version
 abbrev pub version_of : Partial → PlainVersion
-version_of p = record { major = p.major; minor = p.minor; patch = p.patch; pre = map kept (parts_of p.pre.now) }
+version_of p =
+    record {
+      major = p.major;
+      minor = p.minor;
+      patch = p.patch;
+      pre = map kept
+          (parts_of p.pre.now);
+    }
 
 -- the place of a number, from 1
 abbrev pub place_number : Place → ℕ
@@ -43,8 +53,12 @@ place_number Major = 1
 place_number Minor = 2
 place_number Patch = 3
 
--- how a raised bound is written
-abbrev pub written : Bound → PlainVersion → PlainVersion
+-- the pre-release of a raised bound, and how the bound is written
+abbrev pub pre_of : RaisedBounds → List IdentifierValue
+pre_of Plain = []
+pre_of Exact = lowest_pre_release
+
+abbrev pub written : RaisedBounds → PlainVersion → PlainVersion
 written Plain = λ bound. bound
 written Exact = exact_bound
 
@@ -69,5 +83,7 @@ PartsPass p = list_all is_part (parts_of p.pre.now) ≡ true
 
 -- what a partial states: some number that doesn't fit, or these numbers and this pre-release
 abbrev pub IsPartialOf : PartialTree → Partial → Type 0
-IsPartialOf t p = (list_all fits_u64 (stated t) ≡ p.fits) × (p.fits ≡ true → (stated_of p ≡ stated t) × (version_of p ≡ zero_filled t))
+IsPartialOf t p =
+    (list_all fits_u64 (stated t) ≡ p.fits)
+    × (p.fits ≡ true → (stated_of p ≡ stated t) × (version_of p ≡ zero_filled t))
     × (p.fits ≡ false → states_none p.kind ≡ false) × PartsPass p

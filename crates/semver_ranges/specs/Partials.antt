@@ -1,5 +1,6 @@
 -- What a partial states.
-use Rattle.std.specs.Prelude.{ℕ, suc, ◌^◌, ◌&&◌, Bool, if◌then◌else◌, ◌==◌, nat_lt, not, List, [], ◌∷◌, length, map, take_while, slice_index}
+use Rattle.std.specs.Prelude.{ℕ, suc, ◌^◌, ◌&&◌, Bool, if◌then◌else◌, ◌==◌, nat_lt, not, List, []}
+use Rattle.std.specs.Prelude.{◌∷◌, length, map, take_while, slice_index}
 use Rattle.std.specs.Str.{all_ascii_digits}
 use Rattle.std.specs.Str.Parse.{digits_value}
 use Rattle.semver_ranges.specs.RangeTree.{PartialTree, one, two, three, components, is_wildcard}
@@ -10,9 +11,12 @@ use Rattle.semver_texts.specs.Versions.{IdentifierValue, numeric, alphanumeric, 
 abbrev pub fits_u64 : ℕ → Bool
 fits_u64 n = nat_lt n (2 ^ 64)
 
--- a part as it is kept: the number that its digits write, where it is digits alone and the number fits; else its text
+-- a part as it is kept: the number that its digits write, where it is digits alone and the number
+-- fits; else its text
 abbrev pub kept : Text → IdentifierValue
-kept part = if all_ascii_digits part && fits_u64 (digits_value 10 part) then numeric (digits_value 10 part) else alphanumeric part
+kept part =
+    if all_ascii_digits part
+    && fits_u64 (digits_value 10 part) then numeric (digits_value 10 part) else alphanumeric part
 
 -- the stated numbers: those before the first wildcard
 abbrev pub stated : PartialTree → List ℕ
@@ -34,7 +38,8 @@ pre_release p = if length (stated p) == 3 then map kept (pre_parts p) else []
 
 -- a version of up to three numbers, filled with zeros
 abbrev pub filled : List ℕ → List IdentifierValue → PlainVersion
-filled s pre = record { major = slice_index s 0; minor = slice_index s 1; patch = slice_index s 2; pre = pre }
+filled s pre =
+    record { major = slice_index s 0; minor = slice_index s 1; patch = slice_index s 2; pre = pre }
 
 -- the zero-filled version of a partial, with its pre-release
 abbrev pub zero_filled : PartialTree → PlainVersion

@@ -13,7 +13,8 @@ identifier_cmp (numeric m) (alphanumeric t) = Less
 identifier_cmp (alphanumeric s) (numeric n) = Greater
 identifier_cmp (alphanumeric s) (alphanumeric t) = slice_cmp nat_cmp s t
 
--- no pre-release is above any; two go from the left, and where all earlier ones are equal the longer is higher (11.3, 11.4, 11.4.4)
+-- no pre-release is above any; two go from the left, and where all earlier ones are equal the
+-- longer is higher (11.3, 11.4, 11.4.4)
 abbrev pub pre_cmp : List IdentifierValue → List IdentifierValue → Ordering
 pre_cmp [] [] = Equal
 pre_cmp [] (y ∷ ys) = Greater
@@ -22,5 +23,8 @@ pre_cmp (x ∷ xs) (y ∷ ys) = slice_cmp identifier_cmp (x ∷ xs) (y ∷ ys)
 
 -- by major, minor and patch as numbers, then by the pre-release (11.2, 11.3)
 abbrev pub precedence : PlainVersion → PlainVersion → Ordering
-precedence = then_cmp (on (λ (v : PlainVersion). v.major) nat_cmp) (then_cmp (on (λ (v : PlainVersion). v.minor) nat_cmp)
-    (then_cmp (on (λ (v : PlainVersion). v.patch) nat_cmp) (on (λ (v : PlainVersion). v.pre) pre_cmp)))
+precedence =
+    then_cmp (on (λ (v : PlainVersion). v.major) nat_cmp)
+    (then_cmp (on (λ (v : PlainVersion). v.minor) nat_cmp)
+    (then_cmp (on (λ (v : PlainVersion). v.patch) nat_cmp)
+    (on (λ (v : PlainVersion). v.pre) pre_cmp)))

@@ -9,7 +9,8 @@ use Rattle.semver_ranges.specs.declared.range.Compat.{Compat}
 use Rattle.semver_ranges.specs.RangeTree.{is_part}
 use Rattle.semver_texts.specs.Texts.{Text, is_empty, joined}
 use Rattle.semver_texts.specs.PrintedText.{plain_text}
-use Rattle.semver_texts.specs.Versions.{numbers, IdentifierValue, numeric, alphanumeric, PlainVersion}
+use Rattle.semver_texts.specs.Versions.{numbers, IdentifierValue, numeric, alphanumeric}
+use Rattle.semver_texts.specs.Versions.{PlainVersion}
 use Rattle.semver_ranges.specs.Partials.{fits_u64}
 use Rattle.semver_ranges.specs.RewritingTable.{PlainComparator, PlainRange, PlainSet}
 
@@ -33,7 +34,8 @@ range_text r = joined (codes " ") (map comparator_text r.comparators)
 abbrev pub set_text : PlainSet → Text
 set_text s = joined (codes " || ") (map range_text s.ranges)
 
--- an identifier that is kept from some part: a number that fits, or a part that isn't kept as a number
+-- an identifier that is kept from some part: a number that fits, or a part that isn't kept as a
+-- number
 abbrev pub is_kept : IdentifierValue → Bool
 is_kept (numeric n) = fits_u64 n
 is_kept (alphanumeric t) = is_part t && not (all_ascii_digits t && fits_u64 (digits_value 10 t))

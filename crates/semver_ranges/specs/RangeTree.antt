@@ -1,6 +1,8 @@
--- A range set as a tree, and the texts that spell it: node-semver's published range grammar, and beside it
--- `~>` for `~`, tabs, repeated blanks, and blanks after an operator and round the whole set.
-use Rattle.std.specs.Prelude.{◌≡◌, ℕ, Bool, false, ◌&&◌, ◌||◌, not, ◌==◌, ◌⊎◌, List, [], ◌∷◌, ◌++◌, codes, IsTrue}
+-- A range set as a tree, and the texts that spell it: node-semver's published range grammar, and
+-- beside it `~>` for `~`, tabs, repeated blanks, and blanks after an operator and round the whole
+-- set.
+use Rattle.std.specs.Prelude.{◌≡◌, ℕ, Bool, false, ◌&&◌, ◌||◌, not, ◌==◌, ◌⊎◌, List, [], ◌∷◌, ◌++◌}
+use Rattle.std.specs.Prelude.{codes, IsTrue}
 use Rattle.std.specs.List.{list_all, join_with_byte}
 use Rattle.std.specs.Str.{all_ascii_digits}
 use Rattle.semver_texts.specs.Texts.{Text, is_empty, is_part_byte, marked}
@@ -66,7 +68,8 @@ components (one a) = a ∷ []
 components (two a b) = a ∷ b ∷ []
 components (three a b c pre build) = a ∷ b ∷ c ∷ []
 
--- what follows the components: `-` and the pre-release, then `+` and the build, each where there is one
+-- what follows the components: `-` and the pre-release, then `+` and the build, each where there is
+-- one
 abbrev pub qualifier : PartialTree → Text
 qualifier (one a) = []
 qualifier (two a b) = []
@@ -80,7 +83,9 @@ HasParts (three a b c pre build) = IsTrue (list_all is_part pre) × IsTrue (list
 
 -- a partial's text: its components joined by dots, then its qualifier
 abbrev pub SpellsPartial : PartialTree → Text → Type 0
-SpellsPartial p t = IsTrue (list_all is_component (components p)) × HasParts p × (t ≡ join_with_byte 46 (components p) ++ qualifier p)
+SpellsPartial p t =
+    IsTrue (list_all is_component (components p)) × HasParts p
+    × (t ≡ join_with_byte 46 (components p) ++ qualifier p)
 
 -- a sign, then any blanks
 abbrev pub IsSignAndBlanks : Text → Text → Type 0
@@ -99,13 +104,16 @@ SpellsForm caret t = IsSignAndBlanks (codes "^") t
 
 -- a simple's text: what stands before the partial, and the partial's
 abbrev pub SpellsSimple : Simple → Text → Type 0
-SpellsSimple s t = (front : Text) × (back : Text) × SpellsForm s.form front × SpellsPartial s.partial back × (t ≡ front ++ back)
+SpellsSimple s t =
+    (front : Text) × (back : Text) × SpellsForm s.form front × SpellsPartial s.partial back
+    × (t ≡ front ++ back)
 
 -- one or more simples, parted by one or more blanks
 abbrev pub SpellsSimples : Simple → List Simple → Text → Type 0
 SpellsSimples first [] t = SpellsSimple first t
 SpellsSimples first (next ∷ others) t = (front : Text) × (gap : Text) × (back : Text)
-    × SpellsSimple first front × AreSomeBlanks gap × SpellsSimples next others back × (t ≡ front ++ gap ++ back)
+    × SpellsSimple first front × AreSomeBlanks gap × SpellsSimples next others back
+    × (t ≡ front ++ gap ++ back)
 
 -- a range's text: nothing, two partials round a hyphen between blanks, or simples
 abbrev pub SpellsRange : RangeTree → Text → Type 0

@@ -15,7 +15,16 @@ identifier_of (AlphaNumeric s) = alphanumeric (string_bytes s)
 
 -- a comparator
 abbrev pub comparator_of : Comparator → PlainComparator
-comparator_of c = record { op = c.op; version = record { major = c.major; minor = c.minor; patch = c.patch; pre = map identifier_of c.pre.items } }
+comparator_of c =
+    record {
+      op = c.op;
+      version = record {
+        major = c.major;
+        minor = c.minor;
+        patch = c.patch;
+        pre = map identifier_of c.pre.items;
+      };
+    }
 
 -- a range
 abbrev pub range_of : Range → PlainRange

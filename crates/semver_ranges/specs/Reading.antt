@@ -1,9 +1,14 @@
--- A means of proof, which no public clause cites: the functions on lists that the cursor of range texts follows, from the left to the right.
--- Each answers what stands at the front of a text, and what follows it; `read` answers the tree that a text spells, or none.
-use Rattle.std.specs.Prelude.{ℕ, zero, suc, Bool, true, false, ◌&&◌, ◌||◌, ◌==◌, if◌then◌else◌, Option, Some, None, List, [], ◌∷◌, length}
+-- A means of proof, which no public clause cites: the functions on lists that the cursor of range
+-- texts follows, from the left to the right. Each answers what stands at the front of a text, and
+-- what follows it; `read` answers the tree that a text spells, or none.
+use Rattle.std.specs.Prelude.{ℕ, zero, suc, Bool, true, false, ◌&&◌, ◌||◌, ◌==◌, if◌then◌else◌}
+use Rattle.std.specs.Prelude.{Option, Some, None, List, [], ◌∷◌, length}
 use Rattle.std.specs.Char.{is_ascii_digit}
 use Rattle.std.specs.List.{list_all, slice_split}
-use Rattle.semver_ranges.specs.RangeTree.{PartialTree, one, two, three, Form, bare, equal, less, at_most, greater, at_least, tilde, caret, Simple, RangeTree, empty, hyphen, simples, SetTree, is_blank, is_wildcard, is_part}
+use Rattle.semver_ranges.specs.RangeTree.{PartialTree, one, two, three, Form, bare, equal, less}
+use Rattle.semver_ranges.specs.RangeTree.{at_most, greater, at_least, tilde, caret, Simple}
+use Rattle.semver_ranges.specs.RangeTree.{RangeTree, empty, hyphen, simples, SetTree, is_blank}
+use Rattle.semver_ranges.specs.RangeTree.{is_wildcard, is_part}
 use Rattle.semver_texts.specs.Texts.{Text, is_part_byte}
 
 -- the longest front whose bytes pass, and what is left
@@ -41,7 +46,8 @@ abbrev pub component : Text → Option (Text × Text)
 component [] = None
 component (b ∷ t) =
     if is_wildcard (b ∷ []) || (b == 48) then Some (b ∷ [], t)
-    else (if is_ascii_digit b then Some (b ∷ front is_ascii_digit t, back is_ascii_digit t) else None)
+    else (if is_ascii_digit b then Some (b ∷ front is_ascii_digit t, back is_ascii_digit t)
+    else None)
 
 -- parts: the bytes of parts and dots, cut at the dots
 abbrev pub is_dot : ℕ → Bool
@@ -51,16 +57,20 @@ abbrev pub in_parts : ℕ → Bool
 in_parts b = is_part_byte b || is_dot b
 
 abbrev pub parts : Text → Option (List Text × Text)
-parts t = if list_all is_part (slice_split is_dot (front in_parts t)) then Some (slice_split is_dot (front in_parts t), back in_parts t) else None
+parts t =
+    if list_all is_part (slice_split is_dot (front in_parts t)) then Some
+    (slice_split is_dot (front in_parts t), back in_parts t) else None
 
 -- a build, where one is there
-abbrev pub with_build : Text → Text → Text → List Text → Option (List Text × Text) → Option (PartialTree × Text)
+abbrev pub with_build : Text → Text → Text → List Text → Option (List Text × Text)
+    → Option (PartialTree × Text)
 with_build a b c pre None = None
 with_build a b c pre (Some found) = Some (three a b c pre found.0, found.1)
 
 abbrev pub behind_pre : Text → Text → Text → List Text → Text → Option (PartialTree × Text)
 behind_pre a b c pre [] = Some (three a b c pre [], [])
-behind_pre a b c pre (mark ∷ t) = if mark == 43 then with_build a b c pre (parts t) else Some (three a b c pre [], mark ∷ t)
+behind_pre a b c pre (mark ∷ t) =
+    if mark == 43 then with_build a b c pre (parts t) else Some (three a b c pre [], mark ∷ t)
 
 -- a pre-release, where one is there, and then a build
 abbrev pub with_pre : Text → Text → Text → Option (List Text × Text) → Option (PartialTree × Text)
@@ -69,7 +79,8 @@ with_pre a b c (Some found) = behind_pre a b c found.0 found.1
 
 abbrev pub behind_three : Text → Text → Text → Text → Option (PartialTree × Text)
 behind_three a b c [] = Some (three a b c [] [], [])
-behind_three a b c (mark ∷ t) = if mark == 45 then with_pre a b c (parts t) else behind_pre a b c [] (mark ∷ t)
+behind_three a b c (mark ∷ t) =
+    if mark == 45 then with_pre a b c (parts t) else behind_pre a b c [] (mark ∷ t)
 
 -- the third, second and first component
 abbrev pub with_third : Text → Text → Option (Text × Text) → Option (PartialTree × Text)
@@ -78,7 +89,8 @@ with_third a b (Some found) = behind_three a b found.0 found.1
 
 abbrev pub behind_two : Text → Text → Text → Option (PartialTree × Text)
 behind_two a b [] = Some (two a b, [])
-behind_two a b (dot ∷ t) = if dot == 46 then with_third a b (component t) else Some (two a b, dot ∷ t)
+behind_two a b (dot ∷ t) =
+    if dot == 46 then with_third a b (component t) else Some (two a b, dot ∷ t)
 
 abbrev pub with_second : Text → Option (Text × Text) → Option (PartialTree × Text)
 with_second a None = None
@@ -107,7 +119,8 @@ after_less (b ∷ t) = if b == 61 then (at_most, behind_blanks t) else (less, be
 
 abbrev pub after_greater : Text → Form × Text
 after_greater [] = (greater, [])
-after_greater (b ∷ t) = if b == 61 then (at_least, behind_blanks t) else (greater, behind_blanks (b ∷ t))
+after_greater (b ∷ t) =
+    if b == 61 then (at_least, behind_blanks t) else (greater, behind_blanks (b ∷ t))
 
 abbrev pub after_tilde : Text → Form × Text
 after_tilde [] = (tilde, [])
@@ -126,7 +139,8 @@ operator (b ∷ t) =
 -- a simple, and what follows it and the blanks behind it
 abbrev pub with_form : Form → Option (PartialTree × Text) → Option (Simple × Text)
 with_form form None = None
-with_form form (Some found) = Some (record { form = form; partial = found.0 }, behind_blanks found.1)
+with_form form (Some found) =
+    Some (record { form = form; partial = found.0 }, behind_blanks found.1)
 
 abbrev pub simple : Text → Option (Simple × Text)
 simple t = with_form (operator t).0 (partial (operator t).1)
@@ -136,26 +150,31 @@ abbrev pub put_before : Simple → Option (List Simple × Text) → Option (List
 put_before s None = None
 put_before s (Some found) = Some (s ∷ found.0, found.1)
 
-abbrev pub behind_simple : (Text → Option (List Simple × Text)) → Option (Simple × Text) → Option (List Simple × Text)
+abbrev pub behind_simple : (Text → Option (List Simple × Text)) → Option (Simple × Text)
+    → Option (List Simple × Text)
 behind_simple others None = None
 behind_simple others (Some found) = put_before found.0 (others found.1)
 
 abbrev pub some_simples : ℕ → Text → Option (List Simple × Text)
 some_simples zero t = None
-some_simples (suc n) t = if ends_range t then Some ([], t) else behind_simple (some_simples n) (simple t)
+some_simples (suc n) t =
+    if ends_range t then Some ([], t) else behind_simple (some_simples n) (simple t)
 
 abbrev pub all_simples : Text → Option (List Simple × Text)
 all_simples t = some_simples (suc (length t)) t
 
--- the right side of a hyphen range, from the hyphen on, and what follows it and the blanks behind it
+-- the right side of a hyphen range, from the hyphen on, and what follows it and the blanks behind
+-- it
 abbrev pub range_end : Option (PartialTree × Text) → Option (PartialTree × Text)
 range_end None = None
-range_end (Some found) = if ends_range (behind_blanks found.1) then Some (found.0, behind_blanks found.1) else None
+range_end (Some found) =
+    if ends_range (behind_blanks found.1) then Some (found.0, behind_blanks found.1) else None
 
 abbrev pub right_side : Text → Option (PartialTree × Text)
 right_side [] = None
 right_side (dash ∷ []) = None
-right_side (dash ∷ blank ∷ t) = if (dash == 45) && is_blank blank then range_end (partial (behind_blanks t)) else None
+right_side (dash ∷ blank ∷ t) =
+    if (dash == 45) && is_blank blank then range_end (partial (behind_blanks t)) else None
 
 -- a hyphen range of a first simple, which has to be bare, and a right side
 abbrev pub is_bare : Form → Bool
@@ -164,7 +183,8 @@ is_bare _ = false
 
 abbrev pub with_right : Simple → Option (PartialTree × Text) → Option (RangeTree × Text)
 with_right s None = None
-with_right s (Some found) = if is_bare s.form then Some (hyphen s.partial found.0, found.1) else None
+with_right s (Some found) =
+    if is_bare s.form then Some (hyphen s.partial found.0, found.1) else None
 
 -- the simples behind a first
 abbrev pub with_others : Simple → Option (List Simple × Text) → Option (RangeTree × Text)
@@ -174,7 +194,8 @@ with_others s (Some found) = Some (simples s found.0, found.1)
 abbrev pub behind_first : Option (Simple × Text) → Option (RangeTree × Text)
 behind_first None = None
 behind_first (Some found) =
-    if begins_with 45 found.1 then with_right found.0 (right_side found.1) else with_others found.0 (all_simples found.1)
+    if begins_with 45 found.1 then with_right found.0 (right_side found.1) else with_others found.0
+    (all_simples found.1)
 
 -- a range and what follows it
 abbrev pub range_here : Text → Option (RangeTree × Text)
@@ -211,19 +232,3 @@ some_ranges (suc n) t = behind_range (some_ranges n) (range t)
 -- the tree that a text spells
 abbrev pub read : Text → Option SetTree
 read t = some_ranges (suc (length t)) t
-
-abbrev pub range_at : Option Text → Option (RangeTree × Text)
-range_at None = None
-range_at (Some t) = range t
-
-abbrev pub read_at : Option Text → Option SetTree
-read_at None = None
-read_at (Some t) = read t
-
--- the range behind two bars, and all that is left behind a range
-abbrev pub range_behind : Text → Option (RangeTree × Text)
-range_behind t = range_at (behind_bars t)
-
-abbrev pub read_rest : Text → Option SetTree
-read_rest [] = Some []
-read_rest (b ∷ t) = read_at (behind_bars (b ∷ t))

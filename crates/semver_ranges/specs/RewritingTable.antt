@@ -1,13 +1,18 @@
--- The comparators that stand for a range, by the form of each term and by how many numbers it states.
-use Rattle.std.specs.Prelude.{ℕ, suc, zero, ◌+◌, Bool, true, ◌&&◌, if◌then◌else◌, Option, Some, None, List, [], ◌∷◌, length, map}
+-- The comparators that stand for a range, by the form of each term and by how many numbers it
+-- states.
+use Rattle.std.specs.Prelude.{ℕ, suc, zero, ◌+◌, Bool, true, ◌&&◌, if◌then◌else◌, Option, Some}
+use Rattle.std.specs.Prelude.{None, List, [], ◌∷◌, length, map}
 use Rattle.std.specs.List.{list_all, flat_map}
 use Rattle.semver_ranges.specs.declared.range.Op.{Op}
 use Rattle.semver_ranges.specs.declared.range.Op.TheVariants.{Lt, Lte, Gt, Gte, Eq}
 use Rattle.semver_ranges.specs.declared.range.Compat.{Compat}
 use Rattle.semver_ranges.specs.declared.range.Compat.TheVariants.{Cargo, Npm}
-use Rattle.semver_ranges.specs.RangeTree.{Form, bare, equal, less, at_most, greater, at_least, tilde, caret, Simple, RangeTree, empty, hyphen, simples, SetTree}
+use Rattle.semver_ranges.specs.RangeTree.{Form, bare, equal, less, at_most, greater, at_least}
+use Rattle.semver_ranges.specs.RangeTree.{tilde, caret, Simple, RangeTree, empty, hyphen, simples}
+use Rattle.semver_ranges.specs.RangeTree.{SetTree}
 use Rattle.semver_texts.specs.Versions.{numbers, PlainVersion}
-use Rattle.semver_ranges.specs.Partials.{stated, states_nothing, filled, zero_filled, zero_version, leading_place, fits_u64}
+use Rattle.semver_ranges.specs.Partials.{stated, states_nothing, filled, zero_filled, zero_version}
+use Rattle.semver_ranges.specs.Partials.{leading_place, fits_u64}
 use Rattle.semver_ranges.specs.Terms.{Term, of_simple, of_nothing, sides, terms}
 
 -- a comparator: an operator and the version that it compares with
@@ -25,7 +30,8 @@ pub record PlainSet : Type 0 where
   pub ranges : List PlainRange
   pub compat : Compat
 
--- a cell of the table, where z is the zero-filled version and up(k) the first k stated numbers, the last of them raised
+-- a cell of the table, where z is the zero-filled version and up(k) the first k stated numbers, the
+-- last of them raised
 pub data Cell : Type 0 where
   from_zero : Cell  -- `>=0.0.0`
   below_zero : Cell  -- `<0.0.0`
@@ -85,7 +91,8 @@ abbrev pub comparator : Op → PlainVersion → PlainComparator
 comparator op v = record { op = op; version = v }
 
 -- the comparators of a cell, where `write` says how a raised bound is written
-abbrev pub written_cell : (PlainVersion → PlainVersion) → Cell → List ℕ → PlainVersion → List PlainComparator
+abbrev pub written_cell : (PlainVersion → PlainVersion) → Cell → List ℕ → PlainVersion
+    → List PlainComparator
 written_cell write from_zero s z = comparator Gte zero_version ∷ []
 written_cell write below_zero s z = comparator Lt zero_version ∷ []
 written_cell write (against op) s z = comparator op z ∷ []
@@ -104,32 +111,43 @@ cell_raised _ s = None
 
 -- the comparators of a simple
 abbrev pub written_simple : (PlainVersion → PlainVersion) → Compat → Simple → List PlainComparator
-written_simple write mode s = written_cell write (cell mode s.form (stated s.partial)) (stated s.partial) (zero_filled s.partial)
+written_simple write mode s =
+    written_cell write (cell mode s.form (stated s.partial)) (stated s.partial)
+    (zero_filled s.partial)
 
 abbrev pub simple_comparators : Compat → Simple → List PlainComparator
 simple_comparators mode s = written_simple (λ bound. bound) mode s
 
--- the comparators of a range: those of its simples or sides in order; `>=0.0.0` where it is empty or both sides state nothing
+-- the comparators of a range: those of its simples or sides in order; `>=0.0.0` where it is empty
+-- or both sides state nothing
 abbrev pub written_range : (PlainVersion → PlainVersion) → Compat → RangeTree → List PlainComparator
 written_range write mode empty = comparator Gte zero_version ∷ []
 written_range write mode (hyphen left right) =
     if states_nothing left && states_nothing right then comparator Gte zero_version ∷ []
     else flat_map (written_simple write mode) (sides left right)
-written_range write mode (simples first others) = flat_map (written_simple write mode) (first ∷ others)
+written_range write mode (simples first others) =
+    flat_map (written_simple write mode) (first ∷ others)
 
 abbrev pub range_comparators : Compat → RangeTree → List PlainComparator
 range_comparators mode r = written_range (λ bound. bound) mode r
 
--- the set that a tree is rewritten to: the comparators of its ranges in order, with the mode in the set and in each range
+-- the set that a tree is rewritten to: the comparators of its ranges in order, with the mode in the
+-- set and in each range
 abbrev pub written_set : (PlainVersion → PlainVersion) → Compat → SetTree → PlainSet
-written_set write mode tree = record { ranges = map (λ r. record { comparators = written_range write mode r; compat = mode }) tree; compat = mode }
+written_set write mode tree =
+    record {
+      ranges = map (λ r. record { comparators = written_range write mode r; compat = mode })
+          tree;
+      compat = mode;
+    }
 
 abbrev pub rewritten : Compat → SetTree → PlainSet
 rewritten mode tree = written_set (λ bound. bound) mode tree
 
 -- the raised bound of a term, where its row has one
 abbrev pub raised_bound : Compat → Term → Option PlainVersion
-raised_bound mode (of_simple s) = cell_raised (cell mode s.form (stated s.partial)) (stated s.partial)
+raised_bound mode (of_simple s) =
+    cell_raised (cell mode s.form (stated s.partial)) (stated s.partial)
 raised_bound mode of_nothing = None
 
 -- whether the numbers of a raised bound are at most 2^64 - 1
@@ -139,7 +157,8 @@ bound_fits (Some bound) = list_all fits_u64 (numbers bound)
 
 -- whether the numbers that a term states, and those of its raised bound, are at most 2^64 - 1
 abbrev pub term_fits : Compat → Term → Bool
-term_fits mode (of_simple s) = list_all fits_u64 (stated s.partial) && bound_fits (raised_bound mode (of_simple s))
+term_fits mode (of_simple s) =
+    list_all fits_u64 (stated s.partial) && bound_fits (raised_bound mode (of_simple s))
 term_fits mode of_nothing = true
 
 -- whether a tree fits: each of its terms does

@@ -1,6 +1,7 @@
 -- The terms of a range: what a version has to meet one by one.
 use Rattle.std.specs.Prelude.{◌&&◌, not, if◌then◌else◌, List, [], ◌∷◌, map}
-use Rattle.semver_ranges.specs.RangeTree.{at_most, at_least, PartialTree, Simple, RangeTree, empty, hyphen, simples}
+use Rattle.semver_ranges.specs.RangeTree.{at_most, at_least, PartialTree, Simple, RangeTree, empty}
+use Rattle.semver_ranges.specs.RangeTree.{hyphen, simples}
 use Rattle.semver_ranges.specs.Partials.{states_nothing}
 
 -- a term: a simple, or an empty range

@@ -1,16 +1,23 @@
-//! Range texts as they are read: a cursor over the bytes of a text, from the left to the right, that yields its ranges and their simples.
+//! What stands at the front of a range text: a simple, or the right side of a hyphen range.
 //!
-//! Nothing here takes memory, and a call looks at each byte a fixed number of times. What can't be read is `None`.
+//! Nothing here takes memory, and a call looks at each byte a fixed number of times. What can't be
+//! read is `None`.
 
-ghost use Rattle.std.specs.Prelude.{◌≡◌, ◌||◌, ◌<◌, ◌≤◌, ◌+◌, ◌-◌, ◌*◌, ◌^◌, ◌++◌, ℕ, Some, None, [], ◌∷◌, length, take, drop, false, true, List, MatchOption, IfSome};
+ghost use Rattle.std.specs.Prelude.{◌≡◌, ◌||◌, ◌<◌, ◌≤◌, ◌+◌, ◌*◌, ◌++◌, ℕ, Some, None, [], ◌∷◌};
+ghost use Rattle.std.specs.Prelude.{length, take, drop, codes, false, true, List, MatchOption};
+ghost use Rattle.std.specs.Prelude.{IfSome};
 ghost use Rattle.std.specs.List.{list_all, slice_split};
 ghost use Rattle.std.specs.Str.Parse.{digits_value};
 ghost use Rattle.std.specs.Char.{is_ascii_digit};
 ghost use Rattle.semver_texts.specs.Texts.{Text, is_part_byte as part_byte};
-ghost use Rattle.semver_ranges.specs.RangeTree.{Simple as SimpleTree, PartialTree, one, two, three, hyphen, is_blank as blank, is_part};
-ghost use Rattle.semver_ranges.specs.Reading.{back, begins_with, ends_range, ends_word, component, partial, operator, simple, all_simples, right_side, with_right, behind_first, with_second, with_third, behind_three, with_first, range, range_behind, behind_bars, in_parts, front, is_dot, behind_blanks};
+ghost use Rattle.semver_ranges.specs.RangeTree.{one, two, three, is_blank as blank, is_part};
+ghost use Rattle.semver_ranges.specs.Reading.{back, begins_with, ends_range, ends_word, component};
+ghost use Rattle.semver_ranges.specs.Reading.{partial, operator, simple, right_side, with_second};
+ghost use Rattle.semver_ranges.specs.Reading.{with_third, behind_three, with_first, behind_bars};
+ghost use Rattle.semver_ranges.specs.Reading.{in_parts, front, is_dot, behind_blanks};
+ghost use Rattle.semver_ranges.specs.RangeEvents.{wildcard};
 ghost use Rattle.semver_ranges.specs.PartialViews.{parts_of, IsValue, IsComponentOf, IsPartialOf};
-ghost use Rattle.semver_ranges.specs.CursorViews.{form_of, marked_parts, Finds, IsSimpleOf, IsFrontOf, AreSidesOf};
+ghost use Rattle.semver_ranges.specs.CursorViews.{form_of, marked_parts, Finds, IsSimpleOf};
 
 use crate::partial::{Component, Partial};
 
@@ -34,118 +41,24 @@ pub(crate) struct Simple<'input> {
     pub(crate) partial: Partial<'input>,
 }
 
-/// A range as far as its second simple, and the text from there on. A hyphen range is the simples of its sides: `>=` of the left one
-/// and `<=` of the right one. An empty range is a bare wildcard.
-#[derive(Clone, Copy)]
-pub(crate) struct RangeText<'input> {
-    pub(crate) first: Simple<'input>,
-    pub(crate) second: Option<Simple<'input>>,
-    pub(crate) others: &'input [u8],
-}
-
-/// The range behind two bars; none where there are no bars, as at the end, or where what follows them isn't a range.
-#[inline(always)]
-pub(crate) fn next_range(rest: &[u8]) -> Option<RangeText<'_>>
-    ensures front { IsFrontOf (range_behind rest.now) result }
-    ensures bars { IfSome result (λ _. (text : Text) × (behind_bars rest.now ≡ Some text)) }
-{
-    read_range(after_byte(after_byte(rest, b'|')?, b'|')?)
-}
-
-/// The range at the front of a text; none where there is none.
-#[inline(always)]
-pub(crate) fn read_range(text: &[u8]) -> Option<RangeText<'_>>
-    ensures { IsFrontOf (range text.now) result }
-{
-    let text = behind_blanks(text);
-    if ends_range(text) {
-        return Some(RangeText {
-            first: Simple {
-                form: Form::Bare,
-                partial: Partial::new(),
-            },
-            second: None,
-            others: text,
-        });
-    }
-    let (first, rest) = read_simple(text)?;
-    if ends_range(rest) {
-        return Some(RangeText {
-            first,
-            second: None,
-            others: rest,
-        });
-    }
-    read_second(first, rest)
-}
-
-/// The range of a first simple and what follows it.
-#[inline(always)]
-fn read_second<'input>(first: Simple<'input>, rest: &'input [u8]) -> Option<RangeText<'input>>
-    requires goes_on { ends_range rest.now ≡ false }
-    requires room { length rest.now + 1 < 2 ^ 63 }
-    ensures { (s : SimpleTree) → IsSimpleOf s first.entry → IsFrontOf (behind_first (Some (s, rest.now))) result }
-{
-    if let Some(behind) = after_byte(rest, b'-') {
-        return read_hyphen_range(first, behind);
-    }
-    let (second, others) = read_second_simple(rest)?;
-    Some(RangeText {
-        first,
-        second: Some(second),
-        others,
-    })
-}
-
-/// The hyphen range of a left side, which has to be bare, and what follows the hyphen.
-#[inline(never)]
-fn read_hyphen_range<'input>(
-    left: Simple<'input>,
-    behind: &'input [u8],
-) -> Option<RangeText<'input>>
-    ensures { (s : SimpleTree) → IsSimpleOf s left.entry → IsFrontOf (with_right s (right_side (45 ∷ behind.now))) result }
-{
-    let Form::Bare = left.form else {
-        return None;
-    };
-    let (right, others) = read_right_side(behind)?;
-    let (first, second) = sides(left.partial, right);
-    Some(RangeText {
-        first,
-        second,
-        others,
-    })
-}
-
-/// The simples of the sides of a hyphen range: one that states nothing is left out, but for the left where neither states a number.
-#[inline(always)]
-fn sides<'input>(
-    left: Partial<'input>,
-    right: Partial<'input>,
-) -> (Simple<'input>, Option<Simple<'input>>)
-    ensures { (l r : PartialTree) → IsPartialOf l left.entry → IsPartialOf r right.entry → AreSidesOf (hyphen l r) result.0 result.1 }
-{
-    let lower = Simple {
-        form: Form::AtLeast,
-        partial: left,
-    };
-    let upper = Simple {
-        form: Form::AtMost,
-        partial: right,
-    };
-    if right.states_nothing() {
-        (lower, None)
-    } else if left.states_nothing() {
-        (upper, None)
-    } else {
-        (lower, Some(upper))
+impl<'input> Simple<'input> {
+    /// A bare wildcard.
+    #[inline(always)]
+    pub(crate) fn wildcard() -> Simple<'input>
+        ensures { IsSimpleOf wildcard result }
+    {
+        Simple {
+            form: Form::Bare,
+            partial: Partial::new(),
+        }
     }
 }
 
-/// The right side of a hyphen range behind its hyphen, up to the end of the range, and what follows it.
+/// The right side of a hyphen range behind its hyphen, up to the end of the range, and what follows
+/// it.
 #[inline(always)]
-fn read_right_side(behind: &[u8]) -> Option<(Partial<'_>, &[u8])>
-    ensures { Finds IsPartialOf (right_side (45 ∷ behind.now)) result }
+pub(crate) fn read_right_side(behind: &[u8]) -> Option<(Partial<'_>, &[u8])>
+    ensures { Finds IsPartialOf (right_side (codes "-" ++ behind.now)) result }
 {
     let text = behind_blank(behind)?;
     let (right, rest) = read_partial(behind_blanks(text))?;
@@ -157,7 +70,8 @@ fn read_right_side(behind: &[u8]) -> Option<(Partial<'_>, &[u8])>
     }
 }
 
-/// The simple at the front of a text, and what follows it and the blanks behind it; none where there is none.
+/// The simple at the front of a text, and what follows it and the blanks behind it; none where
+/// there is none.
 #[inline(always)]
 pub(crate) fn read_simple(text: &[u8]) -> Option<(Simple<'_>, &[u8])>
     ensures { Finds IsSimpleOf (simple text.now) result }
@@ -165,14 +79,6 @@ pub(crate) fn read_simple(text: &[u8]) -> Option<(Simple<'_>, &[u8])>
     let (form, rest) = read_operator(text);
     let (partial, rest) = read_partial(rest)?;
     Some((Simple { form, partial }, behind_blanks(rest)))
-}
-
-/// As `read_simple`, and never inlined: for the second simple of a range.
-#[inline(never)]
-fn read_second_simple(text: &[u8]) -> Option<(Simple<'_>, &[u8])>
-    ensures { Finds IsSimpleOf (simple text.now) result }
-{
-    read_simple(text)
 }
 
 /// The operator at the front of a text, and what follows it and its blanks.
@@ -225,7 +131,8 @@ fn read_minor<'input>(
     partial: Partial<'input>,
     text: &'input [u8],
 ) -> Option<(Partial<'input>, &'input [u8])>
-    ensures { (a : Text) → IsPartialOf (one a) partial.entry → Finds IsPartialOf (with_second a (component text.now)) result }
+    ensures { (a : Text) → IsPartialOf (one a) partial.entry
+        → Finds IsPartialOf (with_second a (component text.now)) result }
 {
     let (minor, rest) = read_component(text)?;
     let partial = partial.with_minor(minor);
@@ -241,7 +148,8 @@ fn read_patch<'input>(
     partial: Partial<'input>,
     text: &'input [u8],
 ) -> Option<(Partial<'input>, &'input [u8])>
-    ensures { (a b : Text) → IsPartialOf (two a b) partial.entry → Finds IsPartialOf (with_third a b (component text.now)) result }
+    ensures { (a b : Text) → IsPartialOf (two a b) partial.entry
+        → Finds IsPartialOf (with_third a b (component text.now)) result }
 {
     let (patch, rest) = read_component(text)?;
     let partial = partial.with_patch(patch);
@@ -266,17 +174,21 @@ fn read_qualifier<'input>(
     partial: Partial<'input>,
     text: &'input [u8],
 ) -> Option<(Partial<'input>, &'input [u8])>
-    ensures { (a b c : Text) → IsPartialOf (three a b c [] []) partial.entry → Finds IsPartialOf (behind_three a b c text.now) result }
+    ensures { (a b c : Text) → IsPartialOf (three a b c [] []) partial.entry
+        → Finds IsPartialOf (behind_three a b c text.now) result }
 {
     let (pre, rest) = read_pre(text)?;
     Some((partial.with_pre(pre), rest))
 }
 
-/// The pre-release at the front of a text, and what follows it and the build behind it, each where it is there.
+/// The pre-release at the front of a text, and what follows it and the build behind it, each where
+/// it is there.
 #[inline(never)]
 fn read_pre(text: &[u8]) -> Option<(&[u8], &[u8])>
     ensures found { (a b c : Text) → MatchOption result (behind_three a b c text.now ≡ None)
-        (λ f. (build : List Text) × (behind_three a b c text.now ≡ Some (three a b c (parts_of f.0.now) build, f.1.now))) }
+        (λ f. (build : List Text)
+        × (behind_three a b c text.now
+        ≡ Some (three a b c (parts_of f.0.now) build, f.1.now))) }
     ensures parts_pass { IfSome result (λ f. list_all is_part (parts_of f.0.now) ≡ true) }
 {
     let (pre, rest) = read_parts(text, b'-')?;
@@ -284,10 +196,12 @@ fn read_pre(text: &[u8]) -> Option<(&[u8], &[u8])>
     Some((pre, rest))
 }
 
-/// The parts behind a mark, and what follows them; nothing where the text doesn't begin with the mark.
+/// The parts behind a mark, and what follows them; nothing where the text doesn't begin with the
+/// mark.
 #[inline(always)]
 fn read_parts(text: &[u8], mark: u8) -> Option<(&[u8], &[u8])>
-    ensures found { MatchOption result (marked_parts mark text.now ≡ None) (λ f. marked_parts mark text.now ≡ Some (parts_of f.0.now, f.1.now)) }
+    ensures found { MatchOption result (marked_parts mark text.now
+        ≡ None) (λ f. marked_parts mark text.now ≡ Some (parts_of f.0.now, f.1.now)) }
     ensures parts_pass { IfSome result (λ f. list_all is_part (parts_of f.0.now) ≡ true) }
 {
     let Some(behind) = after_byte(text, mark) else {
@@ -299,9 +213,12 @@ fn read_parts(text: &[u8], mark: u8) -> Option<(&[u8], &[u8])>
 
 /// How many bytes at the front are parts joined by dots; none where they aren't parts.
 fn parts_len(bytes: &[u8]) -> Option<usize>
-    ensures { MatchOption result (list_all is_part (slice_split is_dot (front in_parts bytes.now)) ≡ false)
-        (λ len. (list_all is_part (slice_split is_dot (front in_parts bytes.now)) ≡ true) × (len ≤ length bytes.now)
-        × (take len bytes.now ≡ front in_parts bytes.now) × (drop len bytes.now ≡ back in_parts bytes.now)) }
+    ensures { MatchOption result (list_all is_part (slice_split is_dot (front in_parts bytes.now))
+        ≡ false)
+        (λ len. (list_all is_part (slice_split is_dot (front in_parts bytes.now)) ≡ true)
+        × (len ≤ length bytes.now)
+        × (take len bytes.now ≡ front in_parts bytes.now)
+        × (drop len bytes.now ≡ back in_parts bytes.now)) }
 {
     let mut begun = false;
     for at in 0..bytes.len() {
@@ -340,7 +257,8 @@ fn read_component(text: &[u8]) -> Option<(Component, &[u8])>
 #[inline(always)]
 fn read_digits(first: u64, text: &[u8]) -> (Option<u64>, &[u8])
     requires { first < 10 }
-    ensures value { IsValue (digits_value 10 ((48 + first) ∷ front is_ascii_digit text.now)) result.0 }
+    ensures value { IsValue (digits_value 10 ((48 + first) ∷ front is_ascii_digit text.now))
+        result.0 }
     ensures rest { result.1.now ≡ back is_ascii_digit text.now }
 {
     let mut value = Some(first);
@@ -354,7 +272,7 @@ fn read_digits(first: u64, text: &[u8]) -> (Option<u64>, &[u8])
     (value, &text[text.len()..])
 }
 
-// What is below this may be multiplied by ten and a digit added.
+/// For speed: what is below this may be multiplied by ten and a digit added without a test.
 const LIMIT: u64 = 1_000_000_000_000_000_000;
 
 /// The value of a number with one digit more.
@@ -372,7 +290,7 @@ fn with_digit(value: Option<u64>, digit: u8) -> Option<u64>
 
 /// What follows the blanks at the front of a text.
 #[inline(always)]
-fn behind_blanks(text: &[u8]) -> &[u8]
+pub(crate) fn behind_blanks(text: &[u8]) -> &[u8]
     ensures { result.now ≡ behind_blanks text.now }
 {
     for at in 0..text.len() {
@@ -386,7 +304,8 @@ fn behind_blanks(text: &[u8]) -> &[u8]
 /// What follows one blank, where the text begins with it.
 #[inline(always)]
 fn behind_blank(text: &[u8]) -> Option<&[u8]>
-    ensures { MatchOption result ((b : ℕ) (t : Text) → text.now ≡ b ∷ t → blank b ≡ false) (λ rest. (b : ℕ) × (blank b ≡ true) × (text.now ≡ b ∷ rest.now)) }
+    ensures { MatchOption result ((b : ℕ) (t : Text) → text.now ≡ b ∷ t
+        → blank b ≡ false) (λ rest. (b : ℕ) × (blank b ≡ true) × (text.now ≡ b ∷ rest.now)) }
 {
     match text {
         [first, rest @ ..] if is_blank(*first) => Some(rest),
@@ -396,11 +315,24 @@ fn behind_blank(text: &[u8]) -> Option<&[u8]>
 
 /// What follows this byte, where the text begins with it.
 #[inline(always)]
-fn after_byte(text: &[u8], byte: u8) -> Option<&[u8]>
-    ensures { MatchOption result (begins_with byte text.now ≡ false) (λ rest. text.now ≡ byte ∷ rest.now) }
+pub(crate) fn after_byte(text: &[u8], byte: u8) -> Option<&[u8]>
+    ensures { MatchOption result (begins_with byte text.now ≡ false) (λ rest. text.now
+        ≡ byte ∷ rest.now) }
 {
     match text {
         [first, rest @ ..] if *first == byte => Some(rest),
+        _ => None,
+    }
+}
+
+/// What follows two bars, where the text begins with them.
+#[inline(always)]
+pub(crate) fn behind_bars(text: &[u8]) -> Option<&[u8]>
+    ensures { MatchOption result (behind_bars text.now ≡ None) (λ rest. behind_bars text.now
+        ≡ Some rest.now) }
+{
+    match text {
+        [b'|', b'|', rest @ ..] => Some(rest),
         _ => None,
     }
 }
@@ -424,6 +356,7 @@ fn ends_word(text: &[u8]) -> bool
     }
 }
 
+/// Whether a byte is a blank: a space or a tab.
 #[inline(always)]
 fn is_blank(byte: u8) -> bool
     ensures { result ≡ blank byte }
@@ -431,6 +364,7 @@ fn is_blank(byte: u8) -> bool
     byte == b' ' || byte == b'\t'
 }
 
+/// Whether a byte may stand in a part of a pre-release or a build.
 #[inline(always)]
 fn is_part_byte(byte: u8) -> bool
     ensures { result ≡ part_byte byte }

@@ -16,11 +16,12 @@ ghost use Rattle.semver_ranges.specs.PrintedRanges.{IsPrintableSet, set_text};
 
 /// No range text has two trees.
 pub fn one_tree()
-    ensures same_tree { (tree tree' : SetTree) (text : Text) → Spells tree text → Spells tree' text → tree ≡ tree' }
+    ensures same_tree { (tree tree' : SetTree) (text : Text) → Spells tree text → Spells tree' text
+        → tree ≡ tree' }
 {}
 
-/// A version meets the comparators of a range text exactly if, in some range, it meets each term or is a
-/// pre-release of the term's raised bound.
+/// A version meets the comparators of a range text exactly if, in some range, it meets each term or
+/// is a pre-release of the term's raised bound.
 pub fn meanings_agree()
     ensures exact { (mode : Compat) (tree : SetTree) (v : PlainVersion) →
         meets_set v (rewritten mode tree) ≡ meets_tree_or_bounds mode tree v }
@@ -32,14 +33,15 @@ pub fn meanings_agree()
         meets_set v (rewritten mode tree) ≡ meets_tree mode tree v }
 {}
 
-/// With exact bounds, `<2.0.0-0` for a raised `<2.0.0`, nothing is excepted: a version meets the comparators of a
-/// range text exactly if it meets the text's own meaning.
+/// With exact bounds, `<2.0.0-0` for a raised `<2.0.0`, nothing is excepted: a version meets the
+/// comparators of a range text exactly if it meets the text's own meaning.
 pub fn exact_bounds_mean_the_text()
     ensures exact { (mode : Compat) (tree : SetTree) (v : PlainVersion) →
         meets_set v (rewritten_exactly mode tree) ≡ meets_tree mode tree v }
     // What is below an exact bound: what is below the bound, but for the pre-releases of the bound.
     ensures bounds { (bound v : PlainVersion) → bound.pre ≡ [] →
-        is_lt (precedence v (exact_bound bound)) ≡ (is_lt (precedence v bound) && not (is_pre_release_of v (Some bound))) }
+        is_lt (precedence v (exact_bound bound))
+        ≡ (is_lt (precedence v bound) && not (is_pre_release_of v (Some bound))) }
 {}
 
 /// Precedence is a total order, and two versions are equal in it exactly if they are the same.
@@ -50,11 +52,13 @@ pub fn precedence_is_total()
 
 /// The text of a printable set is spelled by a tree that fits and is rewritten to the set.
 pub fn printed_sets_read_back()
-    ensures read_back { (s : PlainSet) → IsPrintableSet s → (tree : SetTree) × Spells tree (set_text s)
+    ensures read_back { (s : PlainSet) → IsPrintableSet s → (tree : SetTree)
+        × Spells tree (set_text s)
         × IsTrue (fits s.compat tree) × (rewritten s.compat tree ≡ s) }
 {}
 
 /// What a tree that spells a text and fits is rewritten to is printable.
 pub fn answered_sets_are_printable()
-    ensures printable { (mode : Compat) (tree : SetTree) (text : Text) → Spells tree text → IsTrue (fits mode tree) → IsPrintableSet (rewritten mode tree) }
+    ensures printable { (mode : Compat) (tree : SetTree) (text : Text) → Spells tree text
+        → IsTrue (fits mode tree) → IsPrintableSet (rewritten mode tree) }
 {}

@@ -1,6 +1,7 @@
 //! Partials: the numbers that one states, and its pre-release as a slice of the text.
 
-ghost use Rattle.std.specs.Prelude.{◌≡◌, ◌+◌, ◌-◌, ◌^◌, ◌<◌, ◌≤◌, Some, true, List, [], map, length, IsTrue, IfOk};
+ghost use Rattle.std.specs.Prelude.{◌≡◌, ◌+◌, ◌-◌, ◌^◌, ◌<◌, ◌≤◌, Some, true, List, [], map};
+ghost use Rattle.std.specs.Prelude.{length, IsTrue, IfOk};
 ghost use Rattle.std.specs.List.{count_by, list_all, slice_split};
 ghost use Rattle.std.specs.Str.{IsUtf8};
 ghost use Rattle.semver_texts.specs.Texts.{Text};
@@ -9,7 +10,9 @@ ghost use Rattle.semver_ranges.specs.Partials.{kept, leading_place};
 ghost use Rattle.semver_ranges.specs.Reading.{is_dot};
 ghost use Rattle.semver_ranges.specs.RewritingTable.{comparator, up, bound_fits};
 ghost use Rattle.semver_ranges.specs.RangeViews.{comparator_of, identifier_of};
-ghost use Rattle.semver_ranges.specs.PartialViews.{parts_of, states_none, stated_of, version_of, place_number, written, IsComponentOf, IsPartialOf, PartsPass};
+ghost use Rattle.semver_ranges.specs.PartialViews.{parts_of, states_none, stated_of, version_of};
+ghost use Rattle.semver_ranges.specs.PartialViews.{place_number, pre_of, written, IsComponentOf};
+ghost use Rattle.semver_ranges.specs.PartialViews.{IsPartialOf, PartsPass};
 
 use crate::range::{Comparator, Identifier, Op};
 use std::alloc::{AllocError, Global};
@@ -44,14 +47,15 @@ pub(crate) enum Place {
 
 /// How a bound that is raised is written.
 #[derive(Clone, Copy)]
-pub(crate) enum Bound {
+pub(crate) enum RaisedBounds {
     /// Without pre-release, as `<2.0.0`.
     Plain,
     /// With the lowest pre-release, as `<2.0.0-0`.
     Exact,
 }
 
-/// The numbers that a partial states, with zeros for the others, and its pre-release behind three, as a slice of the text.
+/// The numbers that a partial states, with zeros for the others, and its pre-release behind three,
+/// as a slice of the text.
 #[derive(Clone, Copy)]
 pub(crate) struct Partial<'input> {
     major: u64,
@@ -128,7 +132,8 @@ impl<'input> Partial<'input> {
     /// With a second component.
     #[inline(always)]
     pub(crate) fn with_minor(mut self, component: Component) -> Partial<'input>
-        ensures { (a b : Text) → IsPartialOf (one a) self.entry → IsComponentOf b component → IsPartialOf (two a b) result }
+        ensures { (a b : Text) → IsPartialOf (one a) self.entry → IsComponentOf b component
+            → IsPartialOf (two a b) result }
     {
         let Component::Number(number) = component else {
             return self;
@@ -147,7 +152,8 @@ impl<'input> Partial<'input> {
     /// With a third component.
     #[inline(always)]
     pub(crate) fn with_patch(mut self, component: Component) -> Partial<'input>
-        ensures { (a b c : Text) → IsPartialOf (two a b) self.entry → IsComponentOf c component → IsPartialOf (three a b c [] []) result }
+        ensures { (a b c : Text) → IsPartialOf (two a b) self.entry → IsComponentOf c component
+            → IsPartialOf (three a b c [] []) result }
     {
         let Component::Number(number) = component else {
             return self;
@@ -167,7 +173,8 @@ impl<'input> Partial<'input> {
     #[inline(always)]
     pub(crate) fn with_pre(mut self, pre: &'input [u8]) -> Partial<'input>
         requires { list_all is_part (parts_of pre.now) ≡ true }
-        ensures { (a b c : Text) (build : List Text) → IsPartialOf (three a b c [] []) self.entry → IsPartialOf (three a b c (parts_of pre.now) build) result }
+        ensures { (a b c : Text) (build : List Text) → IsPartialOf (three a b c [] []) self.entry
+            → IsPartialOf (three a b c (parts_of pre.now) build) result }
     {
         if self.kind == PartialKind::MajorMinorPatch {
             self.pre = pre;
@@ -206,83 +213,6 @@ impl<'input> Partial<'input> {
         number < u64::MAX
     }
 
-    /// The bound above all versions with these numbers up to a place: that number is raised by one, those behind it are 0, and
-    /// the pre-release is that of the bound.
-    #[inline(always)]
-    pub(crate) fn raised(self, place: Place, bound: Bound) -> Partial<'input>
-        requires stated { place_number place ≤ length (stated_of self) }
-        requires fits { bound_fits (Some (up (place_number place) (stated_of self))) ≡ true }
-        ensures bound { version_of result ≡ written bound (up (place_number place) (stated_of self.entry)) }
-        ensures parts_pass { PartsPass result }
-    {
-        match place {
-            Place::Major => self.inc_major().zero_minor().zero_patch().as_bound(bound),
-            Place::Minor => self.inc_minor().zero_patch().as_bound(bound),
-            Place::Patch => self.inc_patch().as_bound(bound),
-        }
-    }
-
-    /// The major raised by one.
-    #[inline(always)]
-    fn inc_major(mut self) -> Partial<'input>
-        requires { self.major < 2 ^ 64 - 1 }
-        ensures { version_of result ≡ record (version_of self.entry) { major = self.entry.major + 1 } }
-    {
-        self.major += 1;
-        self
-    }
-
-    /// The minor raised by one.
-    #[inline(always)]
-    fn inc_minor(mut self) -> Partial<'input>
-        requires { self.minor < 2 ^ 64 - 1 }
-        ensures { version_of result ≡ record (version_of self.entry) { minor = self.entry.minor + 1 } }
-    {
-        self.minor += 1;
-        self
-    }
-
-    /// The patch raised by one.
-    #[inline(always)]
-    fn inc_patch(mut self) -> Partial<'input>
-        requires { self.patch < 2 ^ 64 - 1 }
-        ensures { version_of result ≡ record (version_of self.entry) { patch = self.entry.patch + 1 } }
-    {
-        self.patch += 1;
-        self
-    }
-
-    /// The minor as 0.
-    #[inline(always)]
-    fn zero_minor(mut self) -> Partial<'input>
-        ensures { version_of result ≡ record (version_of self.entry) { minor = 0 } }
-    {
-        self.minor = 0;
-        self
-    }
-
-    /// The patch as 0.
-    #[inline(always)]
-    fn zero_patch(mut self) -> Partial<'input>
-        ensures { version_of result ≡ record (version_of self.entry) { patch = 0 } }
-    {
-        self.patch = 0;
-        self
-    }
-
-    /// With the pre-release of a bound: none, or the lowest.
-    #[inline(always)]
-    fn as_bound(mut self, bound: Bound) -> Partial<'input>
-        ensures bound { version_of result ≡ written bound (record (version_of self.entry) { pre = [] }) }
-        ensures parts_pass { PartsPass result }
-    {
-        self.pre = match bound {
-            Bound::Plain => b"",
-            Bound::Exact => b"0",
-        };
-        self
-    }
-
     /// The comparator of an operator and this partial, with zeros for what isn't stated.
     #[inline(always)]
     pub(crate) fn as_comparator(&self, alloc: Global, op: Op) -> Result<Comparator, AllocError>
@@ -301,6 +231,49 @@ impl<'input> Partial<'input> {
             patch: self.patch,
             pre,
         })
+    }
+
+    /// Below the bound above all versions with these numbers up to a place: that number is raised
+    /// by one, and those behind it are 0.
+    #[inline(always)]
+    pub(crate) fn raised(
+        &self,
+        alloc: Global,
+        place: Place,
+        raised: RaisedBounds,
+    ) -> Result<Comparator, AllocError>
+        requires stated { place_number place ≤ length (stated_of self.now) }
+        requires fits { bound_fits (Some (up (place_number place) (stated_of self.now))) ≡ true }
+        ensures { IfOk result (λ c. comparator_of c
+            ≡ comparator Op.Lt (written raised (up (place_number place) (stated_of self.now)))) }
+    {
+        let (major, minor, patch) = match place {
+            Place::Major => (self.major + 1, 0, 0),
+            Place::Minor => (self.major, self.minor + 1, 0),
+            Place::Patch => (self.major, self.minor, self.patch + 1),
+        };
+        Ok(Comparator {
+            op: Op::Lt,
+            major,
+            minor,
+            patch,
+            pre: raised_pre(alloc, raised)?,
+        })
+    }
+}
+
+/// The pre-release of a bound that is raised: none, or the lowest.
+#[inline(always)]
+fn raised_pre(alloc: Global, raised: RaisedBounds) -> Result<Vec<Identifier>, AllocError>
+    ensures { IfOk result (λ pre. map identifier_of pre.items ≡ pre_of raised) }
+{
+    match raised {
+        RaisedBounds::Plain => Ok(Vec::new(alloc)),
+        RaisedBounds::Exact => {
+            let mut pre = Vec::with_capacity(alloc, 1)?;
+            pre.push(Identifier::Numeric(0))?;
+            Ok(pre)
+        }
     }
 }
 

@@ -45,7 +45,8 @@ pub enum Op {
     Eq,
 }
 
-/// An identifier of a comparator's pre-release. It is another type than that of versions, as in the Rust crate.
+/// An identifier of a comparator's pre-release. It is another type than that of versions, as in the
+/// Rust crate.
 #[derive(Clone, PartialEq, Eq, PartialOrd, Ord, Hash, Debug, Drop)]
 pub enum Identifier {
     /// A part made only of digits, of a value up to 2^64 - 1. Leading zeros aren't kept.
@@ -68,7 +69,8 @@ impl fmt::Display for Op {
 
     ghost output = { λ op. Some (op_text op) };
 
-    /// Writes the operator as it stands in a range text: `Op::Gte` as `>=`. It takes no memory, and its only fault is the writer's.
+    /// Writes the operator as it stands in a range text: `Op::Gte` as `>=`. It takes no memory, and
+    /// its only fault is the writer's.
     fn fmt<W: fmt::Write>(&self, f: &mut fmt::Formatter<W>) -> fmt::Result {
         f.write_str(match self {
             Op::Lt => "<",
@@ -85,8 +87,8 @@ impl fmt::Display for Identifier {
 
     ghost output = { λ i. Some (identifier_text (identifier_of i)) };
 
-    /// Writes the decimal, or the text itself: `Numeric(4)` as `4`, `AlphaNumeric("beta")` as `beta`. It takes no memory, and its
-    /// only fault is the writer's.
+    /// Writes the decimal, or the text itself: `Numeric(4)` as `4`, `AlphaNumeric("beta")` as
+    /// `beta`. It takes no memory, and its only fault is the writer's.
     fn fmt<W: fmt::Write>(&self, f: &mut fmt::Formatter<W>) -> fmt::Result {
         match self {
             Identifier::Numeric(number) => write!(f, "{number}"),
@@ -100,8 +102,9 @@ impl fmt::Display for Comparator {
 
     ghost output = { λ c. Some (comparator_text (comparator_of c)) };
 
-    /// Writes the operator and all three numbers, parted by dots; then, where there is a pre-release, `-` and its identifiers joined by
-    /// dots: `>=1.2.3-beta.4`. It takes no memory, and its only fault is the writer's.
+    /// Writes the operator and all three numbers, parted by dots; then, where there is a
+    /// pre-release, `-` and its identifiers joined by dots: `>=1.2.3-beta.4`. It takes no memory,
+    /// and its only fault is the writer's.
     fn fmt<W: fmt::Write>(&self, f: &mut fmt::Formatter<W>) -> fmt::Result {
         let (op, major, minor, patch) = (&self.op, self.major, self.minor, self.patch);
         write!(f, "{op}{major}.{minor}.{patch}")?;
@@ -114,8 +117,9 @@ impl fmt::Display for Range {
 
     ghost output = { λ r. Some (range_text (range_of r)) };
 
-    /// Writes the comparators with a space between each two: `>=1.2.3 <2.0.0`. A range without comparators is written as the empty
-    /// text. It takes no memory, and its only fault is the writer's.
+    /// Writes the comparators with a space between each two: `>=1.2.3 <2.0.0`. A range without
+    /// comparators is written as the empty text. It takes no memory, and its only fault is the
+    /// writer's.
     fn fmt<W: fmt::Write>(&self, f: &mut fmt::Formatter<W>) -> fmt::Result {
         write_joined(f, " ", &self.comparator_set)
     }

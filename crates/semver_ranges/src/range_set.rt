@@ -1,26 +1,32 @@
 //! Range sets: the ranges of a text in one of two modes, and their printed text.
 
-ghost use Rattle.std.specs.Prelude.{Some, None, ◌≡◌, ◌↔◌, ◌⊎◌, ◌++◌, ◌∷◌, ◌+◌, ◌^◌, ◌<◌, ◌≤◌, false, true, [], ℕ, Bool, List, length, map, IsTrue, IfOk, IfSome, IsOkAnd, MatchOption};
-ghost use Rattle.std.specs.List.{list_all, flat_map};
-ghost use Rattle.semver_ranges.specs.RangeTree.{Simple as SimpleTree, RangeTree, SetTree, Spells, simples};
+ghost use Rattle.std.specs.Prelude.{Some, ◌≡◌, ◌↔◌, ◌⊎◌, ◌∷◌, true, [], List, length, map, IsTrue};
+ghost use Rattle.std.specs.Prelude.{IfOk, IfSome, IsOkAnd, MatchResult};
+ghost use Rattle.std.specs.List.{list_all};
+ghost use Rattle.semver_ranges.specs.RangeTree.{Simple as SimpleTree, SetTree, Spells, simples};
 ghost use Rattle.semver_texts.specs.Texts.{Text};
 ghost use Rattle.semver_texts.specs.Versions.{PlainVersion};
 ghost use Rattle.semver_ranges.specs.OwnMeaning.{meets_tree};
-ghost use Rattle.semver_ranges.specs.RewritingTable.{PlainSet, fits, rewritten, written_simple};
+ghost use Rattle.semver_ranges.specs.RewritingTable.{PlainSet, fits, rewritten};
+ghost use Rattle.semver_ranges.specs.RangeTexts.{IsRangeText, HasSet, IsTooLarge};
 ghost use Rattle.semver_ranges.specs.ExactBounds.{rewritten_exactly};
 ghost use Rattle.semver_ranges.specs.Meeting.{meets_set, meets_tree_or_bounds};
 ghost use Rattle.semver_ranges.specs.PrintedRanges.{IsPrintableSet, set_text};
 ghost use Rattle.semver_ranges.specs.RangeViews.{range_of, set_of};
-ghost use Rattle.semver_ranges.specs.Reading.{read, read_rest};
-ghost use Rattle.semver_ranges.specs.Answers.{IsAnswer};
-ghost use Rattle.semver_ranges.specs.CursorViews.{simple_fits};
+ghost use Rattle.semver_ranges.specs.Reading.{read};
+ghost use Rattle.semver_ranges.specs.Answers.{IsAnswer, IsRefusal};
+ghost use Rattle.semver_ranges.specs.RangeEvents.{Event as EventTree, simple_fits, event_fits};
+ghost use Rattle.semver_ranges.specs.RangeEvents.{range_simples, range_others};
+ghost use Rattle.semver_ranges.specs.CursorViews.{HasLeft};
 ghost use Rattle.semver_ranges.specs.PartialViews.{written};
-ghost use Rattle.semver_ranges.specs.BoundsViews.{bounds_of, bounds_fit, range_of_simples, range_for, IsBuildable, IsRangeOf, HasRows, Fits, RestFits};
+ghost use Rattle.semver_ranges.specs.BoundsViews.{comparators_of, bounds_fit, range_of_simples};
+ghost use Rattle.semver_ranges.specs.BoundsViews.{range_for, IsBuildable, IsRow};
 
-use crate::grammar::{ends_range, next_range, read_range, read_simple};
-use crate::partial::Bound;
+use crate::events::{Event, Events};
+use crate::grammar::read_simple;
+use crate::partial::{Partial, RaisedBounds};
 use crate::range::{Compat, Range};
-use crate::rewriting::{Bounds, RangeBounds, Size, rewritten};
+use crate::rewriting::{Bounds, rewritten};
 use semver_texts::printing::write_joined;
 use std::alloc::{AllocError, Global};
 use std::fmt;
@@ -41,7 +47,8 @@ pub enum RangeError {
     /// The text isn't in the range grammar.
     #[error("not a range")]
     NotARange,
-    /// The text is in the range grammar, and a number that it states or a raised bound is above 2^64 - 1.
+    /// The text is in the range grammar, and a number that it states or a raised bound is above
+    /// 2^64 - 1.
     #[error("number too large")]
     NumberTooLarge,
     /// The text is in the grammar and its numbers fit, but a growth was refused.
@@ -52,147 +59,191 @@ pub enum RangeError {
 impl RangeSet {
     /// Reads a range text, as `>=1.2 <2 || 3.x`, into plain comparators.
     ///
-    /// The text is one or more ranges parted by `||`. A range is nothing, one or more simples parted by blanks, or two
-    /// partials round a hyphen between blanks; a simple is a partial behind `=`, `<`, `<=`, `>`, `>=`, `~`, `~>`, `^` or no
-    /// operator. A blank is a space or a tab. `docs/GRAMMAR.md` states the whole grammar, and `docs/MEANING.md` which
-    /// comparators stand for which simple, and what they mean.
+    /// The text is one or more ranges parted by `||`. A range is nothing, one or more simples
+    /// parted by blanks, or two partials round a hyphen between blanks; a simple is a partial
+    /// behind `=`, `<`, `<=`, `>`, `>=`, `~`, `~>`, `^` or no operator. A blank is a space or a
+    /// tab. `docs/GRAMMAR.md` states the whole grammar, and `docs/MEANING.md` which comparators
+    /// stand for which simple, and what they mean.
     ///
-    /// The answer has the ranges in the order of the text, each with its comparators in order, and `compat` in the set and
-    /// in each range. It has at least one range, and each range at least one comparator. The mode decides how a bare
-    /// version of three numbers is read, and nothing else. Builds are dropped.
+    /// The answer has the ranges in the order of the text, each with its comparators in order, and
+    /// `compat` in the set and in each range. It has at least one range, and each range at least
+    /// one comparator. The mode decides how a bare version of three numbers is read, and nothing
+    /// else. Builds are dropped.
     ///
-    /// In Cargo mode `1.2.3 || ~2.0.0-rc` gives `>=1.2.3 <2.0.0 || >=2.0.0-rc <2.1.0`, and in Npm mode
-    /// `=1.2.3 || >=2.0.0-rc <2.1.0`. The empty text gives `>=0.0.0`.
+    /// In Cargo mode `1.2.3 || ~2.0.0-rc` gives `>=1.2.3 <2.0.0 || >=2.0.0-rc <2.1.0`, and in Npm
+    /// mode `=1.2.3 || >=2.0.0-rc <2.1.0`. The empty text gives `>=0.0.0`.
     ///
-    /// A version meets the comparators where the text means it, or where it is a pre-release of a raised bound:
-    /// `2.0.0-alpha` is below the `<2.0.0` of `^1.2.3`. `RangeSet::parse_exact` has no such exception.
+    /// A version meets the comparators where the text means it, or where it is a pre-release of a
+    /// raised bound: `2.0.0-alpha` is below the `<2.0.0` of `^1.2.3`. `RangeSet::parse_exact` has
+    /// no such exception.
     ///
     /// # Errors
     ///
-    /// - `NotARange` exactly where the text isn't in the grammar, as `1.2.3 -4`, `>=1.0.0, <2.0.0` or `v1.2.3`.
-    /// - `NumberTooLarge` exactly where it is, and a number before the first wildcard of its partial, or an upper bound that
-    ///   is raised by one, is above 2^64 - 1, as `<=18446744073709551615`.
-    /// - `OutOfMemory` where a growth was refused. The first two answers take no memory, so this one stands in place of a
-    ///   set alone.
+    /// - `NotARange` exactly where the text isn't in the grammar, as `1.2.3 -4`, `>=1.0.0, <2.0.0`
+    ///   or `v1.2.3`.
+    /// - `NumberTooLarge` exactly where it is, and a number before the first wildcard of its
+    ///   partial, or an upper bound that is raised by one, is above 2^64 - 1, as
+    ///   `<=18446744073709551615`.
+    /// - `OutOfMemory` where a growth was refused. The first two answers take no memory, so this
+    ///   one stands in place of a set alone.
     pub fn parse(alloc: Global, input: &str, compat: Compat) -> Result<RangeSet, RangeError>
-        // There is a tree of the text that fits, and what is answered is what each tree of the text is rewritten to, in this mode.
-        ensures accepted { IfOk result (λ set. (tree : SetTree) × Spells tree input.now × IsTrue (fits compat tree)) }
-        ensures as_rewritten { IfOk result (λ set. (tree : SetTree) → Spells tree input.now → set_of set ≡ rewritten compat tree) }
+        // There is a tree of the text that fits, and what is answered is what each tree of the text
+        // is rewritten to, in this mode.
+        ensures accepted { IfOk result (λ set. HasSet compat input.now) }
+        ensures as_rewritten { IfOk result (λ set. (tree : SetTree) → Spells tree input.now
+            → set_of set ≡ rewritten compat tree) }
 
-        // Refusals. The first two are exact, and memory runs out only where there is a set to answer.
-        ensures not_a_range { (result ≡ Err RangeError.NotARange) ↔ ((tree : SetTree) → Spells tree input.now → ⊥) }
-        ensures too_large { (result ≡ Err RangeError.NumberTooLarge) ↔ ((tree : SetTree) × Spells tree input.now × (fits compat tree ≡ false)) }
-        ensures out_of_memory { result ≡ Err RangeError.OutOfMemory → (tree : SetTree) × Spells tree input.now × IsTrue (fits compat tree) }
+        // Refusals. The first two are exact, and memory runs out only where there is a set to
+        // answer.
+        ensures not_a_range { (result ≡ Err RangeError.NotARange) ↔ ¬ (IsRangeText input.now) }
+        ensures too_large { (result ≡ Err RangeError.NumberTooLarge) ↔ IsTooLarge compat input.now }
+        ensures out_of_memory { result ≡ Err RangeError.OutOfMemory → HasSet compat input.now }
 
-        // A version meets the answer exactly if some range of the text has each term met, or the version is a pre-release of that term's raised bound.
-        ensures meaning { IfOk result (λ set. (tree : SetTree) (v : PlainVersion) → Spells tree input.now →
+        // A version meets the answer exactly if some range of the text has each term met, or the
+        // version is a pre-release of that term's raised bound.
+        ensures meaning { IfOk result (λ set. (tree : SetTree) (v : PlainVersion)
+            → Spells tree input.now →
             meets_set v (set_of set) ≡ meets_tree_or_bounds compat tree v) }
-        // So a release meets it exactly if it meets what the text means by itself, and what meets that always meets the answer.
-        ensures releases { IfOk result (λ set. (tree : SetTree) (v : PlainVersion) → Spells tree input.now → v.pre ≡ [] →
+        // So a release meets it exactly if it meets what the text means by itself, and what meets
+        // that always meets the answer.
+        ensures releases { IfOk result (λ set. (tree : SetTree) (v : PlainVersion)
+            → Spells tree input.now → v.pre ≡ [] →
             meets_set v (set_of set) ≡ meets_tree compat tree v) }
-        ensures implied { IfOk result (λ set. (tree : SetTree) (v : PlainVersion) → Spells tree input.now → IsTrue (meets_tree compat tree v) →
+        ensures implied { IfOk result (λ set. (tree : SetTree) (v : PlainVersion)
+            → Spells tree input.now → IsTrue (meets_tree compat tree v) →
             IsTrue (meets_set v (set_of set))) }
 
-        // What is answered is printable, and the text of a printable set in this mode gives that set again.
+        // What is answered is printable, and the text of a printable set in this mode gives that
+        // set again.
         ensures printable { IfOk result (λ set. IsPrintableSet (set_of set)) }
-        ensures reads_back { (s : PlainSet) → IsPrintableSet s → s.compat ≡ compat → input.now ≡ set_text s →
+        ensures reads_back { (s : PlainSet) → IsPrintableSet s → s.compat ≡ compat
+            → input.now ≡ set_text s →
             (result ≡ Err RangeError.OutOfMemory) ⊎ IsOkAnd result (λ set. set_of set ≡ s) }
     {
-        read_set(alloc, input, compat, Bound::Plain)
+        parse_with(alloc, input, compat, RaisedBounds::Plain)
     }
 
-    /// Reads a range text as `RangeSet::parse` does, but with exact bounds: each upper bound that is raised by one has the
-    /// pre-release `0`, the lowest there is. The Rust crate has no such call; npm writes its bounds so.
+    /// Reads a range text as `RangeSet::parse` does, but with exact bounds: each upper bound that
+    /// is raised by one has the pre-release `0`, the lowest there is. The Rust crate has no such
+    /// call; npm writes its bounds so.
     ///
-    /// `^1.2.3-beta.4` gives `>=1.2.3-beta.4 <2.0.0-0`, `<=1.2` gives `<1.3.0-0`, and `1.x - 2` gives `>=1.0.0 <3.0.0-0`. A bound
-    /// that the text states stays as it is: `<2.0.0` and `<2` give `<2.0.0`, and `>1` gives `>1.0.0`.
+    /// `^1.2.3-beta.4` gives `>=1.2.3-beta.4 <2.0.0-0`, `<=1.2` gives `<1.3.0-0`, and `1.x - 2`
+    /// gives `>=1.0.0 <3.0.0-0`. A bound that the text states stays as it is: `<2.0.0` and `<2`
+    /// give `<2.0.0`, and `>1` gives `>1.0.0`.
     ///
-    /// Nothing of 2.0.0 is below `2.0.0-0`. So a version, a pre-release too, meets the answer exactly if it meets what the
-    /// text means by itself, without the exception of `RangeSet::parse` for the pre-releases of raised bounds.
+    /// Nothing of 2.0.0 is below `2.0.0-0`. So a version, a pre-release too, meets the answer
+    /// exactly if it meets what the text means by itself, without the exception of
+    /// `RangeSet::parse` for the pre-releases of raised bounds.
     ///
     /// # Errors
     ///
-    /// Those of `RangeSet::parse`, for the same texts. `OutOfMemory` stands in place of a set alone.
+    /// Those of `RangeSet::parse`, for the same texts. `OutOfMemory` stands in place of a set
+    /// alone.
     pub fn parse_exact(alloc: Global, input: &str, compat: Compat) -> Result<RangeSet, RangeError>
-        // There is a tree of the text that fits, and what is answered is what each tree of the text is rewritten to exactly, in this mode.
-        ensures accepted { IfOk result (λ set. (tree : SetTree) × Spells tree input.now × IsTrue (fits compat tree)) }
-        ensures as_rewritten { IfOk result (λ set. (tree : SetTree) → Spells tree input.now → set_of set ≡ rewritten_exactly compat tree) }
+        // There is a tree of the text that fits, and what is answered is what each tree of the text
+        // is rewritten to exactly, in this mode.
+        ensures accepted { IfOk result (λ set. HasSet compat input.now) }
+        ensures as_rewritten { IfOk result (λ set. (tree : SetTree) → Spells tree input.now
+            → set_of set ≡ rewritten_exactly compat tree) }
 
-        // Refusals. The first two are exact, and memory runs out only where there is a set to answer.
-        ensures not_a_range { (result ≡ Err RangeError.NotARange) ↔ ((tree : SetTree) → Spells tree input.now → ⊥) }
-        ensures too_large { (result ≡ Err RangeError.NumberTooLarge) ↔ ((tree : SetTree) × Spells tree input.now × (fits compat tree ≡ false)) }
-        ensures out_of_memory { result ≡ Err RangeError.OutOfMemory → (tree : SetTree) × Spells tree input.now × IsTrue (fits compat tree) }
+        // Refusals. The first two are exact, and memory runs out only where there is a set to
+        // answer.
+        ensures not_a_range { (result ≡ Err RangeError.NotARange) ↔ ¬ (IsRangeText input.now) }
+        ensures too_large { (result ≡ Err RangeError.NumberTooLarge) ↔ IsTooLarge compat input.now }
+        ensures out_of_memory { result ≡ Err RangeError.OutOfMemory → HasSet compat input.now }
 
         // A version meets the answer exactly if it meets what the text means by itself.
-        ensures meaning { IfOk result (λ set. (tree : SetTree) (v : PlainVersion) → Spells tree input.now →
+        ensures meaning { IfOk result (λ set. (tree : SetTree) (v : PlainVersion)
+            → Spells tree input.now →
             meets_set v (set_of set) ≡ meets_tree compat tree v) }
 
-        // What is answered is printable, and its text is a range text that `RangeSet::parse` rewrites to that set again.
+        // What is answered is printable, and its text is a range text that `RangeSet::parse`
+        // rewrites to that set again.
         ensures printable { IfOk result (λ set. IsPrintableSet (set_of set)) }
-        ensures reads_back { IfOk result (λ set. (tree : SetTree) × Spells tree (set_text (set_of set)) × IsTrue (fits compat tree)
+        ensures reads_back { IfOk result (λ set. (tree : SetTree)
+            × Spells tree (set_text (set_of set)) × IsTrue (fits compat tree)
             × (rewritten compat tree ≡ set_of set)) }
+        // This call gives it again too: the text of a printable set in this mode gives that set.
+        ensures reads_exactly_back { (s : PlainSet) → IsPrintableSet s → s.compat ≡ compat
+            → input.now ≡ set_text s →
+            (result ≡ Err RangeError.OutOfMemory) ⊎ IsOkAnd result (λ set. set_of set ≡ s) }
     {
-        read_set(alloc, input, compat, Bound::Exact)
+        parse_with(alloc, input, compat, RaisedBounds::Exact)
     }
 
-    /// Reads a range text in Cargo mode: what `RangeSet::parse` answers with `Compat::Cargo`, with its errors.
+    /// Reads a range text in Cargo mode: what `RangeSet::parse` answers with `Compat::Cargo`, with
+    /// its errors.
     ///
     /// `1.2.3` gives `>=1.2.3 <2.0.0`, and `1.2` gives `>=1.2.0 <1.3.0`.
     pub fn from_str(alloc: Global, input: &str) -> Result<RangeSet, RangeError>
-        // There is a tree of the text that fits, and what is answered is what each tree of the text is rewritten to, in this mode.
-        ensures accepted { IfOk result (λ set. (tree : SetTree) × Spells tree input.now × IsTrue (fits Compat.Cargo tree)) }
-        ensures as_rewritten { IfOk result (λ set. (tree : SetTree) → Spells tree input.now → set_of set ≡ rewritten Compat.Cargo tree) }
+        // There is a tree of the text that fits, and what is answered is what each tree of the text
+        // is rewritten to, in this mode.
+        ensures accepted { IfOk result (λ set. HasSet Compat.Cargo input.now) }
+        ensures as_rewritten { IfOk result (λ set. (tree : SetTree) → Spells tree input.now
+            → set_of set ≡ rewritten Compat.Cargo tree) }
 
-        // Refusals. The first two are exact, and memory runs out only where there is a set to answer.
-        ensures not_a_range { (result ≡ Err RangeError.NotARange) ↔ ((tree : SetTree) → Spells tree input.now → ⊥) }
-        ensures too_large { (result ≡ Err RangeError.NumberTooLarge) ↔ ((tree : SetTree) × Spells tree input.now × (fits Compat.Cargo tree ≡ false)) }
-        ensures out_of_memory { result ≡ Err RangeError.OutOfMemory → (tree : SetTree) × Spells tree input.now × IsTrue (fits Compat.Cargo tree) }
+        // Refusals. The first two are exact, and memory runs out only where there is a set to
+        // answer.
+        ensures not_a_range { (result ≡ Err RangeError.NotARange) ↔ ¬ (IsRangeText input.now) }
+        ensures too_large { (result ≡ Err RangeError.NumberTooLarge)
+            ↔ IsTooLarge Compat.Cargo input.now }
+        ensures out_of_memory { result ≡ Err RangeError.OutOfMemory
+            → HasSet Compat.Cargo input.now }
 
-        // A version meets the answer exactly if some range of the text has each term met, or the version is a pre-release of that term's raised bound.
-        ensures meaning { IfOk result (λ set. (tree : SetTree) (v : PlainVersion) → Spells tree input.now →
+        // A version meets the answer exactly if some range of the text has each term met, or the
+        // version is a pre-release of that term's raised bound.
+        ensures meaning { IfOk result (λ set. (tree : SetTree) (v : PlainVersion)
+            → Spells tree input.now →
             meets_set v (set_of set) ≡ meets_tree_or_bounds Compat.Cargo tree v) }
-        // So a release meets it exactly if it meets what the text means by itself, and what meets that always meets the answer.
-        ensures releases { IfOk result (λ set. (tree : SetTree) (v : PlainVersion) → Spells tree input.now → v.pre ≡ [] →
+        // So a release meets it exactly if it meets what the text means by itself, and what meets
+        // that always meets the answer.
+        ensures releases { IfOk result (λ set. (tree : SetTree) (v : PlainVersion)
+            → Spells tree input.now → v.pre ≡ [] →
             meets_set v (set_of set) ≡ meets_tree Compat.Cargo tree v) }
-        ensures implied { IfOk result (λ set. (tree : SetTree) (v : PlainVersion) → Spells tree input.now → IsTrue (meets_tree Compat.Cargo tree v) →
+        ensures implied { IfOk result (λ set. (tree : SetTree) (v : PlainVersion)
+            → Spells tree input.now → IsTrue (meets_tree Compat.Cargo tree v) →
             IsTrue (meets_set v (set_of set))) }
 
-        // What is answered is printable, and the text of a printable set in this mode gives that set again.
+        // What is answered is printable, and the text of a printable set in this mode gives that
+        // set again.
         ensures printable { IfOk result (λ set. IsPrintableSet (set_of set)) }
-        ensures reads_back { (s : PlainSet) → IsPrintableSet s → s.compat ≡ Compat.Cargo → input.now ≡ set_text s →
+        ensures reads_back { (s : PlainSet) → IsPrintableSet s → s.compat ≡ Compat.Cargo
+            → input.now ≡ set_text s →
             (result ≡ Err RangeError.OutOfMemory) ⊎ IsOkAnd result (λ set. set_of set ≡ s) }
     {
-        read_set(alloc, input, Compat::Cargo, Bound::Plain)
+        parse_with(alloc, input, Compat::Cargo, RaisedBounds::Plain)
     }
 }
 
-/// The range set of a text, or why there is none.
-fn read_set(
+/// The range set of a text, or why there is none: a text that is one simple is read at once, and
+/// any other in two runs.
+fn parse_with(
     alloc: Global,
     input: &str,
     compat: Compat,
-    bound: Bound,
+    raised: RaisedBounds,
 ) -> Result<RangeSet, RangeError>
-    ensures { IsAnswer (written bound) input.now compat result }
+    ensures { IsAnswer (written raised) input.now compat result }
 {
     let text = input.as_bytes();
-    let Some(bounds) = read_only_simple(text, compat) else {
-        return read_ranges(alloc, text, compat, bound);
+    let Some((partial, bounds)) = read_only_simple(text, compat) else {
+        return read_ranges(alloc, text, compat, raised);
     };
-    match build_only_simple(alloc, bounds, compat, bound) {
+    match build_only_simple(alloc, &partial, bounds, compat, raised) {
         Ok(set) => Ok(set),
         Err(_) => Err(RangeError::OutOfMemory),
     }
 }
 
-/// Texts of more bytes are seldom one simple: the reader of ranges has them at once.
-const LONGEST_ONLY_SIMPLE: usize = 24;
+/// For speed: texts of more bytes are seldom one simple, so the two runs have them at once.
+const LONGEST_ONLY_SIMPLE: usize = 14;
 
-/// The comparators of a text that is one simple from its first byte on, and that fits. What it doesn't find, the reader of ranges decides.
+/// The comparators of a text that is one simple from its first byte on, and that fits. What it
+/// doesn't find, the two runs decide.
 #[inline(always)]
-fn read_only_simple(text: &[u8], compat: Compat) -> Option<Bounds<'_>>
-    ensures { IfSome result (λ bounds. (s : SimpleTree) × (read text.now ≡ Some (simples s [] ∷ [])) × (simple_fits compat s ≡ true)
-        × IsBuildable bounds × (bounds_fit bounds ≡ true) × ((write : PlainVersion → PlainVersion) → bounds_of write bounds ≡ written_simple write compat s)) }
+fn read_only_simple(text: &[u8], compat: Compat) -> Option<(Partial<'_>, Bounds)>
+    ensures { IfSome result (λ found. (s : SimpleTree) × (read text.now ≡ Some (simples s [] ∷ []))
+        × IsRow compat s found.0 found.1 × (simple_fits compat s ≡ true)) }
 {
     if text.len() > LONGEST_ONLY_SIMPLE {
         return None;
@@ -202,23 +253,32 @@ fn read_only_simple(text: &[u8], compat: Compat) -> Option<Bounds<'_>>
         return None;
     }
     let bounds = rewritten(&simple, compat);
-    if bounds.fits() { Some(bounds) } else { None }
+    if bounds.fits(&simple.partial) {
+        Some((simple.partial, bounds))
+    } else {
+        None
+    }
 }
 
 /// The set of one range that has these comparators.
 fn build_only_simple(
     alloc: Global,
-    bounds: Bounds<'_>,
+    partial: &Partial<'_>,
+    bounds: Bounds,
     compat: Compat,
-    bound: Bound,
+    raised: RaisedBounds,
 ) -> Result<RangeSet, AllocError>
-    requires buildable { IsBuildable bounds }
-    requires fits { bounds_fit bounds ≡ true }
-    ensures { IfOk result (λ set. set_of set ≡ record { ranges = record { comparators = bounds_of (written bound) bounds.entry; compat = compat } ∷ []; compat = compat }) }
+    requires buildable { IsBuildable bounds partial.now }
+    requires fits { bounds_fit bounds partial.now ≡ true }
+    ensures { IfOk result (λ set. set_of set ≡ record {
+      ranges = record { comparators = comparators_of raised bounds partial.now; compat = compat }
+          ∷ [];
+      compat = compat;
+    }) }
 {
     let mut ranges = Vec::with_capacity(alloc, 1)?;
     let mut comparator_set = Vec::with_capacity(alloc, bounds.count())?;
-    bounds.push(alloc, &mut comparator_set, bound)?;
+    bounds.push(alloc, partial, &mut comparator_set, raised)?;
     ranges.push(Range {
         comparator_set,
         compat,
@@ -226,205 +286,132 @@ fn build_only_simple(
     Ok(RangeSet { ranges, compat })
 }
 
-/// The range set of a text of any ranges: first all of it is read, for the grammar and the sizes, and then it is built.
+/// The range set of a text in two runs over its events: the first surveys all of it, and the second
+/// builds.
 #[inline(never)]
 fn read_ranges(
     alloc: Global,
     text: &[u8],
     compat: Compat,
-    bound: Bound,
+    raised: RaisedBounds,
 ) -> Result<RangeSet, RangeError>
-    ensures { IsAnswer (written bound) text.now compat result }
+    ensures { IsAnswer (written raised) text.now compat result }
 {
-    let Some(first) = read_range(text) else {
-        return Err(RangeError::NotARange);
-    };
-    let first = first.rewritten(compat);
-    let size = first.size(compat);
-    let Some(others) = survey(size.rest, compat) else {
-        return Err(RangeError::NotARange);
-    };
-    if !(size.fits && others.fit) {
-        return Err(RangeError::NumberTooLarge);
-    }
-    match build_ranges(alloc, first, &size, &others, compat, bound) {
+    let sizes = survey(text, compat)?;
+    match build(alloc, text, &sizes, compat, raised) {
         Ok(ranges) => Ok(RangeSet { ranges, compat }),
         Err(_) => Err(RangeError::OutOfMemory),
     }
 }
 
-/// What there is to know of the ranges behind a first before they are built.
+/// For speed: of so many ranges the survey remembers how many comparators they have. Those of
+/// further ranges are counted again.
+const REMEMBERED: usize = 8;
+
+/// How many ranges a text has, and how many comparators the first of them have.
 #[derive(Clone, Copy)]
-struct Others {
-    count: usize,
-    fit: bool,
+struct Sizes {
+    ranges: usize,
+    comparators: [usize; REMEMBERED],
 }
 
-/// The ranges from the end of a first one on, where all that is left is ranges: how many, and whether they fit.
+/// The sizes of a text, or why there is no set of it.
 #[inline(always)]
-fn survey(rest: &[u8], compat: Compat) -> Option<Others>
-    ensures { MatchOption result (read_rest rest.now ≡ None)
-        (λ others. (tree : SetTree) × (read_rest rest.now ≡ Some tree) × (others.count ≡ length tree) × (others.fit ≡ fits compat tree)) }
+fn survey(text: &[u8], compat: Compat) -> Result<Sizes, RangeError>
+    ensures { MatchResult result
+        (λ sizes. (tree : SetTree) × (read text.now ≡ Some tree) × IsTrue (fits compat tree)
+        × (sizes.ranges ≡ length tree))
+        (λ e. IsRefusal text.now compat e) }
 {
-    let none = Others {
-        count: 0,
-        fit: true,
-    };
-    if rest.is_empty() {
-        return Some(none);
+    let mut comparators = [0usize; REMEMBERED];
+    let mut ended = 0usize;
+    let mut fit = true;
+    for event in Events::new(text) {
+        match event? {
+            Event::Simple(simple) => {
+                let bounds = rewritten(&simple, compat);
+                fit &= bounds.fits(&simple.partial);
+                if let Some(count) = comparators.get_mut(ended) {
+                    *count = count.saturating_add(bounds.count());
+                }
+            }
+            Event::NextRange => ended += 1,
+        }
     }
-    let mut others = none;
-    let left = each_range(rest, compat, &mut others);
-    if left.is_empty() { Some(others) } else { None }
+    if !fit {
+        return Err(RangeError::NumberTooLarge);
+    }
+    Ok(Sizes {
+        ranges: ended + 1,
+        comparators,
+    })
 }
 
-/// The ranges of a text: the first as it was read, and the others as they stand behind it.
-#[inline(always)]
-fn build_ranges<'input>(
+/// The ranges of a text that was surveyed.
+fn build(
     alloc: Global,
-    first: RangeBounds<'input>,
-    size: &Size<'input>,
-    others: &Others,
+    text: &[u8],
+    sizes: &Sizes,
     compat: Compat,
-    bound: Bound,
+    raised: RaisedBounds,
 ) -> Result<Vec<Range>, AllocError>
-    requires first { Fits compat first }
-    requires others { RestFits compat (read_rest size.now.rest.now) }
-    ensures { IfOk result (λ ranges. (ss : List SimpleTree) (end : Text) (tree : SetTree) → HasRows compat first.entry ss end → list_all (simple_fits compat) ss ≡ true
-        → read_rest size.now.rest.now ≡ Some tree
-        → map range_of ranges.items ≡ range_of_simples (written bound) compat ss ∷ map (range_for (written bound) compat) tree) }
+    requires { (tree : SetTree) × (read text.now ≡ Some tree) × IsTrue (fits compat tree)
+        × (sizes.now.ranges ≡ length tree) }
+    ensures { IfOk result (λ ranges. (tree : SetTree) → read text.now ≡ Some tree →
+        map range_of ranges.items ≡ map (range_for (written raised) compat) tree) }
 {
-    let mut ranges = Vec::with_capacity(alloc, others.count.saturating_add(1))?;
-    ranges.push(first.build(alloc, size.count, compat, bound)?)?;
-    if size.rest.is_empty() {
-        return Ok(ranges);
+    let mut events = Events::new(text);
+    let mut ranges = Vec::with_capacity(alloc, sizes.ranges)?;
+    for at in 0..sizes.ranges {
+        let count = match sizes.comparators.get(at) {
+            Some(count) => *count,
+            None => count_ahead(events, compat),
+        };
+        ranges.push(build_range(alloc, &mut events, count, compat, raised)?)?;
     }
-    let mut builder = RangeBuilder {
-        alloc,
-        bound,
-        ranges,
-        is_refused: false,
-    };
-    each_range(size.rest, compat, &mut builder);
-    if builder.is_refused {
-        return Err(AllocError);
-    }
-    Ok(builder.ranges)
+    Ok(ranges)
 }
 
-/// What is done with the ranges behind a first, one after the other.
-trait TakeRanges {
-    ghost use Rattle.semver_ranges.specs.declared.range.Compat.{Compat};
-
-    // From a first state on, these ranges were taken, in this mode.
-    ghost taken: { Compat → Self → SetTree → Self → Type 0 };
-    // How many were counted.
-    ghost counted: { Self → ℕ };
-    // Whether it takes only what fits.
-    ghost wants_fit: { Bool };
-
-    /// Takes one more range, by its comparators and their size.
-    fn take(&mut self, range: &RangeBounds<'_>, size: &Size<'_>, compat: Compat)
-        requires fits { wants_fit ≡ true → Fits compat range.now × (size.now.fits ≡ true) }
-        requires room { counted self.now + 1 < 2 ^ 64 }
-        ensures taken { (first : Self) (done : SetTree) (x : RangeTree) → taken compat first done self.old → IsRangeOf compat x range.now size.now
-            → taken compat first (done ++ x ∷ []) self.new }
-        ensures counted { counted self.new ≤ counted self.old + 1 };
-}
-
-/// Takes the ranges from the end of a first one on, and answers what is left of the text: where all of it is ranges, nothing.
-#[inline(always)]
-fn each_range<'input, T: TakeRanges>(
-    text: &'input [u8],
-    compat: Compat,
-    taker: &mut T,
-) -> &'input [u8]
-    requires begins { T.taken compat taker.now [] taker.now }
-    requires fit { T.wants_fit ≡ true → RestFits compat (read_rest text.now) }
-    requires room { T.counted taker.now + length text.now < 2 ^ 64 }
-    ensures taken { (tree : SetTree) → read_rest text.now ≡ Some tree → T.taken compat taker.old tree taker.new × (length result.now ≡ 0) }
-    ensures fault { read_rest text.now ≡ None → 0 < length result.now }
-{
-    let mut rest = text;
-    while let Some(range) = next_range(rest) {
-        let range = range.rewritten(compat);
-        let size = range.size(compat);
-        if !ends_range(size.rest) {
-            return size.rest;
-        }
-        taker.take(&range, &size, compat);
-        rest = size.rest;
-    }
-    rest
-}
-
-impl TakeRanges for Others {
-    ghost use Rattle.semver_ranges.specs.BoundsViews.{HasSurveyed};
-
-    ghost taken = { HasSurveyed };
-
-    ghost counted = { λ o. o.count };
-
-    ghost wants_fit = { false };
-
-    #[inline(always)]
-    fn take(&mut self, _range: &RangeBounds<'_>, size: &Size<'_>, _compat: Compat) {
-        self.count += 1;
-        self.fit = self.fit && size.fits;
-    }
-}
-
-/// Ranges that are built. After a growth that was refused it builds no more.
-#[derive(Drop)]
-struct RangeBuilder {
+/// The range up to the next one, its comparators in a vector of their number.
+fn build_range(
     alloc: Global,
-    bound: Bound,
-    ranges: Vec<Range>,
-    is_refused: bool,
+    events: &mut Events<'_>,
+    count: usize,
+    compat: Compat,
+    raised: RaisedBounds,
+) -> Result<Range, AllocError>
+    requires { (es : List EventTree) × HasLeft events.old (Some es)
+        × IsTrue (list_all (event_fits compat) es) }
+    ensures { IfOk result (λ range. (es : List EventTree) → HasLeft events.old (Some es)
+        → IsTrue (list_all (event_fits compat) es) →
+        (range_of range ≡ range_of_simples (written raised) compat (range_simples es))
+        × HasLeft events.new (Some (range_others es))) }
+{
+    let mut comparator_set = Vec::with_capacity(alloc, count)?;
+    while let Some(Ok(Event::Simple(simple))) = events.next() {
+        rewritten(&simple, compat).push(alloc, &simple.partial, &mut comparator_set, raised)?;
+    }
+    Ok(Range {
+        comparator_set,
+        compat,
+    })
 }
 
-impl RangeBuilder {
-    /// Adds a range.
-    #[inline(always)]
-    fn push(
-        &mut self,
-        range: &RangeBounds<'_>,
-        size: &Size<'_>,
-        compat: Compat,
-    ) -> Result<(), AllocError>
-        requires fits { Fits compat range.now }
-        ensures range { IfOk result (λ _. (ss : List SimpleTree) (end : Text) → HasRows compat range.now ss end → list_all (simple_fits compat) ss ≡ true
-            → map range_of self.new.ranges.items ≡ map range_of self.old.ranges.items ++ range_of_simples (written self.old.bound) compat ss ∷ []) }
-        ensures bound { self.new.bound ≡ self.old.bound }
-    {
-        let built = range.build(self.alloc, size.count, compat, self.bound)?;
-        self.ranges.push(built)?;
-        Ok(())
+/// How many comparators there are up to the next range.
+#[inline(never)]
+fn count_ahead(mut events: Events<'_>, compat: Compat) -> usize {
+    let mut count = 0usize;
+    while let Some(Ok(Event::Simple(simple))) = events.next() {
+        count = count.saturating_add(rewritten(&simple, compat).count());
     }
-}
-
-impl TakeRanges for RangeBuilder {
-    ghost use Rattle.semver_ranges.specs.BoundsViews.{HasBuilt};
-
-    ghost taken = { HasBuilt };
-
-    ghost counted = { λ _. 0 };
-
-    ghost wants_fit = { true };
-
-    #[inline(always)]
-    fn take(&mut self, range: &RangeBounds<'_>, size: &Size<'_>, compat: Compat) {
-        if !self.is_refused {
-            self.is_refused = self.push(range, size, compat).is_err();
-        }
-    }
+    count
 }
 
 impl fmt::Display for RangeSet {
     ghost output = { λ s. Some (set_text (set_of s)) };
 
-    /// Writes the ranges with ` || ` between each two: `>=1.2.3 <2.0.0 || =3.0.0`. The mode isn't written. It takes no memory, and its only
-    /// fault is the writer's.
+    /// Writes the ranges with ` || ` between each two: `>=1.2.3 <2.0.0 || =3.0.0`. The mode isn't
+    /// written. It takes no memory, and its only fault is the writer's.
     fn fmt<W: fmt::Write>(&self, f: &mut fmt::Formatter<W>) -> fmt::Result {
         write_joined(f, " || ", &self.ranges)
     }

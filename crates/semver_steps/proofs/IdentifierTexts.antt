@@ -1,5 +1,6 @@
 -- The text that an identifier's tokens spell is the longest front of letters, digits and hyphens.
-use Rattle.std.proofs.Common.{◌≡◌, ℕ, ◌+◌, ◌<◌, Bool, true, false, eqb, ◌||◌, List, [], ◌∷◌, ◌++◌, length, Some, Option, Result, Ok, Err, sym, refl, ap, ◌∙◌, subst, ◌⊎◌, inl, inr, arith, append_assoc}
+use Rattle.std.proofs.Common.{◌≡◌, ℕ, ◌+◌, ◌<◌, Bool, true, false, eqb, ◌||◌, List, [], ◌∷◌, ◌++◌, length, Some, Option, Result, Ok, Err}
+use Rattle.std.proofs.Common.{sym, refl, ap, ◌∙◌, subst, ◌⊎◌, inl, inr, arith, append_assoc}
 use Rattle.std.specs.Prelude.{IsTrue, slice_index, take_while, not}
 use Rattle.std.specs.List.{AllByRecursion, prefix_len, join_by}
 use Rattle.std.specs.Char.{is_ascii_alphanumeric}
@@ -8,11 +9,12 @@ use Rattle.std.proofs.lemmas.Grind.{flat_map-append}
 use Rattle.std.proofs.lemmas.Option.{none-some, same_Some}
 use Rattle.std.proofs.lemmas.Bool.Decides.{nat_tests}
 use Rattle.semver_texts.specs.Texts.{is_part_byte}
-use Rattle.semver_tokens.specs.Tokens.{TokenValue, Hyphen, Whitespace, Numeric, AlphaNumeric, is_component, is_sign, token_text, tokens_text, IsTokenAt, IsBadStart, AreInPlace, NoneMerge, AreTokensFrom}
+use Rattle.semver_tokens.specs.Tokens.{TokenValue, Hyphen, Whitespace, Numeric, AlphaNumeric, is_component, is_sign, token_text}
+use Rattle.semver_tokens.specs.Tokens.{tokens_text, IsTokenAt, IsBadStart, AreInPlace, NoneMerge, AreTokensFrom}
 use Rattle.semver_tokens.specs.ParserState.{ParserState, IsStateFrom}
-use Rattle.semver_steps.specs.VersionGrammar.{SpellsIdentifier}
+use Rattle.semver_texts.specs.VersionGrammar.{SpellsIdentifier}
 use Rattle.semver_steps.specs.VersionReading.{Reads, IsIdentifierShape, inner_text, inner_texts, HoldsRun, MayRunOutInIdentifier}
-use Rattle.semver_steps.specs.Taking.{run, PassesIdentifier, lone_number}
+use Rattle.semver_steps.specs.Means.Taking.{run, PassesIdentifier, lone_number}
 use Rattle.semver_steps.specs.ParserViews.{fault_of, UnlessOutOfMemory, IfOutOfMemory}
 use Rattle.semver_steps.specs.declared.parser.Error.{Error}
 use Rattle.semver_steps.specs.declared.parser.Error.TheVariants as error
@@ -76,15 +78,19 @@ well_formed text place (Numeric n) w = w
 well_formed text place (AlphaNumeric s) w = w
 well_formed text place _ w = tt
 
-front_well_formed : (text : List ℕ) (place : ℕ) (ts us : List TokenValue) → AreInPlace text place (ts ++ us) → AllByRecursion IsWellFormed ts
+front_well_formed : (text : List ℕ) (place : ℕ) (ts us : List TokenValue) → AreInPlace text place (ts ++ us)
+    → AllByRecursion IsWellFormed ts
 front_well_formed text place [] us a = tt
-front_well_formed text place (t ∷ ts) us a = (well_formed text place t a.0, front_well_formed text (place + length (token_text text t)) ts us a.1)
+front_well_formed text place (t ∷ ts) us a =
+    (well_formed text place t a.0, front_well_formed text (place + length (token_text text t)) ts us a.1)
 
 -- ---- what follows
 
 -- a token other than a hyphen doesn't begin with one
-other_hyphen : (text : List ℕ) (place : ℕ) (t : TokenValue) → IsTokenAt text place t → ¬ (t ≡ Hyphen) → is_component t ≡ false → is_part_byte (slice_index (token_text text t) 0) ≡ false
-other_hyphen text place (Whitespace first after) w other run = space_no_part (slice_index (token_text text (Whitespace first after)) 0) (shows_kind text place (Whitespace first after) w).space
+other_hyphen : (text : List ℕ) (place : ℕ) (t : TokenValue) → IsTokenAt text place t → ¬ (t ≡ Hyphen) → is_component t ≡ false
+    → is_part_byte (slice_index (token_text text t) 0) ≡ false
+other_hyphen text place (Whitespace first after) w other run =
+    space_no_part (slice_index (token_text text (Whitespace first after)) 0) (shows_kind text place (Whitespace first after) w).space
   where
     space_no_part : (b : ℕ) → ((eqb b 32 || eqb b 9) || (eqb b 10 || eqb b 13)) ≡ true → is_part_byte b ≡ false
     space_no_part b h = grind (arith, nat_tests)
@@ -107,7 +113,8 @@ bad_byte (b ∷ bs) (inr bad) = no_part b (opens_nothing b bs bad.1).2 (no_sign 
     no_part b r s = grind (arith, nat_tests)
 
 -- the last of the tokens of an identifier is a run, so no run follows
-no_run_follows : (s : Bool) (ts : List TokenValue) (t : TokenValue) (us : List TokenValue) → 0 < length ts → run id_step s ts ≡ Some true → NoneMerge (ts ++ t ∷ us) → is_component t ≡ false
+no_run_follows : (s : Bool) (ts : List TokenValue) (t : TokenValue) (us : List TokenValue) → 0 < length ts → run id_step s ts ≡ Some true
+    → NoneMerge (ts ++ t ∷ us) → is_component t ≡ false
 no_run_follows s [] t us some e none = absurd (omega (arith, some))
 no_run_follows false (Numeric n ∷ []) t us some e none = false_from_not (is_component t) none.0
 no_run_follows false (AlphaNumeric b ∷ []) t us some e none = false_from_not (is_component t) none.0
@@ -121,20 +128,24 @@ no_run_follows true (Hyphen ∷ y ∷ ts) t us some e none = no_run_follows fals
 no_run_follows true (x ∷ y ∷ ts) t us some e none = absurd (none-some true e)
 
 -- the first of the tokens behind some stands in its place
-pub behind_in_place : (text : List ℕ) (place : ℕ) (ts : List TokenValue) (t : TokenValue) (us : List TokenValue) → AreInPlace text place (ts ++ t ∷ us) → (at : ℕ) × IsTokenAt text at t
+pub behind_in_place : (text : List ℕ) (place : ℕ) (ts : List TokenValue) (t : TokenValue) (us : List TokenValue)
+    → AreInPlace text place (ts ++ t ∷ us) → (at : ℕ) × IsTokenAt text at t
 behind_in_place text place [] t us a = (place, a.0)
 behind_in_place text place (x ∷ ts) t us a = behind_in_place text (place + length (token_text text x)) ts t us a.1
 
 -- what follows begins with none of these bytes
-follows : (text : List ℕ) (place : ℕ) (ts rest : List TokenValue) (end : List ℕ) → 0 < length ts → run id_step false ts ≡ Some true → Stops id_step true rest
-    → AreInPlace text place (ts ++ rest) → NoneMerge (ts ++ rest) → (end ≡ []) ⊎ IsBadStart end → is_part_byte (slice_index (tokens_text text rest ++ end) 0) ≡ false
+follows : (text : List ℕ) (place : ℕ) (ts rest : List TokenValue) (end : List ℕ) → 0 < length ts → run id_step false ts ≡ Some true
+    → Stops id_step true rest
+    → AreInPlace text place (ts ++ rest) → NoneMerge (ts ++ rest) → (end ≡ []) ⊎ IsBadStart end
+    → is_part_byte (slice_index (tokens_text text rest ++ end) 0) ≡ false
 follows text place ts [] end some leads stops in_place none ended = bad_byte end ended
 follows text place ts (t ∷ us) end some leads stops in_place none ended =
     let here = behind_in_place text place ts t us in_place in
     let shown : 0 < length (token_text text t) = (shows_kind text here.0 t here.1).some in
     ap (λ (l : List ℕ). is_part_byte (slice_index l 0)) (append_assoc (token_text text t) (tokens_text text us) end)
     ∙ ap is_part_byte (get_or_append_left (token_text text t) (tokens_text text us ++ end) 0 0 shown)
-    ∙ other_hyphen text here.0 t here.1 (λ e. none-some false (sym stops ∙ ap (id_step true) e)) (no_run_follows false ts t us some leads none)
+    ∙ other_hyphen text here.0 t here.1 (λ e. none-some false (sym stops ∙ ap (id_step true) e))
+    (no_run_follows false ts t us some leads none)
 
 some_led : (ts : List TokenValue) → run id_step false ts ≡ Some true → 0 < length ts
 some_led [] e = absurd (clash (same_Some false true e))
@@ -150,39 +161,47 @@ pub record IsCut (text : List ℕ) (front : List TokenValue) : Type 0 where
   pub cut : take_while is_part_byte text ≡ inner_texts front
   pub well : AllByRecursion IsWellFormed front
 
-pub front_is_cut : (text : List ℕ) (s t : ParserState) (n : Option ℕ) → IsStateFrom text s → (w : PassesIdentifier s (Ok n) t) → IsCut text w.front
+pub front_is_cut : (text : List ℕ) (s t : ParserState) (n : Option ℕ) → IsStateFrom text s → (w : PassesIdentifier s (Ok n) t)
+    → IsCut text w.front
 front_is_cut text s t n from w =
     let front : List TokenValue = w.front in
     let whole = identifier_is_read.read front w.answer.0.0 in
     let leads : run id_step false front ≡ Some true = whole.1 ∙ ap (λ (b : Bool). Some b) whole.2 in
     let stop = longest_stops id_step (λ b. b) false IsIdentifierShape identifier_is_read s.remaining front w.rest w.longest in
-    let stops : Stops id_step true w.rest = subst (λ (b : Bool). Stops id_step b w.rest) (same_Some stop.0 true (sym stop.1 ∙ leads)) stop.2 in
-    let tokens : AreTokensFrom from.input from.place (front ++ w.rest) from.rest = subst (λ (l : List TokenValue). AreTokensFrom from.input from.place l from.rest) w.longest.split from.tokens in
+    let stops : Stops id_step true w.rest = subst (λ (b : Bool). Stops id_step b w.rest)
+    (same_Some stop.0 true (sym stop.1 ∙ leads)) stop.2 in
+    let tokens : AreTokensFrom from.input from.place (front ++ w.rest) from.rest = subst
+    (λ (l : List TokenValue). AreTokensFrom from.input from.place l from.rest) w.longest.split from.tokens in
     let well : AllByRecursion IsWellFormed front = front_well_formed from.input from.place front w.rest tokens.in_place in
     let after : List ℕ = tokens_text from.input w.rest ++ from.rest in
     let spelled : text ≡ inner_texts front ++ after =
     from.begins ∙ tokens.spelled ∙ ap (λ (l : List ℕ). l ++ from.rest) (flat_map-append (token_text from.input) front w.rest)
-    ∙ append_assoc (tokens_text from.input front) (tokens_text from.input w.rest) from.rest ∙ ap (λ (l : List ℕ). l ++ after) (pieces_text from.input front (pieces false true front leads)) in
+    ∙ append_assoc (tokens_text from.input front) (tokens_text from.input w.rest) from.rest
+    ∙ ap (λ (l : List ℕ). l ++ after) (pieces_text from.input front (pieces false true front leads)) in
     let len : prefix_len is_part_byte (inner_texts front ++ after) ≡ length (inner_texts front) =
     prefix_is is_part_byte (inner_texts front) after (pieces_bytes front (pieces false true front leads) well) refl
-    (follows from.input from.place front w.rest from.rest (some_led front leads) leads stops tokens.in_place tokens.none_merge tokens.ended) in
+    (follows from.input from.place front w.rest from.rest (some_led front leads) leads stops tokens.in_place tokens.none_merge tokens.ended)
+    in
     record {
       cut = ap (take_while is_part_byte) spelled ∙ take_at (inner_texts front) after _ (sym len);
       well = well;
     }
 
 -- so it has the value of which the tokens tell
-pub front_has_value : (text : List ℕ) (s t : ParserState) (n : Option ℕ) → IsStateFrom text s → (w : PassesIdentifier s (Ok n) t) → n ≡ lone_number w.front → SpellsIdentifier (kept_as n (take_while is_part_byte text)) (inner_texts w.front)
+pub front_has_value : (text : List ℕ) (s t : ParserState) (n : Option ℕ) → IsStateFrom text s → (w : PassesIdentifier s (Ok n) t)
+    → n ≡ lone_number w.front → SpellsIdentifier (kept_as n (take_while is_part_byte text)) (inner_texts w.front)
 front_has_value text s t n from w number =
     let c = front_is_cut text s t n from w in
     subst (λ (o : Option ℕ). SpellsIdentifier (kept_as o (take_while is_part_byte text)) (inner_texts w.front)) (sym number)
-    (subst (λ (l : List ℕ). SpellsIdentifier (kept_as (lone_number w.front) l) (inner_texts w.front)) (sym c.cut) (kept_spells w.front w.answer.0.0 c.well))
+    (subst (λ (l : List ℕ). SpellsIdentifier (kept_as (lone_number w.front) l) (inner_texts w.front)) (sym c.cut)
+    (kept_spells w.front w.answer.0.0 c.well))
 
 -- and it holds a run
 pub front_holds_run : (front : List TokenValue) → IsIdentifierShape front → HoldsRun front
 front_holds_run front w = go front w.runs w.some w.each w.joined
   where
-    go : (front runs : List TokenValue) → 0 < length runs → AllByRecursion (λ t. IsTrue (is_component t)) runs → front ≡ join_by (λ t. t ∷ []) (Hyphen ∷ []) runs → HoldsRun front
+    go : (front runs : List TokenValue) → 0 < length runs → AllByRecursion (λ t. IsTrue (is_component t)) runs
+        → front ≡ join_by (λ t. t ∷ []) (Hyphen ∷ []) runs → HoldsRun front
     go front [] some each e = absurd (omega (arith, some))
     go front (r ∷ runs) some each e = record { before = []; component = r; after = _; split = e; is_run = each.0 }
 
@@ -193,7 +212,8 @@ unless_out_of_memory (Err error.OutOfMemory) p = tt
 unless_out_of_memory _ p = p
 
 -- what follows from what a call says of its error
-pub unless_err : {P Q : Type 0} (e : Error) → (P → Q) → UnlessOutOfMemory {T = Unit {0}} (Err e) P → UnlessOutOfMemory {T = Unit {0}} (Err e) Q
+pub unless_err : {P Q : Type 0} (e : Error) → (P → Q) → UnlessOutOfMemory {T = Unit {0}} (Err e) P
+    → UnlessOutOfMemory {T = Unit {0}} (Err e) Q
 unless_err error.OutOfMemory f p = tt
 unless_err _ f p = f p
 
@@ -201,7 +221,9 @@ pub if_err : {P Q : Type 0} (e : Error) → (P → Q) → IfOutOfMemory {T = Uni
 if_err error.OutOfMemory f p = f p
 if_err _ f p = tt
 
-pub if_out_of_memory : (T P : Type 0) {V : Type 0} {Shape : List TokenValue → Type 0} {Spells : V → List ℕ → Type 0} (s t : ParserState) (e : Error) → Reads Shape Spells s (Err (fault_of e)) t → IfOutOfMemory {T = T} (Err e) P
+pub if_out_of_memory : (T P : Type 0) {V : Type 0} {Shape : List TokenValue → Type 0} {Spells : V → List ℕ → Type 0} (s t : ParserState)
+    (e : Error)
+    → Reads Shape Spells s (Err (fault_of e)) t → IfOutOfMemory {T = T} (Err e) P
 if_out_of_memory T P s t error.OutOfMemory w = absurd (refuses_otherwise s.remaining s.pending w.rest t.remaining w.answer.1)
 if_out_of_memory T P s t _ w = tt
 
@@ -212,5 +234,11 @@ read_may_run_out s t w = record {
   rest = w.rest;
   longest = w.longest;
   holds = front_holds_run w.front w.answer.0.0;
-  left = record { taken = w.front; split = w.longest.split ∙ ap (λ (l : List TokenValue). w.front ++ l) (sym w.answer.2); pending = w.pending };
+  left =
+      record {
+        taken = w.front;
+        split = w.longest.split ∙ ap (λ (l : List TokenValue). w.front ++ l)
+            (sym w.answer.2);
+        pending = w.pending;
+      };
 }

@@ -1,6 +1,6 @@
 pub mod IdentifierSteps
 pub mod IdentifierTexts
-pub mod ParserSteps
+pub mod TokenAhead
 pub mod ReadingSteps
 pub mod VersionSteps
 pub mod VersionTaking

@@ -1,4 +1,4 @@
+pub mod ParserSteps
 pub mod ParserViews
-pub mod VersionGrammar
 pub mod VersionReading
-pub mod Taking
+pub mod Means

@@ -1,8 +1,10 @@
 -- What a call of a parser answered, without where it lies in memory.
-use Rattle.std.specs.Prelude.{map, codes, Option, Some, None, Result, Ok, Err, ⊤, ◌++◌, option_map, option_to_list}
+use Rattle.std.specs.Prelude.{map, codes, Option, Some, None, Result, Ok, Err, ⊤, ◌++◌, option_map}
+use Rattle.std.specs.Prelude.{option_to_list}
 use Rattle.semver_texts.specs.Texts.{Text}
 use Rattle.semver_tokens.specs.ParserState as spec
-use Rattle.semver_tokens.specs.ParserState.{ParserState, Fault, Step}
+use Rattle.semver_tokens.specs.ParserState.{ParserState, Fault}
+use Rattle.semver_steps.specs.ParserSteps.{Step}
 use Rattle.semver_tokens.specs.Views.{token_value}
 use Rattle.semver_tokens.specs.declared.lexer.Token.{Token}
 use Rattle.semver_tokens.specs.declared.lexer.Error.TheVariants as lexer_error
@@ -11,7 +13,12 @@ use Rattle.semver_steps.specs.declared.parser.Error.TheVariants as error
 
 -- a token ahead of what a lexer has left
 abbrev pub ahead : Option Token → ParserState → ParserState
-ahead o s = record { remaining = option_to_list (option_map token_value o) ++ s.remaining; pending = s.pending }
+ahead o s =
+    record {
+      remaining = option_to_list (option_map token_value o)
+          ++ s.remaining;
+      pending = s.pending;
+    }
 
 abbrev pub fault_of : Error → Fault
 fault_of error.UnexpectedEnd = spec.UnexpectedEnd

@@ -1,11 +1,12 @@
 -- What reading an identifier or a version from the tokens of a text answers, and what it leaves.
-use Rattle.std.specs.Prelude.{◌≡◌, ℕ, ◌≤◌, ◌<◌, ◌⊎◌, Option, Some, None, Result, Ok, Err, List, [], ◌∷◌, ◌++◌, length, IsTrue, flat_map, if◌then◌else◌}
+use Rattle.std.specs.Prelude.{◌≡◌, ℕ, ◌≤◌, ◌<◌, ◌⊎◌, Option, Some, None, Result, Ok, Err, List, []}
+use Rattle.std.specs.Prelude.{◌∷◌, ◌++◌, length, IsTrue, flat_map, if◌then◌else◌}
 use Rattle.std.specs.List.{AllByRecursion, join_by}
 use Rattle.semver_tokens.specs.Tokens as token
 use Rattle.semver_tokens.specs.Tokens.{TokenValue, is_component, is_whitespace}
 use Rattle.semver_tokens.specs.ParserState as fault
 use Rattle.semver_tokens.specs.ParserState.{ParserState, Fault, IsStateOf}
-use Rattle.semver_steps.specs.VersionGrammar.{SpellsIdentifier, SpellsVersion}
+use Rattle.semver_texts.specs.VersionGrammar.{SpellsIdentifier, SpellsVersion}
 use Rattle.semver_texts.specs.Versions.{IdentifierValue, VersionValue}
 
 -- ---- shapes: conditions on lists of tokens
@@ -21,7 +22,8 @@ pub record IsIdentifierShape (ts : List TokenValue) : Type 0 where
 pub record IsPartShape (sign : TokenValue) (ts : List TokenValue) : Type 0 where
   pub ids : List (List TokenValue)
   pub each : AllByRecursion IsIdentifierShape ids
-  pub parted : ((ids ≡ []) × (ts ≡ [])) ⊎ ((0 < length ids) × (ts ≡ sign ∷ join_by (λ id. id) (token.Dot ∷ []) ids))
+  pub parted : ((ids ≡ []) × (ts ≡ [])) ⊎ ((0 < length ids)
+      × (ts ≡ sign ∷ join_by (λ id. id) (token.Dot ∷ []) ids))
 
 -- at most one white space
 abbrev pub IsOuterShape : List TokenValue → Type 0
@@ -40,7 +42,8 @@ pub record IsVersionShape (ts : List TokenValue) : Type 0 where
   pub pre_shape : IsPartShape token.Hyphen pre
   pub build_shape : IsPartShape token.Plus build
   pub space_after : IsOuterShape after
-  pub joined : ts ≡ before ++ join_by (λ n. token.Numeric n ∷ []) (token.Dot ∷ []) (major ∷ minor ∷ patch ∷ []) ++ pre ++ build ++ after
+  pub joined : ts ≡ before ++ join_by (λ n. token.Numeric n ∷ []) (token.Dot ∷ [])
+      (major ∷ minor ∷ patch ∷ []) ++ pre ++ build ++ after
 
 -- ---- the longest front
 
@@ -49,10 +52,12 @@ abbrev pub Begins : (List TokenValue → Type 0) → List TokenValue → Type 0
 Begins Shape front = (more : List TokenValue) × Shape (front ++ more)
 
 -- the tokens are this front and this rest, and no longer front of them begins a list of the shape
-pub record IsLongestFront (Shape : List TokenValue → Type 0) (ts front rest : List TokenValue) : Type 0 where
+pub record IsLongestFront (Shape : List TokenValue → Type 0)
+    (ts front rest : List TokenValue) : Type 0 where
   pub split : ts ≡ front ++ rest
   pub begins : Begins Shape front
-  pub longest : (longer more : List TokenValue) → ts ≡ longer ++ more → Begins Shape longer → length longer ≤ length front
+  pub longest : (longer more : List TokenValue) → ts ≡ longer ++ more → Begins Shape longer
+      → length longer ≤ length front
 
 -- ---- the outcome
 
@@ -70,7 +75,8 @@ last_alone [] = []
 last_alone (t ∷ []) = t ∷ []
 last_alone (t ∷ u ∷ ts) = last_alone (u ∷ ts)
 
--- the fault that reading answers and the tokens that it leaves, from all tokens, the pending character and the rest; the first case that holds decides
+-- the fault that reading answers and the tokens that it leaves, from all tokens, the pending
+-- character and the rest; the first case that holds decides
 abbrev pub Refuses : List TokenValue → Option ℕ → List TokenValue → Fault → List TokenValue → Type 0
 -- the rest has at most one token, and a character is pending
 Refuses ts (Some c) [] e left = (e ≡ fault.Lexer c) × (left ≡ last_alone ts)
@@ -80,17 +86,24 @@ Refuses ts pending [] e left = (e ≡ fault.UnexpectedEnd) × (left ≡ [])
 -- the rest begins with a token
 Refuses ts pending (t ∷ rest) e left = (e ≡ fault.UnexpectedToken t) × (left ≡ rest)
 
--- the front has the shape, and it is known that it ends there: a token follows, or no character is pending
-abbrev pub IsWhole : (List TokenValue → Type 0) → List TokenValue → Option ℕ → List TokenValue → Type 0
+-- the front has the shape, and it is known that it ends there: a token follows, or no character is
+-- pending
+abbrev pub IsWhole : (List TokenValue → Type 0) → List TokenValue → Option ℕ → List TokenValue
+    → Type 0
 IsWhole Shape front pending rest = Shape front × ((0 < length rest) ⊎ (pending ≡ None))
 
 -- the answer and the tokens left: the value of a front that is whole, and else a fault
-abbrev pub Answers : {V : Type 0} → (List TokenValue → Type 0) → (V → List ℕ → Type 0) → List TokenValue → Option ℕ → List TokenValue → List TokenValue → Result V Fault → List TokenValue → Type 0
-Answers Shape Spells ts pending front rest (Ok v) left = IsWhole Shape front pending rest × Spells v (inner_texts front) × (left ≡ rest)
-Answers Shape Spells ts pending front rest (Err e) left = ¬ (IsWhole Shape front pending rest) × Refuses ts pending rest e left
+abbrev pub Answers : {V : Type 0} → (List TokenValue → Type 0) → (V → List ℕ → Type 0)
+    → List TokenValue → Option ℕ → List TokenValue → List TokenValue → Result V Fault
+    → List TokenValue → Type 0
+Answers Shape Spells ts pending front rest (Ok v) left =
+    IsWhole Shape front pending rest × Spells v (inner_texts front) × (left ≡ rest)
+Answers Shape Spells ts pending front rest (Err e) left =
+    ¬ (IsWhole Shape front pending rest) × Refuses ts pending rest e left
 
 -- from the state s, reading what has this shape and is spelled so answers r and leaves t
-pub record Reads {V : Type 0} (Shape : List TokenValue → Type 0) (Spells : V → List ℕ → Type 0) (s : ParserState) (r : Result V Fault) (t : ParserState) : Type 0 where
+pub record Reads {V : Type 0} (Shape : List TokenValue → Type 0) (Spells : V → List ℕ → Type 0)
+    (s : ParserState) (r : Result V Fault) (t : ParserState) : Type 0 where
   pub front : List TokenValue
   pub rest : List TokenValue
   pub longest : IsLongestFront Shape s.remaining front rest
@@ -104,7 +117,8 @@ abbrev pub ReadsVersion : ParserState → Result VersionValue Fault → ParserSt
 ReadsVersion s r t = Reads IsVersionShape SpellsVersion s r t
 
 -- what reading a whole text makes of what reading a version answered and left
-abbrev pub whole_answer : {V : Type 0} → Result V Fault → List TokenValue → Option ℕ → Result V Fault
+abbrev pub whole_answer : {V : Type 0} → Result V Fault → List TokenValue → Option ℕ
+    → Result V Fault
 whole_answer (Err e) left pending = Err e
 whole_answer (Ok v) [] pending = Ok v
 whole_answer (Ok v) (t ∷ ts) None = Err (fault.MoreInput (t ∷ ts))
@@ -145,7 +159,8 @@ pub record IsEndPart (s t : ParserState) : Type 0 where
   pub split : s.remaining ≡ taken ++ t.remaining
   pub pending : t.pending ≡ s.pending
 
--- reading what has this shape from the state s may run out of memory and leave t: the longest front holds what takes memory
+-- reading what has this shape from the state s may run out of memory and leave t: the longest front
+-- holds what takes memory
 pub record MayRunOut (Shape Holds : List TokenValue → Type 0) (s t : ParserState) : Type 0 where
   pub front : List TokenValue
   pub rest : List TokenValue
@@ -159,11 +174,13 @@ MayRunOutInIdentifier s t = MayRunOut IsIdentifierShape HoldsRun s t
 abbrev pub MayRunOutInVersion : ParserState → ParserState → Type 0
 MayRunOutInVersion s t = MayRunOut IsVersionShape HoldsIdentifierRun s t
 
--- reading this whole text may run out of memory: the longest front of its tokens holds a run of an identifier, or the answer would be the tokens that are left
+-- reading this whole text may run out of memory: the longest front of its tokens holds a run of an
+-- identifier, or the answer would be the tokens that are left
 pub record TextMayRunOut (text : List ℕ) : Type 0 where
   pub start : ParserState
   pub front : List TokenValue
   pub rest : List TokenValue
   pub state : IsStateOf text start
   pub longest : IsLongestFront IsVersionShape start.remaining front rest
-  pub why : HoldsIdentifierRun front ⊎ ((left : List TokenValue) × IsOutcomeOf text (Err (fault.MoreInput left)))
+  pub why : HoldsIdentifierRun front ⊎ ((left : List TokenValue)
+      × IsOutcomeOf text (Err (fault.MoreInput left)))

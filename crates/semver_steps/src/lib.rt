@@ -1,4 +1,5 @@
-//! Version texts by steps: a parser of one token ahead, which takes numbers, components, identifiers and versions.
+//! Version texts by steps: a parser of one token ahead, which takes numbers, components,
+//! identifiers and versions.
 #![tactic(auto)]
 
 pub mod parser;

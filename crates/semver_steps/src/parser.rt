@@ -1,26 +1,34 @@
-//! Numbers, components, identifiers and versions, read from the tokens of a text with one token ahead.
+//! Numbers, components, identifiers and versions, read from the tokens of a text with one token
+//! ahead.
 //!
-//! The state of a parser is the list of tokens that remain, and a pending character where the text goes on with one that
-//! opens no token. Taking a token reads the next one first: so the last token before a bad character is never given,
-//! and what is refused as `Lexer` or `UnexpectedEnd` leaves the parser as it stood. An unexpected token is consumed.
+//! The state of a parser is the list of tokens that remain, and a pending character where the text
+//! goes on with one that opens no token. Taking a token reads the next one first: so the last token
+//! before a bad character is never given, and what is refused as `Lexer` or `UnexpectedEnd` leaves
+//! the parser as it stood. An unexpected token is consumed.
 //!
-//! On `.x.01`, `dot_component` answers `(None, true)`; then `dot_numeric` answers `UnexpectedToken(AlphaNumeric("01"))`,
-//! and no token remains.
-ghost use Rattle.std.specs.Prelude.{◌≡◌, true, ◌+◌, ◌↔◌, [], Some, None, IfOk, IfSome, string_bytes, IfErr, IsErr, ℕ, IsTrue, option_map, map, length, ◌<◌, ◌≤◌, ◌++◌, ◌∷◌, vec_len, vec_capacity};
+//! On `.x.01`, `dot_component` answers `(None, true)`; then `dot_numeric` answers
+//! `UnexpectedToken(AlphaNumeric("01"))`, and no token remains.
+ghost use Rattle.std.specs.Prelude.{◌≡◌, true, ◌+◌, ◌↔◌, [], Some, None, IfOk, IfSome};
+ghost use Rattle.std.specs.Prelude.{string_bytes, IfErr, IsErr, ℕ, IsTrue, option_map, map, length};
+ghost use Rattle.std.specs.Prelude.{◌<◌, ◌≤◌, ◌++◌, ◌∷◌, vec_len, vec_capacity};
 ghost use Rattle.semver_tokens.specs.Tokens.{IsBadStart};
-ghost use Rattle.std.specs.Bool.{MatchBool};
 ghost use Rattle.semver_tokens.specs.Tokens as spec_token;
-ghost use Rattle.semver_tokens.specs.ParserState as spec;
+ghost use Rattle.semver_tokens.specs.ParserState as fault;
 ghost use Rattle.semver_tokens.specs.ParserState.{IsStateOf};
+ghost use Rattle.semver_steps.specs.ParserSteps as spec;
 ghost use Rattle.semver_tokens.specs.Views.{token_value};
 ghost use Rattle.std.specs.Prelude.{take_while};
 ghost use Rattle.semver_texts.specs.Texts.{is_part_byte};
-ghost use Rattle.std.specs.List.{prefix_len};
-ghost use Rattle.semver_steps.specs.VersionReading.{ReadsIdentifier, ReadsVersion, MayRunOutInIdentifier, MayRunOutInVersion};
+ghost use Rattle.semver_steps.specs.VersionReading.{ReadsIdentifier, ReadsVersion};
+ghost use Rattle.semver_steps.specs.VersionReading.{MayRunOutInIdentifier, MayRunOutInVersion};
 ghost use Rattle.semver_texts.specs.VersionViews.{identifier_value, version_value};
-ghost use Rattle.semver_steps.specs.Taking.{TakesIdentifier, TakesPart, PartMayRunOut, expect_run, skip_whitespace};
-ghost use Rattle.semver_steps.specs.ParserViews.{fault_of, fixed_text, step_of, UnlessOutOfMemory, IfOutOfMemory};
+ghost use Rattle.semver_steps.specs.Means.Taking.{TakesIdentifier, AtMark, TakesPart};
+ghost use Rattle.semver_steps.specs.Means.Taking.{PartMayRunOut, expect_run, skip_whitespace};
+ghost use Rattle.semver_steps.specs.Means.Taking.{numbers};
+ghost use Rattle.semver_steps.specs.ParserViews.{fault_of, fixed_text, step_of, UnlessOutOfMemory};
+ghost use Rattle.semver_steps.specs.ParserViews.{IfOutOfMemory};
 
+use semver_texts::bytes::part_len;
 use semver_texts::version::{Identifier, Version};
 use semver_tokens::lexer::{self, Lexer, Token, copy, count_tokens, rest};
 use std::alloc::{AllocError, Global};
@@ -64,7 +72,8 @@ impl<'input> fmt::Display for Error<'input> {
 
     ghost output = { fixed_text };
 
-    /// Writes a sentence for a person, as `expected more input`. It takes no memory, and its only fault is the writer's.
+    /// Writes a sentence for a person, as `expected more input`. It takes no memory, and its only
+    /// fault is the writer's.
     fn fmt<W: fmt::Write>(&self, f: &mut fmt::Formatter<W>) -> fmt::Result {
         match self {
             Error::UnexpectedEnd => f.write_str("expected more input"),
@@ -81,9 +90,11 @@ impl<'input> fmt::Display for Error<'input> {
 impl<'input> Error<'input> {
     /// The text that `Display` writes, for use where the Rust crate turns an error into a `String`.
     ///
-    /// Of `UnexpectedEnd` it is `expected more input`. `Err` is want of memory; the error itself stays as it was.
+    /// Of `UnexpectedEnd` it is `expected more input`. `Err` is want of memory; the error itself
+    /// stays as it was.
     pub fn text(&self, alloc: Global) -> Result<String, AllocError>
-        ensures fixed { IfOk result (λ text. IfSome (fixed_text self.now) (λ fixed. string_bytes text ≡ fixed)) }
+        ensures fixed { IfOk result (λ text. IfSome (fixed_text self.now)
+            (λ fixed. string_bytes text ≡ fixed)) }
     {
         self.to_string(alloc)
     }
@@ -110,17 +121,23 @@ impl<'input> Model for Parser<'input> {
 
     ghost view = { λ p. ahead p.lookahead p.lexer };
 
-    ghost invariant = { λ p. record { none : IfNone p.lookahead (p.lexer.remaining ≡ []); spelled : IsStateFrom p.rest.now (ahead p.lookahead p.lexer) } };
+    ghost invariant = { λ p. record {
+      none : IfNone p.lookahead
+          (p.lexer.remaining ≡ []);
+      spelled : IsStateFrom p.rest.now (ahead p.lookahead p.lexer);
+    } };
 }
 
 impl<'input> Parser<'input> {
-    /// A parser at the start of the text: all its tokens remain, and where it ends in a character that opens no token,
-    /// that character is pending. It takes no memory.
+    /// A parser at the start of the text: all its tokens remain, and where it ends in a character
+    /// that opens no token, that character is pending. It takes no memory.
     ///
-    /// `Lexer` exactly where the text begins with such a character, as `/` does; `1 /` and the empty text are read.
+    /// `Lexer` exactly where the text begins with such a character, as `/` does; `1 /` and the
+    /// empty text are read.
     pub fn new(input: &'input str) -> Result<Parser<'input>, Error<'input>>
         ensures ok { IfOk result (λ p. IsStateOf input.now p) }
-        ensures lexer { IfErr result (λ e. (c : ℕ) × (fault_of e ≡ spec.Lexer c) × IsStateOf input.now (record { remaining = []; pending = Some c })) }
+        ensures lexer { IfErr result (λ e. (c : ℕ) × (fault_of e ≡ fault.Lexer c)
+            × IsStateOf input.now (record { remaining = []; pending = Some c })) }
         ensures bad_start { IsErr result ↔ IsBadStart input.now }
     {
         let mut lexer = Lexer::new(input);
@@ -132,7 +149,7 @@ impl<'input> Parser<'input> {
         })
     }
 
-    // Takes the first token. The one behind it is read first, so a fault changes nothing.
+    /// Takes the first token. The one behind it is read first, so a fault changes nothing.
     #[inline(always)]
     fn pop(&mut self) -> Result<Token<'input>, Error<'input>>
         ensures { step_of token_value result self.new ≡ spec.pop self.old }
@@ -151,8 +168,9 @@ impl<'input> Parser<'input> {
 
     /// Takes a number: on `1.2` it answers 1, and `.` and `2` remain.
     ///
-    /// `UnexpectedToken` of any other token, which is consumed; `UnexpectedEnd` where no token remains, and `Lexer` where a
-    /// character is pending behind at most one token: both leave the parser as it was. It takes no memory.
+    /// `UnexpectedToken` of any other token, which is consumed; `UnexpectedEnd` where no token
+    /// remains, and `Lexer` where a character is pending behind at most one token: both leave the
+    /// parser as it was. It takes no memory.
     #[inline(always)]
     pub fn numeric(&mut self) -> Result<u64, Error<'input>>
         ensures step { step_of (λ n. n) result self.new ≡ spec.numeric self.old }
@@ -163,7 +181,7 @@ impl<'input> Parser<'input> {
         }
     }
 
-    // The first token, which stays.
+    /// The first token, which stays.
     fn peek(&self) -> Option<&Token<'input>>
         ensures { option_map (λ t. token_value t.now) result ≡ spec.look self.now }
     {
@@ -189,11 +207,12 @@ impl<'input> Parser<'input> {
         }
     }
 
-    /// Where a dot comes next, takes it and a component: `(Some(n), false)` for a number, `(None, true)` for a wildcard.
-    /// Where none comes next, it answers `(None, false)` and takes nothing.
+    /// Where a dot comes next, takes it and a component: `(Some(n), false)` for a number, `(None,
+    /// true)` for a wildcard. Where none comes next, it answers `(None, false)` and takes nothing.
     ///
-    /// It refuses as `component` does; the dot is then consumed, but where it is itself the last token before a pending
-    /// character. It takes no memory. On `.1.x` two calls answer `(Some(1), false)` and `(None, true)`.
+    /// It refuses as `component` does; the dot is then consumed, but where it is itself the last
+    /// token before a pending character. It takes no memory. On `.1.x` two calls answer `(Some(1),
+    /// false)` and `(None, true)`.
     #[inline(always)]
     pub fn dot_component(&mut self) -> Result<(Option<u64>, bool), Error<'input>>
         ensures step { step_of (λ n. n) result self.new ≡ spec.dot_component self.old }
@@ -208,7 +227,8 @@ impl<'input> Parser<'input> {
 
     /// Takes a dot and a number: on `.7` it answers 7.
     ///
-    /// It refuses as `numeric` does, of either token; what it took before the refusal stays consumed. It takes no memory.
+    /// It refuses as `numeric` does, of either token; what it took before the refusal stays
+    /// consumed. It takes no memory.
     #[inline(always)]
     pub fn dot_numeric(&mut self) -> Result<u64, Error<'input>>
         ensures step { step_of (λ n. n) result self.new ≡ spec.dot_numeric self.old }
@@ -230,7 +250,7 @@ impl<'input> Parser<'input> {
         self.lookahead.is_none()
     }
 
-    // Takes a run of letters and digits, and tells its number where it is one.
+    /// Takes a run of letters and digits, and tells its number where it is one.
     #[inline(always)]
     fn run(&mut self) -> Result<Option<u64>, Error<'input>>
         ensures { step_of (λ n. n) result self.new ≡ expect_run self.old }
@@ -242,31 +262,32 @@ impl<'input> Parser<'input> {
         }
     }
 
-    // A hyphen comes next.
+    /// A hyphen comes next.
     #[inline(always)]
     fn at_hyphen(&self) -> bool
-        ensures { MatchBool result (spec.look self.now ≡ Some spec_token.Hyphen) (¬ (spec.look self.now ≡ Some spec_token.Hyphen)) }
+        ensures { IsTrue result ↔ (spec.look self.now ≡ Some spec_token.Hyphen) }
     {
         matches!(self.peek(), Some(Token::Hyphen))
     }
 
-    // A plus comes next.
+    /// A plus comes next.
     #[inline(always)]
     fn at_plus(&self) -> bool
-        ensures { MatchBool result (spec.look self.now ≡ Some spec_token.Plus) (¬ (spec.look self.now ≡ Some spec_token.Plus)) }
+        ensures { IsTrue result ↔ (spec.look self.now ≡ Some spec_token.Plus) }
     {
         matches!(self.peek(), Some(Token::Plus))
     }
 
-    // A dot comes next.
+    /// A dot comes next.
     #[inline(always)]
     fn at_dot(&self) -> bool
-        ensures { MatchBool result (spec.look self.now ≡ Some spec_token.Dot) (¬ (spec.look self.now ≡ Some spec_token.Dot)) }
+        ensures { IsTrue result ↔ (spec.look self.now ≡ Some spec_token.Dot) }
     {
         matches!(self.peek(), Some(Token::Dot))
     }
 
-    // Takes the runs of an identifier and the hyphens between them, and tells its number where it is one number alone.
+    /// Takes the runs of an identifier and the hyphens between them, and tells its number where it
+    /// is one number alone.
     fn pass_identifier(&mut self) -> Result<Option<u64>, Error<'input>>
         ensures { TakesIdentifier self.old (step_of (λ n. n) result self.new).0 self.new }
     {
@@ -279,20 +300,25 @@ impl<'input> Parser<'input> {
         Ok(number)
     }
 
-    /// An identifier of a version: one or more runs of ASCII letters and digits, joined by single hyphens. A lone run that is the
-    /// canonical decimal of a number up to 18446744073709551615 is given as `Numeric`, anything else as `AlphaNumeric` with its text:
-    /// `7` is `Numeric(7)`, `07` is `AlphaNumeric("07")`, `1-2` is `AlphaNumeric("1-2")`. Its tokens are taken, and no more.
+    /// An identifier of a version: one or more runs of ASCII letters and digits, joined by single
+    /// hyphens. A lone run that is the canonical decimal of a number up to 18446744073709551615 is
+    /// given as `Numeric`, anything else as `AlphaNumeric` with its text: `7` is `Numeric(7)`, `07`
+    /// is `AlphaNumeric("07")`, `1-2` is `AlphaNumeric("1-2")`. Its tokens are taken, and no more.
     ///
     /// Refusals, and the tokens that remain then:
     ///
-    /// - `UnexpectedToken`: another token comes where a run has to, at the start or behind a hyphen. It is taken too.
+    /// - `UnexpectedToken`: another token comes where a run has to, at the start or behind a
+    ///   hyphen. It is taken too.
     /// - `UnexpectedEnd`: no token remains there. What came before stays taken.
-    /// - `Lexer`: a bad character is pending and at most one token remains. That token stays, since it can't be told whether the
-    ///   identifier ends with it.
-    /// - `OutOfMemory`: there is no memory for the text, which is taken at once. Its tokens stay taken. A number takes no memory.
+    /// - `Lexer`: a bad character is pending and at most one token remains. That token stays, since
+    ///   it can't be told whether the identifier ends with it.
+    /// - `OutOfMemory`: there is no memory for the text, which is taken at once. Its tokens stay
+    ///   taken. A number takes no memory.
     pub fn identifier(&mut self, alloc: Global) -> Result<Identifier, Error<'input>>
-        ensures answer { UnlessOutOfMemory result (ReadsIdentifier self.old (step_of identifier_value result self.new).0 self.new) }
-        // Without memory an end part of the tokens is left. It is asked for only where a run was read.
+        ensures answer { UnlessOutOfMemory result
+            (ReadsIdentifier self.old (step_of identifier_value result self.new).0 self.new) }
+        // Without memory an end part of the tokens is left. It is asked for only where a run was
+        // read.
         ensures out_of_memory { IfOutOfMemory result (MayRunOutInIdentifier self.old self.new) }
     {
         let text = self.rest;
@@ -305,39 +331,42 @@ impl<'input> Parser<'input> {
         Ok(Identifier::AlphaNumeric(kept))
     }
 
-    // Takes what comes next and an identifier behind it, and so on at each dot.
-    fn some_identifiers(&mut self, alloc: Global) -> Result<Vec<Identifier>, Error<'input>>
+    /// Takes what comes next and an identifier behind it, and so on at each dot.
+    fn identifiers(&mut self, alloc: Global) -> Result<Vec<Identifier>, Error<'input>>
         ensures answer { UnlessOutOfMemory result
-            (TakesPart true self.old (step_of (λ ids. map identifier_value ids.items) result self.new).0 self.new) }
+            (TakesPart true self.old (step_of (λ ids. map identifier_value ids.items) result
+            self.new)) }
         ensures out_of_memory { IfOutOfMemory result (PartMayRunOut true self.old self.new) }
     {
         let mut identifiers = Vec::new(alloc);
-        let mut more = true;
-        while more {
+        loop {
             self.pop()?;
             let identifier = self.identifier(alloc)?;
             let Ok(()) = identifiers.push(identifier) else {
                 return Err(Error::OutOfMemory);
             };
-            more = self.at_dot();
+            if !self.at_dot() {
+                return Ok(identifiers);
+            }
         }
-        Ok(identifiers)
     }
 
-    // The same where `more` is true, and else nothing.
+    /// The identifiers of a part whose mark comes next, if it is there, and else none.
     #[inline(always)]
-    fn identifiers(&mut self, alloc: Global, more: bool) -> Result<Vec<Identifier>, Error<'input>>
+    fn part(&mut self, alloc: Global, there: bool) -> Result<Vec<Identifier>, Error<'input>>
         ensures answer { UnlessOutOfMemory result
-            (TakesPart more self.old (step_of (λ ids. map identifier_value ids.items) result self.new).0 self.new) }
-        ensures out_of_memory { IfOutOfMemory result (PartMayRunOut more self.old self.new) }
+            (TakesPart there self.old (step_of
+            (λ ids. map identifier_value ids.items) result self.new)) }
+        ensures out_of_memory { IfOutOfMemory result (PartMayRunOut there self.old self.new) }
     {
-        if !more {
-            return Ok(Vec::new(alloc));
+        if there {
+            self.identifiers(alloc)
+        } else {
+            Ok(Vec::new(alloc))
         }
-        self.some_identifiers(alloc)
     }
 
-    // Takes white space, if it comes next.
+    /// Takes white space, if it comes next.
     #[inline(always)]
     fn skip_whitespace(&mut self) -> Result<(), Error<'input>>
         ensures { step_of (λ _. tt) result self.new ≡ skip_whitespace self.old }
@@ -348,29 +377,42 @@ impl<'input> Parser<'input> {
         Ok(())
     }
 
-    /// A version and the white space round it: `1.2.3-rc.4+5aedf` gives the numbers 1, 2 and 3, the pre-release `"rc"`, 4 and the build
-    /// `"5aedf"`. It ends where no further token fits, and the tokens behind it remain: of `1.2.3 a` the token `AlphaNumeric("a")`.
-    ///
-    /// Refusals, and the tokens that remain then:
-    ///
-    /// - `UnexpectedToken`: another token comes where a number, a dot or an identifier has to. It is taken too.
-    /// - `UnexpectedEnd`: no token remains there. What came before stays taken.
-    /// - `Lexer`: a bad character is pending and at most one token remains. That token stays.
-    /// - `OutOfMemory`: a growth was refused for an identifier's text or for a list of identifiers. What was taken stays taken.
-    ///   A version without pre-release and build takes no memory.
-    pub fn version(&mut self, alloc: Global) -> Result<Version, Error<'input>>
-        ensures answer { UnlessOutOfMemory result (ReadsVersion self.old (step_of version_value result self.new).0 self.new) }
-        // Without memory an end part of the tokens is left. It is asked for only where an identifier's run was read.
-        ensures out_of_memory { IfOutOfMemory result (MayRunOutInVersion self.old self.new) }
+    /// Takes white space, if it comes next, and three numbers joined by dots.
+    #[inline(always)]
+    fn numbers(&mut self) -> Result<(u64, u64, u64), Error<'input>>
+        ensures { step_of (λ n. (n.0, n.1, n.2)) result self.new ≡ numbers self.old }
     {
         self.skip_whitespace()?;
         let major = self.numeric()?;
         let minor = self.dot_numeric()?;
         let patch = self.dot_numeric()?;
+        Ok((major, minor, patch))
+    }
+
+    /// A version and the white space round it: `1.2.3-rc.4+5aedf` gives the numbers 1, 2 and 3, the
+    /// pre-release `"rc"`, 4 and the build `"5aedf"`. It ends where no further token fits, and the
+    /// tokens behind it remain: of `1.2.3 a` the token `AlphaNumeric("a")`.
+    ///
+    /// Refusals, and the tokens that remain then:
+    ///
+    /// - `UnexpectedToken`: another token comes where a number, a dot or an identifier has to. It
+    ///   is taken too.
+    /// - `UnexpectedEnd`: no token remains there. What came before stays taken.
+    /// - `Lexer`: a bad character is pending and at most one token remains. That token stays.
+    /// - `OutOfMemory`: a growth was refused for an identifier's text or for a list of identifiers.
+    ///   What was taken stays taken. A version without pre-release and build takes no memory.
+    pub fn version(&mut self, alloc: Global) -> Result<Version, Error<'input>>
+        ensures answer { UnlessOutOfMemory result
+            (ReadsVersion self.old (step_of version_value result self.new).0 self.new) }
+        // Without memory an end part of the tokens is left. It is asked for only where an
+        // identifier's run was read.
+        ensures out_of_memory { IfOutOfMemory result (MayRunOutInVersion self.old self.new) }
+    {
+        let (major, minor, patch) = self.numbers()?;
         let has_pre = self.at_hyphen();
-        let pre = self.identifiers(alloc, has_pre)?;
+        let pre = self.part(alloc, has_pre)?;
         let has_build = self.at_plus();
-        let build = self.identifiers(alloc, has_build)?;
+        let build = self.part(alloc, has_build)?;
         self.skip_whitespace()?;
         Ok(Version {
             major,
@@ -381,16 +423,19 @@ impl<'input> Parser<'input> {
         })
     }
 
-    /// All tokens that remain, in order; then none remains. On `a.b` it answers `AlphaNumeric("a")`, `Dot` and
-    /// `AlphaNumeric("b")`.
+    /// All tokens that remain, in order; then none remains. On `a.b` it answers
+    /// `AlphaNumeric("a")`, `Dot` and `AlphaNumeric("b")`.
     ///
-    /// With a character pending it answers `Lexer` of it: no token remains then, and the character stays pending.
-    /// `OutOfMemory` where its one growth was refused: nothing is changed then. It asks for memory only where tokens remain and
-    /// no character is pending, once, for exactly their number.
+    /// With a character pending it answers `Lexer` of it: no token remains then, and the character
+    /// stays pending. `OutOfMemory` where its one growth was refused: nothing is changed then. It
+    /// asks for memory only where tokens remain and no character is pending, once, for exactly
+    /// their number.
     pub fn tail(&mut self, alloc: Global) -> Result<Vec<Token<'input>>, Error<'input>>
         ensures answer { UnlessOutOfMemory result
-            (step_of (λ tokens. map token_value tokens.items) result self.new ≡ spec.tail self.old) }
-        // Without memory nothing changes. It is asked for only where tokens remain and no character is pending.
+            (step_of (λ tokens. map token_value tokens.items) result self.new
+            ≡ spec.tail self.old) }
+        // Without memory nothing changes. It is asked for only where tokens remain and no character
+        // is pending.
         ensures out_of_memory { IfOutOfMemory result
             ((self.new ≡ self.old) × (self.old.pending ≡ None) × (0 < length self.old.remaining)) }
     {
@@ -420,25 +465,15 @@ impl<'input> Parser<'input> {
     }
 }
 
-// How many bytes at the front are letters, digits and hyphens.
-fn identifier_len(bytes: &[u8]) -> usize
-    ensures { result ≡ prefix_len is_part_byte bytes.now }
-{
-    bytes
-        .iter()
-        .take_while(|&&byte| byte.is_ascii_alphanumeric() || byte == b'-')
-        .count()
-}
-
-// The longest front of letters, digits and hyphens.
+/// The longest front of letters, digits and hyphens.
 fn identifier_front(text: &str) -> &str
     ensures { result.now ≡ take_while is_part_byte text.now }
 {
-    let len = identifier_len(text.as_bytes());
+    let len = part_len(text.as_bytes());
     &text[..len]
 }
 
-// Appends where there is room.
+/// Appends where there is room.
 fn push_within<'input>(tokens: &mut Vec<Token<'input>>, token: Token<'input>)
     requires { vec_len tokens.old < vec_capacity tokens.old }
     ensures items { tokens.new.items ≡ tokens.old.items ++ token.entry ∷ [] }

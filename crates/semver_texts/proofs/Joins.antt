@@ -1,5 +1,6 @@
 -- Steps of a loop that writes the items of a list one after the other.
-use Rattle.std.proofs.Common.{◌≡◌, ℕ, ◌+◌, ◌<◌, ◌≤◌, List, [], ◌∷◌, ◌++◌, length, get_or, take, eqb, false, refl, sym, ap, ◌∙◌, take_all, append_assoc, append-nil, codes}
+use Rattle.std.proofs.Common.{◌≡◌, ℕ, ◌+◌, ◌<◌, ◌≤◌, List, [], ◌∷◌, ◌++◌, length, get_or, take, eqb, false, refl, sym, ap, ◌∙◌, take_all}
+use Rattle.std.proofs.Common.{append_assoc, append-nil, codes}
 use Rattle.std.specs.Prelude.{flat_map, map}
 use Rattle.std.specs.List.{join_with_byte}
 use Rattle.std.proofs.lemmas.List.{take_more, flat_map_more}
@@ -16,14 +17,16 @@ joined_first : {X : Type 0} (f : X → Text) (separator : Text) (x : X) (xs : Li
     → f x ++ flat_map (λ y. separator ++ f y) xs ≡ joined separator (map f (x ∷ xs))
 joined_first f separator x [] = append-nil (f x)
 joined_first f separator x (y ∷ ys) =
-    ap (λ t. f x ++ t) (append_assoc separator (f y) (flat_map (λ z. separator ++ f z) ys) ∙ ap (λ t. separator ++ t) (joined_first f separator y ys))
+    ap (λ t. f x ++ t) (append_assoc separator (f y) (flat_map (λ z. separator ++ f z) ys)
+    ∙ ap (λ t. separator ++ t) (joined_first f separator y ys))
     ∙ sym (append_assoc (f x) separator (joined separator (map f (y ∷ ys))))
 
 -- the first item and all the others
 pub joined_all : {X : Type 0} (f : X → Text) (separator : Text) (xs : List X) (first : X) (rest : List X) (i : ℕ)
     → xs ≡ first ∷ rest → length rest ≤ i → f first ++ flat_map (λ y. separator ++ f y) (take i rest) ≡ joined separator (map f xs)
 joined_all f separator xs first rest i is past =
-    ap (λ l. f first ++ flat_map (λ y. separator ++ f y) l) (take_all i rest past) ∙ joined_first f separator first rest ∙ ap (λ l. joined separator (map f l)) (sym is)
+    ap (λ l. f first ++ flat_map (λ y. separator ++ f y) l) (take_all i rest past) ∙ joined_first f separator first rest
+    ∙ ap (λ l. joined separator (map f l)) (sym is)
 
 -- joined by a byte
 pub joined_by_byte : (b : ℕ) (ts : List Text) → joined (b ∷ []) ts ≡ join_with_byte b ts

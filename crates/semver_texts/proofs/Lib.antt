@@ -1,2 +1,4 @@
 pub mod Joins
 pub mod Numerals
+pub mod DecimalSteps
+pub mod Numbers

@@ -1,4 +1,6 @@
+pub mod Means
 pub mod Texts
 pub mod Versions
 pub mod PrintedText
+pub mod VersionGrammar
 pub mod VersionViews

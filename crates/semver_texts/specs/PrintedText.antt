@@ -3,16 +3,19 @@ use Rattle.std.specs.Prelude.{◌++◌, map, codes}
 use Rattle.std.specs.List.{join_with_byte}
 use Rattle.std.specs.Fmt.{decimal}
 use Rattle.semver_texts.specs.Texts.{Text, marked}
-use Rattle.semver_texts.specs.Versions.{IdentifierValue, numeric, alphanumeric, PlainVersion, VersionValue, numbers}
+use Rattle.semver_texts.specs.Versions.{IdentifierValue, numeric, alphanumeric, PlainVersion}
+use Rattle.semver_texts.specs.Versions.{VersionValue, numbers}
 
 -- an identifier's text: the decimal, or the text itself
 abbrev pub identifier_text : IdentifierValue → Text
 identifier_text (numeric n) = decimal n
 identifier_text (alphanumeric t) = t
 
--- the text of a version without build: three numbers joined by dots; then, where there is one, `-` and the pre-release joined by dots
+-- the text of a version without build: three numbers joined by dots; then, where there is one, `-`
+-- and the pre-release joined by dots
 abbrev pub plain_text : PlainVersion → Text
-plain_text v = join_with_byte 46 (map decimal (numbers v)) ++ marked (codes "-") (map identifier_text v.pre)
+plain_text v =
+    join_with_byte 46 (map decimal (numbers v)) ++ marked (codes "-") (map identifier_text v.pre)
 
 -- a version's text: the same; then, where there is one, `+` and the build joined by dots
 abbrev pub version_text : VersionValue → Text

@@ -1,7 +1,8 @@
 -- Texts as their bytes, and how they are joined.
-use Rattle.std.specs.Prelude.{ℕ, Bool, true, false, ◌||◌, ◌==◌, List, [], ◌∷◌, ◌++◌}
+use Rattle.std.specs.Prelude.{◌≡◌, ℕ, ◌^◌, ◌<◌, Bool, true, false, ◌||◌, ◌==◌, List, [], ◌∷◌, ◌++◌}
+use Rattle.std.specs.Prelude.{length, IsTrue, decimal}
 use Rattle.std.specs.Char.{is_ascii_alphanumeric}
-use Rattle.std.specs.List.{join_with_byte}
+use Rattle.std.specs.List.{AllByRecursion, join_with_byte}
 
 -- a text, as its bytes
 abbrev pub Text : Type 0
@@ -12,9 +13,26 @@ abbrev pub is_empty : {X : Type 0} → List X → Bool
 is_empty [] = true
 is_empty (x ∷ xs) = false
 
--- a byte of an identifier of a version, and of a part in a range: an ASCII letter, a digit or a hyphen
+-- a byte of an identifier of a version, and of a part in a range: an ASCII letter, a digit or a
+-- hyphen
 abbrev pub is_part_byte : ℕ → Bool
 is_part_byte b = is_ascii_alphanumeric b || (b == 45)
+
+-- a dot
+abbrev pub is_dot : ℕ → Bool
+is_dot b = b == 46
+
+-- a space, a tab, a line feed or a carriage return
+abbrev pub is_space : ℕ → Bool
+is_space b = (b == 32 || b == 9) || (b == 10 || b == 13)
+
+-- one or more ASCII letters and digits
+abbrev pub IsRun : List ℕ → Type 0
+IsRun bytes = (0 < length bytes) × AllByRecursion (λ b. IsTrue (is_ascii_alphanumeric b)) bytes
+
+-- the canonical decimal of a number below 2^64
+abbrev pub IsNumber : List ℕ → Type 0
+IsNumber bytes = (n : ℕ) × (n < 2 ^ 64) × (bytes ≡ decimal n)
 
 -- texts joined by another
 abbrev pub joined : Text → List Text → Text

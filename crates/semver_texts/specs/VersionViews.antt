@@ -13,6 +13,13 @@ identifier_value (AlphaNumeric s) = alphanumeric (string_bytes s)
 -- a version
 abbrev pub version_value : Version → VersionValue
 version_value v = record {
-  plain = record { major = v.major; minor = v.minor; patch = v.patch; pre = map identifier_value v.pre.items };
+  plain =
+      record {
+        major = v.major;
+        minor = v.minor;
+        patch = v.patch;
+        pre = map identifier_value
+            v.pre.items;
+      };
   build = map identifier_value v.build.items;
 }

@@ -1,4 +1,5 @@
--- Identifiers and versions, without where they lie in memory. Versions, ranges, precedence and the filter all speak of these.
+-- Identifiers and versions, without where they lie in memory. Versions, ranges, precedence and the
+-- filter all speak of these.
 use Rattle.std.specs.Prelude.{ℕ, List, [], ◌∷◌}
 use Rattle.semver_texts.specs.Texts.{Text}
 

@@ -7,7 +7,8 @@ use std::fmt;
 
 /// Writes the mark and then the items joined by dots; nothing where there are none.
 ///
-/// Of the mark `-` and the items 7 and `"rc"` it writes `-7.rc`. It takes no memory, and its only fault is the writer's.
+/// Of the mark `-` and the items 7 and `"rc"` it writes `-7.rc`. It takes no memory, and its only
+/// fault is the writer's.
 pub fn write_part<W: fmt::Write, T: fmt::Display>(
     f: &mut fmt::Formatter<W>,
     mark: &str,
@@ -25,14 +26,16 @@ pub fn write_part<W: fmt::Write, T: fmt::Display>(
 
 /// Writes the items with the separator between each two.
 ///
-/// Of the separator `.` and the items 7 and `"rc"` it writes `7.rc`. It takes no memory, and its only fault is the writer's.
+/// Of the separator `.` and the items 7 and `"rc"` it writes `7.rc`. It takes no memory, and its
+/// only fault is the writer's.
 pub fn write_joined<W: fmt::Write, T: fmt::Display>(
     f: &mut fmt::Formatter<W>,
     separator: &str,
     items: &[T],
 ) -> fmt::Result
     ensures { (text : T → List ℕ) → ((x : T) → T.output x ≡ Some (text x)) →
-        WritesOnOk W.write_str_gives f.old result (joined separator.now (map text items.now)) f.new }
+        WritesOnOk W.write_str_gives f.old result
+        (joined separator.now (map text items.now)) f.new }
 {
     let Some((first, rest)) = items.split_first() else {
         return Ok(());

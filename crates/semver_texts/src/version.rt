@@ -1,7 +1,8 @@
 //! Versions as plain data, and their printed texts.
 //!
-//! What is printed are three numbers parted by dots, then where there is a pre-release `-` and its identifiers,
-//! then where there is a build `+` and its identifiers, each list parted by dots: `1.2.3-rc.1+5aedf`.
+//! What is printed are three numbers parted by dots, then where there is a pre-release `-` and its
+//! identifiers, then where there is a build `+` and its identifiers, each list parted by dots:
+//! `1.2.3-rc.1+5aedf`.
 ghost use Rattle.std.specs.Prelude.{◌≡◌, ◌++◌, Some, IfOk, IfErr, decimal, string_bytes};
 ghost use Rattle.semver_texts.specs.Versions.{alphanumeric};
 ghost use Rattle.semver_texts.specs.PrintedText.{identifier_text};
@@ -13,8 +14,8 @@ use std::fmt;
 
 /// A version: three numbers, a pre-release and a build.
 ///
-/// The derived order goes by the fields in the order written. It isn't the precedence of the standard: it reads the build, and puts
-/// `1.0.0` below `1.0.0-rc`.
+/// The derived order goes by the fields in the order written. It isn't the precedence of the
+/// standard: it reads the build, and puts `1.0.0` below `1.0.0-rc`.
 #[derive(Clone, PartialOrd, Ord, Hash, Debug, PartialEq, Eq, Drop)]
 pub struct Version {
     /// The first number: 1 in `1.2.3-rc.4+5aedf`.
@@ -23,7 +24,8 @@ pub struct Version {
     pub minor: u64,
     /// The third number: 3 in `1.2.3-rc.4+5aedf`.
     pub patch: u64,
-    /// The identifiers behind `-`, none where there is no pre-release: `"rc"` and 4 in `1.2.3-rc.4+5aedf`.
+    /// The identifiers behind `-`, none where there is no pre-release: `"rc"` and 4 in
+    /// `1.2.3-rc.4+5aedf`.
     pub pre: Vec<Identifier>,
     /// The identifiers behind `+`, none where there is no build: `"5aedf"` in `1.2.3-rc.4+5aedf`.
     pub build: Vec<Identifier>,
@@ -31,8 +33,9 @@ pub struct Version {
 
 /// An identifier of a pre-release or a build.
 ///
-/// A text is read as `Numeric` only where it is the canonical decimal of a number up to 18446744073709551615, so each identifier
-/// prints as it was read: `7` is `Numeric(7)`, and `07`, `18446744073709551616`, `1-2` and `rc` are kept as their texts.
+/// A text is read as `Numeric` only where it is the canonical decimal of a number up to
+/// 18446744073709551615, so each identifier prints as it was read: `7` is `Numeric(7)`, and `07`,
+/// `18446744073709551616`, `1-2` and `rc` are kept as their texts.
 #[derive(Clone, PartialOrd, Ord, Hash, Debug, PartialEq, Eq, Drop)]
 pub enum Identifier {
     /// A number, as `7`.
@@ -42,13 +45,16 @@ pub enum Identifier {
 }
 
 impl Identifier {
-    /// The text of the identifier followed by `add_str`, as `AlphaNumeric` whatever the texts are: `Numeric(7)` and `"a"` give
-    /// `AlphaNumeric("7a")`, and `Numeric(7)` and `""` give `AlphaNumeric("7")`.
+    /// The text of the identifier followed by `add_str`, as `AlphaNumeric` whatever the texts are:
+    /// `Numeric(7)` and `"a"` give `AlphaNumeric("7a")`, and `Numeric(7)` and `""` give
+    /// `AlphaNumeric("7")`.
     ///
-    /// It takes memory once, for all of the new text. `Err` is want of memory, and gives the unchanged identifier back.
+    /// It takes memory once, for all of the new text. `Err` is want of memory, and gives the
+    /// unchanged identifier back.
     pub fn concat(self, alloc: Global, add_str: &str) -> Result<Identifier, Identifier>
         ensures joined { IfOk result (λ id.
-            identifier_value id ≡ alphanumeric (identifier_text (identifier_value self) ++ add_str.now)) }
+            identifier_value id ≡ alphanumeric
+            (identifier_text (identifier_value self) ++ add_str.now)) }
         ensures unchanged { IfErr result (λ id. identifier_value id ≡ identifier_value self) }
     {
         match self {
@@ -66,7 +72,7 @@ impl Identifier {
     }
 }
 
-// The number's decimal and then the text, in one growth.
+/// The number's decimal and then the text, in one growth.
 fn number_and(alloc: Global, number: u64, text: &str) -> Result<String, AllocError>
     ensures { IfOk result (λ whole. string_bytes whole ≡ decimal number ++ text.now) }
 {
@@ -79,7 +85,8 @@ fn number_and(alloc: Global, number: u64, text: &str) -> Result<String, AllocErr
 impl fmt::Display for Identifier {
     ghost output = { λ identifier. Some (identifier_text (identifier_value identifier)) };
 
-    /// Writes the decimal, or the text itself. It takes no memory, and its only fault is the writer's.
+    /// Writes the decimal, or the text itself. It takes no memory, and its only fault is the
+    /// writer's.
     ///
     /// `Numeric(7)` is written as `7`, `AlphaNumeric("alpha1")` as `alpha1`.
     fn fmt<W: fmt::Write>(&self, f: &mut fmt::Formatter<W>) -> fmt::Result {
@@ -96,8 +103,9 @@ impl fmt::Display for Version {
 
     ghost output = { λ version. Some (version_text (version_value version)) };
 
-    /// Writes `major.minor.patch`; then, where there is a pre-release, `-` and its identifiers joined by dots; then, where
-    /// there is a build, `+` and its identifiers joined by dots. It takes no memory, and its only fault is the writer's.
+    /// Writes `major.minor.patch`; then, where there is a pre-release, `-` and its identifiers
+    /// joined by dots; then, where there is a build, `+` and its identifiers joined by dots. It
+    /// takes no memory, and its only fault is the writer's.
     ///
     /// The version read from ` 1.2.3-alpha1.9+build5 ` is written as `1.2.3-alpha1.9+build5`.
     fn fmt<W: fmt::Write>(&self, f: &mut fmt::Formatter<W>) -> fmt::Result {

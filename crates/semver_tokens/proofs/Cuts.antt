@@ -1,5 +1,7 @@
 -- A text may be cut where a token ends.
-use Rattle.std.proofs.Common.{◌≡◌, ℕ, zero, suc, ◌+◌, ◌-◌, ◌<◌, ◌≤◌, Bool, true, List, [], ◌∷◌, ◌++◌, length, get_or, take, drop, sym, refl, ap, ◌∙◌, subst, arith, IsUtf8, length-drop, length-append, length-take-le, take-append-drop, zero-add, get_or-drop, Some}
+use Rattle.std.proofs.Common.{◌≡◌, ℕ, zero, suc, ◌+◌, ◌-◌, ◌<◌, ◌≤◌, Bool, true, List, [], ◌∷◌, ◌++◌, length, get_or, take, drop, sym, refl}
+use Rattle.std.proofs.Common.{ap, ◌∙◌, subst, arith, IsUtf8, length-drop, length-append, length-take-le, take-append-drop, zero-add}
+use Rattle.std.proofs.Common.{get_or-drop, Some}
 use Rattle.std.specs.Prelude.{IsTrue, IsCharBoundary}
 use Rattle.std.specs.Str.{IsAscii}
 use Rattle.std.specs.List.{prefix_len, AllByRecursion}
@@ -9,8 +11,10 @@ use Rattle.std.proofs.lemmas.List.{get_or_append_left}
 use Rattle.std.proofs.lemmas.Str.{IsCharBoundary-start, IsCharBoundary-after_ascii, IsCharBoundary-from_rest}
 use Rattle.std.proofs.lemmas.Str.Ascii.{IsAscii-cons, IsAscii-nil}
 use Rattle.std.proofs.lemmas.Fmt.{IsAscii-decimal}
-use Rattle.semver_tokens.specs.Tokens.{TokenValue, Eq, Gt, Lt, LtEq, GtEq, Caret, Tilde, Star, Dot, Comma, Hyphen, Plus, Or, Whitespace, Numeric, AlphaNumeric, token_text, is_space, IsTokenAt}
-use Rattle.semver_tokens.specs.Scanning.{first_token}
+use Rattle.semver_texts.specs.Texts.{is_space}
+use Rattle.semver_tokens.specs.Tokens.{TokenValue, Eq, Gt, Lt, LtEq, GtEq, Caret, Tilde, Star, Dot, Comma, Hyphen, Plus, Or, Whitespace}
+use Rattle.semver_tokens.specs.Tokens.{Numeric, AlphaNumeric, token_text, IsTokenAt}
+use Rattle.semver_tokens.specs.Means.Scanning.{first_token}
 use Rattle.semver_tokens.proofs.FirstToken.{all_of_prefix, IsFound, first_token-found, run_ascii, space_ascii}
 
 ascii_from : (p : ℕ → Bool) → ((b : ℕ) → p b ≡ true → b < 128) → (bs : List ℕ) → AllByRecursion (λ b. IsTrue (p b)) bs → IsAscii bs
@@ -43,21 +47,27 @@ IsAscii-token_text text place Plus w = one 43 (omega arith)
 IsAscii-token_text text place Or w = two 124 124 (omega arith) (omega arith)
 
 -- a text may be cut behind ASCII
-pub cut_after_ascii : (text : List ℕ) (place : ℕ) (xs more : List ℕ) → IsUtf8 text → drop place text ≡ xs ++ more → 0 < length xs → IsAscii xs → IsCharBoundary text (place + length xs)
+pub cut_after_ascii : (text : List ℕ) (place : ℕ) (xs more : List ℕ) → IsUtf8 text → drop place text ≡ xs ++ more → 0 < length xs
+    → IsAscii xs → IsCharBoundary text (place + length xs)
 cut_after_ascii text place xs more utf8 e some ascii =
     let last : ℕ = length xs - 1 in
     let room : length text - place ≡ length xs + length more = sym (length-drop place text) ∙ ap length e ∙ length-append xs more in
-    let byte : get_or text (place + last) 0 ≡ get_or xs last 0 = sym (get_or-drop place text last 0) ∙ ap (λ (l : List ℕ). get_or l last 0) e ∙ get_or_append_left xs more 0 last (omega arith) in
+    let byte : get_or text (place + last) 0 ≡ get_or xs last 0 = sym (get_or-drop place text last 0)
+    ∙ ap (λ (l : List ℕ). get_or l last 0) e ∙ get_or_append_left xs more 0 last (omega arith) in
     let small : get_or text (place + last) 0 < 128 = subst (λ (b : ℕ). b < 128) (sym byte) (ascii last) in
     let after : place + last + 1 ≡ place + length xs = omega arith in
     subst (IsCharBoundary text) after (IsCharBoundary-after_ascii text (place + last) utf8 (omega arith) small)
 
 -- and behind the first token of what stands at a place
-pub cut_after_token : (text : List ℕ) (place : ℕ) (t : TokenValue) (n : ℕ) → place ≤ length text → IsUtf8 (drop place text) → first_token place (drop place text) ≡ Some (t, n) → IsCharBoundary text (place + n)
+pub cut_after_token : (text : List ℕ) (place : ℕ) (t : TokenValue) (n : ℕ) → place ≤ length text → IsUtf8 (drop place text)
+    → first_token place (drop place text) ≡ Some (t, n) → IsCharBoundary text (place + n)
 cut_after_token text place t n within utf8 e =
     let f : IsFound text place (drop place text) t n = first_token-found text place (drop place text) t n refl e in
-    let cut : IsCharBoundary (drop place text) (0 + length (token_text text t)) = cut_after_ascii (drop place text) 0 (token_text text t) (drop n (drop place text)) utf8 f.front.spelled (subst (λ (m : ℕ). 0 < m) (sym f.len) f.positive) (IsAscii-token_text text place t f.front.is_token) in
-    IsCharBoundary-from_rest text place n within (subst (IsCharBoundary (drop place text)) (zero-add (length (token_text text t)) ∙ f.len) cut)
+    let cut : IsCharBoundary (drop place text) (0 + length (token_text text t)) = cut_after_ascii (drop place text) 0 (token_text text t)
+    (drop n (drop place text)) utf8 f.front.spelled (subst (λ (m : ℕ). 0 < m) (sym f.len) f.positive)
+    (IsAscii-token_text text place t f.front.is_token) in
+    IsCharBoundary-from_rest text place n within (subst (IsCharBoundary (drop place text))
+    (zero-add (length (token_text text t)) ∙ f.len) cut)
 
 -- and behind the longest front of bytes that pass a test, where these are ASCII
 module _ (p : ℕ → Bool) (small : (b : ℕ) → p b ≡ true → b < 128) where
@@ -66,7 +76,8 @@ module _ (p : ℕ → Bool) (small : (b : ℕ) → p b ≡ true → b < 128) whe
       let n : ℕ = prefix_len p bs in
       let len : length (take n bs) ≡ n = length-take-le n bs (prefix_len-le-length p bs) in
       subst (IsCharBoundary bs) (zero-add (length (take n bs)) ∙ len)
-      (cut_after_ascii bs 0 (take n bs) (drop n bs) utf8 (sym (take-append-drop n bs)) (omega arith) (ascii_from p small (take n bs) (all_of_prefix p bs)))
+      (cut_after_ascii bs 0 (take n bs) (drop n bs) utf8 (sym (take-append-drop n bs)) (omega arith)
+      (ascii_from p small (take n bs) (all_of_prefix p bs)))
 
   pub cut_after_prefix : (bs : List ℕ) → IsUtf8 bs → IsCharBoundary bs (prefix_len p bs)
   cut_after_prefix bs utf8 = at_len (prefix_len p bs) refl

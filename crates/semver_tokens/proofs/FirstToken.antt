@@ -1,15 +1,19 @@
 -- The first token of a text, and what stands behind it.
-use Rattle.std.proofs.Common.{◌≡◌, ℕ, ◌+◌, ◌-◌, ◌<◌, ◌≤◌, Bool, true, false, cond, eqb, ◌&&◌, ◌||◌, List, [], ◌∷◌, ◌++◌, length, take, drop, Option, Some, sym, refl, ap, ◌∙◌, subst, arith, one-add, length-drop, length-take-le, take-append-drop}
+use Rattle.std.proofs.Common.{◌≡◌, ℕ, ◌+◌, ◌-◌, ◌<◌, ◌≤◌, Bool, true, false, cond, eqb, ◌&&◌, ◌||◌, List, [], ◌∷◌, ◌++◌, length, take, drop}
+use Rattle.std.proofs.Common.{Option, Some, sym, refl, ap, ◌∙◌, subst, arith, one-add, length-drop, length-take-le, take-append-drop}
 use Rattle.std.specs.Prelude.{is_some, IsTrue, slice_range, slice_index, take_while}
 use Rattle.std.specs.List.{prefix_len, AllByRecursion}
 use Rattle.std.specs.Char.{is_ascii_alphanumeric}
 use Rattle.std.proofs.lemmas.List.Sums.{prefix_len-le-length}
 use Rattle.std.proofs.lemmas.Option.{some_pair_parts, none-some}
 use Rattle.std.proofs.lemmas.Bool.Decides.{nat_tests}
-use Rattle.semver_tokens.specs.Tokens.{TokenValue, Eq, Gt, Lt, LtEq, GtEq, Caret, Tilde, Star, Dot, Comma, Hyphen, Plus, Or, Whitespace, Numeric, AlphaNumeric, token_text, is_space, is_sign, opens_token, IsRun, IsTokenAt}
-use Rattle.semver_texts.specs.Texts.{is_part_byte}
-use Rattle.semver_tokens.specs.Scanning.{component, sign, first_token, is_number}
-use Rattle.semver_tokens.proofs.Numbers.{IsCanonical, is_number_true, canonical_from_is_number, decimal_canonical, canonical_from_IsNumber, component_number, component_other}
+use Rattle.semver_texts.specs.Texts.{is_space, IsRun, is_part_byte}
+use Rattle.semver_tokens.specs.Tokens.{TokenValue, Eq, Gt, Lt, LtEq, GtEq, Caret, Tilde, Star, Dot, Comma, Hyphen, Plus, Or, Whitespace}
+use Rattle.semver_tokens.specs.Tokens.{Numeric, AlphaNumeric, token_text, is_sign, opens_token, IsTokenAt}
+use Rattle.semver_texts.specs.Means.Decimals.{is_number}
+use Rattle.semver_tokens.specs.Means.Scanning.{component, sign, first_token}
+use Rattle.semver_texts.proofs.Numbers.{IsCanonical, is_number_true, canonical_from_is_number, decimal_canonical, canonical_from_IsNumber}
+use Rattle.semver_tokens.proofs.Components.{component_number, component_other}
 
 -- either way a test goes
 pub by_test : {A : Type 0} (b : Bool) → (b ≡ true → A) → (b ≡ false → A) → A
@@ -114,17 +118,20 @@ pub record AtSigns (P : ℕ → ℕ → TokenValue → ℕ → Type 0) : Type 0 
 -- at the byte k the sign is `given`, so what holds of that holds of what was found
 module _ (P : ℕ → ℕ → TokenValue → ℕ → Type 0) where
   found_at : (k c : ℕ) (u t : TokenValue) (m n : ℕ) → P k c u m → ◌≡◌ {A = Option (TokenValue × ℕ)} (Some (u, m)) (Some (t, n)) → P k c t n
-  found_at k c u t m n p e = let q = some_pair_parts u t m n e in subst (λ (x : TokenValue). P k c x n) q.0 (subst (λ (x : ℕ). P k c u x) q.1 p)
+  found_at k c u t m n p e =
+      let q = some_pair_parts u t m n e in subst (λ (x : TokenValue). P k c x n) q.0 (subst (λ (x : ℕ). P k c u x) q.1 p)
 
   -- a test of the first byte: what holds at the byte k and what holds at the others
-  at_byte : (k : ℕ) {b c : ℕ} {t : TokenValue} {n : ℕ} {x y : Option (TokenValue × ℕ)} → (x ≡ Some (t, n) → P k c t n) → (y ≡ Some (t, n) → P b c t n) → cond (eqb b k) x y ≡ Some (t, n) → P b c t n
+  at_byte : (k : ℕ) {b c : ℕ} {t : TokenValue} {n : ℕ} {x y : Option (TokenValue × ℕ)} → (x ≡ Some (t, n) → P k c t n)
+      → (y ≡ Some (t, n) → P b c t n) → cond (eqb b k) x y ≡ Some (t, n) → P b c t n
   at_byte k {b} {c} {t} {n} {x} {y} here there =
       by_test (eqb b k)
       (λ same e. let is_k : b ≡ k = grind (arith, nat_tests) in subst (λ (z : ℕ). P z c t n) (sym is_k) (here (rw same at e)))
       (λ other e. there (rw other at e))
 
   -- a test of the second byte
-  at_second : (b : ℕ) {k c : ℕ} {t : TokenValue} {n : ℕ} {x y : Option (TokenValue × ℕ)} → (eqb c b ≡ true → x ≡ Some (t, n) → P k c t n) → (eqb c b ≡ false → y ≡ Some (t, n) → P k c t n) → cond (eqb c b) x y ≡ Some (t, n) → P k c t n
+  at_second : (b : ℕ) {k c : ℕ} {t : TokenValue} {n : ℕ} {x y : Option (TokenValue × ℕ)} → (eqb c b ≡ true → x ≡ Some (t, n) → P k c t n)
+      → (eqb c b ≡ false → y ≡ Some (t, n) → P k c t n) → cond (eqb c b) x y ≡ Some (t, n) → P k c t n
   at_second b {k} {c} here there = by_test (eqb c b) (λ h e. here h (rw h at e)) (λ h e. there h (rw h at e))
 
   same_second : (k b c : ℕ) (t : TokenValue) (n : ℕ) → P k b t n → eqb c b ≡ true → P k c t n
@@ -134,8 +141,10 @@ module _ (P : ℕ → ℕ → TokenValue → ℕ → Type 0) where
   unfolding sign
   sign_found at b c t n =
       at_byte 61 (found_at 61 c Eq t 1 n (at.eq c))
-      (at_byte 62 (at_second 61 (λ h. found_at 62 c GtEq t 2 n (same_second 62 61 c GtEq 2 at.gt_eq h)) (λ h. found_at 62 c Gt t 1 n (at.gt c h)))
-      (at_byte 60 (at_second 61 (λ h. found_at 60 c LtEq t 2 n (same_second 60 61 c LtEq 2 at.lt_eq h)) (λ h. found_at 60 c Lt t 1 n (at.lt c h)))
+      (at_byte 62 (at_second 61 (λ h. found_at 62 c GtEq t 2 n (same_second 62 61 c GtEq 2 at.gt_eq h))
+      (λ h. found_at 62 c Gt t 1 n (at.gt c h)))
+      (at_byte 60 (at_second 61 (λ h. found_at 60 c LtEq t 2 n (same_second 60 61 c LtEq 2 at.lt_eq h))
+      (λ h. found_at 60 c Lt t 1 n (at.lt c h)))
       (at_byte 94 (found_at 94 c Caret t 1 n (at.caret c))
       (at_byte 126 (found_at 126 c Tilde t 1 n (at.tilde c))
       (at_byte 42 (found_at 42 c Star t 1 n (at.star c))
@@ -188,10 +197,17 @@ module _ (text : List ℕ) (place : ℕ) where
   abbrev FoundAt : ℕ → ℕ → TokenValue → ℕ → Type 0
   FoundAt b c t n = (bs : List ℕ) → slice_index bs 0 ≡ c → IsFound text place (b ∷ bs) t n
 
-  two : (b c : ℕ) (t : TokenValue) → token_text text t ≡ b ∷ c ∷ [] → IsTokenAt text place t → ((x : ℕ) → continues t x ≡ false) → (c ≡ 0 → ⊥) → FoundAt b c t 2
+  two : (b c : ℕ) (t : TokenValue) → token_text text t ≡ b ∷ c ∷ [] → IsTokenAt text place t → ((x : ℕ) → continues t x ≡ false)
+      → (c ≡ 0 → ⊥) → FoundAt b c t 2
   two b c t text_is is_token stops some [] e = absurd (some (sym e))
   two b c t text_is is_token stops some (x ∷ bs) e = record {
-    front = record { spelled = ap (λ (z : ℕ). b ∷ z ∷ bs) e ∙ ap (λ (l : List ℕ). l ++ bs) (sym text_is); is_token = is_token; stops = stops _ };
+    front =
+        record {
+          spelled = ap (λ (z : ℕ). b ∷ z ∷ bs) e ∙ ap (λ (l : List ℕ). l ++ bs)
+              (sym text_is);
+          is_token = is_token;
+          stops = stops _;
+        };
     len = ap length text_is;
     positive = omega arith;
   }
@@ -200,9 +216,19 @@ module _ (text : List ℕ) (place : ℕ) where
   signs = record {
     eq = λ c bs e. record { front = record { spelled = refl; is_token = tt; stops = refl }; len = refl; positive = omega arith };
     gt_eq = two 62 61 GtEq refl tt (λ x. refl) (λ z. omega arith);
-    gt = λ c h bs e. record { front = record { spelled = refl; is_token = tt; stops = ap (λ (z : ℕ). eqb z 61) e ∙ h }; len = refl; positive = omega arith };
+    gt =
+        λ c h bs e. record {
+          front = record { spelled = refl; is_token = tt; stops = ap (λ (z : ℕ). eqb z 61) e ∙ h };
+          len = refl;
+          positive = omega arith;
+        };
     lt_eq = two 60 61 LtEq refl tt (λ x. refl) (λ z. omega arith);
-    lt = λ c h bs e. record { front = record { spelled = refl; is_token = tt; stops = ap (λ (z : ℕ). eqb z 61) e ∙ h }; len = refl; positive = omega arith };
+    lt =
+        λ c h bs e. record {
+          front = record { spelled = refl; is_token = tt; stops = ap (λ (z : ℕ). eqb z 61) e ∙ h };
+          len = refl;
+          positive = omega arith;
+        };
     caret = λ c bs e. record { front = record { spelled = refl; is_token = tt; stops = refl }; len = refl; positive = omega arith };
     tilde = λ c bs e. record { front = record { spelled = refl; is_token = tt; stops = refl }; len = refl; positive = omega arith };
     star = λ c bs e. record { front = record { spelled = refl; is_token = tt; stops = refl }; len = refl; positive = omega arith };
@@ -213,24 +239,33 @@ module _ (text : List ℕ) (place : ℕ) where
     or = two 124 124 Or refl tt (λ x. refl) (λ z. omega arith);
   }
 
-  found_space : (b : ℕ) (bs : List ℕ) → drop place text ≡ b ∷ bs → is_space b ≡ true → IsFound text place (b ∷ bs) (Whitespace place (place + prefix_len is_space (b ∷ bs))) (prefix_len is_space (b ∷ bs))
+  found_space : (b : ℕ) (bs : List ℕ) → drop place text ≡ b ∷ bs → is_space b ≡ true
+      → IsFound text place (b ∷ bs) (Whitespace place (place + prefix_len is_space (b ∷ bs))) (prefix_len is_space (b ∷ bs))
   found_space b bs e h =
       let n : ℕ = prefix_len is_space (b ∷ bs) in
       let positive : 0 < n = rw h (omega arith) in
       let within : n ≤ length (b ∷ bs) = prefix_len-le-length is_space (b ∷ bs) in
       let room : length (b ∷ bs) ≡ length text - place = ap length (sym e) ∙ length-drop place text in
-      let cut : slice_range text place (place + n) ≡ take n (b ∷ bs) = ap (λ (m : ℕ). take m (drop place text)) (omega arith) ∙ ap (take n) e in
+      let cut : slice_range text place (place + n) ≡ take n (b ∷ bs) = ap (λ (m : ℕ). take m (drop place text)) (omega arith)
+      ∙ ap (take n) e in
       record {
         front = record {
           spelled = sym (ap (λ (l : List ℕ). l ++ drop n (b ∷ bs)) cut ∙ take-append-drop n (b ∷ bs));
-          is_token = (refl, omega arith, omega arith, subst (AllByRecursion (λ x. IsTrue (is_space x))) (sym cut) (all_of_prefix is_space (b ∷ bs)));
+          is_token = (
+            refl,
+            omega arith,
+            omega arith,
+            subst (AllByRecursion (λ x. IsTrue (is_space x))) (sym cut)
+                (all_of_prefix is_space (b ∷ bs)),
+          );
           stops = prefix_stops is_space (b ∷ bs) refl;
         };
         len = ap length cut ∙ length-take-le n (b ∷ bs) within;
         positive = positive;
       }
 
-  found_run : (b : ℕ) (bs : List ℕ) → is_ascii_alphanumeric b ≡ true → IsFound text place (b ∷ bs) (component (take_while is_ascii_alphanumeric (b ∷ bs))) (prefix_len is_ascii_alphanumeric (b ∷ bs))
+  found_run : (b : ℕ) (bs : List ℕ) → is_ascii_alphanumeric b ≡ true
+      → IsFound text place (b ∷ bs) (component (take_while is_ascii_alphanumeric (b ∷ bs))) (prefix_len is_ascii_alphanumeric (b ∷ bs))
   found_run b bs h =
       let n : ℕ = prefix_len is_ascii_alphanumeric (b ∷ bs) in
       let run : List ℕ = take_while is_ascii_alphanumeric (b ∷ bs) in
@@ -249,7 +284,8 @@ module _ (text : List ℕ) (place : ℕ) where
         positive = positive;
       }
 
-  pub first_token-found : (bs : List ℕ) (t : TokenValue) (n : ℕ) → drop place text ≡ bs → first_token place bs ≡ Some (t, n) → IsFound text place bs t n
+  pub first_token-found : (bs : List ℕ) (t : TokenValue) (n : ℕ) → drop place text ≡ bs → first_token place bs ≡ Some (t, n)
+      → IsFound text place bs t n
   unfolding first_token
   first_token-found [] t n at = λ e. absurd (none-some _ e)
   first_token-found (b ∷ bs) t n at =
@@ -259,5 +295,8 @@ module _ (text : List ℕ) (place : ℕ) where
       (λ r. as_found (b ∷ bs) _ t _ n (found_run b bs r))
       (λ r e. sign_found FoundAt signs b (slice_index bs 0) t n e bs refl))
     where
-      as_found : (bs : List ℕ) (u t : TokenValue) (m n : ℕ) → IsFound text place bs u m → ◌≡◌ {A = Option (TokenValue × ℕ)} (Some (u, m)) (Some (t, n)) → IsFound text place bs t n
-      as_found bs u t m n f e = let q = some_pair_parts u t m n e in subst (λ (x : TokenValue). IsFound text place bs x n) q.0 (subst (λ (x : ℕ). IsFound text place bs u x) q.1 f)
+      as_found : (bs : List ℕ) (u t : TokenValue) (m n : ℕ) → IsFound text place bs u m
+          → ◌≡◌ {A = Option (TokenValue × ℕ)} (Some (u, m)) (Some (t, n)) → IsFound text place bs t n
+      as_found bs u t m n f e =
+          let q = some_pair_parts u t m n e in subst (λ (x : TokenValue). IsFound text place bs x n) q.0
+          (subst (λ (x : ℕ). IsFound text place bs u x) q.1 f)

@@ -14,26 +14,32 @@ state_of [] = record { remaining = []; pending = None }
 state_of ((Ok t) ∷ items) = record { remaining = t ∷ (state_of items).remaining; pending = (state_of items).pending }
 state_of ((Err (UnexpectedChar c)) ∷ items) = record { remaining = []; pending = Some c }
 
-state_of-items : (ts : List TokenValue) (pending : Option ℕ) → state_of (items_left (record { remaining = ts; pending = pending })) ≡ record { remaining = ts; pending = pending }
+state_of-items : (ts : List TokenValue) (pending : Option ℕ)
+    → state_of (items_left (record { remaining = ts; pending = pending })) ≡ record { remaining = ts; pending = pending }
 state_of-items [] None = refl
 state_of-items [] (Some c) = refl
-state_of-items (t ∷ ts) pending = ap (λ (s : ParserState). record { remaining = t ∷ s.remaining; pending = s.pending }) (state_of-items ts pending)
+state_of-items (t ∷ ts) pending =
+    ap (λ (s : ParserState). record { remaining = t ∷ s.remaining; pending = s.pending }) (state_of-items ts pending)
 
 same_state : (s t : ParserState) → items_left s ≡ items_left t → s ≡ t
 same_state s t e = sym (state_of-items s.remaining s.pending) ∙ ap state_of e ∙ state_of-items t.remaining t.pending
 
 -- by what `next` gives
-pub state_at_none : (s u : ParserState) → (items_left s ≡ []) × (items_left u ≡ []) → (s ≡ record { remaining = []; pending = None }) × (u ≡ record { remaining = []; pending = None })
+pub state_at_none : (s u : ParserState) → (items_left s ≡ []) × (items_left u ≡ [])
+    → (s ≡ record { remaining = []; pending = None }) × (u ≡ record { remaining = []; pending = None })
 state_at_none s u e = (same_state s _ e.0, same_state u _ e.1)
 
-pub state_at_token : (s u : ParserState) (t : TokenValue) → items_left s ≡ Ok t ∷ items_left u → s ≡ record { remaining = t ∷ u.remaining; pending = u.pending }
+pub state_at_token : (s u : ParserState) (t : TokenValue) → items_left s ≡ Ok t ∷ items_left u
+    → s ≡ record { remaining = t ∷ u.remaining; pending = u.pending }
 state_at_token s u t e = same_state s _ e
 
-pub state_at_error : (s u : ParserState) (c : ℕ) → items_left s ≡ Err (UnexpectedChar c) ∷ items_left u → s ≡ record { remaining = []; pending = Some c }
+pub state_at_error : (s u : ParserState) (c : ℕ) → items_left s ≡ Err (UnexpectedChar c) ∷ items_left u
+    → s ≡ record { remaining = []; pending = Some c }
 state_at_error s u c e = sym (state_of-items s.remaining s.pending) ∙ ap state_of e
 
 -- what isn't a token comes where none remains
-pub none_remains : (s u : ParserState) (r : Option (Result Token Error)) → YieldsFirstBy item_value items_left s r u → ((t : Token) → ¬ (r ≡ Some (Ok t))) → s.remaining ≡ []
+pub none_remains : (s u : ParserState) (r : Option (Result Token Error)) → YieldsFirstBy item_value items_left s r u
+    → ((t : Token) → ¬ (r ≡ Some (Ok t))) → s.remaining ≡ []
 none_remains s u None gives other = ap (λ (z : ParserState). z.remaining) (state_at_none s u gives).0
 none_remains s u (Some (Ok t)) gives other = absurd (other t refl)
 none_remains s u (Some (Err (UnexpectedChar c))) gives other = ap (λ (z : ParserState). z.remaining) (state_at_error s u c gives)

@@ -1,10 +1,11 @@
 -- What a lexer has left, one item on.
-use Rattle.std.proofs.Common.{◌≡◌, ℕ, ◌+◌, ◌≤◌, Bool, true, false, List, [], ◌∷◌, length, drop, sym, refl, ap, inl, arith, length-drop, Some, None, Ok}
+use Rattle.std.proofs.Common.{◌≡◌, ℕ, ◌+◌, ◌≤◌, Bool, true, false, List, [], ◌∷◌, length, drop, sym, refl, ap, inl, arith, length-drop}
+use Rattle.std.proofs.Common.{Some, None, Ok}
 use Rattle.std.specs.Prelude.{slice_get, chars}
 use Rattle.std.proofs.lemmas.Str.{chars-nil}
 use Rattle.semver_tokens.specs.Tokens.{TokenValue}
 use Rattle.semver_tokens.specs.ParserState.{ParserState, IsStateOf, IsStateFrom}
-use Rattle.semver_tokens.specs.Scanning.{first_token, scan, state_from, state_left}
+use Rattle.semver_tokens.specs.Means.Scanning.{first_token, scan, state_from, state_left}
 use Rattle.semver_tokens.specs.Views.{items_left}
 use Rattle.semver_tokens.proofs.FirstToken.{IsFound, first_token-found}
 use Rattle.semver_tokens.proofs.TokenLists.{scan_finds, scan_is, tokens_cons, scan-none, length-tokens}
@@ -44,18 +45,23 @@ from_start text s w = record { input = text; place = 0; rest = w.0; begins = ref
 
 module _ (text : List ℕ) (place : ℕ) where
   -- behind a token
-  pub items_left-token : (t : TokenValue) (n : ℕ) → first_token place (drop place text) ≡ Some (t, n) → items_left (state_left text place false) ≡ Ok t ∷ items_left (state_left text (place + n) false)
+  pub items_left-token : (t : TokenValue) (n : ℕ) → first_token place (drop place text) ≡ Some (t, n)
+      → items_left (state_left text place false) ≡ Ok t ∷ items_left (state_left text (place + n) false)
   unfolding state_left state_from
   items_left-token t n e =
       let f : IsFound text place (drop place text) t n = first_token-found text place (drop place text) t n refl e in
       let all : scan (length text) text place ≡ (t ∷ (scan (length text) text (place + n)).0, (scan (length text) text (place + n)).1)
-      = scan_is text (length text) place _ _ (tokens_cons text place t n _ _ f (scan_finds text (length text) (place + n) (omega arith))) (omega arith) in
+      = scan_is text (length text) place _ _ (tokens_cons text place t n _ _ f (scan_finds text (length text) (place + n) (omega arith)))
+      (omega arith) in
       ap (λ (p : List TokenValue × List ℕ). items_left (record { remaining = p.0; pending = slice_get (chars p.1) 0 })) all
 
   -- where no token begins
-  pub items_left-rest : first_token place (drop place text) ≡ None → items_left (state_left text place false) ≡ items_left (record { remaining = []; pending = slice_get (chars (drop place text)) 0 })
+  pub items_left-rest : first_token place (drop place text) ≡ None
+      → items_left (state_left text place false) ≡ items_left (record { remaining = []; pending = slice_get (chars (drop place text)) 0 })
   unfolding state_left state_from
-  items_left-rest none = ap (λ (p : List TokenValue × List ℕ). items_left (record { remaining = p.0; pending = slice_get (chars p.1) 0 })) (scan-none text (length text) place none)
+  items_left-rest none =
+      ap (λ (p : List TokenValue × List ℕ). items_left (record { remaining = p.0; pending = slice_get (chars p.1) 0 }))
+      (scan-none text (length text) place none)
 
 -- after the bad character
 pub items_left-failed : (text : List ℕ) (place : ℕ) → items_left (state_left text place true) ≡ []
@@ -65,4 +71,5 @@ items_left-failed text place = refl
 pub length_left : (text : List ℕ) (place : ℕ) (failed : Bool) → length (state_left text place failed).remaining ≤ length text
 unfolding state_left state_from
 length_left text place true = omega arith
-length_left text place false = omega (arith, length-tokens text place _ _ (scan_finds text (length text) place (omega arith)), length-drop place text)
+length_left text place false =
+    omega (arith, length-tokens text place _ _ (scan_finds text (length text) place (omega arith)), length-drop place text)

@@ -1,7 +1,6 @@
 pub mod Cuts
-pub mod DecimalSteps
 pub mod FirstToken
 pub mod LexerItems
 pub mod LexerSteps
-pub mod Numbers
+pub mod Components
 pub mod TokenLists

@@ -1,5 +1,7 @@
 -- The tokens of a text are one list: it is found from the left, and no other is it.
-use Rattle.std.proofs.Common.{◌≡◌, ℕ, zero, suc, ◌+◌, ◌-◌, ◌^◌, ◌<◌, ◌≤◌, Bool, true, false, eqb, ◌&&◌, ◌||◌, not, List, [], ◌∷◌, ◌++◌, length, take, drop, Option, Some, None, sym, refl, ap, ◌∙◌, subst, inl, inr, arith, decimal, ◌⊎◌, append_assoc, one-add, length-append, length-drop, length-take-le}
+use Rattle.std.proofs.Common.{◌≡◌, ℕ, zero, suc, ◌+◌, ◌-◌, ◌^◌, ◌<◌, ◌≤◌, Bool, true, false, eqb, ◌&&◌, ◌||◌, not, List, [], ◌∷◌, ◌++◌}
+use Rattle.std.proofs.Common.{length, take, drop, Option, Some, None, sym, refl, ap, ◌∙◌, subst, inl, inr, arith, decimal, ◌⊎◌}
+use Rattle.std.proofs.Common.{append_assoc, one-add, length-append, length-drop, length-take-le}
 use Rattle.std.specs.Prelude.{is_some, slice_get, IsTrue, slice_range, slice_index, take_while}
 use Rattle.std.specs.List.{prefix_len, AllByRecursion}
 use Rattle.std.specs.Char.{is_ascii_alphanumeric, is_ascii_digit}
@@ -8,15 +10,21 @@ use Rattle.std.proofs.lemmas.List.{take_at, drop_at, drop-drop, get_or_append_le
 use Rattle.std.proofs.lemmas.Option.{same_Some}
 use Rattle.std.proofs.lemmas.Fmt.{decimal_nonempty}
 use Rattle.std.proofs.lemmas.Bool.Decides.{nat_tests}
-use Rattle.semver_tokens.specs.Tokens.{TokenValue, Eq, Gt, Lt, LtEq, GtEq, Caret, Tilde, Star, Dot, Comma, Hyphen, Plus, Or, Whitespace, Numeric, AlphaNumeric, token_text, tokens_text, is_space, is_sign, opens_token, IsRun, IsTokenAt, IsBadStart, AreInPlace, is_component, is_whitespace, is_eq, merges, NoneMerge, AreTokensFrom}
-use Rattle.semver_tokens.specs.Scanning.{component, sign, first_token, scan}
-use Rattle.semver_tokens.proofs.Numbers.{IsNumber-from_canonical, canonical_decimal, component_number, component_other, digits_value_number}
-use Rattle.semver_tokens.proofs.FirstToken.{never, IsFront, IsFound, goes_on, continues, first_token-found, is_some-first_token, space_is_no_run, space_is_no_eq, run_is_no_space, run_is_no_eq}
+use Rattle.semver_texts.specs.Texts.{is_space, IsRun}
+use Rattle.semver_tokens.specs.Tokens.{TokenValue, Eq, Gt, Lt, LtEq, GtEq, Caret, Tilde, Star, Dot, Comma, Hyphen, Plus, Or, Whitespace}
+use Rattle.semver_tokens.specs.Tokens.{Numeric, AlphaNumeric, token_text, tokens_text, is_sign, opens_token, IsTokenAt, IsBadStart}
+use Rattle.semver_tokens.specs.Tokens.{AreInPlace, is_component, is_whitespace, is_eq, merges, NoneMerge, AreTokensFrom}
+use Rattle.semver_tokens.specs.Means.Scanning.{component, sign, first_token, scan}
+use Rattle.semver_texts.proofs.Numbers.{IsNumber-from_canonical, canonical_decimal, digits_value_number}
+use Rattle.semver_tokens.proofs.Components.{component_number, component_other}
+use Rattle.semver_tokens.proofs.FirstToken.{never, IsFront, IsFound, goes_on, continues, first_token-found, is_some-first_token}
+use Rattle.semver_tokens.proofs.FirstToken.{space_is_no_run, space_is_no_eq, run_is_no_space, run_is_no_eq}
 
 -- ---- a front that is a token is what is found
 
 -- the longest front that passes a test, where a list that passes is followed by what fails it
-pub prefix_is : (p : ℕ → Bool) (xs ys : List ℕ) → AllByRecursion (λ b. IsTrue (p b)) xs → p 0 ≡ false → p (slice_index ys 0) ≡ false → prefix_len p (xs ++ ys) ≡ length xs
+pub prefix_is : (p : ℕ → Bool) (xs ys : List ℕ) → AllByRecursion (λ b. IsTrue (p b)) xs → p 0 ≡ false → p (slice_index ys 0) ≡ false
+    → prefix_len p (xs ++ ys) ≡ length xs
 prefix_is p [] [] all past stop = refl
 prefix_is p [] (y ∷ ys) all past stop = rw stop
 prefix_is p (x ∷ xs) ys all past stop = rw (all.0, prefix_is p xs ys all.1 past stop, one-add)
@@ -34,15 +42,18 @@ digits_are_run [] h = tt
 digits_are_run (d ∷ ds) h = let q = both (is_ascii_digit d) (all_ascii_digits ds) h in (digit_is_run d q.0, digits_are_run ds q.1)
 
 -- the token of a run, or white space, is found where it stands
-pub first_token-at_run : (place b : ℕ) (bs : List ℕ) → is_ascii_alphanumeric b ≡ true → first_token place (b ∷ bs) ≡ Some (component (take_while is_ascii_alphanumeric (b ∷ bs)), prefix_len is_ascii_alphanumeric (b ∷ bs))
+pub first_token-at_run : (place b : ℕ) (bs : List ℕ) → is_ascii_alphanumeric b ≡ true
+    → first_token place (b ∷ bs) ≡ Some (component (take_while is_ascii_alphanumeric (b ∷ bs)), prefix_len is_ascii_alphanumeric (b ∷ bs))
 unfolding first_token
 first_token-at_run place b bs h = rw (run_is_no_space b h, h) refl
 
-pub first_token-at_space : (place b : ℕ) (bs : List ℕ) → is_space b ≡ true → first_token place (b ∷ bs) ≡ Some (Whitespace place (place + prefix_len is_space (b ∷ bs)), prefix_len is_space (b ∷ bs))
+pub first_token-at_space : (place b : ℕ) (bs : List ℕ) → is_space b ≡ true
+    → first_token place (b ∷ bs) ≡ Some (Whitespace place (place + prefix_len is_space (b ∷ bs)), prefix_len is_space (b ∷ bs))
 unfolding first_token
 first_token-at_space place b bs h = rw h refl
 
-pub first_token-at_other : (place b : ℕ) (bs : List ℕ) → is_space b ≡ false → is_ascii_alphanumeric b ≡ false → first_token place (b ∷ bs) ≡ sign b (slice_index bs 0)
+pub first_token-at_other : (place b : ℕ) (bs : List ℕ) → is_space b ≡ false → is_ascii_alphanumeric b ≡ false
+    → first_token place (b ∷ bs) ≡ sign b (slice_index bs 0)
 unfolding first_token
 first_token-at_other place b bs s r = rw (s, r) refl
 
@@ -52,32 +63,39 @@ first_token-empty place [] e = refl
 first_token-empty place (b ∷ bs) e = cc
 
 -- the same, where only the first byte is known
-pub front_space : (place : ℕ) (bs : List ℕ) (b : ℕ) → slice_get bs 0 ≡ Some b → is_space b ≡ true → first_token place bs ≡ Some (Whitespace place (place + prefix_len is_space bs), prefix_len is_space bs)
+pub front_space : (place : ℕ) (bs : List ℕ) (b : ℕ) → slice_get bs 0 ≡ Some b → is_space b ≡ true
+    → first_token place bs ≡ Some (Whitespace place (place + prefix_len is_space bs), prefix_len is_space bs)
 front_space place [] b e h = cc
 front_space place (x ∷ bs) b e h = first_token-at_space place x bs (ap is_space (same_Some x b e) ∙ h)
 
-pub front_run : (place : ℕ) (bs : List ℕ) (b : ℕ) → slice_get bs 0 ≡ Some b → is_ascii_alphanumeric b ≡ true → first_token place bs ≡ Some (component (take (prefix_len is_ascii_alphanumeric bs) bs), prefix_len is_ascii_alphanumeric bs)
+pub front_run : (place : ℕ) (bs : List ℕ) (b : ℕ) → slice_get bs 0 ≡ Some b → is_ascii_alphanumeric b ≡ true
+    → first_token place bs ≡ Some (component (take (prefix_len is_ascii_alphanumeric bs) bs), prefix_len is_ascii_alphanumeric bs)
 front_run place [] b e h = cc
 front_run place (x ∷ bs) b e h = first_token-at_run place x bs (ap is_ascii_alphanumeric (same_Some x b e) ∙ h)
 
-pub front_other : (place : ℕ) (bs : List ℕ) (b : ℕ) → slice_get bs 0 ≡ Some b → is_space b ≡ false → is_ascii_alphanumeric b ≡ false → first_token place bs ≡ sign b (slice_index bs 1)
+pub front_other : (place : ℕ) (bs : List ℕ) (b : ℕ) → slice_get bs 0 ≡ Some b → is_space b ≡ false → is_ascii_alphanumeric b ≡ false
+    → first_token place bs ≡ sign b (slice_index bs 1)
 front_other place [] b e s r = cc
 front_other place (x ∷ bs) b e s r =
     let same = same_Some x b e in
-    first_token-at_other place x bs (ap is_space same ∙ s) (ap is_ascii_alphanumeric same ∙ r) ∙ ap (λ (y : ℕ). sign y (slice_index bs 0)) same
+    first_token-at_other place x bs (ap is_space same ∙ s) (ap is_ascii_alphanumeric same ∙ r)
+    ∙ ap (λ (y : ℕ). sign y (slice_index bs 0)) same
 
 pub some_of_prefix : (p : ℕ → Bool) (bs : List ℕ) (b : ℕ) → slice_get bs 0 ≡ Some b → p b ≡ true → 0 < prefix_len p bs
 some_of_prefix p [] b e h = cc
 some_of_prefix p (x ∷ bs) b e h = let g : p x ≡ true = ap p (same_Some x b e) ∙ h in rw g (omega arith)
 
-pub first_token-run : (place : ℕ) (run more : List ℕ) → IsRun run → is_ascii_alphanumeric (slice_index more 0) ≡ false → first_token place (run ++ more) ≡ Some (component run, length run)
+pub first_token-run : (place : ℕ) (run more : List ℕ) → IsRun run → is_ascii_alphanumeric (slice_index more 0) ≡ false
+    → first_token place (run ++ more) ≡ Some (component run, length run)
 first_token-run place [] more is_run stop = absurd (omega (arith, is_run.0))
 first_token-run place (b ∷ bs) more is_run stop =
     first_token-at_run place b (bs ++ more) is_run.1.0
     ∙ ap (λ (n : ℕ). Some (component (take n (b ∷ (bs ++ more))), n)) (prefix_is is_ascii_alphanumeric (b ∷ bs) more is_run.1 refl stop)
     ∙ ap (λ (r : List ℕ). Some (component r, length (b ∷ bs))) (take_at (b ∷ bs) more (length (b ∷ bs)) refl)
 
-pub first_token-space : (place : ℕ) (spaces more : List ℕ) → 0 < length spaces → AllByRecursion (λ b. IsTrue (is_space b)) spaces → is_space (slice_index more 0) ≡ false → first_token place (spaces ++ more) ≡ Some (Whitespace place (place + length spaces), length spaces)
+pub first_token-space : (place : ℕ) (spaces more : List ℕ) → 0 < length spaces → AllByRecursion (λ b. IsTrue (is_space b)) spaces
+    → is_space (slice_index more 0) ≡ false
+    → first_token place (spaces ++ more) ≡ Some (Whitespace place (place + length spaces), length spaces)
 first_token-space place [] more some all stop = absurd (omega (arith, some))
 first_token-space place (b ∷ bs) more some all stop =
     first_token-at_space place b (bs ++ more) all.0
@@ -87,41 +105,37 @@ pub decimal_is_run : (n : ℕ) → n < 2 ^ 64 → IsRun (decimal n)
 decimal_is_run n small = (decimal_nonempty n small, digits_are_run (decimal n) ((canonical_decimal n small).digits))
 
 -- a whitespace token within the text is as long as its places say
-length_slice : (text : List ℕ) (first after : ℕ) → first < after → after ≤ length text → length (slice_range text first after) + first ≡ after
-length_slice text first after some within = let room : length (drop first text) ≡ length text - first = length-drop first text in omega (arith, length-take-le (after - first) (drop first text) (omega arith))
+length_slice : (text : List ℕ) (first after : ℕ) → first < after → after ≤ length text
+    → length (slice_range text first after) + first ≡ after
+length_slice text first after some within =
+    let room : length (drop first text) ≡ length text - first = length-drop first text in omega
+    (arith, length-take-le (after - first) (drop first text) (omega arith))
 
-pub first_token-front : (text : List ℕ) (place : ℕ) (t : TokenValue) (bs more : List ℕ) → IsFront text place t bs more → drop place text ≡ bs → first_token place bs ≡ Some (t, length (token_text text t))
+pub first_token-front : (text : List ℕ) (place : ℕ) (t : TokenValue) (bs more : List ℕ) → IsFront text place t bs more
+    → drop place text ≡ bs → first_token place bs ≡ Some (t, length (token_text text t))
 unfolding first_token sign
-first_token-front text place Eq bs more f at = rw f.spelled refl
 first_token-front text place Gt bs more f at = rw (f.spelled, f.stops) refl
 first_token-front text place Lt bs more f at = rw (f.spelled, f.stops) refl
-first_token-front text place LtEq bs more f at = rw f.spelled refl
-first_token-front text place GtEq bs more f at = rw f.spelled refl
-first_token-front text place Caret bs more f at = rw f.spelled refl
-first_token-front text place Tilde bs more f at = rw f.spelled refl
-first_token-front text place Star bs more f at = rw f.spelled refl
-first_token-front text place Dot bs more f at = rw f.spelled refl
-first_token-front text place Comma bs more f at = rw f.spelled refl
-first_token-front text place Hyphen bs more f at = rw f.spelled refl
-first_token-front text place Plus bs more f at = rw f.spelled refl
-first_token-front text place Or bs more f at = rw f.spelled refl
 first_token-front text place (Whitespace first after) bs more f at =
     let w = f.is_token in
     let len : length (slice_range text first after) + first ≡ after = length_slice text first after w.1 w.2 in
     ap (first_token place) f.spelled
     ∙ first_token-space place (slice_range text first after) more (omega arith) w.3 f.stops
-    ∙ ap (λ (t : TokenValue). Some (t, length (slice_range text first after))) (same_space place first (place + length (slice_range text first after)) after (sym w.0) (omega (arith, w.0)))
+    ∙ ap (λ (t : TokenValue). Some (t, length (slice_range text first after)))
+    (same_space place first (place + length (slice_range text first after)) after (sym w.0) (omega (arith, w.0)))
   where
     same_space : (a b c d : ℕ) → a ≡ b → c ≡ d → Whitespace a c ≡ Whitespace b d
     same_space a b c d p q = cc
 first_token-front text place (Numeric n) bs more f at =
     ap (first_token place) f.spelled
     ∙ first_token-run place (decimal n) more (decimal_is_run n f.is_token) f.stops
-    ∙ ap (λ (t : TokenValue). Some (t, length (decimal n))) (component_number (decimal n) (canonical_decimal n f.is_token) ∙ ap Numeric (digits_value_number (decimal n) n f.is_token refl))
+    ∙ ap (λ (t : TokenValue). Some (t, length (decimal n))) (component_number (decimal n) (canonical_decimal n f.is_token)
+    ∙ ap Numeric (digits_value_number (decimal n) n f.is_token refl))
 first_token-front text place (AlphaNumeric s) bs more f at =
     ap (first_token place) f.spelled
     ∙ first_token-run place s more f.is_token.0 f.stops
     ∙ ap (λ (t : TokenValue). Some (t, length s)) (component_other s (λ c. f.is_token.1 (IsNumber-from_canonical s f.is_token.0.0 c)))
+first_token-front text place _ bs more f at = rw f.spelled refl
 
 -- ---- neighbours
 
@@ -136,10 +150,17 @@ first_of_all : (p : ℕ → Bool) (bs : List ℕ) → 0 < length bs → AllByRec
 first_of_all p [] some all = absurd (omega (arith, some))
 first_of_all p (b ∷ bs) some all = all.0
 
-run_shows : (u : TokenValue) (run : List ℕ) → IsRun run → is_eq u ≡ false → is_whitespace u ≡ false → is_component u ≡ true → ShowsKind u run
+run_shows : (u : TokenValue) (run : List ℕ) → IsRun run → is_eq u ≡ false → is_whitespace u ≡ false → is_component u ≡ true
+    → ShowsKind u run
 run_shows u run is_run no_eq no_space comp =
     let h = first_of_all is_ascii_alphanumeric run is_run.0 is_run.1 in
-    record { some = is_run.0; eq = run_is_no_eq (slice_index run 0) h ∙ sym no_eq; space = run_is_no_space (slice_index run 0) h ∙ sym no_space; run = h ∙ sym comp }
+    record {
+      some = is_run.0;
+      eq = run_is_no_eq (slice_index run 0) h ∙ sym no_eq;
+      space = run_is_no_space (slice_index run 0) h
+          ∙ sym no_space;
+      run = h ∙ sym comp;
+    }
 
 pub shows_kind : (text : List ℕ) (place : ℕ) (u : TokenValue) → IsTokenAt text place u → ShowsKind u (token_text text u)
 shows_kind text place (Whitespace first after) w =
@@ -149,19 +170,7 @@ shows_kind text place (Whitespace first after) w =
     record { some = some; eq = space_is_no_eq b h; space = h; run = space_is_no_run b h }
 shows_kind text place (Numeric n) small = run_shows (Numeric n) (decimal n) (decimal_is_run n small) refl refl refl
 shows_kind text place (AlphaNumeric s) w = run_shows (AlphaNumeric s) s w.0 refl refl refl
-shows_kind text place Eq w = record { some = omega arith; eq = refl; space = refl; run = refl }
-shows_kind text place Gt w = record { some = omega arith; eq = refl; space = refl; run = refl }
-shows_kind text place Lt w = record { some = omega arith; eq = refl; space = refl; run = refl }
-shows_kind text place LtEq w = record { some = omega arith; eq = refl; space = refl; run = refl }
-shows_kind text place GtEq w = record { some = omega arith; eq = refl; space = refl; run = refl }
-shows_kind text place Caret w = record { some = omega arith; eq = refl; space = refl; run = refl }
-shows_kind text place Tilde w = record { some = omega arith; eq = refl; space = refl; run = refl }
-shows_kind text place Star w = record { some = omega arith; eq = refl; space = refl; run = refl }
-shows_kind text place Dot w = record { some = omega arith; eq = refl; space = refl; run = refl }
-shows_kind text place Comma w = record { some = omega arith; eq = refl; space = refl; run = refl }
-shows_kind text place Hyphen w = record { some = omega arith; eq = refl; space = refl; run = refl }
-shows_kind text place Plus w = record { some = omega arith; eq = refl; space = refl; run = refl }
-shows_kind text place Or w = record { some = omega arith; eq = refl; space = refl; run = refl }
+shows_kind text place _ w = record { some = omega arith; eq = refl; space = refl; run = refl }
 
 or_false : (a : Bool) → (a || false) ≡ a
 or_false true = refl
@@ -180,7 +189,8 @@ goes_on-token : (t u : TokenValue) (bs more : List ℕ) → ShowsKind u bs → g
 goes_on-token t u bs more k = ap (continues t) (get_or_append_left bs more 0 0 k.some) ∙ continues_merges t u bs k
 
 -- no token goes on where no token begins
-pub opens_nothing : (b : ℕ) (bs : List ℕ) → not (opens_token (b ∷ bs)) ≡ true → (eqb b 61 ≡ false) × (is_space b ≡ false) × (is_ascii_alphanumeric b ≡ false)
+pub opens_nothing : (b : ℕ) (bs : List ℕ) → not (opens_token (b ∷ bs)) ≡ true
+    → (eqb b 61 ≡ false) × (is_space b ≡ false) × (is_ascii_alphanumeric b ≡ false)
 opens_nothing b bs h = let q = closed (is_sign b) (is_space b) (is_ascii_alphanumeric b) _ h in (grind (arith, nat_tests, q.0), q.1, q.2)
   where
     closed : (a s r d : Bool) → not ((a || s) || (r || d)) ≡ true → (a ≡ false) × (s ≡ false) × (r ≡ false)
@@ -189,7 +199,8 @@ opens_nothing b bs h = let q = closed (is_sign b) (is_space b) (is_ascii_alphanu
     closed false false true d h = cc
     closed false false false d h = (refl, refl, refl)
 
-stops_at_nothing : (t : TokenValue) (b : ℕ) → (eqb b 61 ≡ false) × (is_space b ≡ false) × (is_ascii_alphanumeric b ≡ false) → continues t b ≡ false
+stops_at_nothing : (t : TokenValue) (b : ℕ) → (eqb b 61 ≡ false) × (is_space b ≡ false) × (is_ascii_alphanumeric b ≡ false)
+    → continues t b ≡ false
 stops_at_nothing Lt b h = h.0
 stops_at_nothing Gt b h = h.0
 stops_at_nothing (Whitespace first after) b h = h.1
@@ -213,45 +224,57 @@ false_from_not false h = refl
 -- ---- a first token and the tokens after it
 
 module _ (text : List ℕ) where
-  stops_before : (t : TokenValue) (place : ℕ) (ts : List TokenValue) (rest : List ℕ) → NoneMerge (t ∷ ts) → AreInPlace text place ts → (rest ≡ []) ⊎ IsBadStart rest → goes_on t (tokens_text text ts ++ rest) ≡ false
+  stops_before : (t : TokenValue) (place : ℕ) (ts : List TokenValue) (rest : List ℕ) → NoneMerge (t ∷ ts) → AreInPlace text place ts
+      → (rest ≡ []) ⊎ IsBadStart rest → goes_on t (tokens_text text ts ++ rest) ≡ false
   stops_before t place [] rest none in_place ended = stops_at_end t rest ended
   stops_before t place (u ∷ us) rest none in_place ended =
       ap (goes_on t) (append_assoc (token_text text u) (tokens_text text us) rest)
       ∙ goes_on-token t u (token_text text u) _ (shows_kind text place u in_place.0)
       ∙ false_from_not (merges t u) none.0
 
-  none_merge_more : (t : TokenValue) (place : ℕ) (ts : List TokenValue) (rest : List ℕ) → goes_on t (tokens_text text ts ++ rest) ≡ false → AreInPlace text place ts → NoneMerge ts → NoneMerge (t ∷ ts)
+  none_merge_more : (t : TokenValue) (place : ℕ) (ts : List TokenValue) (rest : List ℕ) → goes_on t (tokens_text text ts ++ rest) ≡ false
+      → AreInPlace text place ts → NoneMerge ts → NoneMerge (t ∷ ts)
   none_merge_more t place [] rest stops in_place none = tt
-  none_merge_more t place (u ∷ us) rest stops in_place none =
-      (not_false (merges t u) (sym (ap (goes_on t) (append_assoc (token_text text u) (tokens_text text us) rest) ∙ goes_on-token t u (token_text text u) _ (shows_kind text place u in_place.0)) ∙ stops), none)
+  none_merge_more t place (u ∷ us) rest stops in_place none = (
+    not_false (merges t u) (sym (ap (goes_on t) (append_assoc (token_text text u) (tokens_text text us) rest)
+        ∙ goes_on-token t u (token_text text u) _ (shows_kind text place u in_place.0)) ∙ stops),
+    none,
+  )
 
   none_merge_rest : (t : TokenValue) (ts : List TokenValue) → NoneMerge (t ∷ ts) → NoneMerge ts
   none_merge_rest t [] none = tt
   none_merge_rest t (u ∷ us) none = none.1
 
   -- the first of the tokens is the front, and the others are the tokens of what follows
-  pub first_front : (place : ℕ) (t : TokenValue) (ts : List TokenValue) (rest : List ℕ) → AreTokensFrom text place (t ∷ ts) rest → IsFront text place t (drop place text) (tokens_text text ts ++ rest)
+  pub first_front : (place : ℕ) (t : TokenValue) (ts : List TokenValue) (rest : List ℕ) → AreTokensFrom text place (t ∷ ts) rest
+      → IsFront text place t (drop place text) (tokens_text text ts ++ rest)
   first_front place t ts rest a = record {
     spelled = a.spelled ∙ append_assoc (token_text text t) (tokens_text text ts) rest;
     is_token = a.in_place.0;
     stops = stops_before t (place + length (token_text text t)) ts rest a.none_merge a.in_place.1 a.ended;
   }
 
-  pub other_tokens : (place : ℕ) (t : TokenValue) (ts : List TokenValue) (rest : List ℕ) → AreTokensFrom text place (t ∷ ts) rest → AreTokensFrom text (place + length (token_text text t)) ts rest
+  pub other_tokens : (place : ℕ) (t : TokenValue) (ts : List TokenValue) (rest : List ℕ) → AreTokensFrom text place (t ∷ ts) rest
+      → AreTokensFrom text (place + length (token_text text t)) ts rest
   other_tokens place t ts rest a = record {
-    spelled = sym (drop-drop (length (token_text text t)) place text) ∙ ap (drop (length (token_text text t))) (a.spelled ∙ append_assoc (token_text text t) (tokens_text text ts) rest) ∙ drop_at (token_text text t) (tokens_text text ts ++ rest) (length (token_text text t)) refl;
+    spelled = sym (drop-drop (length (token_text text t)) place text)
+        ∙ ap (drop (length (token_text text t))) (a.spelled ∙ append_assoc (token_text text t) (tokens_text text ts) rest)
+        ∙ drop_at (token_text text t) (tokens_text text ts ++ rest) (length (token_text text t)) refl;
     in_place = a.in_place.1;
     none_merge = none_merge_rest t ts a.none_merge;
     ended = a.ended;
   }
 
   -- a front that is a token, and the tokens of what follows, are the tokens
-  pub tokens_cons : (place : ℕ) (t : TokenValue) (n : ℕ) (ts : List TokenValue) (rest : List ℕ) → IsFound text place (drop place text) t n → AreTokensFrom text (place + n) ts rest → AreTokensFrom text place (t ∷ ts) rest
+  pub tokens_cons : (place : ℕ) (t : TokenValue) (n : ℕ) (ts : List TokenValue) (rest : List ℕ) → IsFound text place (drop place text) t n
+      → AreTokensFrom text (place + n) ts rest → AreTokensFrom text place (t ∷ ts) rest
   tokens_cons place t n ts rest f a =
       let behind : drop n (drop place text) ≡ tokens_text text ts ++ rest = drop-drop n place text ∙ a.spelled in
-      let in_place : AreInPlace text (place + length (token_text text t)) ts = subst (λ (m : ℕ). AreInPlace text (place + m) ts) (sym f.len) a.in_place in
+      let in_place : AreInPlace text (place + length (token_text text t)) ts = subst (λ (m : ℕ). AreInPlace text (place + m) ts)
+      (sym f.len) a.in_place in
       record {
-        spelled = f.front.spelled ∙ ap (λ (l : List ℕ). token_text text t ++ l) behind ∙ sym (append_assoc (token_text text t) (tokens_text text ts) rest);
+        spelled = f.front.spelled ∙ ap (λ (l : List ℕ). token_text text t ++ l) behind
+            ∙ sym (append_assoc (token_text text t) (tokens_text text ts) rest);
         in_place = (f.front.is_token, in_place);
         none_merge = none_merge_more t _ ts rest (ap (goes_on t) (sym behind) ∙ f.front.stops) in_place a.none_merge;
         ended = a.ended;
@@ -268,7 +291,9 @@ none_opens place [] e = inl refl
 none_opens place (b ∷ bs) e = inr (omega arith, not_false (opens_token (b ∷ bs)) (sym (is_some-first_token place (b ∷ bs)) ∙ ap is_some e))
 
 none_at_end : (place : ℕ) (bs : List ℕ) → (bs ≡ []) ⊎ IsBadStart bs → first_token place bs ≡ None
-none_at_end place bs ended = option_cases (first_token place bs) (λ e. e) (λ x e. absurd (never (sym (is_some-first_token place bs) ∙ ap is_some e) (closed bs ended)))
+none_at_end place bs ended =
+    option_cases (first_token place bs) (λ e. e) (λ x e. absurd
+    (never (sym (is_some-first_token place bs) ∙ ap is_some e) (closed bs ended)))
   where
     closed : (bs : List ℕ) → (bs ≡ []) ⊎ IsBadStart bs → opens_token bs ≡ false
     closed [] ended = refl
@@ -281,7 +306,8 @@ module _ (text : List ℕ) where
   scan-none zero place e = refl
   scan-none (suc n) place e = rw (e, scan) refl
 
-  scan-some : (n place : ℕ) (t : TokenValue) (len : ℕ) → first_token place (drop place text) ≡ Some (t, len) → scan (suc n) text place ≡ (t ∷ (scan n text (place + len)).0, (scan n text (place + len)).1)
+  scan-some : (n place : ℕ) (t : TokenValue) (len : ℕ) → first_token place (drop place text) ≡ Some (t, len)
+      → scan (suc n) text place ≡ (t ∷ (scan n text (place + len)).0, (scan n text (place + len)).1)
   unfolding scan
   scan-some n place t len e = rw (e, scan) refl
 
@@ -290,37 +316,62 @@ module _ (text : List ℕ) where
   scan_finds zero place enough =
       let done : drop place text ≡ [] = drop_all place text (omega arith) in
       let e : scan zero text place ≡ ([], drop place text) = scan-none zero place (none_at_end place (drop place text) (inl done)) in
-      subst (λ (p : List TokenValue × List ℕ). AreTokensFrom text place p.0 p.1) (sym e) (record { spelled = refl; in_place = tt; none_merge = tt; ended = inl done })
+      subst (λ (p : List TokenValue × List ℕ). AreTokensFrom text place p.0 p.1) (sym e)
+      (record { spelled = refl; in_place = tt; none_merge = tt; ended = inl done })
   scan_finds (suc n) place enough =
       option_cases (first_token place (drop place text))
-      (λ none. subst (λ (p : List TokenValue × List ℕ). AreTokensFrom text place p.0 p.1) (sym (scan-none (suc n) place none)) (record { spelled = refl; in_place = tt; none_merge = tt; ended = none_opens place (drop place text) none }))
+      (λ none. subst (λ (p : List TokenValue × List ℕ). AreTokensFrom text place p.0 p.1) (sym (scan-none (suc n) place none))
+      (record { spelled = refl; in_place = tt; none_merge = tt; ended = none_opens place (drop place text) none }))
       (λ found e.
-      let f : IsFound text place (drop place text) found.0 found.1 = first_token-found text place (drop place text) found.0 found.1 refl e in
+      let f : IsFound text place (drop place text) found.0 found.1 = first_token-found text place
+      (drop place text) found.0 found.1 refl e in
       let positive : 0 < found.1 = f.positive in
       subst (λ (p : List TokenValue × List ℕ). AreTokensFrom text place p.0 p.1) (sym (scan-some n place found.0 found.1 e))
       (tokens_cons text place found.0 found.1 _ _ f (scan_finds n (place + found.1) (omega arith))))
 
   -- and what they are is what is found
-  pub scan_is : (n place : ℕ) (ts : List TokenValue) (rest : List ℕ) → AreTokensFrom text place ts rest → length text ≤ place + n → scan n text place ≡ (ts, rest)
+  pub scan_is : (n place : ℕ) (ts : List TokenValue) (rest : List ℕ) → AreTokensFrom text place ts rest → length text ≤ place + n
+      → scan n text place ≡ (ts, rest)
   scan_is n place [] rest a enough =
-      scan-none n place (none_at_end place (drop place text) (subst (λ (l : List ℕ). (l ≡ []) ⊎ IsBadStart l) (sym a.spelled) a.ended)) ∙ ap (λ (l : List ℕ). ([], l)) a.spelled
+      scan-none n place (none_at_end place (drop place text) (subst (λ (l : List ℕ). (l ≡ []) ⊎ IsBadStart l) (sym a.spelled) a.ended))
+      ∙ ap (λ (l : List ℕ). ([], l)) a.spelled
   scan_is zero place (t ∷ ts) rest a enough =
-      absurd (omega (arith, (shows_kind text place t a.in_place.0).some, length-drop place text, ap length a.spelled, length-append (token_text text t ++ tokens_text text ts) rest, length-append (token_text text t) (tokens_text text ts)))
+      absurd (omega (
+        arith,
+        (shows_kind text place t a.in_place.0).some,
+        length-drop place text,
+        ap length a.spelled,
+        length-append (token_text text t ++ tokens_text text ts) rest,
+        length-append (token_text text t) (tokens_text text ts),
+      ))
   scan_is (suc n) place (t ∷ ts) rest a enough =
       let len : ℕ = length (token_text text t) in
       let some : 0 < len = (shows_kind text place t a.in_place.0).some in
-      let rest_is : scan n text (place + len) ≡ (ts, rest) = scan_is n (place + len) ts rest (other_tokens text place t ts rest a) (omega arith) in
-      scan-some n place t len (first_token-front text place t (drop place text) (tokens_text text ts ++ rest) (first_front text place t ts rest a) refl)
+      let rest_is : scan n text (place + len) ≡ (ts, rest) = scan_is n (place + len) ts rest (other_tokens text place t ts rest a)
+      (omega arith) in
+      scan-some n place t len (first_token-front text place t (drop place text) (tokens_text text ts ++ rest)
+      (first_front text place t ts rest a) refl)
       ∙ ap (λ (p : List TokenValue × List ℕ). (t ∷ p.0, p.1)) rest_is
 
   -- the tokens of a text are one list
-  pub same_tokens : (place : ℕ) (ts us : List TokenValue) (rest other : List ℕ) → AreTokensFrom text place ts rest → AreTokensFrom text place us other → (ts ≡ us) × (rest ≡ other)
+  pub same_tokens : (place : ℕ) (ts us : List TokenValue) (rest other : List ℕ) → AreTokensFrom text place ts rest
+      → AreTokensFrom text place us other → (ts ≡ us) × (rest ≡ other)
   same_tokens place ts us rest other a b =
       let e = sym (scan_is (length text) place ts rest a (omega arith)) ∙ scan_is (length text) place us other b (omega arith) in
       (ap (λ (p : List TokenValue × List ℕ). p.0) e, ap (λ (p : List TokenValue × List ℕ). p.1) e)
 
   -- each token takes a byte at least
-  pub length-tokens : (place : ℕ) (ts : List TokenValue) (rest : List ℕ) → AreTokensFrom text place ts rest → length ts ≤ length (drop place text)
+  pub length-tokens : (place : ℕ) (ts : List TokenValue) (rest : List ℕ) → AreTokensFrom text place ts rest
+      → length ts ≤ length (drop place text)
   length-tokens place [] rest a = omega arith
   length-tokens place (t ∷ ts) rest a =
-      omega (arith, (shows_kind text place t a.in_place.0).some, ap length a.spelled, length-append (token_text text t ++ tokens_text text ts) rest, length-append (token_text text t) (tokens_text text ts), length-tokens (place + length (token_text text t)) ts rest (other_tokens text place t ts rest a), length-drop place text, length-drop (place + length (token_text text t)) text)
+      omega (
+        arith,
+        (shows_kind text place t a.in_place.0).some,
+        ap length a.spelled,
+        length-append (token_text text t ++ tokens_text text ts) rest,
+        length-append (token_text text t) (tokens_text text ts),
+        length-tokens (place + length (token_text text t)) ts rest (other_tokens text place t ts rest a),
+        length-drop place text,
+        length-drop (place + length (token_text text t)) text,
+      )

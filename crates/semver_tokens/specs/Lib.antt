@@ -1,4 +1,4 @@
 pub mod Tokens
 pub mod ParserState
-pub mod Scanning
+pub mod Means
 pub mod Views

@@ -1,6 +1,7 @@
 -- The values of the code without where they lie in memory.
 use Rattle.std.specs.Prelude.{List, ◌++◌, map, Result, Ok, Err, option_to_list}
-use Rattle.semver_tokens.specs.Tokens.{TokenValue, Eq, Gt, Lt, LtEq, GtEq, Caret, Tilde, Star, Dot, Comma, Hyphen, Plus, Or, Whitespace, Numeric, AlphaNumeric}
+use Rattle.semver_tokens.specs.Tokens.{TokenValue, Eq, Gt, Lt, LtEq, GtEq, Caret, Tilde, Star, Dot}
+use Rattle.semver_tokens.specs.Tokens.{Comma, Hyphen, Plus, Or, Whitespace, Numeric, AlphaNumeric}
 use Rattle.semver_tokens.specs.ParserState.{ParserState}
 use Rattle.semver_tokens.specs.declared.lexer.Token.{Token}
 use Rattle.semver_tokens.specs.declared.lexer.Token.TheVariants as token
@@ -30,6 +31,9 @@ abbrev pub item_value : Result Token Error → Result TokenValue Error
 item_value (Ok t) = Ok (token_value t)
 item_value (Err e) = Err e
 
--- the items that a lexer has left: the tokens that remain, and an error where a character is pending
+-- the items that a lexer has left: the tokens that remain, and an error where a character is
+-- pending
 abbrev pub items_left : ParserState → List (Result TokenValue Error)
-items_left s = map (λ t. Ok t) s.remaining ++ map (λ c. Err (error.UnexpectedChar c)) (option_to_list s.pending)
+items_left s =
+    map (λ t. Ok t) s.remaining ++ map (λ c. Err (error.UnexpectedChar c))
+    (option_to_list s.pending)

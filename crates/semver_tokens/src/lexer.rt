@@ -1,22 +1,23 @@
 //! The tokens of a text: its signs, its white space, and its runs of ASCII letters and digits.
 //!
-//! The text is read by bytes, from the left; a character past ASCII is decoded only to be named in an error.
-//! Nothing here takes memory: each token that has a text borrows it from the input.
+//! The text is read by bytes, from the left; a character past ASCII is decoded only to be named in
+//! an error. Nothing here takes memory: each token that has a text borrows it from the input.
 //!
-//! `foo / *` has the tokens `AlphaNumeric("foo")` and `Whitespace(3, 4)`; then comes the error `UnexpectedChar('/')`,
-//! and then nothing.
+//! `foo / *` has the tokens `AlphaNumeric("foo")` and `Whitespace(3, 4)`; then comes the error
+//! `UnexpectedChar('/')`, and then nothing.
 ghost use Rattle.std.specs.Prelude.{◌^◌, [], ◌≡◌, ℕ, ◌+◌, ◌<◌, ◌≤◌, length, drop, option_map};
-ghost use Rattle.std.specs.List.{prefix_len};
-ghost use Rattle.std.specs.Char.{is_ascii_alphanumeric};
-ghost use Rattle.semver_tokens.specs.Tokens.{is_space, IsRun, is_whitespace};
-ghost use Rattle.semver_tokens.specs.Scanning.{component, sign, first_token};
+ghost use Rattle.semver_tokens.specs.Tokens.{is_whitespace};
+ghost use Rattle.semver_texts.specs.Texts.{IsRun};
+ghost use Rattle.semver_tokens.specs.Means.Scanning.{component, sign, first_token};
 ghost use Rattle.semver_tokens.specs.Views.{token_value};
 ghost use Rattle.semver_tokens.specs.ParserState.{IsStateFrom};
 
-use crate::decimals::whole_number;
+use semver_texts::bytes::{is_space, run_len, space_len};
+use semver_texts::decimals::whole_number;
 use std::marker::Model;
 
-/// A token. Those of two characters are taken before those of one: `<=` is `LtEq`, and never `Lt` and `Eq`.
+/// A token. Those of two characters are taken before those of one: `<=` is `LtEq`, and never `Lt`
+/// and `Eq`.
 #[derive(Debug, PartialEq, Eq, PartialOrd, Ord, Drop)]
 pub enum Token<'input> {
     /// `=`
@@ -45,17 +46,19 @@ pub enum Token<'input> {
     Plus,
     /// `||`
     Or,
-    /// A longest run of spaces, tabs, line feeds and carriage returns: the byte where it begins, and the byte behind it.
+    /// A longest run of spaces, tabs, line feeds and carriage returns: the byte where it begins,
+    /// and the byte behind it.
     Whitespace(usize, usize),
-    /// A longest run of ASCII letters and digits that is the canonical decimal of a number up to 2^64 - 1:
-    /// `0`, or digits that don't begin with `0`.
+    /// A longest run of ASCII letters and digits that is the canonical decimal of a number up to
+    /// 2^64 - 1: `0`, or digits that don't begin with `0`.
     Numeric(u64),
-    /// Any other longest run of ASCII letters and digits, as the slice of the input: `beta2`, `01`, `18446744073709551616`.
+    /// Any other longest run of ASCII letters and digits, as the slice of the input: `beta2`, `01`,
+    /// `18446744073709551616`.
     AlphaNumeric(&'input str),
 }
 
 impl<'input> Token<'input> {
-    ghost use Rattle.semver_tokens.specs.ParserState.{is_wildcard};
+    ghost use Rattle.semver_tokens.specs.Tokens.{is_wildcard};
 
     /// Whether the token is white space, of any length.
     ///
@@ -85,35 +88,9 @@ pub enum Error {
     UnexpectedChar(char),
 }
 
+/// The sign that two bytes begin with, and its length.
 #[inline(always)]
-fn is_space(byte: u8) -> bool
-    ensures { result ≡ is_space byte }
-{
-    matches!(byte, b' ' | b'\t' | b'\n' | b'\r')
-}
-
-// How many bytes at the front are white space.
-#[inline(always)]
-fn space_len(bytes: &[u8]) -> usize
-    ensures { result ≡ prefix_len is_space bytes.now }
-{
-    bytes.iter().take_while(|&&byte| is_space(byte)).count()
-}
-
-// How many bytes at the front are letters and digits.
-#[inline(always)]
-fn run_len(bytes: &[u8]) -> usize
-    ensures { result ≡ prefix_len is_ascii_alphanumeric bytes.now }
-{
-    bytes
-        .iter()
-        .take_while(|byte| byte.is_ascii_alphanumeric())
-        .count()
-}
-
-// The sign that two bytes begin with, and its length.
-#[inline(always)]
-#[tactic(auto, unfolding(crate::specs::Scanning::sign))]
+#[tactic(auto, unfolding(crate::specs::Means::Scanning::sign))]
 fn sign<'input>(first: u8, second: u8) -> Option<(Token<'input>, usize)>
     ensures { option_map (λ x. (token_value x.0, x.1)) result ≡ sign first second }
 {
@@ -135,9 +112,9 @@ fn sign<'input>(first: u8, second: u8) -> Option<(Token<'input>, usize)>
     }
 }
 
-// The token of a run of letters and digits.
+/// The token of a run of letters and digits.
 #[inline(always)]
-#[tactic(auto, unfolding(crate::specs::Scanning::component))]
+#[tactic(auto, unfolding(crate::specs::Means::Scanning::component))]
 fn component<'input>(run: &'input str) -> Token<'input>
     requires { IsRun run.now }
     ensures { token_value result ≡ component run.now }
@@ -148,7 +125,8 @@ fn component<'input>(run: &'input str) -> Token<'input>
     }
 }
 
-// The token at the front of what is left of a text from `start` on, if one is there, and its length.
+/// The token at the front of what is left of a text from `start` on, if one is there, and its
+/// length.
 #[inline(always)]
 fn front_token<'input>(rest: &'input str, start: usize) -> Option<(Token<'input>, usize)>
     requires { start + length rest.now < 2 ^ 64 }
@@ -168,7 +146,8 @@ fn front_token<'input>(rest: &'input str, start: usize) -> Option<(Token<'input>
     sign(first, second)
 }
 
-/// Gives the tokens of a text one after the other, then at most one error, and then nothing for good.
+/// Gives the tokens of a text one after the other, then at most one error, and then nothing for
+/// good.
 ///
 /// It holds the text, the byte where it stands, and whether its error was given.
 #[derive(Debug, Drop)]
@@ -181,7 +160,7 @@ pub struct Lexer<'input> {
 impl<'input> Model for Lexer<'input> {
     ghost use Rattle.std.specs.Prelude.{IsCharBoundary};
     ghost use Rattle.semver_tokens.specs.ParserState.{ParserState};
-    ghost use Rattle.semver_tokens.specs.Scanning.{state_left};
+    ghost use Rattle.semver_tokens.specs.Means.Scanning.{state_left};
 
     ghost Value = { ParserState };
 
@@ -216,8 +195,8 @@ impl<'input> Iterator for Lexer<'input> {
 
     ghost remaining = { item_count items_left };
 
-    /// The next token; where no token begins, the error that names the character there, once; at the end, and after the
-    /// error, `None`. It takes no memory.
+    /// The next token; where no token begins, the error that names the character there, once; at
+    /// the end, and after the error, `None`. It takes no memory.
     ///
     /// On `1é2` it gives `Ok(Numeric(1))`, `Err(UnexpectedChar('é'))`, and then `None` each time.
     #[inline(always)]
@@ -262,7 +241,8 @@ pub fn rest<'input>(lexer: &Lexer<'input>) -> &'input str
     &lexer.input[lexer.position..]
 }
 
-/// How many tokens are left, and a lexer behind the last of them: on `1.2/` these are 3, and a lexer whose next item is the error.
+/// How many tokens are left, and a lexer behind the last of them: on `1.2/` these are 3, and a
+/// lexer whose next item is the error.
 pub fn count_tokens<'input>(lexer: &Lexer<'input>) -> (usize, Lexer<'input>)
     ensures count { result.0 ≡ length lexer.now.remaining }
     ensures small { result.0 < 2 ^ 63 }

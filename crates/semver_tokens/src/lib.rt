@@ -1,6 +1,5 @@
 //! Version texts as tokens: signs, white space, numbers, and other runs of letters and digits.
 #![tactic(auto)]
 
-pub mod decimals;
 pub mod laws;
 pub mod lexer;

@@ -6,4 +6,3 @@ pub mod VersionExamples
 pub mod VersionMemory
 pub mod VersionTokens
 pub mod WholeText
-pub mod ZeroOne

@@ -1,20 +1,22 @@
 -- What a call of `parse` answers, from the outcome of the text.
-use Rattle.std.proofs.Common.{◌≡◌, ℕ, List, [], ◌∷◌, Some, None, Option, Result, Ok, Err, sym, refl, ap, ◌∙◌, subst, inl, inr, IsUtf8, IfOk, ◌↔◌}
+use Rattle.std.proofs.Common.{◌≡◌, ℕ, List, [], ◌∷◌, Some, None, Option, Result, Ok, Err, sym, refl, ap, ◌∙◌, subst, inl, inr, IsUtf8, IfOk}
+use Rattle.std.proofs.Common.{◌↔◌}
 use Rattle.semver_tokens.specs.Tokens.{TokenValue}
 use Rattle.semver_texts.specs.Versions.{VersionValue}
 use Rattle.semver_texts.specs.PrintedText.{version_text}
-use Rattle.semver_steps.specs.VersionGrammar.{SpellsVersion, IsTrimmed, IsPrintableVersion}
+use Rattle.semver_texts.specs.VersionGrammar.{SpellsVersion, IsTrimmed, IsPrintableVersion}
 use Rattle.semver_tokens.specs.ParserState as fault
-use Rattle.semver_tokens.specs.ParserState.{ParserState, Fault, Step, IsStateOf, tail_of}
+use Rattle.semver_tokens.specs.ParserState.{ParserState, Fault, IsStateOf}
+use Rattle.semver_steps.specs.ParserSteps.{Step, tail, tail_of}
 use Rattle.semver_steps.specs.VersionReading.{IsVersionShape, ReadsVersion, IsOutcomeOf, whole_answer, MayRunOutInVersion, TextMayRunOut}
 use Rattle.semver_texts.specs.VersionViews.{version_value}
 use Rattle.semver_steps.specs.ParserViews.{fault_of, answer_of, UnlessOutOfMemory, IfOutOfMemory}
 use Rattle.semver_texts.specs.declared.version.Version.{Version}
 use Rattle.semver_steps.specs.declared.parser.Error.{Error}
 use Rattle.semver_steps.specs.declared.parser.Error.TheVariants as error
-use Rattle.semver_steps.specs.Taking.{step, accepts, start}
+use Rattle.semver_steps.specs.Means.Taking.{Gives, step, accepts, start}
 use Rattle.semver_steps.proofs.VersionSteps.{version_is_read}
-use Rattle.semver_steps.proofs.ReadingSteps.{reads_nothing}
+use Rattle.semver_steps.proofs.ReadingSteps.{at_nothing, none_taken, reads_stuck}
 use Rattle.semver_versions.proofs.WholeText.{trimmed, printable, printed_spells, accepted_spells, outcome_spelled, plain_has_memory}
 
 -- ---- from the outcome to the clauses
@@ -24,50 +26,72 @@ unless_map (Ok v) f p = f p
 unless_map (Err error.OutOfMemory) f p = tt
 unless_map (Err _) f p = f p
 
-outcome_exact : (text : List ℕ) → IsUtf8 text → (x : Result VersionValue Fault) → IsOutcomeOf text x → (v : VersionValue) → (x ≡ Ok v) ↔ SpellsVersion v text
+outcome_exact : (text : List ℕ) → IsUtf8 text → (x : Result VersionValue Fault) → IsOutcomeOf text x → (v : VersionValue)
+    → (x ≡ Ok v) ↔ SpellsVersion v text
 outcome_exact text utf8 x o v = (λ e. accepted_spells v text utf8 (subst (IsOutcomeOf text) e o), λ s. outcome_spelled v text s x o)
 
 module _ (text : List ℕ) (utf8 : IsUtf8 text) where
-  exact_of : (r : Result Version Error) → UnlessOutOfMemory r (IsOutcomeOf text (answer_of version_value r)) → (v : VersionValue) → UnlessOutOfMemory r ((answer_of version_value r ≡ Ok v) ↔ SpellsVersion v text)
+  exact_of : (r : Result Version Error) → UnlessOutOfMemory r (IsOutcomeOf text (answer_of version_value r)) → (v : VersionValue)
+      → UnlessOutOfMemory r ((answer_of version_value r ≡ Ok v) ↔ SpellsVersion v text)
   exact_of r o v = unless_map r (λ p. outcome_exact text utf8 (answer_of version_value r) p v) o
 
-  plain_of : (r : Result Version Error) → UnlessOutOfMemory r (IsOutcomeOf text (answer_of version_value r)) → IfOutOfMemory r (TextMayRunOut text) → (v : VersionValue) → SpellsVersion v text → v.plain.pre ≡ [] → v.build ≡ [] → answer_of version_value r ≡ Ok v
+  plain_of : (r : Result Version Error) → UnlessOutOfMemory r (IsOutcomeOf text (answer_of version_value r))
+      → IfOutOfMemory r (TextMayRunOut text) → (v : VersionValue) → SpellsVersion v text → v.plain.pre ≡ [] → v.build ≡ []
+      → answer_of version_value r ≡ Ok v
   plain_of (Ok w) o m v s pre build = outcome_spelled v text s (Ok (version_value w)) o
   plain_of (Err error.OutOfMemory) o m v s pre build = absurd (plain_has_memory v text s pre build m)
   plain_of (Err e) o m v s pre build = outcome_spelled v text s (Err (fault_of e)) o
 
-  trimmed_of : (r : Result Version Error) → UnlessOutOfMemory r (IsOutcomeOf text (answer_of version_value r)) → IfOk r (λ v. IsTrimmed text (version_text (version_value v)))
+  trimmed_of : (r : Result Version Error) → UnlessOutOfMemory r (IsOutcomeOf text (answer_of version_value r))
+      → IfOk r (λ v. IsTrimmed text (version_text (version_value v)))
   trimmed_of (Ok w) o = trimmed (version_value w) text (accepted_spells (version_value w) text utf8 o)
   trimmed_of (Err e) o = tt
 
-  printable_of : (r : Result Version Error) → UnlessOutOfMemory r (IsOutcomeOf text (answer_of version_value r)) → IfOk r (λ v. IsPrintableVersion (version_value v))
+  printable_of : (r : Result Version Error) → UnlessOutOfMemory r (IsOutcomeOf text (answer_of version_value r))
+      → IfOk r (λ v. IsPrintableVersion (version_value v))
   printable_of (Ok w) o = printable (version_value w) text (accepted_spells (version_value w) text utf8 o)
   printable_of (Err e) o = tt
 
-  read_back_of : (r : Result Version Error) → UnlessOutOfMemory r (IsOutcomeOf text (answer_of version_value r)) → (v : VersionValue) → IsPrintableVersion v → text ≡ version_text v → UnlessOutOfMemory r (answer_of version_value r ≡ Ok v)
-  read_back_of r o v can same = unless_map r (λ p. outcome_spelled v text (subst (SpellsVersion v) (sym same) (printed_spells v can)) (answer_of version_value r) p) o
+  read_back_of : (r : Result Version Error) → UnlessOutOfMemory r (IsOutcomeOf text (answer_of version_value r)) → (v : VersionValue)
+      → IsPrintableVersion v → text ≡ version_text v → UnlessOutOfMemory r (answer_of version_value r ≡ Ok v)
+  read_back_of r o v can same =
+      unless_map r (λ p. outcome_spelled v text (subst (SpellsVersion v) (sym same) (printed_spells v can)) (answer_of version_value r) p) o
 
-  pub all_of : (r : Result Version Error) → UnlessOutOfMemory r (IsOutcomeOf text (answer_of version_value r)) → IfOutOfMemory r (TextMayRunOut text) → record {
-    exact : (v : VersionValue) → UnlessOutOfMemory r ((answer_of version_value r ≡ Ok v) ↔ SpellsVersion v text);
-    plain : (v : VersionValue) → SpellsVersion v text → v.plain.pre ≡ [] → v.build ≡ [] → answer_of version_value r ≡ Ok v;
-    trimmed : IfOk r (λ v. IsTrimmed text (version_text (version_value v)));
-    printable : IfOk r (λ v. IsPrintableVersion (version_value v));
-    read_back : (v : VersionValue) → IsPrintableVersion v → text ≡ version_text v → UnlessOutOfMemory r (answer_of version_value r ≡ Ok v);
-    outcome : UnlessOutOfMemory r (IsOutcomeOf text (answer_of version_value r));
-    out_of_memory : IfOutOfMemory r (TextMayRunOut text);
-  }
-  all_of r o m = record { exact = exact_of r o; plain = plain_of r o m; trimmed = trimmed_of r o; printable = printable_of r o; read_back = read_back_of r o; outcome = o; out_of_memory = m }
+  pub all_of : (r : Result Version Error) → UnlessOutOfMemory r (IsOutcomeOf text (answer_of version_value r))
+      → IfOutOfMemory r (TextMayRunOut text) → record {
+        exact : (v : VersionValue) → UnlessOutOfMemory r ((answer_of version_value r ≡ Ok v) ↔ SpellsVersion v text);
+        plain : (v : VersionValue) → SpellsVersion v text → v.plain.pre ≡ [] → v.build ≡ [] → answer_of version_value r ≡ Ok v;
+        trimmed : IfOk r (λ v. IsTrimmed text (version_text (version_value v)));
+        printable : IfOk r (λ v. IsPrintableVersion (version_value v));
+        read_back : (v : VersionValue) → IsPrintableVersion v → text ≡ version_text v → UnlessOutOfMemory r (answer_of version_value r ≡ Ok v);
+        outcome : UnlessOutOfMemory r (IsOutcomeOf text (answer_of version_value r));
+        out_of_memory : IfOutOfMemory r (TextMayRunOut text);
+      }
+  all_of r o m =
+      record {
+        exact = exact_of r o;
+        plain = plain_of r o m;
+        trimmed = trimmed_of r o;
+        printable = printable_of r o;
+        read_back = read_back_of r o;
+        outcome = o;
+        out_of_memory = m;
+      }
 
 -- ---- the outcome at each end of the call
 
 -- a bad start
-pub at_bad_start : (text : List ℕ) (e : Error) → (c : ℕ) × (fault_of e ≡ fault.Lexer c) × IsStateOf text (record { remaining = []; pending = Some c }) → IsOutcomeOf text (Err (fault_of e))
+pub at_bad_start : (text : List ℕ) (e : Error)
+    → (c : ℕ) × (fault_of e ≡ fault.Lexer c) × IsStateOf text (record { remaining = []; pending = Some c })
+    → IsOutcomeOf text (Err (fault_of e))
 at_bad_start text e w = record {
   start = record { remaining = []; pending = Some w.0 };
   answer = Err (fault.Lexer w.0);
   end = record { remaining = []; pending = Some w.0 };
   state = w.2;
-  reads = reads_nothing step accepts start IsVersionShape version_is_read SpellsVersion w.0 refl;
+  reads =
+      reads_stuck step accepts start IsVersionShape version_is_read SpellsVersion
+      (none_taken step accepts start IsVersionShape version_is_read _) (at_nothing w.0) (inl refl);
   whole = ap (λ (x : Fault). Err x) w.1;
 }
 
@@ -85,40 +109,46 @@ at_refusal text s t state m = record { start = s; front = m.front; rest = m.rest
 -- reading answers a version
 module _ (text : List ℕ) (s t : ParserState) (v : VersionValue) (state : IsStateOf text s) (reads : ReadsVersion s (Ok v) t) where
   pub at_end : t.remaining ≡ [] → IsOutcomeOf text (Ok v)
-  at_end none = record { start = s; answer = Ok v; end = t; state = state; reads = reads; whole = sym (ap (λ (l : List TokenValue). whole_answer (Ok v) l t.pending) none) }
+  at_end none =
+      record {
+        start = s;
+        answer = Ok v;
+        end = t;
+        state = state;
+        reads = reads;
+        whole = sym
+            (ap (λ (l : List TokenValue). whole_answer (Ok v) l t.pending) none);
+      }
 
-  not_end : (left : List TokenValue) (pending : Option ℕ) → ¬ (left ≡ []) → pending ≡ None → whole_answer (Ok v) left pending ≡ Err (fault.MoreInput left)
-  not_end [] pending some none = absurd (some refl)
-  not_end (x ∷ left) pending some none = ap (whole_answer (Ok v) (x ∷ left)) none
-
-  at_left : ¬ (t.remaining ≡ []) → t.pending ≡ None → IsOutcomeOf text (Err (fault.MoreInput t.remaining))
-  at_left some none = record { start = s; answer = Ok v; end = t; state = state; reads = reads; whole = sym (not_end t.remaining t.pending some none) }
-
-  -- the tail is all that is left
-  pub at_tail : ¬ (t.remaining ≡ []) → (ts : List TokenValue) (u : ParserState) → ◌≡◌ {A = Step (List TokenValue)} (Ok ts, u) (tail_of t.remaining t.pending) → IsOutcomeOf text (Err (fault.MoreInput ts))
-  at_tail some ts u e = go t.pending refl e
+  -- the tail, where some token is left
+  pub tail_given : ¬ (t.remaining ≡ []) → (d : Step (List TokenValue)) → d ≡ tail t
+      → Gives (λ e u. IsOutcomeOf text (Err e)) (λ ts u. IsOutcomeOf text (Err (fault.MoreInput ts))) d
+  tail_given some d e =
+      subst (Gives (λ e u. IsOutcomeOf text (Err e)) (λ ts u. IsOutcomeOf text (Err (fault.MoreInput ts)))) (sym e)
+      (at_left t.remaining t.pending some (λ x whole. record {
+        start = s;
+        answer = Ok v;
+        end = t;
+        state = state;
+        reads = reads;
+        whole = whole;
+      }))
     where
-      go : (p : Option ℕ) → t.pending ≡ p → ◌≡◌ {A = Step (List TokenValue)} (Ok ts, u) (tail_of t.remaining p) → IsOutcomeOf text (Err (fault.MoreInput ts))
-      go None none d =
-          let f : ◌≡◌ {A = Result (List TokenValue) Fault} (Ok ts) (Ok t.remaining) = ap (λ (z : Step (List TokenValue)). z.0) d in
-          let same : ts ≡ t.remaining = cc in
-          subst (λ (l : List TokenValue). IsOutcomeOf text (Err (fault.MoreInput l))) (sym same) (at_left some none)
-      go (Some c) pending d = let f : ◌≡◌ {A = Result (List TokenValue) Fault} (Ok ts) (Err (fault.Lexer c)) = ap (λ (z : Step (List TokenValue)). z.0) d in cc
-
-  -- or a character is pending behind it
-  pub at_tail_fault : ¬ (t.remaining ≡ []) → (x : Fault) (u : ParserState) → ◌≡◌ {A = Step (List TokenValue)} (Err x, u) (tail_of t.remaining t.pending) → IsOutcomeOf text (Err x)
-  at_tail_fault some x u e = go t.pending refl e
-    where
-      pending_end : (left : List TokenValue) (p : Option ℕ) (c : ℕ) → ¬ (left ≡ []) → p ≡ Some c → whole_answer (Ok v) left p ≡ Err (fault.Lexer c)
-      pending_end [] p c some here = absurd (some refl)
-      pending_end (y ∷ left) p c some here = ap (whole_answer (Ok v) (y ∷ left)) here
-
-      go : (p : Option ℕ) → t.pending ≡ p → ◌≡◌ {A = Step (List TokenValue)} (Err x, u) (tail_of t.remaining p) → IsOutcomeOf text (Err x)
-      go None none d = let f : ◌≡◌ {A = Result (List TokenValue) Fault} (Err x) (Ok t.remaining) = ap (λ (z : Step (List TokenValue)). z.0) d in cc
-      go (Some c) here d =
-          let f : ◌≡◌ {A = Result (List TokenValue) Fault} (Err x) (Err (fault.Lexer c)) = ap (λ (z : Step (List TokenValue)). z.0) d in
-          let same : x ≡ fault.Lexer c = cc in
-          record { start = s; answer = Ok v; end = t; state = state; reads = reads; whole = ap (λ (z : Fault). Err z) same ∙ sym (pending_end t.remaining t.pending c some here) }
+      at_left : (left : List TokenValue) (pending : Option ℕ) → ¬ (left ≡ [])
+          → ((x : Result VersionValue Fault) → x ≡ whole_answer (Ok v) left pending → IsOutcomeOf text x)
+          → Gives (λ e u. IsOutcomeOf text (Err e)) (λ ts u. IsOutcomeOf text (Err (fault.MoreInput ts))) (tail_of left pending)
+      at_left [] pending some outcome = absurd (some refl)
+      at_left (x ∷ left) None some outcome = outcome (Err (fault.MoreInput (x ∷ left))) refl
+      at_left (x ∷ left) (Some c) some outcome = outcome (Err (fault.Lexer c)) refl
 
   pub at_tail_refusal : ¬ (t.remaining ≡ []) → t.pending ≡ None → TextMayRunOut text
-  at_tail_refusal some none = record { start = s; front = reads.front; rest = reads.rest; state = state; longest = reads.longest; why = inr (t.remaining, at_left some none) }
+  at_tail_refusal some none =
+      record {
+        start = s;
+        front = reads.front;
+        rest = reads.rest;
+        state = state;
+        longest = reads.longest;
+        why = inr
+            (t.remaining, tail_given some _ (sym (ap (tail_of t.remaining) none)));
+      }

@@ -1,5 +1,6 @@
 -- A text that spells a version with identifiers has tokens that hold a run of one, so reading it may run out of memory.
-use Rattle.std.proofs.Common.{◌≡◌, ℕ, ◌<◌, ◌+◌, Bool, true, false, not, arith, eqb, ◌||◌, List, [], ◌∷◌, ◌++◌, length, map, Some, None, Option, sym, refl, ap, ◌∙◌, subst, inl, inr, ⊎_elim, ◌⊎◌, append_assoc, decimal}
+use Rattle.std.proofs.Common.{◌≡◌, ℕ, ◌<◌, ◌+◌, Bool, true, false, not, arith, eqb, ◌||◌, List, [], ◌∷◌, ◌++◌, length, map, Some, None}
+use Rattle.std.proofs.Common.{Option, sym, refl, ap, ◌∙◌, subst, inl, inr, ⊎_elim, ◌⊎◌, append_assoc, decimal}
 use Rattle.std.specs.Prelude.{option_and_then}
 use Rattle.std.specs.List.{AllZip, join_with_byte}
 use Rattle.std.specs.Char.{is_ascii_alphanumeric}
@@ -7,14 +8,16 @@ use Rattle.std.proofs.lemmas.Option.{none-some}
 use Rattle.std.proofs.lemmas.Bool.Decides.{nat_tests}
 use Rattle.semver_texts.specs.Texts.{Text, marked}
 use Rattle.semver_texts.specs.Versions.{IdentifierValue, VersionValue, numbers}
-use Rattle.semver_tokens.specs.Tokens.{TokenValue, LtEq, GtEq, Or, Hyphen, Plus, Whitespace, Numeric, AlphaNumeric, IsTokenAt, AreInPlace, token_text}
-use Rattle.semver_steps.specs.VersionGrammar.{SpellsIdentifier, SpellsPart, SpellsVersion}
+use Rattle.semver_tokens.specs.Tokens.{TokenValue, LtEq, GtEq, Or, Hyphen, Plus, Whitespace, Numeric, AlphaNumeric, IsTokenAt, AreInPlace}
+use Rattle.semver_tokens.specs.Tokens.{token_text}
+use Rattle.semver_texts.specs.VersionGrammar.{SpellsIdentifier, SpellsPart, SpellsVersion}
 use Rattle.semver_steps.specs.VersionReading.{HoldsIdentifierRun, TextMayRunOut, inner_text, inner_texts}
-use Rattle.semver_steps.specs.Taking.{run, Place, start, after_patch, in_pre, after_pre, in_build, after_build, step, accepts}
+use Rattle.semver_steps.specs.Means.Taking.{run, Part, pre_release, build, Place, start, behind_number, patch, at_run, behind_run, step}
+use Rattle.semver_steps.specs.Means.Taking.{accepts}
 use Rattle.semver_tokens.proofs.TokenLists.{decimal_is_run}
 use Rattle.semver_versions.proofs.OneVersion.{Passes, passes_more, passes_append}
 use Rattle.semver_steps.proofs.VersionSteps.{version_is_read}
-use Rattle.semver_steps.proofs.VersionTaking.{holds_later}
+use Rattle.semver_steps.proofs.VersionTaking.{holds_later, sign_holds}
 use Rattle.semver_versions.proofs.WholeText.{has, behind, spelled_may_run_out}
 
 -- a byte that is no mark of a pre-release or a build
@@ -23,40 +26,33 @@ is_no_mark b = not (eqb b 45 || eqb b 43)
 
 -- ---- behind a mark comes a run
 
-hyphen_leads : (p q : Place) → step p Hyphen ≡ Some q → (q ≡ in_pre) ⊎ (q ≡ in_build)
-hyphen_leads after_patch q e = inl (cc)
-hyphen_leads after_pre q e = inl (cc)
-hyphen_leads after_build q e = inr (cc)
-hyphen_leads _ q e = absurd (none-some q e)
+mark_leads : (mark : TokenValue) → (mark ≡ Hyphen) ⊎ (mark ≡ Plus) → (p q : Place) → step p mark ≡ Some q
+    → (part : Part) × (q ≡ at_run part)
+mark_leads mark is p q e =
+    ⊎_elim (λ hyphen. hyphen_leads p q (ap (step p) (sym hyphen) ∙ e)) (λ plus. plus_leads p q (ap (step p) (sym plus) ∙ e)) is
+  where
+    hyphen_leads : (p q : Place) → step p Hyphen ≡ Some q → (part : Part) × (q ≡ at_run part)
+    hyphen_leads (behind_number patch) q e = (pre_release, cc)
+    hyphen_leads (behind_run part) q e = (part, cc)
+    hyphen_leads _ q e = absurd (none-some q e)
 
-plus_leads : (p q : Place) → step p Plus ≡ Some q → (q ≡ in_pre) ⊎ (q ≡ in_build)
-plus_leads after_patch q e = inr (cc)
-plus_leads after_pre q e = inr (cc)
-plus_leads _ q e = absurd (none-some q e)
+    plus_leads : (p q : Place) → step p Plus ≡ Some q → (part : Part) × (q ≡ at_run part)
+    plus_leads (behind_number patch) q e = (build, cc)
+    plus_leads (behind_run pre_release) q e = (build, cc)
+    plus_leads _ q e = absurd (none-some q e)
 
-behind_pre : (sign : TokenValue) → (sign ≡ Hyphen) ⊎ (sign ≡ Plus) → (ts : List TokenValue) (last : Place) → run step in_pre ts ≡ Some last → accepts last ≡ true → HoldsIdentifierRun (sign ∷ ts)
-behind_pre sign is_sign [] last e ok = let same : last ≡ in_pre = cc in let no : accepts in_pre ≡ true = ap accepts (sym same) ∙ ok in cc
-behind_pre sign is_sign (Numeric n ∷ ts) last e ok = record { before = []; sign = sign; component = Numeric n; after = ts; split = refl; is_sign = is_sign; is_run = refl }
-behind_pre sign is_sign (AlphaNumeric s ∷ ts) last e ok = record { before = []; sign = sign; component = AlphaNumeric s; after = ts; split = refl; is_sign = is_sign; is_run = refl }
-behind_pre sign is_sign (t ∷ ts) last e ok = absurd (none-some last e)
-
-behind_build : (sign : TokenValue) → (sign ≡ Hyphen) ⊎ (sign ≡ Plus) → (ts : List TokenValue) (last : Place) → run step in_build ts ≡ Some last → accepts last ≡ true → HoldsIdentifierRun (sign ∷ ts)
-behind_build sign is_sign [] last e ok = let same : last ≡ in_build = cc in let no : accepts in_build ≡ true = ap accepts (sym same) ∙ ok in cc
-behind_build sign is_sign (Numeric n ∷ ts) last e ok = record { before = []; sign = sign; component = Numeric n; after = ts; split = refl; is_sign = is_sign; is_run = refl }
-behind_build sign is_sign (AlphaNumeric s ∷ ts) last e ok = record { before = []; sign = sign; component = AlphaNumeric s; after = ts; split = refl; is_sign = is_sign; is_run = refl }
-behind_build sign is_sign (t ∷ ts) last e ok = absurd (none-some last e)
-
-behind_mark : (sign : TokenValue) → (sign ≡ Hyphen) ⊎ (sign ≡ Plus) → (q : Place) → (q ≡ in_pre) ⊎ (q ≡ in_build) → (ts : List TokenValue) (last : Place) → run step q ts ≡ Some last → accepts last ≡ true → HoldsIdentifierRun (sign ∷ ts)
-behind_mark sign is_sign q inside ts last e ok = ⊎_elim
-    (λ pre. behind_pre sign is_sign ts last (subst (λ (p : Place). run step p ts ≡ Some last) pre e) ok)
-    (λ build. behind_build sign is_sign ts last (subst (λ (p : Place). run step p ts ≡ Some last) build e) ok)
-    inside
+mark_holds : (mark : TokenValue) → (mark ≡ Hyphen) ⊎ (mark ≡ Plus) → (p q : Place) → step p mark ≡ Some q
+    → (ts : List TokenValue) (last : Place) → run step q ts ≡ Some last → accepts last ≡ true → HoldsIdentifierRun (mark ∷ ts)
+mark_holds mark is p q leads ts last e ok =
+    let to = mark_leads mark is p q leads in sign_holds mark is to.0 ts last (ap (λ (r : Place). run step r ts) (sym to.1) ∙ e) ok
 
 -- where a token leads on
-led : (p : Place) (t : TokenValue) (ts : List TokenValue) (last : Place) → run step p (t ∷ ts) ≡ Some last → (q : Place) × (step p t ≡ Some q) × (run step q ts ≡ Some last)
+led : (p : Place) (t : TokenValue) (ts : List TokenValue) (last : Place) → run step p (t ∷ ts) ≡ Some last
+    → (q : Place) × (step p t ≡ Some q) × (run step q ts ≡ Some last)
 led p t ts last e = go (step p t) refl e
   where
-    go : (o : Option Place) → step p t ≡ o → option_and_then (λ u. run step u ts) o ≡ Some last → (q : Place) × (step p t ≡ Some q) × (run step q ts ≡ Some last)
+    go : (o : Option Place) → step p t ≡ o → option_and_then (λ u. run step u ts) o ≡ Some last
+        → (q : Place) × (step p t ≡ Some q) × (run step q ts ≡ Some last)
     go None here e = absurd (none-some last e)
     go (Some q) here e = (q, here, e)
 
@@ -70,8 +66,10 @@ is_mark _ = false
 letter_no_mark : (b : ℕ) → is_ascii_alphanumeric b ≡ true → is_no_mark b ≡ true
 letter_no_mark b h = grind (arith, nat_tests)
 
-no_mark_inside : (text : List ℕ) (place : ℕ) (t : TokenValue) → is_mark t ≡ false → IsTokenAt text place t → Passes is_no_mark (inner_text t)
-no_mark_inside text place (Numeric n) other w = passes_more is_ascii_alphanumeric is_no_mark letter_no_mark (decimal n) (decimal_is_run n w).1
+no_mark_inside : (text : List ℕ) (place : ℕ) (t : TokenValue) → is_mark t ≡ false → IsTokenAt text place t
+    → Passes is_no_mark (inner_text t)
+no_mark_inside text place (Numeric n) other w =
+    passes_more is_ascii_alphanumeric is_no_mark letter_no_mark (decimal n) (decimal_is_run n w).1
 no_mark_inside text place (AlphaNumeric s) other w = passes_more is_ascii_alphanumeric is_no_mark letter_no_mark s w.0.1
 no_mark_inside text place (Whitespace a b) other w = tt
 no_mark_inside text place LtEq other w = (refl, (refl, tt))
@@ -82,32 +80,38 @@ no_mark_inside text place Plus other w = cc
 no_mark_inside text place _ other w = (refl, tt)
 
 -- the tokens hold a run of an identifier, or their text has no mark
-holds_or_none : (text : List ℕ) (place : ℕ) (p last : Place) (ts : List TokenValue) → AreInPlace text place ts → run step p ts ≡ Some last → accepts last ≡ true → HoldsIdentifierRun ts ⊎ Passes is_no_mark (inner_texts ts)
+holds_or_none : (text : List ℕ) (place : ℕ) (p last : Place) (ts : List TokenValue) → AreInPlace text place ts → run step p ts ≡ Some last
+    → accepts last ≡ true → HoldsIdentifierRun ts ⊎ Passes is_no_mark (inner_texts ts)
 holds_or_none text place p last [] placed leads ok = inr tt
 holds_or_none text place p last (Hyphen ∷ ts) placed leads ok =
-    let to = led p Hyphen ts last leads in inl (behind_mark Hyphen (inl refl) to.0 (hyphen_leads p to.0 to.1) ts last to.2 ok)
+    let to = led p Hyphen ts last leads in inl (mark_holds Hyphen (inl refl) p to.0 to.1 ts last to.2 ok)
 holds_or_none text place p last (Plus ∷ ts) placed leads ok =
-    let to = led p Plus ts last leads in inl (behind_mark Plus (inr refl) to.0 (plus_leads p to.0 to.1) ts last to.2 ok)
+    let to = led p Plus ts last leads in inl (mark_holds Plus (inr refl) p to.0 to.1 ts last to.2 ok)
 holds_or_none text place p last (t ∷ ts) placed leads ok =
     let to = led p t ts last leads in
-    ⊎_elim (λ holds. inl (holds_later t ts holds)) (λ none. inr (passes_append is_no_mark (inner_text t) (inner_texts ts) (no_mark_inside text place t refl placed.0) none))
+    ⊎_elim (λ holds. inl (holds_later t ts holds)) (λ none. inr
+    (passes_append is_no_mark (inner_text t) (inner_texts ts) (no_mark_inside text place t refl placed.0) none))
     (holds_or_none text (place + length (token_text text t)) to.0 last ts placed.1 to.2 ok)
 
 -- ---- a version with identifiers
 
-part_marked : (mark : ℕ) (ids : List IdentifierValue) (text : Text) → SpellsPart (mark ∷ []) ids text → 0 < length ids → (rest : Text) × (text ≡ mark ∷ rest)
+part_marked : (mark : ℕ) (ids : List IdentifierValue) (text : Text) → SpellsPart (mark ∷ []) ids text → 0 < length ids
+    → (rest : Text) × (text ≡ mark ∷ rest)
 part_marked mark ids text w some = go ids w.texts w.each some w.joined
   where
-    go : (ids : List IdentifierValue) (texts : List Text) → AllZip SpellsIdentifier ids texts → 0 < length ids → text ≡ marked (mark ∷ []) texts → (rest : Text) × (text ≡ mark ∷ rest)
+    go : (ids : List IdentifierValue) (texts : List Text) → AllZip SpellsIdentifier ids texts → 0 < length ids
+        → text ≡ marked (mark ∷ []) texts → (rest : Text) × (text ≡ mark ∷ rest)
     go [] texts each some e = absurd (omega (arith, some))
     go (id ∷ ids) [] each some e = absurd each
     go (id ∷ ids) (t ∷ texts) each some e = (join_with_byte 46 (t ∷ texts), e)
 
-pub may_run_out : (v : VersionValue) (text : Text) → SpellsVersion v text → (0 < length v.plain.pre) ⊎ (0 < length v.build) → TextMayRunOut text
+pub may_run_out : (v : VersionValue) (text : Text) → SpellsVersion v text → (0 < length v.plain.pre) ⊎ (0 < length v.build)
+    → TextMayRunOut text
 may_run_out v text spells some =
     let tokens = has v text spells in
     let leads = version_is_read.read tokens.ts tokens.shape in
-    ⊎_elim (λ holds. spelled_may_run_out v text spells holds) (λ none. absurd (marked_text tokens.spells none)) (holds_or_none text 0 start leads.0 tokens.ts tokens.tokens.in_place leads.1 leads.2)
+    ⊎_elim (λ holds. spelled_may_run_out v text spells holds) (λ none. absurd (marked_text tokens.spells none))
+    (holds_or_none text 0 start leads.0 tokens.ts tokens.tokens.in_place leads.1 leads.2)
   where
     regroup_pre : (a b c d e : Text) → a ++ b ++ (45 ∷ c) ++ d ++ e ≡ (a ++ b) ++ (45 ∷ (c ++ (d ++ e)))
     regroup_pre a b c d e = simp append_assoc
@@ -122,11 +126,15 @@ may_run_out v text spells some =
         (λ pre.
         let here = part_marked 45 v.plain.pre w.pre_text w.pre pre in
         let whole : inner ≡ (w.before ++ three) ++ (45 ∷ (here.0 ++ (w.build_text ++ w.after))) =
-        w.spelled ∙ ap (λ (t : Text). w.before ++ three ++ t ++ w.build_text ++ w.after) here.1 ∙ regroup_pre w.before three here.0 w.build_text w.after in
-        let no_mark : is_no_mark 45 ≡ true = behind is_no_mark (w.before ++ three) 45 (here.0 ++ (w.build_text ++ w.after)) (subst (Passes is_no_mark) whole none) in cc)
+        w.spelled ∙ ap (λ (t : Text). w.before ++ three ++ t ++ w.build_text ++ w.after) here.1
+        ∙ regroup_pre w.before three here.0 w.build_text w.after in
+        let no_mark : is_no_mark 45 ≡ true = behind is_no_mark (w.before ++ three) 45 (here.0 ++ (w.build_text ++ w.after))
+        (subst (Passes is_no_mark) whole none) in cc)
         (λ build.
         let here = part_marked 43 v.build w.build_text w.build build in
         let whole : inner ≡ (w.before ++ (three ++ w.pre_text)) ++ (43 ∷ (here.0 ++ w.after)) =
-        w.spelled ∙ ap (λ (t : Text). w.before ++ three ++ w.pre_text ++ t ++ w.after) here.1 ∙ regroup_build w.before three w.pre_text here.0 w.after in
-        let no_mark : is_no_mark 43 ≡ true = behind is_no_mark (w.before ++ (three ++ w.pre_text)) 43 (here.0 ++ w.after) (subst (Passes is_no_mark) whole none) in cc)
+        w.spelled ∙ ap (λ (t : Text). w.before ++ three ++ w.pre_text ++ t ++ w.after) here.1
+        ∙ regroup_build w.before three w.pre_text here.0 w.after in
+        let no_mark : is_no_mark 43 ≡ true = behind is_no_mark (w.before ++ (three ++ w.pre_text)) 43 (here.0 ++ w.after)
+        (subst (Passes is_no_mark) whole none) in cc)
         some

@@ -1,5 +1,7 @@
 -- What reading a whole text answers, by the texts and the grammar.
-use Rattle.std.proofs.Common.{◌≡◌, ℕ, zero, suc, ◌+◌, ◌-◌, ◌<◌, ◌^◌, Bool, true, false, eqb, ◌||◌, List, [], ◌∷◌, ◌++◌, length, drop, map, Some, None, Option, Result, Ok, Err, sym, refl, ap, ◌∙◌, subst, inr, inl, ⊎_elim, arith, append_assoc, append-nil, length-append, codes, decimal, IsUtf8}
+use Rattle.std.proofs.Common.{◌≡◌, ℕ, zero, suc, ◌+◌, ◌-◌, ◌<◌, ◌^◌, Bool, true, false, eqb, ◌||◌, List, [], ◌∷◌, ◌++◌, length, drop, map}
+use Rattle.std.proofs.Common.{Some, None, Option, Result, Ok, Err, sym, refl, ap, ◌∙◌, subst, inr, inl, ⊎_elim, arith, append_assoc}
+use Rattle.std.proofs.Common.{append-nil, length-append, codes, decimal, IsUtf8}
 use Rattle.std.specs.Prelude.{slice_index, slice_get, chars, flat_map, encode_utf8_all}
 use Rattle.std.specs.Str.{IsAscii, IsCharBoundary}
 use Rattle.std.specs.List.{AllByRecursion, AllZip, join_by, join_with_byte}
@@ -10,13 +12,16 @@ use Rattle.std.proofs.lemmas.List.{drop_at}
 use Rattle.std.proofs.lemmas.Option.{none-some}
 use Rattle.std.proofs.lemmas.Grind.{flat_map-append}
 use Rattle.std.proofs.lemmas.Bool.Decides.{nat_tests}
-use Rattle.semver_texts.specs.Texts.{marked, is_part_byte}
-use Rattle.semver_tokens.specs.Tokens.{TokenValue, Dot, Hyphen, Plus, Whitespace, Numeric, token_text, tokens_text, IsTokenAt, AreInPlace, AreTokensOf, is_space}
+use Rattle.semver_texts.specs.Texts.{marked, is_part_byte, is_space}
+use Rattle.semver_tokens.specs.Tokens.{TokenValue, Dot, Hyphen, Plus, Whitespace, Numeric, token_text, tokens_text, IsTokenAt, AreInPlace}
+use Rattle.semver_tokens.specs.Tokens.{AreTokensOf}
 use Rattle.semver_texts.specs.Versions.{IdentifierValue, numeric, alphanumeric, VersionValue, numbers}
 use Rattle.semver_texts.specs.PrintedText.{identifier_text, version_text}
-use Rattle.semver_steps.specs.VersionGrammar.{SpellsIdentifier, SpellsPart, SpellsVersion, IsTrimmed, IsPrintableIdentifier, IsPrintableVersion}
+use Rattle.semver_texts.specs.VersionGrammar.{SpellsIdentifier, SpellsPart, SpellsVersion, IsTrimmed, IsPrintableIdentifier}
+use Rattle.semver_texts.specs.VersionGrammar.{IsPrintableVersion}
 use Rattle.semver_tokens.specs.ParserState.{ParserState, Fault, IsStateOf}
-use Rattle.semver_steps.specs.VersionReading.{IsIdentifierShape, IsPartShape, IsOuterShape, IsVersionShape, IsLongestFront, ReadsVersion, IsOutcomeOf, whole_answer, HoldsIdentifierRun, TextMayRunOut, inner_text, inner_texts}
+use Rattle.semver_steps.specs.VersionReading.{IsIdentifierShape, IsPartShape, IsOuterShape, IsVersionShape, IsLongestFront, ReadsVersion}
+use Rattle.semver_steps.specs.VersionReading.{IsOutcomeOf, whole_answer, HoldsIdentifierRun, TextMayRunOut, inner_text, inner_texts}
 use Rattle.semver_tokens.proofs.Cuts.{IsAscii-token_text, cut_after_ascii}
 use Rattle.semver_tokens.proofs.TokenLists.{same_tokens, decimal_is_run}
 use Rattle.semver_steps.proofs.ReadingSteps.{same_front, reads_once}
@@ -37,11 +42,15 @@ spelled_texts [] (t ∷ texts) all = absurd all
 spelled_texts (id ∷ ids) [] all = absurd all
 spelled_texts (id ∷ ids) (t ∷ texts) all = (λ i. spelled_text id t all.0 i ∷ spelled_texts ids texts all.1 i)
 
-part_text : (mark : List ℕ) (ids : List IdentifierValue) (text : List ℕ) → SpellsPart mark ids text → text ≡ marked mark (map identifier_text ids)
+part_text : (mark : List ℕ) (ids : List IdentifierValue) (text : List ℕ) → SpellsPart mark ids text
+    → text ≡ marked mark (map identifier_text ids)
 part_text mark ids text w = w.joined ∙ ap (marked mark) (spelled_texts ids w.texts w.each)
 
-core_printed : (v : VersionValue) (text : List ℕ) (w : SpellsVersion v text) → join_with_byte 46 (map decimal (numbers v.plain)) ++ w.pre_text ++ w.build_text ≡ version_text v
-core_printed v text w = (λ i. join_with_byte 46 (map decimal (numbers v.plain)) ++ part_text (codes "-") v.plain.pre w.pre_text w.pre i ++ part_text (codes "+") v.build w.build_text w.build i)
+core_printed : (v : VersionValue) (text : List ℕ) (w : SpellsVersion v text)
+    → join_with_byte 46 (map decimal (numbers v.plain)) ++ w.pre_text ++ w.build_text ≡ version_text v
+core_printed v text w =
+    (λ i. join_with_byte 46 (map decimal (numbers v.plain)) ++ part_text (codes "-") v.plain.pre w.pre_text w.pre i
+    ++ part_text (codes "+") v.build w.build_text w.build i)
 
 -- bytes of a version
 abbrev is_version_byte : ℕ → Bool
@@ -54,17 +63,24 @@ part_is_version : (b : ℕ) → is_part_byte b ≡ true → is_version_byte b �
 part_is_version b h = rw h refl
 
 number_passes : (n : ℕ) → n < 2 ^ 64 → Passes is_version_byte (decimal n)
-number_passes n small = passes_more is_part_byte is_version_byte part_is_version (decimal n) (run_passes (decimal n) (decimal_is_run n small).1)
+number_passes n small =
+    passes_more is_part_byte is_version_byte part_is_version (decimal n) (run_passes (decimal n) (decimal_is_run n small).1)
 
-core_bytes : (v : VersionValue) (text : List ℕ) (w : SpellsVersion v text) → Passes is_version_byte (join_with_byte 46 (map decimal (numbers v.plain)) ++ w.pre_text ++ w.build_text)
+core_bytes : (v : VersionValue) (text : List ℕ) (w : SpellsVersion v text)
+    → Passes is_version_byte (join_with_byte 46 (map decimal (numbers v.plain)) ++ w.pre_text ++ w.build_text)
 core_bytes v text w =
     let major = decimal v.plain.major in
     let minor = decimal v.plain.minor in
     let patch = decimal v.plain.patch in
     let three : Passes is_version_byte (major ++ (46 ∷ (minor ++ (46 ∷ patch)))) =
-    passes_append is_version_byte major (46 ∷ (minor ++ (46 ∷ patch))) (number_passes v.plain.major w.major) (refl, passes_append is_version_byte minor (46 ∷ patch) (number_passes v.plain.minor w.minor) (refl, number_passes v.plain.patch w.patch)) in
+    passes_append is_version_byte major (46 ∷ (minor ++ (46 ∷ patch))) (number_passes v.plain.major w.major) (
+      refl,
+      passes_append is_version_byte minor (46 ∷ patch) (number_passes v.plain.minor w.minor)
+          (refl, number_passes v.plain.patch w.patch),
+    ) in
     passes_append is_version_byte (join_with_byte 46 (map decimal (numbers v.plain)) ++ w.pre_text) w.build_text
-    (passes_append is_version_byte (join_with_byte 46 (map decimal (numbers v.plain))) w.pre_text three (part_passes is_version_byte part_is_version refl 45 refl v.plain.pre w.pre_text w.pre))
+    (passes_append is_version_byte (join_with_byte 46 (map decimal (numbers v.plain))) w.pre_text three
+    (part_passes is_version_byte part_is_version refl 45 refl v.plain.pre w.pre_text w.pre))
     (part_passes is_version_byte part_is_version refl 43 refl v.build w.build_text w.build)
 
 no_space_at : (bs : List ℕ) → Passes is_version_byte bs → (k : ℕ) → is_space (slice_index bs k) ≡ false
@@ -75,13 +91,16 @@ no_space_at (b ∷ bs) all (suc k) = no_space_at bs all.1 k
 pub trimmed : (v : VersionValue) (text : List ℕ) → SpellsVersion v text → IsTrimmed text (version_text v)
 trimmed v text w =
     let core : List ℕ = join_with_byte 46 (map decimal (numbers v.plain)) ++ w.pre_text ++ w.build_text in
-    let no_space : (k : ℕ) → is_space (slice_index (version_text v) k) ≡ false = λ k. ap (λ (l : List ℕ). is_space (slice_index l k)) (sym (core_printed v text w)) ∙ no_space_at core (core_bytes v text w) k in
+    let no_space : (k : ℕ) → is_space (slice_index (version_text v) k)
+    ≡ false = λ k. ap (λ (l : List ℕ). is_space (slice_index l k)) (sym (core_printed v text w))
+    ∙ no_space_at core (core_bytes v text w) k in
     record {
       before = w.before;
       after = w.after;
       spaces_before = w.spaces_before;
       spaces_after = w.spaces_after;
-      whole = w.spelled ∙ around w.before (join_with_byte 46 (map decimal (numbers v.plain))) w.pre_text w.build_text w.after ∙ ap (λ (l : List ℕ). w.before ++ l ++ w.after) (core_printed v text w);
+      whole = w.spelled ∙ around w.before (join_with_byte 46 (map decimal (numbers v.plain))) w.pre_text w.build_text w.after
+          ∙ ap (λ (l : List ℕ). w.before ++ l ++ w.after) (core_printed v text w);
       first = no_space 0;
       last = no_space (length (version_text v) - 1);
     }
@@ -93,16 +112,25 @@ printable_identifier : (id : IdentifierValue) (text : List ℕ) → SpellsIdenti
 printable_identifier (numeric n) text w = (w.0, refl)
 printable_identifier (alphanumeric kept) text w = (refl, w.1, w.2)
 
-printable_identifiers : (ids : List IdentifierValue) (texts : List (List ℕ)) → AllZip SpellsIdentifier ids texts → AllByRecursion IsPrintableIdentifier ids
+printable_identifiers : (ids : List IdentifierValue) (texts : List (List ℕ)) → AllZip SpellsIdentifier ids texts
+    → AllByRecursion IsPrintableIdentifier ids
 printable_identifiers [] [] all = tt
 printable_identifiers [] (t ∷ texts) all = absurd all
 printable_identifiers (id ∷ ids) [] all = absurd all
 printable_identifiers (id ∷ ids) (t ∷ texts) all = (printable_identifier id t all.0, printable_identifiers ids texts all.1)
 
 pub printable : (v : VersionValue) (text : List ℕ) → SpellsVersion v text → IsPrintableVersion v
-printable v text w = record { major = w.major; minor = w.minor; patch = w.patch; pre = printable_identifiers v.plain.pre w.pre.texts w.pre.each; build = printable_identifiers v.build w.build.texts w.build.each }
+printable v text w =
+    record {
+      major = w.major;
+      minor = w.minor;
+      patch = w.patch;
+      pre = printable_identifiers v.plain.pre w.pre.texts w.pre.each;
+      build = printable_identifiers v.build w.build.texts w.build.each;
+    }
 
-prints_each : (ids : List IdentifierValue) → AllByRecursion IsPrintableIdentifier ids → AllZip SpellsIdentifier ids (map identifier_text ids)
+prints_each : (ids : List IdentifierValue) → AllByRecursion IsPrintableIdentifier ids
+    → AllZip SpellsIdentifier ids (map identifier_text ids)
 prints_each [] all = tt
 prints_each (id ∷ ids) all = (all.0, prints_each ids all.1)
 
@@ -131,45 +159,62 @@ outer_inner ((Whitespace a b) ∷ []) w = refl
 outer_inner (t ∷ []) w = cc (w.1.0)
 outer_inner (t ∷ u ∷ ts) w = absurd (omega (arith, w.0))
 
-outer_spaces : (text : List ℕ) (ts : List TokenValue) → IsOuterShape ts → ((t : TokenValue) (us : List TokenValue) → ts ≡ t ∷ us → (at : ℕ) × IsTokenAt text at t) → Passes is_space (tokens_text text ts)
+outer_spaces : (text : List ℕ) (ts : List TokenValue) → IsOuterShape ts
+    → ((t : TokenValue) (us : List TokenValue) → ts ≡ t ∷ us → (at : ℕ) × IsTokenAt text at t) → Passes is_space (tokens_text text ts)
 outer_spaces text [] w here = tt
-outer_spaces text ((Whitespace a b) ∷ []) w here = let h = here (Whitespace a b) [] refl in subst (Passes is_space) (sym (append-nil (token_text text (Whitespace a b)))) h.1.3
+outer_spaces text ((Whitespace a b) ∷ []) w here =
+    let h = here (Whitespace a b) [] refl in subst (Passes is_space) (sym (append-nil (token_text text (Whitespace a b)))) h.1.3
 outer_spaces text (t ∷ []) w here = cc (w.1.0)
 outer_spaces text (t ∷ u ∷ ts) w here = absurd (omega (arith, w.0))
 
 identifier_same : (text : List ℕ) (id : List TokenValue) → IsIdentifierShape id → tokens_text text id ≡ inner_texts id
 identifier_same text id w = let whole = identifier_is_read.read id w in pieces_text text id (pieces false whole.0 id whole.1)
 
-identifiers_same : (text : List ℕ) (ids : List (List TokenValue)) → AllByRecursion IsIdentifierShape ids → tokens_text text (join_by (λ id. id) (Dot ∷ []) ids) ≡ inner_texts (join_by (λ id. id) (Dot ∷ []) ids)
+identifiers_same : (text : List ℕ) (ids : List (List TokenValue)) → AllByRecursion IsIdentifierShape ids
+    → tokens_text text (join_by (λ id. id) (Dot ∷ []) ids) ≡ inner_texts (join_by (λ id. id) (Dot ∷ []) ids)
 identifiers_same text [] all = refl
 identifiers_same text (id ∷ ids) all =
-    flat_map-append (token_text text) id _ ∙ (λ i. identifier_same text id all.0 i ++ others ids all.1 i) ∙ sym (flat_map-append inner_text id _)
+    flat_map-append (token_text text) id _ ∙ (λ i. identifier_same text id all.0 i ++ others ids all.1 i)
+    ∙ sym (flat_map-append inner_text id _)
   where
-    others : (ids : List (List TokenValue)) → AllByRecursion IsIdentifierShape ids → tokens_text text (flat_map (λ id. Dot ∷ id) ids) ≡ inner_texts (flat_map (λ id. Dot ∷ id) ids)
+    others : (ids : List (List TokenValue)) → AllByRecursion IsIdentifierShape ids
+        → tokens_text text (flat_map (λ id. Dot ∷ id) ids) ≡ inner_texts (flat_map (λ id. Dot ∷ id) ids)
     others [] all = refl
-    others (id ∷ ids) all = ap (λ (l : List ℕ). 46 ∷ l) (flat_map-append (token_text text) id _ ∙ (λ i. identifier_same text id all.0 i ++ others ids all.1 i) ∙ sym (flat_map-append inner_text id _))
+    others (id ∷ ids) all =
+        ap (λ (l : List ℕ). 46 ∷ l) (flat_map-append (token_text text) id _ ∙ (λ i. identifier_same text id all.0 i ++ others ids all.1 i)
+        ∙ sym (flat_map-append inner_text id _))
 
-part_same : (text : List ℕ) (mark : TokenValue) (ts : List TokenValue) → token_text text mark ≡ inner_text mark → IsPartShape mark ts → tokens_text text ts ≡ inner_texts ts
+part_same : (text : List ℕ) (mark : TokenValue) (ts : List TokenValue) → token_text text mark ≡ inner_text mark → IsPartShape mark ts
+    → tokens_text text ts ≡ inner_texts ts
 part_same text mark ts same w =
     ⊎_elim (λ none. ap (tokens_text text) none.1 ∙ sym (ap inner_texts none.1))
     (λ some. ap (tokens_text text) some.1 ∙ (λ i. same i ++ identifiers_same text w.ids w.each i) ∙ sym (ap inner_texts some.1))
     w.parted
 
 -- what the tokens spell without white space, the text spells with it
-pub whole_spelled : (v : VersionValue) (text : List ℕ) (ts : List TokenValue) → AreTokensOf text ts [] → IsVersionShape ts → SpellsVersion v (inner_texts ts) → SpellsVersion v text
+pub whole_spelled : (v : VersionValue) (text : List ℕ) (ts : List TokenValue) → AreTokensOf text ts [] → IsVersionShape ts
+    → SpellsVersion v (inner_texts ts) → SpellsVersion v text
 whole_spelled v text ts tokens shape w =
     let three : List TokenValue = join_by (λ n. Numeric n ∷ []) (Dot ∷ []) (shape.major ∷ shape.minor ∷ shape.patch ∷ []) in
     let before : List ℕ = tokens_text text shape.before in
     let after : List ℕ = tokens_text text shape.after in
     let mid : List ℕ = inner_texts three ++ inner_texts shape.pre ++ inner_texts shape.build in
-    let in_place : AreInPlace text 0 (shape.before ++ three ++ shape.pre ++ shape.build ++ shape.after) = subst (AreInPlace text 0) shape.joined tokens.in_place in
+    let in_place : AreInPlace text 0 (shape.before ++ three ++ shape.pre ++ shape.build ++ shape.after) = subst
+    (AreInPlace text 0) shape.joined tokens.in_place in
     let text_is : text ≡ before ++ mid ++ after =
-    tokens.spelled ∙ append-nil (tokens_text text ts) ∙ ap (tokens_text text) shape.joined ∙ split5 (token_text text) shape.before three shape.pre shape.build shape.after
-    ∙ (λ i. before ++ (inner_texts three ++ part_same text Hyphen shape.pre refl shape.pre_shape i ++ part_same text Plus shape.build refl shape.build_shape i) ++ after) in
+    tokens.spelled ∙ append-nil (tokens_text text ts) ∙ ap (tokens_text text) shape.joined
+    ∙ split5 (token_text text) shape.before three shape.pre shape.build shape.after
+    ∙ (λ i. before ++ (inner_texts three ++ part_same text Hyphen shape.pre refl shape.pre_shape i
+    ++ part_same text Plus shape.build refl shape.build_shape i) ++ after) in
     let inner_is : inner_texts ts ≡ mid =
-    ap inner_texts shape.joined ∙ split5 inner_text shape.before three shape.pre shape.build shape.after ∙ (λ i. outer_inner shape.before shape.space_before i ++ mid ++ outer_inner shape.after shape.space_after i) ∙ append-nil mid in
-    let spaces_first : Passes is_space before = outer_spaces text shape.before shape.space_before (λ t us e. first_place t us shape.before (three ++ shape.pre ++ shape.build ++ shape.after) e (subst (AreInPlace text 0) (simp append_assoc) in_place)) in
-    let spaces_last : Passes is_space after = outer_spaces text shape.after shape.space_after (λ t us e. behind_in_place text 0 (shape.before ++ three ++ shape.pre ++ shape.build) t us (subst (λ (l : List TokenValue). AreInPlace text 0 (shape.before ++ three ++ shape.pre ++ shape.build ++ l)) e in_place)) in
+    ap inner_texts shape.joined ∙ split5 inner_text shape.before three shape.pre shape.build shape.after
+    ∙ (λ i. outer_inner shape.before shape.space_before i ++ mid ++ outer_inner shape.after shape.space_after i) ∙ append-nil mid in
+    let spaces_first : Passes is_space before = outer_spaces text shape.before shape.space_before
+    (λ t us e. first_place t us shape.before (three ++ shape.pre ++ shape.build ++ shape.after) e
+    (subst (AreInPlace text 0) (simp append_assoc) in_place)) in
+    let spaces_last : Passes is_space after = outer_spaces text shape.after shape.space_after
+    (λ t us e. behind_in_place text 0 (shape.before ++ three ++ shape.pre ++ shape.build) t us
+    (subst (λ (l : List TokenValue). AreInPlace text 0 (shape.before ++ three ++ shape.pre ++ shape.build ++ l)) e in_place)) in
     record {
       before = before ++ w.before;
       pre_text = w.pre_text;
@@ -182,16 +227,19 @@ whole_spelled v text ts tokens shape w =
       build = w.build;
       spaces_before = passes_append is_space before w.before spaces_first w.spaces_before;
       spaces_after = passes_append is_space w.after after w.spaces_after spaces_last;
-      spelled = text_is ∙ ap (λ (l : List ℕ). before ++ l ++ after) (sym inner_is ∙ w.spelled) ∙ regroup7 before w.before (join_with_byte 46 (map decimal (numbers v.plain))) w.pre_text w.build_text w.after after;
+      spelled = text_is ∙ ap (λ (l : List ℕ). before ++ l ++ after) (sym inner_is ∙ w.spelled)
+          ∙ regroup7 before w.before (join_with_byte 46 (map decimal (numbers v.plain))) w.pre_text w.build_text w.after after;
     }
   where
-    split5 : (f : TokenValue → List ℕ) (a b c d e : List TokenValue) → flat_map f (a ++ b ++ c ++ d ++ e) ≡ flat_map f a ++ (flat_map f b ++ flat_map f c ++ flat_map f d) ++ flat_map f e
+    split5 : (f : TokenValue → List ℕ) (a b c d e : List TokenValue)
+        → flat_map f (a ++ b ++ c ++ d ++ e) ≡ flat_map f a ++ (flat_map f b ++ flat_map f c ++ flat_map f d) ++ flat_map f e
     split5 f a b c d e = simp (flat_map-append, append_assoc)
 
     regroup7 : (a b c d e f g : List ℕ) → a ++ (b ++ c ++ d ++ e ++ f) ++ g ≡ (a ++ b) ++ c ++ d ++ e ++ (f ++ g)
     regroup7 a b c d e f g = simp append_assoc
 
-    first_place : (t : TokenValue) (us ts more : List TokenValue) → ts ≡ t ∷ us → AreInPlace text 0 (ts ++ more) → (at : ℕ) × IsTokenAt text at t
+    first_place : (t : TokenValue) (us ts more : List TokenValue) → ts ≡ t ∷ us → AreInPlace text 0 (ts ++ more)
+        → (at : ℕ) × IsTokenAt text at t
     first_place t us ts more e a = (0, (subst (λ (l : List TokenValue). AreInPlace text 0 (l ++ more)) e a).0)
 
 -- ---- an accepted text
@@ -201,12 +249,15 @@ utf8_behind : (text xs ys : List ℕ) → IsUtf8 text → text ≡ xs ++ ys → 
 utf8_behind text [] ys utf8 e ascii = subst IsUtf8 e utf8
 utf8_behind text (x ∷ xs) ys utf8 e ascii =
     let cut : IsCharBoundary text (0 + length (x ∷ xs)) = cut_after_ascii text 0 (x ∷ xs) ys utf8 e (omega arith) ascii in
-    let here : drop (0 + length (x ∷ xs)) text ≡ ys = ap (drop (0 + length (x ∷ xs))) e ∙ drop_at (x ∷ xs) ys (0 + length (x ∷ xs)) (omega arith) in
+    let here : drop (0 + length (x ∷ xs)) text ≡ ys = ap (drop (0 + length (x ∷ xs))) e
+    ∙ drop_at (x ∷ xs) ys (0 + length (x ∷ xs)) (omega arith) in
     subst IsUtf8 here (IsUtf8-drop text (0 + length (x ∷ xs)) utf8 cut)
 
 tokens_ascii : (text : List ℕ) (place : ℕ) (ts : List TokenValue) → AreInPlace text place ts → IsAscii (tokens_text text ts)
 tokens_ascii text place [] w = IsAscii-nil
-tokens_ascii text place (t ∷ ts) w = IsAscii-append (token_text text t) (tokens_text text ts) (IsAscii-token_text text place t w.0) (tokens_ascii text (place + length (token_text text t)) ts w.1)
+tokens_ascii text place (t ∷ ts) w =
+    IsAscii-append (token_text text t) (tokens_text text ts) (IsAscii-token_text text place t w.0)
+    (tokens_ascii text (place + length (token_text text t)) ts w.1)
 
 no_char : (cs bs : List ℕ) → encode_utf8_all cs ≡ bs → slice_get cs 0 ≡ None → bs ≡ []
 no_char [] bs e none = sym e
@@ -215,14 +266,16 @@ no_char (c ∷ cs) bs e none = absurd (none-some c (sym none))
 -- where no character is pending, the tokens are all of the text
 no_rest : (text : List ℕ) (s : ParserState) → IsUtf8 text → (w : IsStateOf text s) → s.pending ≡ None → w.0 ≡ []
 no_rest text s utf8 w none =
-    let rest_utf8 : IsUtf8 w.0 = utf8_behind text (tokens_text text s.remaining) w.0 utf8 w.1.spelled (tokens_ascii text 0 s.remaining w.1.in_place) in
+    let rest_utf8 : IsUtf8 w.0 = utf8_behind text (tokens_text text s.remaining) w.0 utf8 w.1.spelled
+    (tokens_ascii text 0 s.remaining w.1.in_place) in
     no_char (chars w.0) w.0 (encodes-chars w.0 rest_utf8) (sym w.2 ∙ none)
 
 -- and where they are, none is
 no_pending : (text : List ℕ) (s : ParserState) → (w : IsStateOf text s) → w.0 ≡ [] → s.pending ≡ None
 no_pending text s w empty = w.2 ∙ ap (λ (l : List ℕ). slice_get (chars l) 0) empty ∙ ap (λ (cs : List ℕ). slice_get cs 0) chars-nil
 
-ok_whole : (v : VersionValue) (r : Result VersionValue Fault) (left : List TokenValue) (pending : Option ℕ) → Ok v ≡ whole_answer r left pending → (r ≡ Ok v) × (left ≡ [])
+ok_whole : (v : VersionValue) (r : Result VersionValue Fault) (left : List TokenValue) (pending : Option ℕ)
+    → Ok v ≡ whole_answer r left pending → (r ≡ Ok v) × (left ≡ [])
 ok_whole v (Err e) left pending d = cc
 ok_whole v (Ok w) [] pending d = (sym d, refl)
 ok_whole v (Ok w) (t ∷ left) None d = cc
@@ -235,8 +288,10 @@ accepted_spells v text utf8 o =
     let empty : w.rest ≡ [] = sym w.answer.2 ∙ q.1 in
     let all : w.front ≡ o.start.remaining = sym (w.longest.split ∙ ap (λ (l : List TokenValue). w.front ++ l) empty ∙ append-nil w.front) in
     let none : o.start.pending ≡ None = ⊎_elim (λ some. absurd (omega (arith, some, ap length empty))) (λ n. n) w.answer.0.1 in
-    let tokens : AreTokensOf text o.start.remaining [] = subst (AreTokensOf text o.start.remaining) (no_rest text o.start utf8 o.state none) o.state.1 in
-    whole_spelled v text o.start.remaining tokens (subst IsVersionShape all w.answer.0.0) (subst (λ (l : List TokenValue). SpellsVersion v (inner_texts l)) all w.answer.1)
+    let tokens : AreTokensOf text o.start.remaining [] = subst (AreTokensOf text o.start.remaining)
+    (no_rest text o.start utf8 o.state none) o.state.1 in
+    whole_spelled v text o.start.remaining tokens (subst IsVersionShape all w.answer.0.0)
+    (subst (λ (l : List TokenValue). SpellsVersion v (inner_texts l)) all w.answer.1)
 
 -- ---- a text that spells a version
 
@@ -282,8 +337,11 @@ module _ (v : VersionValue) (text : List ℕ) (spells : SpellsVersion v text) wh
   state_is : (s : ParserState) (w : IsStateOf text s) → (has.ts ≡ s.remaining) × ([] ≡ w.0)
   state_is s w = same_tokens text 0 has.ts s.remaining [] w.0 has.tokens w.1
 
-  front_is : (s : ParserState) → IsStateOf text s → (front rest : List TokenValue) → IsLongestFront IsVersionShape s.remaining front rest → (has.ts ≡ front) × ([] ≡ rest)
-  front_is s w front rest longest = same_front IsVersionShape has.ts has.ts front [] rest all_longest (subst (λ (l : List TokenValue). IsLongestFront IsVersionShape l front rest) (sym (state_is s w).0) longest)
+  front_is : (s : ParserState) → IsStateOf text s → (front rest : List TokenValue) → IsLongestFront IsVersionShape s.remaining front rest
+      → (has.ts ≡ front) × ([] ≡ rest)
+  front_is s w front rest longest =
+      same_front IsVersionShape has.ts has.ts front [] rest all_longest
+      (subst (λ (l : List TokenValue). IsLongestFront IsVersionShape l front rest) (sym (state_is s w).0) longest)
 
   pub outcome_spelled : (x : Result VersionValue Fault) → IsOutcomeOf text x → x ≡ Ok v
   outcome_spelled x o = o.whole ∙ go o.answer o.reads
@@ -291,11 +349,16 @@ module _ (v : VersionValue) (text : List ℕ) (spells : SpellsVersion v text) wh
       go : (r : Result VersionValue Fault) → ReadsVersion o.start r o.end → whole_answer r o.end.remaining o.end.pending ≡ Ok v
       go (Ok u) w =
           let same = front_is o.start o.state w.front w.rest w.longest in
-          let value : u ≡ v = one_version u v (inner_texts has.ts) (subst (λ (l : List TokenValue). SpellsVersion u (inner_texts l)) (sym same.0) w.answer.1) has.spells in
-          ap (λ (l : List TokenValue). whole_answer (Ok u) l o.end.pending) (w.answer.2 ∙ sym same.1) ∙ ap (λ (z : VersionValue). Ok z) value
+          let value : u ≡ v = one_version u v (inner_texts has.ts)
+          (subst (λ (l : List TokenValue). SpellsVersion u (inner_texts l)) (sym same.0) w.answer.1) has.spells in
+          ap (λ (l : List TokenValue). whole_answer (Ok u) l o.end.pending) (w.answer.2 ∙ sym same.1)
+          ∙ ap (λ (z : VersionValue). Ok z) value
       go (Err e) w =
           let same = front_is o.start o.state w.front w.rest w.longest in
-          absurd (w.answer.0 (subst IsVersionShape same.0 has.shape, inr (no_pending text o.start o.state (sym (state_is o.start o.state).1))))
+          absurd (w.answer.0 (
+            subst IsVersionShape same.0 has.shape,
+            inr (no_pending text o.start o.state (sym (state_is o.start o.state).1)),
+          ))
 
   -- the state of the text, and its outcome
   abbrev at_start : ParserState
@@ -316,7 +379,8 @@ module _ (v : VersionValue) (text : List ℕ) (spells : SpellsVersion v text) wh
 
   -- where its tokens hold a run of an identifier, memory is asked for
   pub spelled_may_run_out : HoldsIdentifierRun has.ts → TextMayRunOut text
-  spelled_may_run_out holds = record { start = at_start; front = has.ts; rest = []; state = is_start; longest = all_longest; why = inl holds }
+  spelled_may_run_out holds =
+      record { start = at_start; front = has.ts; rest = []; state = is_start; longest = all_longest; why = inl holds }
 
   -- without pre-release and build no memory is asked for
   pub plain_has_memory : v.plain.pre ≡ [] → v.build ≡ [] → ¬ (TextMayRunOut text)
@@ -333,20 +397,35 @@ module _ (v : VersionValue) (text : List ℕ) (spells : SpellsVersion v text) wh
           let minor = decimal v.plain.minor in
           let patch = decimal v.plain.patch in
           let three : Passes is_plain_byte (major ++ (46 ∷ (minor ++ (46 ∷ patch)))) =
-          passes_append is_plain_byte major (46 ∷ (minor ++ (46 ∷ patch))) (number_plain v.plain.major w.major) (refl, passes_append is_plain_byte minor (46 ∷ patch) (number_plain v.plain.minor w.minor) (refl, number_plain v.plain.patch w.patch)) in
+          passes_append is_plain_byte major (46 ∷ (minor ++ (46 ∷ patch))) (number_plain v.plain.major w.major) (
+            refl,
+            passes_append is_plain_byte minor (46 ∷ patch) (number_plain v.plain.minor w.minor)
+                (refl, number_plain v.plain.patch w.patch),
+          ) in
           let is : inner_texts has.ts ≡ w.before ++ (major ++ (46 ∷ (minor ++ (46 ∷ patch)))) ++ [] ++ [] ++ w.after =
-          w.spelled ∙ (λ i. w.before ++ join_with_byte 46 (map decimal (numbers v.plain)) ++ no_part (codes "-") v.plain.pre w.pre_text no_pre w.pre i ++ no_part (codes "+") v.build w.build_text no_build w.build i ++ w.after) in
+          w.spelled ∙ (λ i. w.before ++ join_with_byte 46 (map decimal (numbers v.plain))
+          ++ no_part (codes "-") v.plain.pre w.pre_text no_pre w.pre i ++ no_part (codes "+") v.build w.build_text no_build w.build i
+          ++ w.after) in
           subst (Passes is_plain_byte) (sym (is ∙ without w.before (major ++ (46 ∷ (minor ++ (46 ∷ patch)))) w.after))
-          (passes_append is_plain_byte w.before ((major ++ (46 ∷ (minor ++ (46 ∷ patch)))) ++ w.after) (passes_more is_space is_plain_byte space_plain w.before w.spaces_before)
-          (passes_append is_plain_byte (major ++ (46 ∷ (minor ++ (46 ∷ patch)))) w.after three (passes_more is_space is_plain_byte space_plain w.after w.spaces_after)))
+          (passes_append is_plain_byte w.before ((major ++ (46 ∷ (minor ++ (46 ∷ patch)))) ++ w.after)
+          (passes_more is_space is_plain_byte space_plain w.before w.spaces_before)
+          (passes_append is_plain_byte (major ++ (46 ∷ (minor ++ (46 ∷ patch)))) w.after three
+          (passes_more is_space is_plain_byte space_plain w.after w.spaces_after)))
 
       no_sign : Passes is_plain_byte (inner_texts has.ts) → HoldsIdentifierRun has.ts → ⊥
       no_sign all h =
-          let split : inner_texts has.ts ≡ inner_texts h.before ++ (inner_text h.sign ++ inner_texts (h.component ∷ h.after)) = ap inner_texts h.split ∙ flat_map-append inner_text h.before (h.sign ∷ h.component ∷ h.after) in
-          let passes : Passes is_plain_byte (inner_texts h.before ++ (inner_text h.sign ++ inner_texts (h.component ∷ h.after))) = subst (Passes is_plain_byte) split all in
+          let split : inner_texts has.ts ≡ inner_texts h.before ++ (inner_text h.sign ++ inner_texts (h.component ∷ h.after)) = ap
+          inner_texts h.split
+          ∙ flat_map-append inner_text h.before (h.sign ∷ h.component ∷ h.after) in
+          let passes : Passes is_plain_byte (inner_texts h.before ++ (inner_text h.sign ++ inner_texts (h.component ∷ h.after))) = subst
+          (Passes is_plain_byte) split all in
           ⊎_elim
-          (λ hyphen. let e : is_plain_byte 45 ≡ true = behind is_plain_byte (inner_texts h.before) 45 (inner_texts (h.component ∷ h.after)) (subst (λ (x : TokenValue). Passes is_plain_byte (inner_texts h.before ++ (inner_text x ++ inner_texts (h.component ∷ h.after)))) hyphen passes) in cc)
-          (λ plus. let e : is_plain_byte 43 ≡ true = behind is_plain_byte (inner_texts h.before) 43 (inner_texts (h.component ∷ h.after)) (subst (λ (x : TokenValue). Passes is_plain_byte (inner_texts h.before ++ (inner_text x ++ inner_texts (h.component ∷ h.after)))) plus passes) in cc)
+          (λ hyphen. let e : is_plain_byte 45 ≡ true = behind is_plain_byte (inner_texts h.before) 45 (inner_texts (h.component ∷ h.after))
+          (subst (λ (x : TokenValue). Passes is_plain_byte (inner_texts h.before
+          ++ (inner_text x ++ inner_texts (h.component ∷ h.after)))) hyphen passes) in cc)
+          (λ plus. let e : is_plain_byte 43 ≡ true = behind is_plain_byte (inner_texts h.before) 43 (inner_texts (h.component ∷ h.after))
+          (subst (λ (x : TokenValue). Passes is_plain_byte (inner_texts h.before
+          ++ (inner_text x ++ inner_texts (h.component ∷ h.after)))) plus passes) in cc)
           h.is_sign
 
 -- ---- the outcome is one
@@ -356,5 +435,6 @@ one_outcome text x y a b =
     let same = same_tokens text 0 a.start.remaining b.start.remaining a.state.0 b.state.0 a.state.1 b.state.1 in
     let pending : a.start.pending ≡ b.start.pending = a.state.2 ∙ ap (λ (l : List ℕ). slice_get (chars l) 0) same.1 ∙ sym b.state.2 in
     let begin : a.start ≡ b.start = (λ i. record { remaining = same.0 i; pending = pending i }) in
-    let once = reads_once IsVersionShape SpellsVersion one_version b.start a.answer b.answer a.end b.end (subst (λ (s : ParserState). ReadsVersion s a.answer a.end) begin a.reads) b.reads in
+    let once = reads_once IsVersionShape SpellsVersion one_version b.start a.answer b.answer a.end b.end
+    (subst (λ (s : ParserState). ReadsVersion s a.answer a.end) begin a.reads) b.reads in
     a.whole ∙ (λ i. whole_answer (once.0 i) (once.1 i).remaining (once.1 i).pending) ∙ sym b.whole

@@ -1,4 +1,5 @@
-//! Version texts as plain data: a text is read as a `Version`, straight from its bytes or token by token.
+//! Version texts as plain data: a text is read as a `Version`, straight from its bytes or token by
+//! token.
 #![tactic(auto)]
 
 mod from_bytes;

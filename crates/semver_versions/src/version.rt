@@ -1,15 +1,16 @@
 //! Version texts as plain data, and back.
 //!
-//! A version text is three numbers parted by dots, then optionally `-` and the identifiers of a pre-release,
-//! then optionally `+` and the identifiers of a build, each list parted by dots: `1.2.3-rc.1+5aedf`. Spaces, tabs, line feeds and
-//! carriage returns may stand before and behind it. A number is a canonical decimal, `0` or digits that don't begin with `0`,
-//! up to 18446744073709551615. An identifier is one or more runs of ASCII letters and digits joined by single hyphens;
-//! there is no limit on runs, identifiers or the length of a text.
+//! A version text is three numbers parted by dots, then optionally `-` and the identifiers of a
+//! pre-release, then optionally `+` and the identifiers of a build, each list parted by dots:
+//! `1.2.3-rc.1+5aedf`. Spaces, tabs, line feeds and carriage returns may stand before and behind
+//! it. A number is a canonical decimal, `0` or digits that don't begin with `0`, up to
+//! 18446744073709551615. An identifier is one or more runs of ASCII letters and digits joined by
+//! single hyphens; there is no limit on runs, identifiers or the length of a text.
 ghost use Rattle.std.specs.Prelude.{◌≡◌, ◌↔◌, [], IfOk};
 ghost use Rattle.semver_texts.specs.Versions.{VersionValue};
 ghost use Rattle.semver_texts.specs.PrintedText.{version_text};
 ghost use Rattle.semver_texts.specs.VersionViews.{version_value};
-ghost use Rattle.semver_steps.specs.VersionGrammar.{SpellsVersion, IsTrimmed, IsPrintableVersion};
+ghost use Rattle.semver_texts.specs.VersionGrammar.{SpellsVersion, IsTrimmed, IsPrintableVersion};
 ghost use Rattle.semver_steps.specs.VersionReading.{IsOutcomeOf, TextMayRunOut};
 ghost use Rattle.semver_steps.specs.ParserViews.{answer_of, UnlessOutOfMemory, IfOutOfMemory};
 
@@ -18,38 +19,47 @@ use semver_steps::parser::{self, Parser};
 pub use semver_texts::version::{Identifier, Version};
 use std::alloc::Global;
 
-/// The version that the text spells: `" 1.2.3-rc.4\n"` gives the numbers 1, 2 and 3, the pre-release `"rc"`, 4 and no build.
-/// It prints as the text without the white space round it, and a text that was printed from such a version gives that version.
+/// The version that the text spells: `" 1.2.3-rc.4\n"` gives the numbers 1, 2 and 3, the
+/// pre-release `"rc"`, 4 and no build. It prints as the text without the white space round it, and
+/// a text that was printed from such a version gives that version.
 ///
 /// Any other text is refused, with what comes first from the left:
 ///
 /// - `UnexpectedEnd`: the text ends where a version can't, as `1.2` and the empty text.
-/// - `UnexpectedToken`: a token comes that can't come there, as the second hyphen of `1.2.3--1`, or `AlphaNumeric("01")` in `01.0.0`.
-/// - `MoreInput`: a version is followed by something else. It holds all tokens behind the version and its white space:
-///   `1.2.3 a.b` gives `AlphaNumeric("a")`, `Dot`, `AlphaNumeric("b")`.
-/// - `Lexer`: a character comes that begins no token. Since a token is read ahead, it is found before a fault of the token in front of
-///   it: `a/` gives `Lexer(UnexpectedChar('/'))`. Behind a whole version it goes before `MoreInput`.
-/// - `OutOfMemory`: a growth was refused. Memory is taken for each identifier that isn't a number, for the lists of identifiers, and for
-///   the tokens of `MoreInput`; so a text that spells a version without pre-release and build is always answered.
+/// - `UnexpectedToken`: a token comes that can't come there, as the second hyphen of `1.2.3--1`, or
+///   `AlphaNumeric("01")` in `01.0.0`.
+/// - `MoreInput`: a version is followed by something else. It holds all tokens behind the version
+///   and its white space: `1.2.3 a.b` gives `AlphaNumeric("a")`, `Dot`, `AlphaNumeric("b")`.
+/// - `Lexer`: a character comes that begins no token. Since a token is read ahead, it is found
+///   before a fault of the token in front of it: `a/` gives `Lexer(UnexpectedChar('/'))`. Behind a
+///   whole version it goes before `MoreInput`.
+/// - `OutOfMemory`: a growth was refused. Memory is taken for each identifier that isn't a number,
+///   for the lists of identifiers, and for the tokens of `MoreInput`; so a text that spells a
+///   version without pre-release and build is always answered.
 ///
-/// There are two ways to the answer: a text without white space round it is first read straight from its bytes, and where no version
-/// is found so, the tokens decide. Both answer the same, since what the bytes give is proved to be the version that the text spells, and no
-/// text spells two; a growth that was refused is the answer, and isn't asked for again.
+/// There are two ways to the answer: a text without white space round it is first read straight
+/// from its bytes, and where no version is found so, the tokens decide. Both answer the same, since
+/// what the bytes give is proved to be the version that the text spells, and no text spells two; a
+/// growth that was refused is the answer, and isn't asked for again.
 pub fn parse(alloc: Global, input: &str) -> Result<Version, parser::Error<'_>>
     // Unless memory ran out, the answer is a version exactly where the text spells it.
     ensures exact { (v : VersionValue) →
-        UnlessOutOfMemory result ((answer_of version_value result ≡ Ok v) ↔ SpellsVersion v input.now) }
+        UnlessOutOfMemory result ((answer_of version_value result ≡ Ok v)
+        ↔ SpellsVersion v input.now) }
     // A version without pre-release and build takes no memory.
-    ensures plain { (v : VersionValue) → SpellsVersion v input.now → v.plain.pre ≡ [] → v.build ≡ [] →
+    ensures plain { (v : VersionValue) → SpellsVersion v input.now → v.plain.pre ≡ []
+        → v.build ≡ [] →
         answer_of version_value result ≡ Ok v }
     // A version that is answered prints as the text without the white space at its ends.
     ensures trimmed { IfOk result (λ v. IsTrimmed input.now (version_text (version_value v))) }
-    // The printed text of a version reads back to it, unless memory ran out, exactly where it is printable.
+    // The printed text of a version reads back to it, unless memory ran out, exactly where it is
+    // printable.
     ensures printable { IfOk result (λ v. IsPrintableVersion (version_value v)) }
     ensures read_back { (v : VersionValue) → IsPrintableVersion v → input.now ≡ version_text v →
         UnlessOutOfMemory result (answer_of version_value result ≡ Ok v) }
     // Unless memory ran out, the answer is the outcome of the text.
-    ensures outcome { UnlessOutOfMemory result (IsOutcomeOf input.now (answer_of version_value result)) }
+    ensures outcome { UnlessOutOfMemory result
+        (IsOutcomeOf input.now (answer_of version_value result)) }
     // Memory runs out only where an identifier's run was read, or in place of `MoreInput`.
     ensures out_of_memory { IfOutOfMemory result (TextMayRunOut input.now) }
 {
@@ -62,10 +72,11 @@ pub fn parse(alloc: Global, input: &str) -> Result<Version, parser::Error<'_>>
     }
 }
 
-// What `parse` answers, token by token.
+/// What `parse` answers, token by token.
 #[inline(always)]
 fn by_tokens(alloc: Global, input: &str) -> Result<Version, parser::Error<'_>>
-    ensures outcome { UnlessOutOfMemory result (IsOutcomeOf input.now (answer_of version_value result)) }
+    ensures outcome { UnlessOutOfMemory result
+        (IsOutcomeOf input.now (answer_of version_value result)) }
     ensures out_of_memory { IfOutOfMemory result (TextMayRunOut input.now) }
 {
     let mut parser = Parser::new(input)?;

@@ -10,8 +10,10 @@ use Rattle.release_filter.proofs.version_meets.Goals as goal
 
 -- the ranges of the code are met as those of the set that contracts see
 seen : (v : PlainVersion) (ranges : List Range)
-    → list_any (λ range. list_all (λ comparator. meets_comparator v (comparator_of comparator)) range.comparator_set.items) ranges ≡ list_any (meets_range v) (map range_of ranges)
-seen v ranges = list_any-map _ (meets_range v) range_of (λ range. list_all-map (meets_comparator v) comparator_of range.comparator_set.items) ranges
+    → list_any (λ range. list_all (λ comparator. meets_comparator v (comparator_of comparator)) range.comparator_set.items) ranges
+    ≡ list_any (meets_range v) (map range_of ranges)
+seen v ranges =
+    list_any-map _ (meets_range v) range_of (λ range. list_all-map (meets_comparator v) comparator_of range.comparator_set.items) ranges
 
 pub returns : goal.returns
 returns c =

@@ -15,23 +15,27 @@ use Rattle.semver_parser_c.proofs.semver_parser_meets.Goals.{After-is_met}
 pub returns-in-Err-clause-accepted : goal.returns-in-Err-clause-accepted
 returns-in-Err-clause-accepted c =
     let same : to_z w32 (of_z w32 c.in-Err.number) ≡ c.in-Err.number = search rules in
-    λ read. absurd (isnt_read _ _ _ _ same c.in-Err.ensures.numbers c.in-Err.ensures.not_utf8 c.in-Err.ensures.not_a_range c.in-Err.ensures.too_large read)
+    λ read. absurd (isnt_read _ _ _ _ same c.in-Err.ensures.numbers c.in-Err.ensures.not_utf8 c.in-Err.ensures.not_a_range
+    c.in-Err.ensures.too_large read)
 
 pub returns-in-Err-clause-version_not_utf8 : goal.returns-in-Err-clause-version_not_utf8
 returns-in-Err-clause-version_not_utf8 c =
     let same : to_z w32 (of_z w32 c.in-Err.number) ≡ c.in-Err.number = search rules in
-    λ read. absurd (isnt_read _ _ _ _ same c.in-Err.ensures.numbers c.in-Err.ensures.not_utf8 c.in-Err.ensures.not_a_range c.in-Err.ensures.too_large read)
+    λ read. absurd (isnt_read _ _ _ _ same c.in-Err.ensures.numbers c.in-Err.ensures.not_utf8 c.in-Err.ensures.not_a_range
+    c.in-Err.ensures.too_large read)
 
 pub returns-in-Err-clause-version_refused : goal.returns-in-Err-clause-version_refused
 returns-in-Err-clause-version_refused c =
     let same : to_z w32 (of_z w32 c.in-Err.number) ≡ c.in-Err.number = search rules in
-    λ read. absurd (isnt_read _ _ _ _ same c.in-Err.ensures.numbers c.in-Err.ensures.not_utf8 c.in-Err.ensures.not_a_range c.in-Err.ensures.too_large read)
+    λ read. absurd (isnt_read _ _ _ _ same c.in-Err.ensures.numbers c.in-Err.ensures.not_utf8 c.in-Err.ensures.not_a_range
+    c.in-Err.ensures.too_large read)
 
 -- where the version was refused
 pub returns-in-Err-read-clause-accepted : goal.returns-in-Err-read-clause-accepted
 returns-in-Err-read-clause-accepted c =
     let same : to_z w32 (of_z w32 c.in-Err-read.number) ≡ c.in-Err-read.number = search rules in
-    λ read v utf8 spelled. ⊎_elim (λ is. inl (same ∙ is)) (λ is. inr (inr (inl (same ∙ is)))) (c.in-Err-read.ensures.accepted v utf8 spelled)
+    λ read v utf8 spelled. ⊎_elim (λ is. inl (same ∙ is)) (λ is. inr (inr (inl (same ∙ is))))
+    (c.in-Err-read.ensures.accepted v utf8 spelled)
 
 pub returns-in-Err-read-clause-version_refused : goal.returns-in-Err-read-clause-version_refused
 returns-in-Err-read-clause-version_refused c =
@@ -41,14 +45,20 @@ returns-in-Err-read-clause-version_refused c =
     (h.0, h.1, same ∙ h.2)
 
 -- where both were read
-met : (c : After-is_met) (tree : SetTree) (v : VersionValue) → Spells tree c.args.range.now → SpellsVersion v c.args.version.now → c.is_met.result ≡ is_met c.args.pre_releases (mode_of c.args.npm) tree v
+met : (c : After-is_met) (tree : SetTree) (v : VersionValue) → Spells tree c.args.range.now → SpellsVersion v c.args.version.now
+    → c.is_met.result ≡ is_met c.args.pre_releases (mode_of c.args.npm) tree v
 met c tree v spells spelled =
     let read = version_value c.in-Ok-read.version in
     met_is c.args.pre_releases (mode_of c.args.npm) tree read v c.is_met.result (meets_set read.plain (set_of c.in-Ok.set))
-    (one_version read v c.args.version.now c.in-Ok-read.ensures.version spelled) (c.in-Ok.ensures.meaning refl tree read.plain spells) c.is_met.ensures
+    (one_version read v c.args.version.now c.in-Ok-read.ensures.version spelled)
+    (c.in-Ok.ensures.meaning refl tree read.plain spells) c.is_met.ensures
 
 pub returns-then-is_met-clause-meaning : goal.returns-then-is_met-clause-meaning
-returns-then-is_met-clause-meaning c = λ _ tree v spells spelled. ap meeting_number (sym c.if-is_met.true ∙ met (goal.at.returns-then-is_met-clause-meaning c).After-is_met tree v spells spelled)
+returns-then-is_met-clause-meaning c =
+    λ _ tree v spells spelled. ap meeting_number (sym c.if-is_met.true
+    ∙ met (goal.at.returns-then-is_met-clause-meaning c).After-is_met tree v spells spelled)
 
 pub returns-clause-meaning : goal.returns-clause-meaning
-returns-clause-meaning c = λ _ tree v spells spelled. ap meeting_number (sym c.if-is_met.false ∙ met (goal.at.returns-clause-meaning c).After-is_met tree v spells spelled)
+returns-clause-meaning c =
+    λ _ tree v spells spelled. ap meeting_number (sym c.if-is_met.false
+    ∙ met (goal.at.returns-clause-meaning c).After-is_met tree v spells spelled)

@@ -37,7 +37,8 @@ returns-in-Err-clause-numbers c =
 pub returns-in-Err-clause-accepted : goal.returns-in-Err-clause-accepted
 returns-in-Err-clause-accepted c =
     let same : to_z w32 (of_z w32 c.in-Err.number) ≡ c.in-Err.number = search rules in
-    λ v utf8 spelled. subst (λ z. (z ≡ number.ok) ⊎ (z ≡ number.version_out_of_memory)) (sym same) (c.in-Err.ensures.accepted v utf8 spelled)
+    λ v utf8 spelled. subst (λ z. (z ≡ number.ok) ⊎ (z ≡ number.version_out_of_memory)) (sym same)
+    (c.in-Err.ensures.accepted v utf8 spelled)
 
 pub returns-in-Err-clause-plain : goal.returns-in-Err-clause-plain
 returns-in-Err-clause-plain c =

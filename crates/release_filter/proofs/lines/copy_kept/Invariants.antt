@@ -9,4 +9,5 @@ use Rattle.release_filter.proofs.lines.copy_kept.Given as goal
 
 abbrev pub invariant-lines : goal.invariant-lines
 invariant-lines g l = IsAt (SpellsOneThat (λ v. counts l.fn.pre_releases v && meets_set v.plain (set_of l.fn.set)))
-    (g.R.Read.remaining l.initial.input) (g.R.Read.remaining l.input) (g.W.Write.contents l.initial.out) (g.W.Write.contents l.out) l.has_kept
+    (g.R.Read.remaining l.initial.input) (g.R.Read.remaining l.input) (g.W.Write.contents l.initial.out)
+    (g.W.Write.contents l.out) l.has_kept

@@ -21,7 +21,9 @@ pub returns : goal.returns
 returns c =
     let n = length c.loop-stated.yielded in
     let ends : n ≡ min (length c.args.version.now) (length c.args.comparator.now) =
-    zip_end _ _ c.loop-stated.yielded c.into_iter-stated-iterator.result c.loop-stated.stated-iterator c.next.new.self c.next.result (search rules) (search rules) c.loop-stated.yielded_by c.in-None.is c.next.ensures.steps in
+    zip_end _ _ c.loop-stated.yielded c.into_iter-stated-iterator.result c.loop-stated.stated-iterator c.next.new.self c.next.result
+    (search rules) (search rules) c.loop-stated.yielded_by c.in-None.is c.next.ensures.steps in
     let first = length-drop n c.args.version.now in
     let second = length-drop n c.args.comparator.now in
-    c.cmp.ensures ∙ sym (c.loop-stated.invariant ∙ left identifier_cmp identifier_value identifier_of n _ _ (drop n c.args.version.now) (drop n c.args.comparator.now) ends (omega (arith, first, ends)) (omega (arith, second, ends)))
+    c.cmp.ensures ∙ sym (c.loop-stated.invariant ∙ left identifier_cmp identifier_value identifier_of n _ _ (drop n c.args.version.now)
+    (drop n c.args.comparator.now) ends (omega (arith, first, ends)) (omega (arith, second, ends)))

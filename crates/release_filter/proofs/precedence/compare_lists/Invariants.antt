@@ -9,4 +9,5 @@ use Rattle.release_filter.proofs.precedence.compare_lists.Given as goal
 abbrev pub invariant-loop-stated : goal.invariant-loop-stated
 invariant-loop-stated l =
     slice_cmp identifier_cmp (map identifier_value l.version) (map identifier_of l.comparator)
-    ≡ slice_cmp identifier_cmp (map identifier_value (drop (length l.yielded) l.version)) (map identifier_of (drop (length l.yielded) l.comparator))
+    ≡ slice_cmp identifier_cmp (map identifier_value (drop (length l.yielded) l.version))
+    (map identifier_of (drop (length l.yielded) l.comparator))

@@ -9,7 +9,8 @@ returns-in_err-write_text g c =
 pub returns-in_err-write_text-2 : goal.returns-in_err-write_text-2
 returns-in_err-write_text-2 g c =
     let shown = rw c.as_str.ensures at c.in_err-write_text-2.ensures in
-    stops _ _ _ _ c.from_residual-in_err-write_text-2.ensures.0 (begins_with _ _ _ _ (begins_then _ _ _ _ _ c.in_ok-write_text.ensures shown))
+    stops _ _ _ _ c.from_residual-in_err-write_text-2.ensures.0 (begins_with _ _ _ _
+    (begins_then _ _ _ _ _ c.in_ok-write_text.ensures shown))
 
 pub returns : goal.returns
 returns g c =

@@ -7,4 +7,10 @@ pub returns-then-text-place-clause-inside : goal.returns-then-text-place-clause-
 returns-then-text-place-clause-inside c =
     let behind = drop (c.args.place + 1) c.args.text.now in
     let room = length c.args.text.now - (c.args.place + 1) in
-    omega (arith, c.dotted_len.ensures, prefix_len-le-length is_dotted_byte (take room behind), length-take-le room behind (omega (arith, length-drop (c.args.place + 1) c.args.text.now)), c.if-place-text.true)
+    omega (
+      arith,
+      c.dotted_len.ensures,
+      prefix_len-le-length is_dotted_byte (take room behind),
+      length-take-le room behind (omega (arith, length-drop (c.args.place + 1) c.args.text.now)),
+      c.if-place-text.true,
+    )

@@ -9,7 +9,8 @@ use Rattle.semver_parser_c.proofs.version_text.read.Goals as goal
 pub returns-in-Err-clause-accepted : goal.returns-in-Err-clause-accepted
 returns-in-Err-clause-accepted c =
     let number : to_z w32 (of_z w32 c.fault_number.result) ≡ fault_number (fault_of c.in-Err.error) = search rules in
-    λ v utf8 spelled. refused _ c.in-Err.error _ number c.in-Err.ensures.exact v (subst (SpellsVersion v) (sym c.in-Ok.ensures.cases.0) spelled)
+    λ v utf8 spelled. refused _ c.in-Err.error _ number c.in-Err.ensures.exact v
+    (subst (SpellsVersion v) (sym c.in-Ok.ensures.cases.0) spelled)
 
 pub returns-in-Err-clause-plain : goal.returns-in-Err-clause-plain
 returns-in-Err-clause-plain c = λ v utf8 spelled pre build.

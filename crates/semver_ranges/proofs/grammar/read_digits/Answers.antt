@@ -8,7 +8,8 @@ pub loop-at-preserved : goal.loop-at-preserved
 loop-at-preserved c =
     let t = c.args.text.now in
     let d : is_ascii_digit (get_or t c.loop-at.at 0) ≡ true = sym c.is_ascii_digit.ensures.value ∙ c.if-not-is_ascii_digit.false in (
-      value_more (48 + c.args.first) t c.loop-at.at c.with_digit-value.result c.loop-at-test.true d (c.with_digit-value.ensures _ c.loop-at.invariant.0),
+      value_more (48 + c.args.first) t c.loop-at.at c.with_digit-value.result c.loop-at-test.true d
+          (c.with_digit-value.ensures _ c.loop-at.invariant.0),
       taken_more is_ascii_digit t c.loop-at.at c.loop-at-test.true d c.loop-at.invariant.1,
       c.loop-at.invariant.2 ∙ back_more is_ascii_digit t c.loop-at.at c.loop-at-test.true d,
     )

@@ -9,5 +9,8 @@ returns-in-Some c = λ a is.
 
 pub returns-in-None : goal.returns-in-None
 returns-in-None c = λ a is.
-    let found = c.in_ok-minor.ensures in
-    (two a found.0, rw found.1 (minor_end a found.0 c.in_ok-minor.rest.now c.in-None.ensures), c.with_minor-partial.ensures a found.0 is found.2)
+    let found = c.in_ok-minor.ensures in (
+      two a found.0,
+      rw found.1 (minor_end a found.0 c.in_ok-minor.rest.now c.in-None.ensures),
+      c.with_minor-partial.ensures a found.0 is found.2,
+    )

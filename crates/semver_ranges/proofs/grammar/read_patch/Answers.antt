@@ -10,5 +10,9 @@ returns-then-begins_qualifier c = λ a b is.
 
 pub returns-else-begins_qualifier : goal.returns-else-begins_qualifier
 returns-else-begins_qualifier c = λ a b is.
-    let found = c.in_ok-patch.ensures in
-    (three a b found.0 [] [], rw found.1 (no_qualifier a b found.0 c.in_ok-patch.rest.now (sym c.begins_qualifier.ensures ∙ c.if-begins_qualifier.false)), c.with_patch-partial.ensures a b found.0 is found.2)
+    let found = c.in_ok-patch.ensures in (
+      three a b found.0 [] [],
+      rw found.1 (no_qualifier a b found.0 c.in_ok-patch.rest.now (sym c.begins_qualifier.ensures
+          ∙ c.if-begins_qualifier.false)),
+      c.with_patch-partial.ensures a b found.0 is found.2,
+    )

@@ -2,4 +2,4 @@ use Rattle.semver_ranges.proofs.PrintedLaws.{printed_again}
 use Rattle.semver_ranges.proofs.laws.printed_sets_read_back.Goals as goal
 
 pub returns : goal.returns
-returns c = record { read_back = printed_again }
+returns c = record { read_back = printed_again (λ bound. bound) }

@@ -7,4 +7,5 @@ pub returns-in-Ok : goal.returns-in-Ok
 returns-in-Ok c = kept_number c.args.part.now c.in-Ok.number c.requires c.in-Ok.ensures.value.0
 
 pub returns-in_ok-from_str-in-Err : goal.returns-in_ok-from_str-in-Err
-returns-in_ok-from_str-in-Err c = ap alphanumeric c.in_ok-from_str-in-Err.ensures.ok ∙ kept_text c.args.part.now c.requires c.in-Err.ensures.value.0
+returns-in_ok-from_str-in-Err c =
+    ap alphanumeric c.in_ok-from_str-in-Err.ensures.ok ∙ kept_text c.args.part.now c.requires c.in-Err.ensures.value.0

@@ -4,16 +4,17 @@ use Rattle.semver_texts.specs.Texts.{is_part_byte}
 use Rattle.semver_tokens.proofs.Cuts.{cut_after_prefix}
 use Rattle.semver_tokens.proofs.FirstToken.{part_ascii}
 use Rattle.semver_steps.proofs.parser.identifier_front.Goals as goal
-use Rattle.semver_steps.proofs.parser.identifier_front.Goals.{After-identifier_len-len}
+use Rattle.semver_steps.proofs.parser.identifier_front.Goals.{After-part_len-len}
 
-len_is : (c : After-identifier_len-len) → c.identifier_len-len.result ≡ prefix_len is_part_byte c.args.text.now
-len_is c = c.identifier_len-len.ensures ∙ ap (prefix_len is_part_byte) c.as_bytes.ensures.value
+len_is : (c : After-part_len-len) → c.part_len-len.result ≡ prefix_len is_part_byte c.args.text.now
+len_is c = c.part_len-len.ensures ∙ ap (prefix_len is_part_byte) c.as_bytes.ensures.value
 
 pub range-requires-clause-end_boundary : goal.range-requires-clause-end_boundary
-range-requires-clause-end_boundary c = subst (IsCharBoundary c.args.text.now) (sym (len_is c)) (cut_after_prefix is_part_byte part_ascii c.args.text.now c.utf8.text)
+range-requires-clause-end_boundary c =
+    subst (IsCharBoundary c.args.text.now) (sym (len_is c)) (cut_after_prefix is_part_byte part_ascii c.args.text.now c.utf8.text)
 
 pub returns : goal.returns
-returns c = c.range.ensures.value ∙ ap (λ (n : ℕ). take n c.args.text.now) (less_none _ ∙ len_is (goal.at.returns c).After-identifier_len-len)
+returns c = c.range.ensures.value ∙ ap (λ (n : ℕ). take n c.args.text.now) (less_none _ ∙ len_is (goal.at.returns c).After-part_len-len)
   where
     less_none : (n : ℕ) → n - 0 ≡ n
     less_none n = omega arith

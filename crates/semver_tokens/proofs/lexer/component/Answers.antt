@@ -1,4 +1,4 @@
-use Rattle.semver_tokens.proofs.Numbers.{component_decimal, component_text}
+use Rattle.semver_tokens.proofs.Components.{component_decimal, component_text}
 use Rattle.semver_tokens.proofs.lexer.component.Goals as goal
 
 pub returns-in-Some : goal.returns-in-Some

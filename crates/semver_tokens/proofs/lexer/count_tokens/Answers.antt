@@ -2,7 +2,8 @@ use Rattle.std.proofs.Common.{◌≡◌, length, arith, ap, sym, ◌∙◌, [], 
 use Rattle.semver_tokens.specs.Views.{token_value}
 use Rattle.semver_tokens.proofs.LexerItems.{none_remains, ended_state, state_at_token}
 use Rattle.semver_tokens.proofs.lexer.count_tokens.Goals as goal
-use Rattle.semver_tokens.proofs.lexer.count_tokens.Goals.{In_default, In-Some-Ok, in_default-via-in-Some+in_default, in_default-via-in_default}
+use Rattle.semver_tokens.proofs.lexer.count_tokens.Goals.{In_default, In-Some-Ok, in_default-via-in-Some+in_default}
+use Rattle.semver_tokens.proofs.lexer.count_tokens.Goals.{in_default-via-in_default}
 
 -- no token remains
 none : (c : In_default) → c.loop-end.end.remaining ≡ []
@@ -14,8 +15,14 @@ none c =
     ])
 
 -- one token less remains
-one_less : (c : In-Some-Ok) → c.loop-end.end ≡ record { remaining = token_value c.in-Some-Ok.field-0-0 ∷ c.next.new.self.remaining; pending = c.next.new.self.pending }
-one_less c = sym c.copy-ahead.ensures.same ∙ state_at_token c.copy-ahead.result c.next.new.self _ (rw c.in-Some-Ok.field-0-is at c.in-Some-Ok.ensures.steps)
+one_less : (c : In-Some-Ok)
+    → c.loop-end.end ≡ record {
+      remaining = token_value c.in-Some-Ok.field-0-0
+          ∷ c.next.new.self.remaining;
+      pending = c.next.new.self.pending;
+    }
+one_less c = sym c.copy-ahead.ensures.same
+    ∙ state_at_token c.copy-ahead.result c.next.new.self _ (rw c.in-Some-Ok.field-0-is at c.in-Some-Ok.ensures.steps)
 
 pub overflow_add-count : goal.overflow_add-count
 overflow_add-count c = omega (arith, c.loop-end.invariant.counted, c.copy-end.ensures.small)

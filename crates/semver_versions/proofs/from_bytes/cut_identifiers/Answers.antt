@@ -1,35 +1,46 @@
-use Rattle.std.proofs.Common.{◌∷◌, [], get_or, map, sym, subst, ap, arith}
-use Rattle.std.proofs.lemmas.List.{map-append}
+use Rattle.std.proofs.Common.{◌≡◌, ◌<◌, ◌∷◌, [], List, length, map, get_or, take, sym, ap, ◌∙◌, subst, lit<}
+use Rattle.std.specs.List.{AllZip, slice_split}
+use Rattle.std.proofs.Math.Seq.{take-length}
+use Rattle.std.proofs.lemmas.Iterator.Splits.{YieldsList-from_str_split}
+use Rattle.std.proofs.lemmas.Iterator.Consumers.{YieldsList-turn, YieldsList-end}
+use Rattle.std.proofs.lemmas.List.{length_push, map-append}
 use Rattle.semver_texts.specs.Texts.{Text}
-use Rattle.semver_steps.specs.VersionGrammar.{IsIdentifierText, SpellsIdentifier}
+use Rattle.semver_texts.specs.VersionGrammar.{IsIdentifierText, SpellsIdentifier}
 use Rattle.semver_texts.specs.VersionViews.{identifier_value}
-use Rattle.semver_versions.proofs.CutIdentifiers.{cut_anywhere, no_dot_cut, piece_is, last_is, dot_cut, all_cut, dot_there, no_dot_there}
+use Rattle.semver_texts.specs.Texts.{is_dot}
+use Rattle.semver_versions.proofs.CutIdentifiers.{all_at, one_more_spelled}
 use Rattle.semver_versions.proofs.from_bytes.cut_identifiers.Goals as goal
+use Rattle.semver_versions.proofs.from_bytes.cut_identifiers.Goals.{In-Some}
 
-pub loop-at-preserved-then-bytes-at-ne46 : goal.loop-at-preserved-then-bytes-at-ne46
-loop-at-preserved-then-bytes-at-ne46 c =
-    no_dot_cut c.args.text.now c.loop-at.start c.loop-at.at (map identifier_value c.loop-at.identifiers.items) (omega arith) (no_dot_there (get_or c.as_bytes-bytes.result.now c.loop-at.at 0) (get_or c.args.text.now c.loop-at.at 0) (ap (λ (t : Text). get_or t c.loop-at.at 0) c.as_bytes-bytes.ensures.value) c.if-bytes-at-ne46.true) c.loop-at.invariant
-
-pub range-requires-clause-start_boundary : goal.range-requires-clause-start_boundary
-range-requires-clause-start_boundary c = λ _. cut_anywhere c.args.text.now c.loop-at.start c.requires (omega arith)
+-- the text at the place that the loop has come to
+text_here : (c : In-Some) → (length c.loop-part.yielded < length (slice_split is_dot c.args.text.now))
+    × (c.in-Some.part.now ≡ get_or (slice_split is_dot c.args.text.now) (length c.loop-part.yielded) c.in-Some.part.now)
+text_here c =
+    YieldsList-turn (YieldsList-from_str_split 46 c.args.text.now (lit< tt) (cc) (cc) (cc)) c.loop-part.yielded _ c.loop-part.yielded_by _ _
+    c.in-Some.part c.in-Some.is c.next.ensures.steps
 
 pub identifier-requires : goal.identifier-requires
 identifier-requires c =
-    subst IsIdentifierText (sym c.range.ensures.value) (piece_is c.args.text.now c.loop-at.start c.loop-at.at (map identifier_value c.loop-at.identifiers.items) (omega arith) (dot_there (get_or c.as_bytes-bytes.result.now c.loop-at.at 0) (get_or c.args.text.now c.loop-at.at 0) (ap (λ (t : Text). get_or t c.loop-at.at 0) c.as_bytes-bytes.ensures.value) c.if-bytes-at-ne46.false) c.requires c.loop-at.invariant)
+    let here = text_here (goal.at.identifier-requires c).In-Some in
+    subst IsIdentifierText (sym here.1)
+    (all_at IsIdentifierText (slice_split is_dot c.args.text.now) (length c.loop-part.yielded) c.in-Some.part.now c.requires here.0)
 
-pub loop-at-preserved : goal.loop-at-preserved
-loop-at-preserved c =
-    rw (c.in_ok-push.ensures.items, map-append identifier_value c.loop-at.identifiers.items (c.in_ok-identifier.field-0 ∷ []))
-    (dot_cut c.args.text.now c.loop-at.start c.loop-at.at (map identifier_value c.loop-at.identifiers.items) (identifier_value c.in_ok-identifier.field-0) (omega arith) (dot_there (get_or c.as_bytes-bytes.result.now c.loop-at.at 0) (get_or c.args.text.now c.loop-at.at 0) (ap (λ (t : Text). get_or t c.loop-at.at 0) c.as_bytes-bytes.ensures.value) c.if-bytes-at-ne46.false) (subst (SpellsIdentifier (identifier_value c.in_ok-identifier.field-0)) c.range.ensures.value c.in_ok-identifier.ensures) c.loop-at.invariant)
-
-pub range_from-requires : goal.range_from-requires
-range_from-requires c = λ _. cut_anywhere c.args.text.now c.loop-at.start c.requires (omega arith)
-
-pub identifier-requires-2 : goal.identifier-requires-2
-identifier-requires-2 c =
-    subst IsIdentifierText (sym c.range_from.ensures.value) (last_is c.args.text.now c.loop-at.start c.loop-at.at (map identifier_value c.loop-at.identifiers.items) (omega arith) c.requires c.loop-at.invariant)
+pub loop-part-preserved : goal.loop-part-preserved
+loop-part-preserved c =
+    let here = text_here (goal.at.loop-part-preserved c).In-Some in
+    rw (
+      c.in_ok-push.ensures.items,
+      map-append identifier_value c.loop-part.identifiers.items (c.in_ok-identifier.field-0 ∷ []),
+      length_push c.loop-part.yielded c.in-Some.part,
+    ) (one_more_spelled (slice_split is_dot c.args.text.now) (length c.loop-part.yielded) c.in-Some.part.now
+    (map identifier_value c.loop-part.identifiers.items) (identifier_value c.in_ok-identifier.field-0) here.0 here.1
+    c.in_ok-identifier.ensures c.loop-part.invariant)
 
 pub returns : goal.returns
 returns c =
-    rw (c.in_ok-push-2.ensures.items, map-append identifier_value c.loop-at.identifiers.items (c.in_ok-identifier-2.field-0 ∷ []))
-    (all_cut c.args.text.now c.loop-at.start c.loop-at.at (map identifier_value c.loop-at.identifiers.items) (identifier_value c.in_ok-identifier-2.field-0) (omega arith) (subst (SpellsIdentifier (identifier_value c.in_ok-identifier-2.field-0)) c.range_from.ensures.value c.in_ok-identifier-2.ensures) c.loop-at.invariant)
+    let all : List Text = slice_split is_dot c.args.text.now in
+    let end = YieldsList-end (YieldsList-from_str_split 46 c.args.text.now (lit< tt) (cc) (cc) (cc)) c.loop-part.yielded _
+    c.loop-part.yielded_by _ _
+    c.in-None.is c.next.ensures.steps in
+    subst (AllZip SpellsIdentifier (map identifier_value c.loop-part.identifiers.items)) (ap (λ n. take n all) end.1 ∙ take-length all)
+    c.loop-part.invariant

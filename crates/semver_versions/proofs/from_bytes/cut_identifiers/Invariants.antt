@@ -1,7 +1,10 @@
-use Rattle.std.proofs.Common.{map}
+use Rattle.std.proofs.Common.{map, length, take}
+use Rattle.std.specs.List.{AllZip, slice_split}
+use Rattle.semver_texts.specs.VersionGrammar.{SpellsIdentifier}
 use Rattle.semver_texts.specs.VersionViews.{identifier_value}
-use Rattle.semver_versions.proofs.CutIdentifiers.{AreCut}
+use Rattle.semver_texts.specs.Texts.{is_dot}
 use Rattle.semver_versions.proofs.from_bytes.cut_identifiers.Given as goal
 
-abbrev pub invariant-loop-at : goal.invariant-loop-at
-invariant-loop-at l = AreCut l.fn.text l.start l.at (map identifier_value l.identifiers.items)
+abbrev pub invariant-loop-part : goal.invariant-loop-part
+invariant-loop-part l =
+    AllZip SpellsIdentifier (map identifier_value l.identifiers.items) (take (length l.yielded) (slice_split is_dot l.fn.text))

@@ -1,14 +1,14 @@
-use Rattle.std.proofs.Common.{◌≡◌, ℕ, refl, sym, ap, ◌∙◌, Result, List, [], map}
+use Rattle.std.proofs.Common.{◌≡◌, ℕ, refl, sym, ap, ◌∙◌, Result, List, []}
 use Rattle.std.proofs.lemmas.Result.{err_from_is_err_and}
-use Rattle.semver_tokens.specs.ParserState.{ParserState, tail}
-use Rattle.semver_tokens.specs.Views.{token_value}
+use Rattle.semver_tokens.specs.ParserState.{ParserState}
+use Rattle.semver_steps.specs.ParserSteps.{tail}
 use Rattle.semver_steps.specs.ParserViews.{fault_of, answer_of, UnlessOutOfMemory, IfOutOfMemory}
 use Rattle.semver_steps.specs.VersionReading.{IsOutcomeOf, TextMayRunOut}
 use Rattle.semver_texts.specs.VersionViews.{version_value}
 use Rattle.semver_texts.specs.declared.version.Version.{Version}
 use Rattle.semver_steps.specs.declared.parser.Error.{Error}
 use Rattle.semver_steps.proofs.IdentifierTexts.{unless_out_of_memory, unless_err, if_err}
-use Rattle.semver_versions.proofs.ParseFacts.{at_bad_start, lexer_has_memory, at_fault, at_refusal, at_end, at_tail, at_tail_fault, at_tail_refusal}
+use Rattle.semver_versions.proofs.ParseFacts.{at_bad_start, lexer_has_memory, at_fault, at_refusal, at_end, tail_given, at_tail_refusal}
 use Rattle.semver_versions.proofs.version.by_tokens.Goals as goal
 use Rattle.semver_versions.proofs.version.by_tokens.Goals.{Else-is_eof}
 
@@ -21,7 +21,8 @@ returns-in_err-parser c =
     let r : Answer = c.from_residual.result in
     let p = err_from_is_err_and c.from_residual.result c.from_residual.ensures.1 in
     let bad = c.in_err-parser.ensures.lexer in
-    let outcome : UnlessOutOfMemory r (IsOutcomeOf text (answer_of version_value r)) = unless_out_of_memory r (rw (p.1, p.2) (at_bad_start text c.in_err-parser.field-0.0 bad)) in
+    let outcome : UnlessOutOfMemory r (IsOutcomeOf text (answer_of version_value r)) = unless_out_of_memory r
+    (rw (p.1, p.2) (at_bad_start text c.in_err-parser.field-0.0 bad)) in
     let memory : IfOutOfMemory r (TextMayRunOut text) = rw (p.1, p.2) (lexer_has_memory _ c.in_err-parser.field-0.0 bad.0 bad.1) in
     record { outcome = outcome; out_of_memory = memory }
 
@@ -32,14 +33,21 @@ returns-in_err-version c =
     let p = err_from_is_err_and c.from_residual-in_err-version.result c.from_residual-in_err-version.ensures.1 in
     let e : Error = c.in_err-version.field-0.0 in
     let state = c.in_ok-parser.ensures.ok in
-    let outcome : UnlessOutOfMemory r (IsOutcomeOf text (answer_of version_value r)) = rw (p.1, p.2) (unless_err e (at_fault text c.in_ok-parser.parser c.version.new.self (fault_of e) state) c.in_err-version.ensures.answer) in
-    let memory : IfOutOfMemory r (TextMayRunOut text) = rw (p.1, p.2) (if_err e (at_refusal text c.in_ok-parser.parser c.version.new.self state) c.in_err-version.ensures.out_of_memory) in
+    let outcome : UnlessOutOfMemory r (IsOutcomeOf text (answer_of version_value r)) = rw (p.1, p.2)
+    (unless_err e (at_fault text c.in_ok-parser.parser c.version.new.self (fault_of e) state) c.in_err-version.ensures.answer) in
+    let memory : IfOutOfMemory r (TextMayRunOut text) = rw (p.1, p.2)
+    (if_err e (at_refusal text c.in_ok-parser.parser c.version.new.self state) c.in_err-version.ensures.out_of_memory) in
     record { outcome = outcome; out_of_memory = memory }
 
 pub returns-then-is_eof : goal.returns-then-is_eof
 returns-then-is_eof c =
     let text : List ℕ = c.args.input.now in
-    record { outcome = at_end text c.in_ok-parser.parser c.version.new.self (version_value c.in_ok-version.version) c.in_ok-parser.ensures.ok c.in_ok-version.ensures.answer (c.if-is_eof.ensures.answer.0 refl); out_of_memory = tt }
+    record {
+      outcome = at_end text c.in_ok-parser.parser c.version.new.self
+          (version_value c.in_ok-version.version) c.in_ok-parser.ensures.ok c.in_ok-version.ensures.answer
+          (c.if-is_eof.ensures.answer.0 refl);
+      out_of_memory = tt;
+    }
 
 -- some token is left
 some_left : (c : Else-is_eof) → ¬ (c.version.new.self.remaining ≡ [])
@@ -55,16 +63,20 @@ returns-in_err-rest c =
     let t : ParserState = c.version.new.self in
     let some = some_left (goal.at.returns-in_err-rest c).Else-is_eof in
     let same : c.is_eof.new.self ≡ t = c.is_eof.ensures.after in
-    let fault = at_tail_fault text s t (version_value c.in_ok-version.version) c.in_ok-parser.ensures.ok c.in_ok-version.ensures.answer some (fault_of e) c.tail.new.self in
-    let refusal = at_tail_refusal text s t (version_value c.in_ok-version.version) c.in_ok-parser.ensures.ok c.in_ok-version.ensures.answer some in
-    let outcome : UnlessOutOfMemory r (IsOutcomeOf text (answer_of version_value r)) = rw (p.1, p.2) (unless_err e (λ d. fault (d ∙ ap tail same)) c.in_err-rest.ensures.answer) in
-    let memory : IfOutOfMemory r (TextMayRunOut text) = rw (p.1, p.2) (if_err e (λ d. refusal (sym (ap (λ (z : ParserState). z.pending) same) ∙ d.1)) c.in_err-rest.ensures.out_of_memory) in
+    let given = tail_given text s t (version_value c.in_ok-version.version) c.in_ok-parser.ensures.ok c.in_ok-version.ensures.answer some in
+    let refusal = at_tail_refusal text s t (version_value c.in_ok-version.version) c.in_ok-parser.ensures.ok c.in_ok-version.ensures.answer
+    some in
+    let outcome : UnlessOutOfMemory r (IsOutcomeOf text (answer_of version_value r)) = rw (p.1, p.2)
+    (unless_err e (λ d. given _ (d ∙ ap tail same)) c.in_err-rest.ensures.answer) in
+    let memory : IfOutOfMemory r (TextMayRunOut text) = rw (p.1, p.2)
+    (if_err e (λ d. refusal (sym (ap (λ (z : ParserState). z.pending) same) ∙ d.1)) c.in_err-rest.ensures.out_of_memory) in
     record { outcome = outcome; out_of_memory = memory }
 
 pub returns : goal.returns
 returns c =
     let text : List ℕ = c.args.input.now in
     let some = some_left (goal.at.returns c).Else-is_eof in
-    let outcome = at_tail text c.in_ok-parser.parser c.version.new.self (version_value c.in_ok-version.version) c.in_ok-parser.ensures.ok c.in_ok-version.ensures.answer some (map token_value c.in_ok-rest.rest.items) c.tail.new.self
+    let outcome = tail_given text c.in_ok-parser.parser c.version.new.self
+    (version_value c.in_ok-version.version) c.in_ok-parser.ensures.ok c.in_ok-version.ensures.answer some _
     (c.in_ok-rest.ensures.answer ∙ ap tail c.is_eof.ensures.after) in
     record { outcome = outcome; out_of_memory = tt }

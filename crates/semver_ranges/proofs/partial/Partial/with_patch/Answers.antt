@@ -7,7 +7,8 @@ pub returns-in_default : goal.returns-in_default
 returns-in_default c = λ a b d two third. with_wildcard a b d c.args.self (rw c.in_default.is at third) two
 
 pub returns-then-ne : goal.returns-then-ne
-returns-then-ne c = λ a b d two third. with_nothing a b d c.args.self (λ kind. true≢false (sym c.if-ne.true ∙ (rw kind at c.ne.ensures))) two
+returns-then-ne c =
+    λ a b d two third. with_nothing a b d c.args.self (λ kind. true≢false (sym c.if-ne.true ∙ (rw kind at c.ne.ensures))) two
 
 pub returns-in-Some : goal.returns-in-Some
 returns-in-Some c = λ a b d two third.

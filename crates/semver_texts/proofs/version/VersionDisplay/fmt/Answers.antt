@@ -19,5 +19,7 @@ returns-clause-writes g c = λ plain ok.
     let build = (rw c.deref-2.ensures.value at (c.write_part-2.ensures shown (λ _. refl))) pre.plain ok in
     let v = c.args.self.now in
     has_written_of_eq _ _ _ _ _
-    (λ i. (join_with_byte 46 (map decimal (numbers (version_value v).plain)) ++ marked (codes "-") (map_view identifier_text identifier_value v.pre.items i)) ++ marked (codes "+") (map_view identifier_text identifier_value v.build.items i))
+    (λ i. (join_with_byte 46 (map decimal (numbers (version_value v).plain))
+    ++ marked (codes "-") (map_view identifier_text identifier_value v.pre.items i))
+    ++ marked (codes "+") (map_view identifier_text identifier_value v.build.items i))
     (has_written_append _ _ _ _ _ _ (has_written_append _ _ _ _ _ _ triple pre) build)

@@ -1,0 +1,55 @@
+//! Whole writes: of no byte and of some, at a writer that refuses.
+use super::writers::{Limited, Refusal};
+use semver_parser::writing::write_whole;
+use std::alloc::Global;
+use std::io;
+use std::io::ErrorKind;
+
+/// What is written, and each beginning of it.
+const BYTES: &[u8] = b"1.2.3";
+
+/// Writes at which beginnings and refusals a whole write doesn't end as it has to, and how many
+/// there were.
+pub fn write_writes(rt: &impl Print, alloc: Global) -> io::Result<()> {
+    let mut writes = 0u32;
+    for len in 0..=BYTES.len() {
+        let bytes = BYTES.get(..len).unwrap_or_default();
+        for refusal in [Refusal::Fail, Refusal::Interrupt, Refusal::TakeNone] {
+            for most in [1, usize::MAX] {
+                for left in 0..=len {
+                    if !ends_as_documented(alloc, bytes, left, most, refusal) {
+                        println!(rt; "writes: wrong with {left} of {len} bytes")?;
+                    }
+                    writes = writes.saturating_add(1);
+                }
+            }
+        }
+    }
+    println!(rt; "writes: {writes} writers")
+}
+
+/// Whether all is written, or what is taken before a refusal, and then the error of the
+/// documentation is told.
+fn ends_as_documented(
+    alloc: Global,
+    bytes: &[u8],
+    left: usize,
+    most: usize,
+    refusal: Refusal,
+) -> bool {
+    let mut out = Limited::new(alloc, left, most, refusal);
+    let is_told = match write_whole(&mut out, bytes) {
+        Ok(()) => left == bytes.len(),
+        Err(error) => left < bytes.len() && error.kind() == kind_of(refusal),
+    };
+    is_told && out.late_calls == 0 && Some(out.taken.as_slice()) == bytes.get(..left)
+}
+
+/// The error that a refusal has to be told by.
+fn kind_of(refusal: Refusal) -> ErrorKind {
+    match refusal {
+        Refusal::Fail => ErrorKind::BrokenPipe,
+        Refusal::Interrupt => ErrorKind::Interrupted,
+        Refusal::TakeNone => ErrorKind::WriteZero,
+    }
+}

@@ -1,0 +1,47 @@
+-- What is found first is the first of the events that are left.
+use Rattle.std.proofs.Common.{◌≡◌, ◌≤◌, Bool, true, false, arith, List, [], ◌∷◌, Option, Some, None, refl}
+use Rattle.semver_ranges.specs.declared.events.Events.{Events}
+use Rattle.semver_ranges.specs.declared.grammar.Simple as read
+use Rattle.semver_ranges.specs.declared.events.Event.TheVariants as event
+use Rattle.semver_ranges.specs.RangeTree.{Simple}
+use Rattle.semver_ranges.specs.RangeEvents.{Event, one_simple, next_range, put, put_simples}
+use Rattle.semver_ranges.specs.CursorViews.{IsSimpleOf, AreSides, IsEventOf, HasBehind, HasLeft, IsFirst, flag}
+
+-- the sides of a hyphen range
+pub sides_first : (xs : List Simple) (lower : read.Simple) (upper : Option read.Simple) (o : Option (List Event)) → AreSides xs lower upper
+    → (x : Event) × (left : Option (List Event)) × IsEventOf x (event.Simple lower) × HasBehind upper o left
+    × (put_simples xs o ≡ put x left)
+sides_first (s ∷ []) lower None o is = (one_simple s, o, is, refl, refl)
+sides_first (s ∷ next ∷ []) lower (Some upper) o is = (one_simple s, put (one_simple next) o, is.0, (next, is.1, refl), refl)
+sides_first _ lower upper o is = absurd is
+
+pub flag_small : (b : Bool) → flag b ≤ 1
+flag_small true = omega arith
+flag_small false = omega arith
+
+-- a simple that comes first, and what is left behind it
+pub record FirstSimple (o : Option (List Event)) (simple : read.Simple) (cursor : Events) : Type 0 where
+  pub s : Simple
+  pub left : Option (List Event)
+  pub is : IsSimpleOf s simple
+  pub has : HasLeft cursor left
+  pub whole : o ≡ put (one_simple s) left
+
+pub first_simple : (o : Option (List Event)) (simple : read.Simple) (cursor : Events) → IsFirst o (event.Simple simple) cursor
+    → FirstSimple o simple cursor
+first_simple o simple cursor (one_simple s, left, is, has, e) = record { s = s; left = left; is = is; has = has; whole = e }
+first_simple o simple cursor (next_range, left, is, has, e) = absurd is
+
+-- the same where it is known what is left
+pub record NextSimple (es : List Event) (simple : read.Simple) (cursor : Events) : Type 0 where
+  pub s : Simple
+  pub behind : List Event
+  pub is : IsSimpleOf s simple
+  pub has : HasLeft cursor (Some behind)
+  pub whole : es ≡ one_simple s ∷ behind
+
+pub next_simple : (es : List Event) (simple : read.Simple) (cursor : Events) → IsFirst (Some es) (event.Simple simple) cursor
+    → NextSimple es simple cursor
+next_simple es simple cursor (one_simple s, None, is, has, e) = cc
+next_simple es simple cursor (one_simple s, Some behind, is, has, e) = record { s = s; behind = behind; is = is; has = has; whole = cc }
+next_simple es simple cursor (next_range, left, is, has, e) = absurd is

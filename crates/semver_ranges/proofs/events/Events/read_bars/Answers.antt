@@ -1,0 +1,25 @@
+use Rattle.std.proofs.Common.{◌≤◌, Some, length, arith}
+use Rattle.semver_ranges.specs.RangeTree.{is_blank}
+use Rattle.semver_texts.specs.Texts.{Text}
+use Rattle.semver_ranges.specs.RangeEvents.{next_range, events}
+use Rattle.semver_ranges.proofs.ReadingSteps.{back_shorter, shorter_bars}
+use Rattle.semver_ranges.proofs.EventSteps.{begin_left, bars_left}
+use Rattle.semver_ranges.proofs.events.Events.read_bars.Goals as goal
+
+pub returns : goal.returns
+returns c =
+    let t : Text = c.args.self.now.rest.now in
+    let u : Text = c.in_ok-behind_bars.field-0.now in
+    let short : length c.behind_blanks-self.result.now ≤ length u = rw c.behind_blanks-self.ensures (back_shorter is_blank u) in
+    let less = shorter_bars t u c.in_ok-behind_bars.ensures in
+    rw c.requires.alone (
+      (
+        next_range,
+        events u,
+        tt,
+        begin_left u c.behind_blanks-self.result.now c.behind_blanks-self.ensures,
+        bars_left t (Some u) c.requires.some c.requires.ends c.in_ok-behind_bars.ensures,
+      ),
+      omega (arith, short, less),
+      omega (arith, short, less),
+    )

@@ -1,0 +1,52 @@
+use Rattle.std.proofs.Common.{◌++◌, ◌∙◌, List, Some, sym, ap, append_assoc}
+use Rattle.std.specs.Prelude.{map}
+use Rattle.std.specs.List.{list_all, flat_map}
+use Rattle.std.proofs.lemmas.Bool.{and_parts}
+use Rattle.semver_ranges.specs.RewritingTable.{PlainComparator, written_simple}
+use Rattle.semver_ranges.specs.RangeViews.{comparator_of}
+use Rattle.semver_ranges.specs.PartialViews.{written}
+use Rattle.semver_ranges.specs.RangeEvents.{Event, simple_fits, event_fits, range_simples, range_others}
+use Rattle.semver_ranges.specs.CursorViews.{HasLeft}
+use Rattle.semver_ranges.proofs.FoundEvents.{NextSimple, next_simple}
+use Rattle.semver_ranges.proofs.range_set.build_range.Goals as goal
+use Rattle.semver_ranges.proofs.range_set.build_range.Goals.{In-Some-Ok-Simple}
+
+-- the simple that comes first, and what is left behind it
+taken : (c : In-Some-Ok-Simple) (left : List Event) → HasLeft c.loop-simple.events (Some left)
+    → NextSimple left c.in-Some-Ok-Simple.simple c.next.new.self
+taken c left has =
+    let found = c.in-Some-Ok-Simple in
+    next_simple left found.simple c.next.new.self (rw (found.field-0-is, found.field-0-0-is) at (found.ensures.steps.0 (Some left) has))
+
+pub push-requires-clause-buildable : goal.push-requires-clause-buildable
+push-requires-clause-buildable c =
+    let so_far = c.loop-simple.invariant c.requires.0 c.requires.1 c.requires.2 in
+    let first = taken (goal.at.push-requires-clause-buildable c).In-Some-Ok-Simple so_far.0 so_far.1 in
+    (c.rewritten.ensures first.s first.is).0
+
+pub push-requires-clause-fits : goal.push-requires-clause-fits
+push-requires-clause-fits c =
+    let so_far = c.loop-simple.invariant c.requires.0 c.requires.1 c.requires.2 in
+    let first = taken (goal.at.push-requires-clause-fits c).In-Some-Ok-Simple so_far.0 so_far.1 in
+    (c.rewritten.ensures first.s first.is).1
+    ∙ (and_parts (simple_fits c.args.compat first.s) _ (sym (ap (list_all (event_fits c.args.compat)) first.whole) ∙ so_far.2)).0
+
+pub loop-simple-preserved : goal.loop-simple-preserved
+loop-simple-preserved c = λ es has fits.
+    let so_far = c.loop-simple.invariant es has fits in
+    let first = taken (goal.at.loop-simple-preserved c).In-Some-Ok-Simple so_far.0 so_far.1 in
+    let row = c.rewritten.ensures first.s first.is in
+    let fit = and_parts (simple_fits c.args.compat first.s) _ (sym (ap (list_all (event_fits c.args.compat)) first.whole) ∙ so_far.2) in
+    let before : List PlainComparator = map comparator_of c.loop-simple.comparator_set.items in
+    let here : List PlainComparator = written_simple (written c.args.raised) c.args.compat first.s in
+    let behind : List PlainComparator = flat_map (written_simple (written c.args.raised) c.args.compat) (range_simples first.behind) in (
+      first.behind,
+      first.has,
+      fit.1,
+      sym (ap range_others first.whole) ∙ so_far.3,
+      ap (λ (l : List PlainComparator). l ++ behind) (c.in_ok-push.ensures
+          ∙ ap (λ (l : List PlainComparator). before ++ l) (row.2 (row.1 ∙ fit.0) c.args.raised))
+          ∙ append_assoc before here behind
+          ∙ sym (ap (λ (l : List Event). before ++ flat_map (written_simple (written c.args.raised) c.args.compat) (range_simples l))
+          first.whole) ∙ so_far.4,
+    )

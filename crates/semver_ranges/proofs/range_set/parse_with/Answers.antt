@@ -1,0 +1,23 @@
+use Rattle.std.proofs.Common.{◌∷◌, [], sym, ap, ◌∙◌}
+use Rattle.semver_ranges.specs.RangeTree.{simples}
+use Rattle.semver_ranges.specs.Reading.{read}
+use Rattle.semver_ranges.specs.PartialViews.{written}
+use Rattle.semver_ranges.specs.BoundsViews.{comparators_of}
+use Rattle.semver_ranges.proofs.OnlySimples.{one_fits, one_made}
+use Rattle.semver_ranges.proofs.range_set.parse_with.Goals as goal
+
+pub returns-in-Ok : goal.returns-in-Ok
+returns-in-Ok c =
+    let found = c.in-Some.ensures in (
+      simples found.0 [] ∷ [],
+      ap read (sym c.as_bytes-text.ensures.value) ∙ found.1,
+      one_fits c.args.compat found.0 found.3,
+      c.in-Ok.ensures
+          ∙ one_made (written c.args.raised) c.args.compat found.0 (comparators_of c.args.raised c.in-Some.bounds c.in-Some.partial)
+          (found.2.2 (found.2.1 ∙ found.3) c.args.raised),
+    )
+
+pub returns-in-Err : goal.returns-in-Err
+returns-in-Err c =
+    let found = c.in-Some.ensures in
+    (simples found.0 [] ∷ [], ap read (sym c.as_bytes-text.ensures.value) ∙ found.1, one_fits c.args.compat found.0 found.3)

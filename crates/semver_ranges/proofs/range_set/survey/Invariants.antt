@@ -1,0 +1,11 @@
+use Rattle.std.proofs.Common.{◌≡◌, ◌+◌, ◌≤◌, true, List, Option, length}
+use Rattle.semver_ranges.specs.RangeEvents.{Event, events}
+use Rattle.semver_ranges.specs.CursorViews.{HasLeft}
+use Rattle.semver_ranges.proofs.EventSums.{summed}
+use Rattle.semver_ranges.proofs.range_set.survey.Given as goal
+
+abbrev pub invariant-loop-event : goal.invariant-loop-event
+invariant-loop-event l =
+    (left : Option (List Event)) × HasLeft l.event-iterator left
+    × (summed l.compat true 0 (events l.text) ≡ summed l.compat l.fit l.ended left)
+    × (l.ended + length l.event-iterator.rest.now ≤ length l.text)

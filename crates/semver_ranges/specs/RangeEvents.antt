@@ -1,0 +1,104 @@
+-- A means of proof, which no public clause cites: the events of a range text, from the left to the
+-- right.
+use Rattle.std.specs.Prelude.{ℕ, ◌+◌, Bool, true, false, if◌then◌else◌, Option, Some, None, List}
+use Rattle.std.specs.Prelude.{[], ◌∷◌, codes}
+use Rattle.semver_ranges.specs.declared.range.Compat.{Compat}
+use Rattle.semver_ranges.specs.RangeTree.{bare, one, Simple, RangeTree, empty, hyphen, simples}
+use Rattle.semver_ranges.specs.RangeTree.{SetTree}
+use Rattle.semver_texts.specs.Texts.{Text}
+use Rattle.semver_ranges.specs.Partials.{states_nothing}
+use Rattle.semver_ranges.specs.Terms.{of_simple, left_side, right_side}
+use Rattle.semver_ranges.specs.RewritingTable.{term_fits}
+use Rattle.semver_ranges.specs.Reading.{all_simples, range_here, behind_range, behind_bars, read}
+
+-- an event: a simple of the range, or two bars
+pub data Event : Type 0 where
+  one_simple : Simple → Event
+  next_range : Event
+
+-- a bare wildcard
+abbrev pub wildcard : Simple
+wildcard = record { form = bare; partial = one (codes "*") }
+
+-- the simples that a range is yielded as: a wildcard where it is empty; of a hyphen range the
+-- sides, of which one that states nothing is left out, but for the left where neither states a
+-- number
+abbrev pub yielded : RangeTree → List Simple
+yielded empty = wildcard ∷ []
+yielded (hyphen left right) =
+    if states_nothing right then left_side left ∷ []
+    else (if states_nothing left then right_side right ∷ []
+    else left_side left ∷ right_side right ∷ [])
+yielded (simples first others) = first ∷ others
+
+-- simples in front of events
+abbrev pub in_front : List Simple → List Event → List Event
+in_front [] es = es
+in_front (s ∷ ss) es = one_simple s ∷ in_front ss es
+
+-- the events of a range set: the simples of its ranges, with two bars between each two ranges
+abbrev pub events_of : SetTree → List Event
+events_of [] = []
+events_of (r ∷ []) = in_front (yielded r) []
+events_of (r ∷ next ∷ others) = in_front (yielded r) (next_range ∷ events_of (next ∷ others))
+
+-- the simples of the range that events are in, and the events behind the next bars
+abbrev pub range_simples : List Event → List Simple
+range_simples [] = []
+range_simples (one_simple s ∷ es) = s ∷ range_simples es
+range_simples (next_range ∷ es) = []
+
+abbrev pub range_others : List Event → List Event
+range_others [] = []
+range_others (one_simple s ∷ es) = range_others es
+range_others (next_range ∷ es) = es
+
+-- how many times two bars are among events
+abbrev pub bars : List Event → ℕ
+bars [] = 0
+bars (one_simple s ∷ es) = bars es
+bars (next_range ∷ es) = bars es + 1
+
+-- whether a simple, and an event, fits
+abbrev pub simple_fits : Compat → Simple → Bool
+simple_fits mode s = term_fits mode (of_simple s)
+
+abbrev pub event_fits : Compat → Event → Bool
+event_fits mode (one_simple s) = simple_fits mode s
+event_fits mode next_range = true
+
+-- an event, and simples, in front of the events that are left
+abbrev pub put : Event → Option (List Event) → Option (List Event)
+put e None = None
+put e (Some es) = Some (e ∷ es)
+
+abbrev pub put_simples : List Simple → Option (List Event) → Option (List Event)
+put_simples [] o = o
+put_simples (s ∷ ss) o = put (one_simple s) (put_simples ss o)
+
+-- the events of a text: those of its set; none where it isn't in the grammar
+abbrev pub set_events : Option SetTree → Option (List Event)
+set_events None = None
+set_events (Some tree) = Some (events_of tree)
+
+abbrev pub events : Text → Option (List Event)
+events t = set_events (read t)
+
+-- what is left behind a range, from its end on
+abbrev pub at_bars : Option Text → Option (List Event)
+at_bars None = None
+at_bars (Some t) = put next_range (events t)
+
+abbrev pub others_left : Text → Option (List Event)
+others_left [] = Some []
+others_left (b ∷ t) = at_bars (behind_bars (b ∷ t))
+
+-- what is left behind simples
+abbrev pub simples_left : Option (List Simple × Text) → Option (List Event)
+simples_left None = None
+simples_left (Some (ss, end)) = put_simples ss (others_left end)
+
+-- what is left at the begin of a range, behind its blanks, and in a range
+abbrev pub events_left : Bool → Text → Option (List Event)
+events_left true t = set_events (behind_range read (range_here t))
+events_left false t = simples_left (all_simples t)

@@ -1,0 +1,180 @@
+//! The events of a range text, from the left to the right.
+//!
+//! Nothing here takes memory, and a call looks at each byte a fixed number of times.
+
+ghost use Rattle.std.specs.Prelude.{◌≡◌, ◌<◌, ◌≤◌, ◌++◌, Some, None, true, false, length, codes};
+ghost use Rattle.semver_ranges.specs.RangeTree.{Simple as SimpleTree, PartialTree, hyphen};
+ghost use Rattle.semver_ranges.specs.Reading.{ends_range, right_side, with_right};
+ghost use Rattle.semver_ranges.specs.PartialViews.{IsPartialOf};
+ghost use Rattle.semver_ranges.specs.RangeEvents.{yielded, events};
+ghost use Rattle.semver_ranges.specs.CursorViews.{AreSides, FindsSides, TakesEvent, HasLeft};
+ghost use Rattle.semver_ranges.specs.CursorViews.{IsSimpleOf};
+
+use crate::grammar::{
+    Form, Simple, after_byte, behind_bars, behind_blanks, ends_range, read_right_side, read_simple,
+};
+use crate::partial::Partial;
+use crate::range_set::RangeError;
+
+/// What stands next in a range text.
+#[derive(Clone, Copy)]
+pub(crate) enum Event<'input> {
+    /// A simple of the range. An empty range is a bare wildcard, and a hyphen range `>=` of its
+    /// left side and `<=` of its right.
+    Simple(Simple<'input>),
+    /// Two bars: the next range.
+    NextRange,
+}
+
+/// A cursor over a range text that yields its events.
+#[derive(Clone, Copy)]
+pub(crate) struct Events<'input> {
+    rest: &'input [u8],
+    begins_range: bool,
+    upper: Option<Simple<'input>>,
+}
+
+impl<'input> Events<'input> {
+    /// The events of a text.
+    #[inline(always)]
+    pub(crate) fn new(text: &'input [u8]) -> Events<'input>
+        ensures all { HasLeft result (events text.now) }
+        ensures short { length result.rest.now ≤ length text.now }
+    {
+        Events {
+            rest: behind_blanks(text),
+            begins_range: true,
+            upper: None,
+        }
+    }
+
+    /// Goes on behind the event at the front of the text; none where the text isn't in the grammar.
+    #[inline(always)]
+    fn read_event(&mut self) -> Option<Event<'input>>
+        requires alone { self.old.upper ≡ None }
+        requires some { self.old.begins_range ≡ false → 0 < length self.old.rest.now }
+        ensures { TakesEvent self.old.begins_range self.old.rest.now result self.new }
+    {
+        let begins_range = self.begins_range;
+        self.begins_range = false;
+        if !ends_range(self.rest) {
+            return self.read_in_range(begins_range);
+        }
+        if !begins_range {
+            return self.read_bars();
+        }
+        Some(Event::Simple(Simple::wildcard()))
+    }
+
+    /// Goes on behind two bars.
+    #[inline(always)]
+    fn read_bars(&mut self) -> Option<Event<'input>>
+        requires alone { self.old.upper ≡ None }
+        requires begun { self.old.begins_range ≡ false }
+        requires some { 0 < length self.old.rest.now }
+        requires ends { ends_range self.old.rest.now ≡ true }
+        ensures { TakesEvent false self.old.rest.now result self.new }
+    {
+        self.rest = behind_blanks(behind_bars(self.rest)?);
+        self.begins_range = true;
+        Some(Event::NextRange)
+    }
+
+    /// Goes on behind a simple, or behind a hyphen range, which begins its range and is yielded in
+    /// two.
+    #[inline(always)]
+    fn read_in_range(&mut self, begins_range: bool) -> Option<Event<'input>>
+        requires alone { self.old.upper ≡ None }
+        requires begun { self.old.begins_range ≡ false }
+        requires goes_on { ends_range self.old.rest.now ≡ false }
+        ensures { TakesEvent begins_range self.old.rest.now result self.new }
+    {
+        let (simple, rest) = read_simple(self.rest)?;
+        match after_byte(rest, b'-') {
+            Some(behind) if begins_range => {
+                let (lower, upper, rest) = read_hyphen_range(simple, behind)?;
+                self.rest = rest;
+                self.upper = upper;
+                Some(Event::Simple(lower))
+            }
+            _ => {
+                self.rest = rest;
+                Some(Event::Simple(simple))
+            }
+        }
+    }
+}
+
+impl<'input> Iterator for Events<'input> {
+    ghost use Rattle.std.specs.Iterator.{at_most};
+    ghost use Rattle.semver_ranges.specs.CursorViews.{NextGives, size_left};
+
+    type Item = Result<Event<'input>, RangeError>;
+
+    ghost next_gives = { NextGives };
+
+    ghost remaining = { λ e. at_most (size_left e) };
+
+    /// The next event, or that the text isn't in the grammar from there on. None at the end.
+    #[inline(always)]
+    fn next(&mut self) -> Option<Result<Event<'input>, RangeError>> {
+        if let Some(upper) = self.upper {
+            self.upper = None;
+            return Some(Ok(Event::Simple(upper)));
+        }
+        if !self.begins_range && self.rest.is_empty() {
+            return None;
+        }
+        match self.read_event() {
+            Some(event) => Some(Ok(event)),
+            None => {
+                self.rest = &[];
+                Some(Err(RangeError::NotARange))
+            }
+        }
+    }
+}
+
+/// The simples of a hyphen range, of which the left side has to be bare, and what follows it.
+#[inline(never)]
+fn read_hyphen_range<'input>(
+    left: Simple<'input>,
+    behind: &'input [u8],
+) -> Option<(Simple<'input>, Option<Simple<'input>>, &'input [u8])>
+    ensures { (s : SimpleTree) → IsSimpleOf s left.entry
+        → FindsSides (with_right s (right_side (codes "-" ++ behind.now))) result }
+{
+    let Form::Bare = left.form else {
+        return None;
+    };
+    let (right, rest) = read_right_side(behind)?;
+    let (lower, upper) = sides(left.partial, right);
+    Some((lower, upper, rest))
+}
+
+/// The simples of the sides of a hyphen range: one that states nothing is left out, but for the
+/// left where neither states a number.
+#[inline(always)]
+fn sides<'input>(
+    left: Partial<'input>,
+    right: Partial<'input>,
+) -> (Simple<'input>, Option<Simple<'input>>)
+    ensures { (l r : PartialTree) → IsPartialOf l left.entry → IsPartialOf r right.entry
+        → AreSides (yielded (hyphen l r)) result.0 result.1 }
+{
+    let lower = Simple {
+        form: Form::AtLeast,
+        partial: left,
+    };
+    let upper = Simple {
+        form: Form::AtMost,
+        partial: right,
+    };
+    if right.states_nothing() {
+        (lower, None)
+    } else if left.states_nothing() {
+        (upper, None)
+    } else {
+        (lower, Some(upper))
+    }
+}

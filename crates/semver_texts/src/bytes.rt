@@ -1,0 +1,51 @@
+//! Tests of bytes, and how many bytes at the front pass one.
+ghost use Rattle.std.specs.Prelude.{◌≡◌};
+ghost use Rattle.std.specs.List.{prefix_len, count_by};
+ghost use Rattle.std.specs.Char.{is_ascii_alphanumeric};
+ghost use Rattle.semver_texts.specs.Texts.{is_space, is_part_byte, is_dot};
+
+/// Whether the byte is a space, a tab, a line feed or a carriage return.
+#[inline(always)]
+pub fn is_space(byte: u8) -> bool
+    ensures { result ≡ is_space byte }
+{
+    matches!(byte, b' ' | b'\t' | b'\n' | b'\r')
+}
+
+/// How many bytes at the front are white space: 2 of ` \t1`.
+#[inline(always)]
+pub fn space_len(bytes: &[u8]) -> usize
+    ensures { result ≡ prefix_len is_space bytes.now }
+{
+    bytes.iter().take_while(|&&byte| is_space(byte)).count()
+}
+
+/// How many bytes at the front are ASCII letters and digits: 3 of `rc1-2`.
+#[inline(always)]
+pub fn run_len(bytes: &[u8]) -> usize
+    ensures { result ≡ prefix_len is_ascii_alphanumeric bytes.now }
+{
+    bytes
+        .iter()
+        .take_while(|byte| byte.is_ascii_alphanumeric())
+        .count()
+}
+
+/// How many bytes at the front are ASCII letters, digits and hyphens: 5 of `rc1-2.3`.
+#[inline(always)]
+pub fn part_len(bytes: &[u8]) -> usize
+    ensures { result ≡ prefix_len is_part_byte bytes.now }
+{
+    bytes
+        .iter()
+        .take_while(|&&byte| byte.is_ascii_alphanumeric() || byte == b'-')
+        .count()
+}
+
+/// How many of the bytes are dots: 2 of `1.2.3`.
+#[inline(always)]
+pub fn count_dots(bytes: &[u8]) -> usize
+    ensures { result ≡ count_by is_dot bytes.now }
+{
+    bytes.iter().filter(|&&byte| byte == b'.').count()
+}
