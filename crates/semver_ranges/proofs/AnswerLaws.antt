@@ -1,7 +1,8 @@
 -- What an answer by the reader says in the words of trees and texts.
-use Rattle.std.proofs.Common.{◌≡◌, ◌↔◌, ◌⊎◌, true, [], refl, sym, ap, ◌∙◌, subst, inl, inr, IsTrue, Result, Ok, Err, Some, None}
+use Rattle.std.proofs.Common.{List, ◌≡◌, ◌↔◌, ◌⊎◌, true, [], refl, sym, ap, ◌∙◌, subst, inl, inr, IsTrue, Result, Ok, Err, Some, None}
 use Rattle.std.proofs.lemmas.Bool.{both_ways}
 use Rattle.std.specs.Prelude.{IfOk}
+use Rattle.std.specs.List.{list_all}
 use Rattle.std.specs.Result.{IsOkAnd}
 use Rattle.semver_ranges.specs.declared.range.Compat.{Compat}
 use Rattle.semver_ranges.specs.declared.range_set.RangeSet.{RangeSet}
@@ -10,20 +11,20 @@ use Rattle.semver_ranges.specs.declared.range_set.RangeError.TheVariants.{NotARa
 use Rattle.semver_ranges.specs.RangeTree.{SetTree, Spells}
 use Rattle.semver_ranges.specs.RangeTexts.{IsRangeText, HasSet, IsTooLarge}
 use Rattle.semver_texts.specs.Texts.{Text}
-use Rattle.semver_texts.specs.Versions.{PlainVersion}
+use Rattle.semver_texts.specs.Versions.{IdentifierValue, PlainVersion}
 use Rattle.semver_ranges.specs.OwnMeaning.{meets_tree}
 use Rattle.semver_ranges.specs.RewritingTable.{PlainSet, fits, written_set, rewritten}
-use Rattle.semver_ranges.specs.ExactBounds.{exact_bound, rewritten_exactly}
+use Rattle.semver_ranges.specs.ExactBounds.{lowest_pre_release, rewritten_exactly}
 use Rattle.semver_ranges.specs.Meeting.{meets_set, meets_tree_or_bounds}
-use Rattle.semver_ranges.specs.PrintedRanges.{is_printable_version, IsPrintableSet, set_text}
-use Rattle.semver_ranges.specs.Reading.{read}
+use Rattle.semver_ranges.specs.PrintedRanges.{is_kept, IsPrintableSet, set_text}
+use Rattle.semver_ranges.specs.Means.Reading.{read}
 use Rattle.semver_ranges.specs.RangeViews.{set_of}
-use Rattle.semver_ranges.specs.Answers.{IsAnswer}
+use Rattle.semver_ranges.specs.Means.Answers.{IsAnswer}
 use Rattle.semver_ranges.proofs.ReadingComplete.{tree_read}
 use Rattle.semver_ranges.proofs.ReadingSound.{read_sound}
 use Rattle.semver_ranges.proofs.Meanings.{some_agrees, own_meaning_meets, agree_on_releases}
 use Rattle.semver_ranges.proofs.PrintedLaws.{printed_again}
-use Rattle.semver_ranges.proofs.AnsweredLaws.{written_printable, exact_kept}
+use Rattle.semver_ranges.proofs.AnsweredLaws.{written_printable}
 use Rattle.semver_ranges.proofs.ExactLaws.{some_means}
 
 -- what is read is the one tree
@@ -37,67 +38,66 @@ unfit : (t : Text) (mode : Compat) (tree : SetTree) → read t ≡ Some tree →
 unfit t mode tree e f (tree', s, large) = both_ways (fits mode tree') large (sym (ap (fits mode) (read_one t tree tree' e s)) ∙ f)
 
 -- what an answer says, however raised bounds are written
-module _ (write : PlainVersion → PlainVersion) (t : Text) (mode : Compat) where
-  pub accepted : (r : Result RangeSet RangeError) → IsAnswer write t mode r → IfOk r (λ set. HasSet mode t)
+module _ (bound_pre : List IdentifierValue) (t : Text) (mode : Compat) where
+  pub accepted : (r : Result RangeSet RangeError) → IsAnswer bound_pre t mode r → IfOk r (λ set. HasSet mode t)
   accepted (Ok set) h = (h.0, read_sound t h.0 h.1, h.2)
   accepted (Err e) h = tt
 
-  pub as_rewritten : (r : Result RangeSet RangeError) → IsAnswer write t mode r
-      → IfOk r (λ set. (tree : SetTree) → Spells tree t → set_of set ≡ written_set write mode tree)
-  as_rewritten (Ok set) h = λ tree s. h.3 ∙ ap (written_set write mode) (read_one t h.0 tree h.1 s)
+  pub as_rewritten : (r : Result RangeSet RangeError) → IsAnswer bound_pre t mode r
+      → IfOk r (λ set. (tree : SetTree) → Spells tree t → set_of set ≡ written_set bound_pre mode tree)
+  as_rewritten (Ok set) h = λ tree s. h.3 ∙ ap (written_set bound_pre mode) (read_one t h.0 tree h.1 s)
   as_rewritten (Err e) h = tt
 
-  pub not_a_range : (r : Result RangeSet RangeError) → IsAnswer write t mode r
+  pub not_a_range : (r : Result RangeSet RangeError) → IsAnswer bound_pre t mode r
       → (r ≡ Err NotARange) ↔ ¬ (IsRangeText t)
   not_a_range (Ok set) h = (λ e. cc, λ no. absurd (no (h.0, read_sound t h.0 h.1)))
   not_a_range (Err NotARange) h = (λ e (tree, s). none_read t tree h s, λ no. refl)
   not_a_range (Err NumberTooLarge) h = (λ e. cc, λ no. absurd (no (h.0, read_sound t h.0 h.1)))
   not_a_range (Err OutOfMemory) h = (λ e. cc, λ no. absurd (no (h.0, read_sound t h.0 h.1)))
 
-  pub too_large : (r : Result RangeSet RangeError) → IsAnswer write t mode r → (r ≡ Err NumberTooLarge) ↔ IsTooLarge mode t
+  pub too_large : (r : Result RangeSet RangeError) → IsAnswer bound_pre t mode r → (r ≡ Err NumberTooLarge) ↔ IsTooLarge mode t
   too_large (Ok set) h = (λ e. cc, λ s. absurd (unfit t mode h.0 h.1 h.2 s))
   too_large (Err NotARange) h = (λ e. cc, λ (tree, s, large). absurd (none_read t tree h s))
   too_large (Err NumberTooLarge) h = (λ e. (h.0, read_sound t h.0 h.1, h.2), λ s. refl)
   too_large (Err OutOfMemory) h = (λ e. cc, λ s. absurd (unfit t mode h.0 h.1 h.2 s))
 
-  pub out_of_memory : (r : Result RangeSet RangeError) → IsAnswer write t mode r → r ≡ Err OutOfMemory → HasSet mode t
-  out_of_memory r h e = let found = subst (IsAnswer write t mode) e h in (found.0, read_sound t found.0 found.1, found.2)
+  pub out_of_memory : (r : Result RangeSet RangeError) → IsAnswer bound_pre t mode r → r ≡ Err OutOfMemory → HasSet mode t
+  out_of_memory r h e = let found = subst (IsAnswer bound_pre t mode) e h in (found.0, read_sound t found.0 found.1, found.2)
 
-  pub reads_back : (r : Result RangeSet RangeError) → IsAnswer write t mode r
+  pub reads_back : (r : Result RangeSet RangeError) → IsAnswer bound_pre t mode r
       → (s : PlainSet) → IsPrintableSet s → s.compat ≡ mode → t ≡ set_text s → (r ≡ Err OutOfMemory) ⊎ IsOkAnd r (λ set. set_of set ≡ s)
   reads_back r h s p m e =
-      let found = printed_again write s p in
+      let found = printed_again bound_pre s p in
       let spelled : Spells found.0 t = subst (λ x. Spells found.0 x) (sym e) found.1 in
       let fit : fits mode found.0 ≡ true = subst (λ x. fits x found.0 ≡ true) m found.2 in
-      let again : written_set write mode found.0 ≡ s = subst (λ x. written_set write x found.0 ≡ s) m found.3 in
+      let again : written_set bound_pre mode found.0 ≡ s = subst (λ x. written_set bound_pre x found.0 ≡ s) m found.3 in
       go r h found.0 spelled fit again where
-        go : (r : Result RangeSet RangeError) → IsAnswer write t mode r → (tree : SetTree) → Spells tree t → fits mode tree ≡ true
-            → written_set write mode tree ≡ s → (r ≡ Err OutOfMemory) ⊎ IsOkAnd r (λ set. set_of set ≡ s)
-        go (Ok set) h tree spelled fit again = inr (h.3 ∙ ap (written_set write mode) (read_one t h.0 tree h.1 spelled) ∙ again)
+        go : (r : Result RangeSet RangeError) → IsAnswer bound_pre t mode r → (tree : SetTree) → Spells tree t → fits mode tree ≡ true
+            → written_set bound_pre mode tree ≡ s → (r ≡ Err OutOfMemory) ⊎ IsOkAnd r (λ set. set_of set ≡ s)
+        go (Ok set) h tree spelled fit again = inr (h.3 ∙ ap (written_set bound_pre mode) (read_one t h.0 tree h.1 spelled) ∙ again)
         go (Err NotARange) h tree spelled fit again = absurd (none_read t tree h spelled)
         go (Err NumberTooLarge) h tree spelled fit again =
             absurd (both_ways (fits mode tree) (sym (ap (fits mode) (read_one t h.0 tree h.1 spelled)) ∙ h.2) fit)
         go (Err OutOfMemory) h tree spelled fit again = inl refl
 
-pub printable : (write : PlainVersion → PlainVersion)
-    → ((v : PlainVersion) → is_printable_version v ≡ true → is_printable_version (write v) ≡ true)
-    → (t : Text) (mode : Compat) (r : Result RangeSet RangeError) → IsAnswer write t mode r → IfOk r (λ set. IsPrintableSet (set_of set))
-printable write kept t mode (Ok set) h = subst IsPrintableSet (sym h.3) (written_printable write kept mode h.0 t (read_sound t h.0 h.1) h.2)
-printable write kept t mode (Err e) h = tt
+  pub printable : list_all is_kept bound_pre ≡ true → (r : Result RangeSet RangeError) → IsAnswer bound_pre t mode r
+      → IfOk r (λ set. IsPrintableSet (set_of set))
+  printable keeps (Ok set) h = subst IsPrintableSet (sym h.3) (written_printable bound_pre keeps mode h.0 t (read_sound t h.0 h.1) h.2)
+  printable keeps (Err e) h = tt
 
 module _ (t : Text) (mode : Compat) where
-  pub meaning : (r : Result RangeSet RangeError) → IsAnswer (λ bound. bound) t mode r
+  pub meaning : (r : Result RangeSet RangeError) → IsAnswer [] t mode r
       → IfOk r (λ set. (tree : SetTree) (v : PlainVersion) → Spells tree t → meets_set v (set_of set) ≡ meets_tree_or_bounds mode tree v)
   meaning (Ok set) h = λ tree v s. ap (meets_set v) (h.3 ∙ ap (rewritten mode) (read_one t h.0 tree h.1 s)) ∙ some_agrees mode tree v
   meaning (Err e) h = tt
 
-  pub releases : (r : Result RangeSet RangeError) → IsAnswer (λ bound. bound) t mode r
+  pub releases : (r : Result RangeSet RangeError) → IsAnswer [] t mode r
       → IfOk r (λ set. (tree : SetTree) (v : PlainVersion) → Spells tree t → v.pre ≡ [] → meets_set v (set_of set) ≡ meets_tree mode tree v)
   releases (Ok set) h = λ tree v s e. ap (meets_set v) (h.3 ∙ ap (rewritten mode) (read_one t h.0 tree h.1 s))
       ∙ agree_on_releases mode tree v e
   releases (Err e) h = tt
 
-  pub implied : (r : Result RangeSet RangeError) → IsAnswer (λ bound. bound) t mode r
+  pub implied : (r : Result RangeSet RangeError) → IsAnswer [] t mode r
       → IfOk r (λ set. (tree : SetTree) (v : PlainVersion) → Spells tree t → IsTrue (meets_tree mode tree v)
       → IsTrue (meets_set v (set_of set)))
   implied (Ok set) h = λ tree v s own. ap (meets_set v) (h.3 ∙ ap (rewritten mode) (read_one t h.0 tree h.1 s))
@@ -105,20 +105,20 @@ module _ (t : Text) (mode : Compat) where
   implied (Err e) h = tt
 
   -- with exact bounds
-  pub exact_meaning : (r : Result RangeSet RangeError) → IsAnswer exact_bound t mode r
+  pub exact_meaning : (r : Result RangeSet RangeError) → IsAnswer lowest_pre_release t mode r
       → IfOk r (λ set. (tree : SetTree) (v : PlainVersion) → Spells tree t → meets_set v (set_of set) ≡ meets_tree mode tree v)
   exact_meaning (Ok set) h = λ tree v s. ap (meets_set v) (h.3 ∙ ap (rewritten_exactly mode) (read_one t h.0 tree h.1 s))
       ∙ some_means mode tree v
   exact_meaning (Err e) h = tt
 
-  pub exact_printable : (r : Result RangeSet RangeError) → IsAnswer exact_bound t mode r → IfOk r (λ set. IsPrintableSet (set_of set))
-  exact_printable r h = printable exact_bound exact_kept t mode r h
+  pub exact_printable : (r : Result RangeSet RangeError) → IsAnswer lowest_pre_release t mode r → IfOk r (λ set. IsPrintableSet (set_of set))
+  exact_printable r h = printable lowest_pre_release t mode refl r h
 
-  pub printed_back : (r : Result RangeSet RangeError) → IsAnswer exact_bound t mode r
+  pub printed_back : (r : Result RangeSet RangeError) → IsAnswer lowest_pre_release t mode r
       → IfOk r (λ set. (tree : SetTree) × Spells tree (set_text (set_of set)) × IsTrue (fits mode tree)
       × (rewritten mode tree ≡ set_of set))
   printed_back (Ok set) h =
-      let found = printed_again (λ bound. bound) (set_of set) (exact_printable (Ok set) h) in
+      let found = printed_again [] (set_of set) (exact_printable (Ok set) h) in
       let same : (set_of set).compat ≡ mode = ap (λ (s : PlainSet). s.compat) h.3 in
       (found.0, found.1, subst (λ x. fits x found.0 ≡ true) same found.2, subst (λ x. rewritten x found.0 ≡ set_of set) same found.3)
   printed_back (Err e) h = tt

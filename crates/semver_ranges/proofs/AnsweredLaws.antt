@@ -15,9 +15,8 @@ use Rattle.semver_texts.specs.Versions.{numbers, IdentifierValue, PlainVersion}
 use Rattle.semver_ranges.specs.Partials.{fits_u64, kept, stated, states_nothing, pre_parts, pre_release, filled, zero_filled}
 use Rattle.semver_ranges.specs.Terms.{of_simple, left_side, right_side, terms}
 use Rattle.semver_ranges.specs.RewritingTable.{PlainComparator, Cell, from_zero, below_zero, against, below, between, cell, written_cell}
-use Rattle.semver_ranges.specs.RewritingTable.{cell_raised, up, bound_fits, written_simple, written_range, written_set, rewritten, fits}
+use Rattle.semver_ranges.specs.RewritingTable.{cell_raised, bound_fits, written_simple, written_range, written_set, rewritten, fits}
 use Rattle.semver_ranges.specs.RewritingTable.{term_fits}
-use Rattle.semver_ranges.specs.ExactBounds.{exact_bound}
 use Rattle.semver_ranges.specs.PrintedRanges.{is_kept, is_printable_version, IsPrintableRange, IsPrintableSet}
 use Rattle.semver_ranges.proofs.Rows.{Shape}
 use Rattle.semver_ranges.proofs.SetMeanings.{stated_shape}
@@ -57,26 +56,22 @@ filled_fits (Shape.two x y) pre e =
     let h = and_parts (fits_u64 x) (fits_u64 y && true) e in and_from _ _ h.0 (and_from _ _ (and_parts (fits_u64 y) true h.1).0 refl)
 filled_fits (Shape.three x y w) pre e = e
 
--- a raised bound that is printable stays so where it is written
-abbrev Keeps : (PlainVersion → PlainVersion) → Type 0
-Keeps write = (v : PlainVersion) → is_printable_version v ≡ true → is_printable_version (write v) ≡ true
-
-module _ (write : PlainVersion → PlainVersion) (keeps : Keeps write) (mode : Compat) where
+module _ (bound_pre : List IdentifierValue) (keeps : list_all is_kept bound_pre ≡ true) (mode : Compat) where
   -- the comparators of a cell
   cell_printable : (c : Cell) (s : List ℕ) (z : PlainVersion) → is_printable_version z ≡ true → bound_fits (cell_raised c s) ≡ true
-      → are_printable (written_cell write c s z) ≡ true
+      → are_printable (written_cell bound_pre c s z) ≡ true
   cell_printable from_zero s z e h = refl
   cell_printable below_zero s z e h = refl
   cell_printable (against op) s z e h = and_from _ _ e refl
-  cell_printable (below k) s z e h = and_from _ _ (keeps (up k s) (and_from _ _ h refl)) refl
-  cell_printable (between k) s z e h = and_from _ _ e (and_from _ _ (keeps (up k s) (and_from _ _ h refl)) refl)
+  cell_printable (below k) s z e h = and_from _ _ (and_from _ _ h keeps) refl
+  cell_printable (between k) s z e h = and_from _ _ e (and_from _ _ (and_from _ _ h keeps) refl)
 
-  cell_some : (c : Cell) (s : List ℕ) (z : PlainVersion) → is_empty (written_cell write c s z) ≡ false
+  cell_some : (c : Cell) (s : List ℕ) (z : PlainVersion) → is_empty (written_cell bound_pre c s z) ≡ false
   cell_some from_zero s z = refl
   cell_some _ s z = refl
 
   simple_printable : (s : Simple) → HasParts s.partial → term_fits mode (of_simple s) ≡ true
-      → are_printable (written_simple write mode s) ≡ true
+      → are_printable (written_simple bound_pre mode s) ≡ true
   simple_printable s h e =
       let c = cell mode s.form (stated s.partial) in
       let fit = and_parts (list_all fits_u64 (stated s.partial)) (bound_fits (cell_raised c (stated s.partial))) e in
@@ -89,18 +84,18 @@ module _ (write : PlainVersion → PlainVersion) (keeps : Keeps write) (mode : C
   HaveParts (s ∷ ss) = HasParts s.partial × HaveParts ss
 
   simples_printable : (ss : List Simple) → HaveParts ss → list_all (term_fits mode) (map of_simple ss) ≡ true
-      → are_printable (flat_map (written_simple write mode) ss) ≡ true
+      → are_printable (flat_map (written_simple bound_pre mode) ss) ≡ true
   unfolding HaveParts
   simples_printable [] h e = refl
   simples_printable (s ∷ ss) h e =
       let fit = and_parts (term_fits mode (of_simple s)) (list_all (term_fits mode) (map of_simple ss)) e in
-      list_all-append (λ c. is_printable_version c.version) (written_simple write mode s) (flat_map (written_simple write mode) ss)
+      list_all-append (λ c. is_printable_version c.version) (written_simple bound_pre mode s) (flat_map (written_simple bound_pre mode) ss)
       ∙ and_from _ _ (simple_printable s h.0 fit.0) (simples_printable ss h.1 fit.1)
 
-  simples_some : (s : Simple) (ss : List Simple) → is_empty (flat_map (written_simple write mode) (s ∷ ss)) ≡ false
+  simples_some : (s : Simple) (ss : List Simple) → is_empty (flat_map (written_simple bound_pre mode) (s ∷ ss)) ≡ false
   simples_some s ss =
-      go (written_simple write mode s) (cell_some (cell mode s.form (stated s.partial)) (stated s.partial) (zero_filled s.partial)) where
-        go : (cs : List PlainComparator) → is_empty cs ≡ false → is_empty (cs ++ flat_map (written_simple write mode) ss) ≡ false
+      go (written_simple bound_pre mode s) (cell_some (cell mode s.form (stated s.partial)) (stated s.partial) (zero_filled s.partial)) where
+        go : (cs : List PlainComparator) → is_empty cs ≡ false → is_empty (cs ++ flat_map (written_simple bound_pre mode) ss) ≡ false
         go [] e = cc
         go (c ∷ cs) e = refl
 
@@ -115,11 +110,11 @@ module _ (write : PlainVersion → PlainVersion) (keeps : Keeps write) (mode : C
   ArePrintable cs = IsTrue (not (is_empty cs)) × IsTrue (are_printable cs)
 
   range_printable : (r : RangeTree) (t : Text) → SpellsRange r t → list_all (term_fits mode) (terms r) ≡ true
-      → ArePrintable (written_range write mode r)
+      → ArePrintable (written_range bound_pre mode r)
   unfolding HaveParts
   range_printable empty t h e = (refl, refl)
   range_printable (simples first others) t h e = (
-    not_from_false (is_empty (flat_map (written_simple write mode) (first ∷ others))) (simples_some first others),
+    not_from_false (is_empty (flat_map (written_simple bound_pre mode) (first ∷ others))) (simples_some first others),
     simples_printable (first ∷ others) (simples_parts first others t h) e,
   )
   range_printable (hyphen left right) t (l, gap, gap', r, h, g, g', h', eq) e = elim (cases_Bool (states_nothing left)) [
@@ -133,37 +128,33 @@ module _ (write : PlainVersion → PlainVersion) (keeps : Keeps write) (mode : C
     ]
   ] where
     made : (s : Simple) (ss : List Simple) → HaveParts (s ∷ ss) → list_all (term_fits mode) (map of_simple (s ∷ ss)) ≡ true
-        → ArePrintable (flat_map (written_simple write mode) (s ∷ ss))
+        → ArePrintable (flat_map (written_simple bound_pre mode) (s ∷ ss))
     made s ss h e =
-        (not_from_false (is_empty (flat_map (written_simple write mode) (s ∷ ss))) (simples_some s ss), simples_printable (s ∷ ss) h e)
+        (not_from_false (is_empty (flat_map (written_simple bound_pre mode) (s ∷ ss))) (simples_some s ss), simples_printable (s ∷ ss) h e)
 
   padded_printable : (r : RangeTree) (t : Text) → SpellsPadded r t → list_all (term_fits mode) (terms r) ≡ true
-      → IsPrintableRange mode (record { comparators = written_range write mode r; compat = mode })
+      → IsPrintableRange mode (record { comparators = written_range bound_pre mode r; compat = mode })
   padded_printable r t (before, inner, after, b, h, a, eq) e = let p = range_printable r inner h e in (p.0, refl, p.1)
 
   ranges_printable : (tree : SetTree) (t : Text) → Spells tree t → fits mode tree ≡ true
-      → All (IsPrintableRange mode) (written_set write mode tree).ranges
+      → All (IsPrintableRange mode) (written_set bound_pre mode tree).ranges
   ranges_printable [] t h e = absurd h
   ranges_printable (r ∷ []) t h e =
-      All-cons (IsPrintableRange mode) (record { comparators = written_range write mode r; compat = mode }) []
+      All-cons (IsPrintableRange mode) (record { comparators = written_range bound_pre mode r; compat = mode }) []
       (padded_printable r t h (and_parts (list_all (term_fits mode) (terms r)) true e).0) (All-nil (IsPrintableRange mode))
   ranges_printable (r ∷ next ∷ others) t (head, tail, h, more, eq) e =
       let parts = and_parts (list_all (term_fits mode) (terms r)) (fits mode (next ∷ others)) e in
-      All-cons (IsPrintableRange mode) (record { comparators = written_range write mode r; compat = mode })
-      (written_set write mode (next ∷ others)).ranges
+      All-cons (IsPrintableRange mode) (record { comparators = written_range bound_pre mode r; compat = mode })
+      (written_set bound_pre mode (next ∷ others)).ranges
       (padded_printable r head h parts.0) (ranges_printable (next ∷ others) tail more parts.1)
 
   -- what a tree that spells a text and fits is rewritten to is printable
-  pub written_printable : (tree : SetTree) (t : Text) → Spells tree t → fits mode tree ≡ true → IsPrintableSet (written_set write mode tree)
+  pub written_printable : (tree : SetTree) (t : Text) → Spells tree t → fits mode tree ≡ true → IsPrintableSet (written_set bound_pre mode tree)
   written_printable tree t h e = (some tree h, ranges_printable tree t h e) where
-    some : (tree : SetTree) → Spells tree t → not (is_empty (written_set write mode tree).ranges) ≡ true
+    some : (tree : SetTree) → Spells tree t → not (is_empty (written_set bound_pre mode tree).ranges) ≡ true
     some [] h = absurd h
     some (r ∷ rs) h = refl
 
 pub rewritten_printable : (mode : Compat) (tree : SetTree) (t : Text) → Spells tree t → fits mode tree ≡ true
     → IsPrintableSet (rewritten mode tree)
-rewritten_printable mode tree t h e = written_printable (λ bound. bound) (λ v e. e) mode tree t h e
-
--- an exact bound has the numbers of the bound, and one identifier that prints
-pub exact_kept : (v : PlainVersion) → is_printable_version v ≡ true → is_printable_version (exact_bound v) ≡ true
-exact_kept v e = and_from _ _ (and_parts (list_all fits_u64 (numbers v)) _ e).0 refl
+rewritten_printable mode tree t h e = written_printable [] refl mode tree t h e

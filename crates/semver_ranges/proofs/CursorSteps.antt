@@ -3,9 +3,9 @@ use Rattle.std.proofs.Common.{◌≡◌, false, ◌==◌, ◌||◌, List, [], �
 use Rattle.std.proofs.lemmas.Bool.{cases_Bool, or_parts}
 use Rattle.semver_ranges.specs.RangeTree.{PartialTree, one, two, three, Form}
 use Rattle.semver_texts.specs.Texts.{Text}
-use Rattle.semver_ranges.specs.Reading.{begins_with, behind_blanks, operator, partial, simple, with_form, parts, behind_pre, behind_three}
-use Rattle.semver_ranges.specs.Reading.{behind_two, behind_one}
-use Rattle.semver_ranges.specs.CursorViews.{marked_parts}
+use Rattle.semver_ranges.specs.Means.Reading.{begins_with, behind_blanks, operator, partial, simple, with_form, parts, behind_pre}
+use Rattle.semver_ranges.specs.Means.Reading.{behind_three, behind_two, behind_one}
+use Rattle.semver_ranges.specs.Means.CursorViews.{marked_parts}
 
 -- a pre-release and a build, each where its mark is there
 build_found : (a b c : Text) (pre build : List Text) (u v : Text) → marked_parts 43 u ≡ Some (build, v)
@@ -35,10 +35,6 @@ qualifier_found a b c pre build (m ∷ t) u v e f = elim (cases_Bool (m == 45)) 
       rw n (build_found a b c [] build (m ∷ t) v (ap (marked_parts 43) rest ∙ f)
       ∙ ap (λ (p : List Text). Some (three a b c p build, v)) none)
 ]
-
-pub no_qualifier : (a b c t : Text) → (begins_with 45 t || begins_with 43 t) ≡ false → behind_three a b c t ≡ Some (three a b c [] [], t)
-no_qualifier a b c [] e = refl
-no_qualifier a b c (m ∷ t) e = let p = or_parts (m == 45) (m == 43) e in rw p.0 (rw p.1 refl)
 
 -- what follows a component that no dot follows
 pub minor_end : (a b t : Text) → begins_with 46 t ≡ false → behind_two a b t ≡ Some (two a b, t)

@@ -7,26 +7,26 @@ use Rattle.semver_ranges.specs.declared.range.Compat.{Compat}
 use Rattle.semver_ranges.specs.declared.range.Op.TheVariants.{Gte}
 use Rattle.semver_ranges.specs.RangeTree.{PartialTree, Simple, RangeTree, empty, hyphen, simples, SetTree}
 use Rattle.semver_texts.specs.Texts.{is_empty}
-use Rattle.semver_texts.specs.Versions.{PlainVersion}
+use Rattle.semver_texts.specs.Versions.{IdentifierValue, PlainVersion}
 use Rattle.semver_ranges.specs.Partials.{stated, states_nothing, zero_version}
 use Rattle.semver_ranges.specs.Terms.{of_simple, left_side, right_side, terms}
 use Rattle.semver_ranges.specs.RewritingTable.{PlainComparator, comparator, term_fits, written_simple, written_range, fits}
-use Rattle.semver_ranges.specs.RangeEvents.{Event, next_range, yielded, in_front, events_of, range_simples, range_others, bars, simple_fits}
-use Rattle.semver_ranges.specs.RangeEvents.{event_fits}
-use Rattle.semver_ranges.specs.BoundsViews.{range_of_simples, range_for}
+use Rattle.semver_ranges.specs.Means.RangeEvents.{Event, next_range, yielded, in_front, events_of, range_simples, range_others, bars}
+use Rattle.semver_ranges.specs.Means.RangeEvents.{simple_fits, event_fits}
+use Rattle.semver_ranges.specs.Means.BoundsViews.{range_of_simples, range_for}
 
 -- a range fits as the simples that it is yielded as, and has their comparators, however a raised bound is written
 abbrev IsMadeOf : RangeTree → List Simple → Type 0
 IsMadeOf r ss = (mode : Compat) → (list_all (simple_fits mode) ss ≡ list_all (term_fits mode) (terms r))
-    × ((write : PlainVersion → PlainVersion) → flat_map (written_simple write mode) ss ≡ written_range write mode r)
+    × ((bound_pre : List IdentifierValue) → flat_map (written_simple bound_pre mode) ss ≡ written_range bound_pre mode r)
 
 nothing_is : (s : List ℕ) → is_empty s ≡ true → s ≡ []
 nothing_is [] e = refl
 nothing_is (n ∷ s) e = cc
 
-from_zero : (write : PlainVersion → PlainVersion) (mode : Compat) (p : PartialTree) → stated p ≡ []
-    → flat_map (written_simple write mode) (left_side p ∷ []) ≡ comparator Gte zero_version ∷ []
-from_zero write mode p e = rw e refl
+from_zero : (bound_pre : List IdentifierValue) (mode : Compat) (p : PartialTree) → stated p ≡ []
+    → flat_map (written_simple bound_pre mode) (left_side p ∷ []) ≡ comparator Gte zero_version ∷ []
+from_zero bound_pre mode p e = rw e refl
 
 fits_nothing : (mode : Compat) (p : PartialTree) → stated p ≡ [] → true ≡ term_fits mode (of_simple (right_side p))
 fits_nothing mode p e = rw e refl
@@ -36,24 +36,24 @@ made_of_sides l r = λ mode. elim (cases_Bool (states_nothing r)) [
   | inl y ↦ elim (cases_Bool (states_nothing l)) [
     | inl x ↦ rw (y, x) (
       ap (λ (b : Bool). term_fits mode (of_simple (left_side l)) && (b && true)) (fits_nothing mode r (nothing_is (stated r) y)),
-      λ write. from_zero write mode l (nothing_is (stated l) x),
+      λ bound_pre. from_zero bound_pre mode l (nothing_is (stated l) x),
     )
-    | inr n ↦ rw (y, n) (refl, λ write. refl)
+    | inr n ↦ rw (y, n) (refl, λ bound_pre. refl)
   ]
   | inr n ↦ elim (cases_Bool (states_nothing l)) [
-    | inl y ↦ rw (n, y) (refl, λ write. refl)
-    | inr m ↦ rw (n, m) (refl, λ write. refl)
+    | inl y ↦ rw (n, y) (refl, λ bound_pre. refl)
+    | inr m ↦ rw (n, m) (refl, λ bound_pre. refl)
   ]
 ]
 
 made_of : (r : RangeTree) → IsMadeOf r (yielded r)
-made_of empty = λ mode. (refl, λ write. refl)
+made_of empty = λ mode. (refl, λ bound_pre. refl)
 made_of (hyphen l r) = made_of_sides l r
-made_of (simples first others) = λ mode. (sym (list_all-map (term_fits mode) of_simple (first ∷ others)), λ write. refl)
+made_of (simples first others) = λ mode. (sym (list_all-map (term_fits mode) of_simple (first ∷ others)), λ bound_pre. refl)
 
-pub range_made : (write : PlainVersion → PlainVersion) (mode : Compat) (r : RangeTree)
-    → range_of_simples write mode (yielded r) ≡ range_for write mode r
-range_made write mode r = ap (λ (l : List PlainComparator). record { comparators = l; compat = mode }) ((made_of r mode).1 write)
+pub range_made : (bound_pre : List IdentifierValue) (mode : Compat) (r : RangeTree)
+    → range_of_simples bound_pre mode (yielded r) ≡ range_for bound_pre mode r
+range_made bound_pre mode r = ap (λ (l : List PlainComparator). record { comparators = l; compat = mode }) ((made_of r mode).1 bound_pre)
 
 -- simples in front of events
 front_fits : (mode : Compat) (ss : List Simple) (es : List Event)

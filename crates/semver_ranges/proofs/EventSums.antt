@@ -8,13 +8,13 @@ use Rattle.semver_ranges.specs.declared.range.Compat.{Compat}
 use Rattle.semver_ranges.specs.declared.events.Events.{Events}
 use Rattle.semver_ranges.specs.RangeTree.{Simple, SetTree}
 use Rattle.semver_texts.specs.Texts.{Text}
-use Rattle.semver_texts.specs.Versions.{PlainVersion}
+use Rattle.semver_texts.specs.Versions.{IdentifierValue, PlainVersion}
 use Rattle.semver_ranges.specs.RewritingTable.{PlainRange, fits}
-use Rattle.semver_ranges.specs.BoundsViews.{range_of_simples, range_for}
-use Rattle.semver_ranges.specs.Reading.{read}
-use Rattle.semver_ranges.specs.RangeEvents.{Event, one_simple, put, simple_fits, events_of, range_simples, range_others, bars, event_fits}
-use Rattle.semver_ranges.specs.RangeEvents.{set_events, events}
-use Rattle.semver_ranges.specs.CursorViews.{HasLeft}
+use Rattle.semver_ranges.specs.Means.BoundsViews.{range_of_simples, range_for}
+use Rattle.semver_ranges.specs.Means.Reading.{read}
+use Rattle.semver_ranges.specs.Means.RangeEvents.{Event, one_simple, put, simple_fits, events_of, range_simples, range_others, bars}
+use Rattle.semver_ranges.specs.Means.RangeEvents.{event_fits, set_events, events}
+use Rattle.semver_ranges.specs.Means.CursorViews.{HasLeft}
 use Rattle.semver_ranges.proofs.ReadingSound.{read_sound}
 use Rattle.semver_ranges.proofs.EventLists.{range_made, first_simples, first_others, set_fits, set_bars}
 
@@ -56,20 +56,19 @@ sum_end mode t fit ended e = at (read t) refl e where
       (r ∷ others, is, sym (set_fits mode (r ∷ others)) ∙ fit_is ∙ fit_end fit, omega (arith, ended_is, set_bars r others))
 
 -- one range more of a set, and what is left behind it
-pub one_range_more : (write : PlainVersion
-    → PlainVersion) (mode : Compat) (tree left : SetTree) (before : List PlainRange) (r : PlainRange) (cursor : Events) (at : ℕ)
+pub one_range_more : (bound_pre : List IdentifierValue) (mode : Compat) (tree left : SetTree) (before : List PlainRange) (r : PlainRange) (cursor : Events) (at : ℕ)
     → fits mode left ≡ true → at + length left ≡ length tree → at < length tree
-    → before ++ map (range_for write mode) left ≡ map (range_for write mode) tree
-    → r ≡ range_of_simples write mode (range_simples (events_of left)) → HasLeft cursor (Some (range_others (events_of left)))
+    → before ++ map (range_for bound_pre mode) left ≡ map (range_for bound_pre mode) tree
+    → r ≡ range_of_simples bound_pre mode (range_simples (events_of left)) → HasLeft cursor (Some (range_others (events_of left)))
     → (others : SetTree) × (fits mode others ≡ true) × (at + 1 + length others ≡ length tree) × HasLeft cursor (Some (events_of others))
-    × ((before ++ r ∷ []) ++ map (range_for write mode) others ≡ map (range_for write mode) tree)
-one_range_more write mode tree [] before r cursor at fit count within whole is has = absurd (omega (arith, count, within))
-one_range_more write mode tree (x ∷ others) before r cursor at fit count within whole is has =
-    let range : r ≡ range_for write mode x = is ∙ ap (range_of_simples write mode) (first_simples x others) ∙ range_made write mode x in (
+    × ((before ++ r ∷ []) ++ map (range_for bound_pre mode) others ≡ map (range_for bound_pre mode) tree)
+one_range_more bound_pre mode tree [] before r cursor at fit count within whole is has = absurd (omega (arith, count, within))
+one_range_more bound_pre mode tree (x ∷ others) before r cursor at fit count within whole is has =
+    let range : r ≡ range_for bound_pre mode x = is ∙ ap (range_of_simples bound_pre mode) (first_simples x others) ∙ range_made bound_pre mode x in (
       others,
       (and_parts _ _ fit).1,
       omega (arith, count),
       subst (λ (es : List Event). HasLeft cursor (Some es)) (first_others x others) has,
-      append_assoc before (r ∷ []) (map (range_for write mode) others)
-          ∙ ap (λ (y : PlainRange). before ++ y ∷ map (range_for write mode) others) range ∙ whole,
+      append_assoc before (r ∷ []) (map (range_for bound_pre mode) others)
+          ∙ ap (λ (y : PlainRange). before ++ y ∷ map (range_for bound_pre mode) others) range ∙ whole,
     )

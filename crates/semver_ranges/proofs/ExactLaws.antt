@@ -17,7 +17,7 @@ use Rattle.semver_ranges.proofs.SetMeanings.{stated_shape, set_meets}
 
 -- a version meets the comparators of a set with exact bounds exactly if it meets what its tree means
 pub some_means : (mode : Compat) (tree : SetTree) (v : PlainVersion) → meets_set v (rewritten_exactly mode tree) ≡ meets_tree mode tree v
-some_means mode tree v = set_meets exact_bound mode v (λ term. meets_term mode term v)
+some_means mode tree v = set_meets lowest_pre_release mode v (λ term. meets_term mode term v)
     (λ s. exact_row v mode s.form (stated_shape s.partial) (pre_release s.partial)) refl tree
 
 -- a pre-release against none and against the lowest one

@@ -4,8 +4,8 @@ use Rattle.semver_ranges.specs.declared.events.Events.{Events}
 use Rattle.semver_ranges.specs.declared.grammar.Simple as read
 use Rattle.semver_ranges.specs.declared.events.Event.TheVariants as event
 use Rattle.semver_ranges.specs.RangeTree.{Simple}
-use Rattle.semver_ranges.specs.RangeEvents.{Event, one_simple, next_range, put, put_simples}
-use Rattle.semver_ranges.specs.CursorViews.{IsSimpleOf, AreSides, IsEventOf, HasBehind, HasLeft, IsFirst, flag}
+use Rattle.semver_ranges.specs.Means.RangeEvents.{Event, one_simple, next_range, put, put_simples}
+use Rattle.semver_ranges.specs.Means.CursorViews.{IsSimpleOf, AreSides, IsEventOf, HasBehind, HasLeft, IsFirst, flag}
 
 -- the sides of a hyphen range
 pub sides_first : (xs : List Simple) (lower : read.Simple) (upper : Option read.Simple) (o : Option (List Event)) → AreSides xs lower upper

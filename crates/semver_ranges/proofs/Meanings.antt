@@ -19,7 +19,7 @@ use Rattle.semver_ranges.proofs.Tests.{list_all-weaker, list_any-weaker, list_al
 
 -- a version meets the comparators of a set exactly if some range has each term met, or is a pre-release of its bound
 pub some_agrees : (mode : Compat) (tree : SetTree) (v : PlainVersion) → meets_set v (rewritten mode tree) ≡ meets_tree_or_bounds mode tree v
-some_agrees mode tree v = set_meets (λ bound. bound) mode v (λ term. meets_term_or_bound mode term v)
+some_agrees mode tree v = set_meets [] mode v (λ term. meets_term_or_bound mode term v)
     (λ s. row v mode s.form (stated_shape s.partial) (pre_release s.partial)) (sym (or_false (is_ge (precedence v zero_version)))) tree
 
 -- what meets the text's own meaning meets it but for raised bounds

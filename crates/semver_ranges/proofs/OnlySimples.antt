@@ -3,10 +3,10 @@ use Rattle.std.proofs.Common.{◌≡◌, true, ◌&&◌, Bool, List, [], ◌∷�
 use Rattle.semver_ranges.specs.declared.range.Compat.{Compat}
 use Rattle.semver_ranges.specs.RangeTree.{Simple, simples, Spells}
 use Rattle.semver_texts.specs.Texts.{Text}
-use Rattle.semver_texts.specs.Versions.{PlainVersion}
+use Rattle.semver_texts.specs.Versions.{IdentifierValue, PlainVersion}
 use Rattle.semver_ranges.specs.RewritingTable.{PlainComparator, written_simple, written_set, fits}
-use Rattle.semver_ranges.specs.Reading.{simple, read}
-use Rattle.semver_ranges.specs.RangeEvents.{simple_fits}
+use Rattle.semver_ranges.specs.Means.Reading.{simple, read}
+use Rattle.semver_ranges.specs.Means.RangeEvents.{simple_fits}
 use Rattle.semver_ranges.proofs.ReadingComplete.{tree_read}
 use Rattle.semver_ranges.proofs.ReadingPieces.{SimpleAt, simple_sound}
 
@@ -26,10 +26,10 @@ only_simple t u s e end =
 pub one_fits : (mode : Compat) (s : Simple) → simple_fits mode s ≡ true → fits mode (simples s [] ∷ []) ≡ true
 one_fits mode s e = ap (λ (b : Bool). (b && true) && true) e
 
-pub one_made : (write : PlainVersion → PlainVersion) (mode : Compat) (s : Simple) (comparators : List PlainComparator)
-    → comparators ≡ written_simple write mode s
+pub one_made : (bound_pre : List IdentifierValue) (mode : Compat) (s : Simple) (comparators : List PlainComparator)
+    → comparators ≡ written_simple bound_pre mode s
     → record { ranges = record { comparators = comparators; compat = mode } ∷ []; compat = mode }
-    ≡ written_set write mode (simples s [] ∷ [])
-one_made write mode s comparators e =
+    ≡ written_set bound_pre mode (simples s [] ∷ [])
+one_made bound_pre mode s comparators e =
     ap (λ (l : List PlainComparator). record { ranges = record { comparators = l; compat = mode } ∷ []; compat = mode }) (e
-    ∙ sym (append-nil (written_simple write mode s)))
+    ∙ sym (append-nil (written_simple bound_pre mode s)))

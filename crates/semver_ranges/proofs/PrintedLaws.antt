@@ -152,18 +152,18 @@ comparator_spells : (c : PlainComparator) → Printable c.version → SpellsSimp
 comparator_spells c h = (op_text c.op, plain_text c.version, form_spells c.op, version_spells c.version h, refl)
 
 -- none of these has a raised bound, so they are the same however one is written
-of_three : (write : PlainVersion → PlainVersion) (mode : Compat) (op : Op) (v : PlainVersion)
-    → written_cell write (cell mode (form_of op) (numbers v)) (numbers v) v ≡ comparator op v ∷ []
-of_three write mode Lt v = refl
-of_three write mode _ v = refl
+of_three : (bound_pre : List IdentifierValue) (mode : Compat) (op : Op) (v : PlainVersion)
+    → written_cell bound_pre (cell mode (form_of op) (numbers v)) (numbers v) v ≡ comparator op v ∷ []
+of_three bound_pre mode Lt v = refl
+of_three bound_pre mode _ v = refl
 
-comparator_again : (write : PlainVersion → PlainVersion) (mode : Compat) (c : PlainComparator) → Printable c.version
-    → written_simple write mode (simple_of c) ≡ c ∷ []
-comparator_again write mode c h =
+comparator_again : (bound_pre : List IdentifierValue) (mode : Compat) (c : PlainComparator) → Printable c.version
+    → written_simple bound_pre mode (simple_of c) ≡ c ∷ []
+comparator_again bound_pre mode c h =
     let cell_of = cell mode (form_of c.op) in
-    ap (λ s. written_cell write (cell_of s) s (filled s (pre_release (version_tree c.version)))) (stated_numbers c.version h)
-    ∙ ap (λ p. written_cell write (cell_of (numbers c.version)) (numbers c.version) (filled (numbers c.version) p)) (stated_pre c.version h)
-    ∙ of_three write mode c.op c.version
+    ap (λ s. written_cell bound_pre (cell_of s) s (filled s (pre_release (version_tree c.version)))) (stated_numbers c.version h)
+    ∙ ap (λ p. written_cell bound_pre (cell_of (numbers c.version)) (numbers c.version) (filled (numbers c.version) p)) (stated_pre c.version h)
+    ∙ of_three bound_pre mode c.op c.version
 
 no_bound : (mode : Compat) (op : Op) (v : PlainVersion) → cell_raised (cell mode (form_of op) (numbers v)) (numbers v) ≡ None
 no_bound mode Lt v = refl
@@ -190,13 +190,13 @@ simples_spell c (next ∷ cs) e =
       refl,
     )
 
-comparators_again : (write : PlainVersion → PlainVersion) (mode : Compat) (cs : List PlainComparator)
-    → list_all (λ c. is_printable_version c.version) cs ≡ true → flat_map (written_simple write mode) (map simple_of cs) ≡ cs
-comparators_again write mode [] e = refl
-comparators_again write mode (c ∷ cs) e =
+comparators_again : (bound_pre : List IdentifierValue) (mode : Compat) (cs : List PlainComparator)
+    → list_all (λ c. is_printable_version c.version) cs ≡ true → flat_map (written_simple bound_pre mode) (map simple_of cs) ≡ cs
+comparators_again bound_pre mode [] e = refl
+comparators_again bound_pre mode (c ∷ cs) e =
     let parts = and_parts (is_printable_version c.version) (list_all (λ c. is_printable_version c.version) cs) e in
-    ap (λ x. x ++ flat_map (written_simple write mode) (map simple_of cs)) (comparator_again write mode c (printable c.version parts.0))
-    ∙ ap (λ x. c ∷ x) (comparators_again write mode cs parts.1)
+    ap (λ x. x ++ flat_map (written_simple bound_pre mode) (map simple_of cs)) (comparator_again bound_pre mode c (printable c.version parts.0))
+    ∙ ap (λ x. c ∷ x) (comparators_again bound_pre mode cs parts.1)
 
 comparators_fit : (mode : Compat) (cs : List PlainComparator) → list_all (λ c. is_printable_version c.version) cs ≡ true
     → list_all (term_fits mode) (map of_simple (map simple_of cs)) ≡ true
@@ -220,15 +220,15 @@ range_spells mode r h = go r.comparators h.0 h.2 where
   go [] some e = cc
   go (c ∷ cs) some e = simples_spell c cs e
 
-range_again : (write : PlainVersion → PlainVersion) (mode : Compat) (r : PlainRange) → IsPrintableRange mode r
-    → record { comparators = written_range write mode (range_of r.comparators); compat = mode } ≡ r
-range_again write mode r h =
+range_again : (bound_pre : List IdentifierValue) (mode : Compat) (r : PlainRange) → IsPrintableRange mode r
+    → record { comparators = written_range bound_pre mode (range_of r.comparators); compat = mode } ≡ r
+range_again bound_pre mode r h =
     let made : List PlainComparator → Compat → PlainRange = λ cs m. record { comparators = cs; compat = m } in
     ap (λ cs. made cs mode) (go r.comparators h.0 h.2) ∙ ap (λ m. made r.comparators m) (sym h.1) where
       go : (cs : List PlainComparator) → not (is_empty cs) ≡ true → list_all (λ c. is_printable_version c.version) cs ≡ true
-          → written_range write mode (range_of cs) ≡ cs
+          → written_range bound_pre mode (range_of cs) ≡ cs
       go [] some e = cc
-      go (c ∷ cs) some e = comparators_again write mode (c ∷ cs) e
+      go (c ∷ cs) some e = comparators_again bound_pre mode (c ∷ cs) e
 
 range_fits : (mode : Compat) (r : PlainRange) → IsPrintableRange mode r → list_all (term_fits mode) (terms (range_of r.comparators)) ≡ true
 range_fits mode r h = go r.comparators h.2 where
@@ -265,12 +265,12 @@ set_spells mode before r (next ∷ rs) b h =
       text,
     )
 
-set_again : (write : PlainVersion → PlainVersion) (mode : Compat) (rs : List PlainRange) → All (IsPrintableRange mode) rs
-    → (written_set write mode (tree_of rs)).ranges ≡ rs
-set_again write mode [] h = refl
-set_again write mode (r ∷ rs) h =
-    ap (λ x. x ∷ (written_set write mode (tree_of rs)).ranges) (range_again write mode r (All-head (IsPrintableRange mode) r rs h))
-    ∙ ap (λ x. r ∷ x) (set_again write mode rs (All-tail (IsPrintableRange mode) r rs h))
+set_again : (bound_pre : List IdentifierValue) (mode : Compat) (rs : List PlainRange) → All (IsPrintableRange mode) rs
+    → (written_set bound_pre mode (tree_of rs)).ranges ≡ rs
+set_again bound_pre mode [] h = refl
+set_again bound_pre mode (r ∷ rs) h =
+    ap (λ x. x ∷ (written_set bound_pre mode (tree_of rs)).ranges) (range_again bound_pre mode r (All-head (IsPrintableRange mode) r rs h))
+    ∙ ap (λ x. r ∷ x) (set_again bound_pre mode rs (All-tail (IsPrintableRange mode) r rs h))
 
 set_fits : (mode : Compat) (rs : List PlainRange) → All (IsPrintableRange mode) rs → fits mode (tree_of rs) ≡ true
 set_fits mode [] h = refl
@@ -278,14 +278,14 @@ set_fits mode (r ∷ rs) h =
     and_from _ _ (range_fits mode r (All-head (IsPrintableRange mode) r rs h)) (set_fits mode rs (All-tail (IsPrintableRange mode) r rs h))
 
 -- the text of a printable set is spelled by a tree that fits, and is rewritten to the set, however raised bounds are written
-pub printed_again : (write : PlainVersion → PlainVersion) (s : PlainSet) → IsPrintableSet s
-    → (tree : SetTree) × Spells tree (set_text s) × (fits s.compat tree ≡ true) × (written_set write s.compat tree ≡ s)
-printed_again write s h = (
+pub printed_again : (bound_pre : List IdentifierValue) (s : PlainSet) → IsPrintableSet s
+    → (tree : SetTree) × Spells tree (set_text s) × (fits s.compat tree ≡ true) × (written_set bound_pre s.compat tree ≡ s)
+printed_again bound_pre s h = (
   tree_of s.ranges,
   spelled s.ranges h.0 h.1,
   set_fits s.compat s.ranges h.1,
   (let made : List PlainRange → PlainSet = λ rs. record { ranges = rs; compat = s.compat } in
-      ap made (set_again write s.compat s.ranges h.1)),
+      ap made (set_again bound_pre s.compat s.ranges h.1)),
 ) where
   spelled : (rs : List PlainRange) → not (is_empty rs) ≡ true → All (IsPrintableRange s.compat) rs
       → Spells (tree_of rs) (joined (codes " || ") (map range_text rs))

@@ -6,9 +6,10 @@ use Rattle.semver_ranges.specs.RangeTree.{PartialTree, Form, bare, equal, less, 
 use Rattle.semver_ranges.specs.RangeTree.{SetTree, is_blank, AreBlanks, AreSomeBlanks, SpellsPartial, SpellsSimple, SpellsSimples}
 use Rattle.semver_ranges.specs.RangeTree.{SpellsRange, SpellsPadded, Spells}
 use Rattle.semver_texts.specs.Texts.{Text, is_empty}
-use Rattle.semver_ranges.specs.Reading.{front, behind_blanks, begins_with, is_bar, ends_range, partial, simple, put_before, behind_simple}
-use Rattle.semver_ranges.specs.Reading.{some_simples, all_simples, range_end, right_side, is_bare, with_right, with_others, behind_first}
-use Rattle.semver_ranges.specs.Reading.{range_here, range, behind_bars, onto, more_ranges, behind_range, some_ranges, read}
+use Rattle.semver_ranges.specs.Means.Reading.{front, behind_blanks, begins_with, is_bar, ends_range, partial, simple, put_before}
+use Rattle.semver_ranges.specs.Means.Reading.{behind_simple, some_simples, all_simples, range_end, right_side, is_bare, with_right}
+use Rattle.semver_ranges.specs.Means.Reading.{with_others, behind_first, range_here, range, behind_bars, onto, more_ranges, behind_range}
+use Rattle.semver_ranges.specs.Means.Reading.{some_ranges, read}
 use Rattle.semver_ranges.proofs.ReadingPieces.{front-back, front_all, WordAt, partial_sound, IsGap, SimpleAt, simple_sound}
 
 -- a first simple and the others that are found behind it and its gap

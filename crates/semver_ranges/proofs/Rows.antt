@@ -16,9 +16,9 @@ use Rattle.semver_ranges.specs.Precedence.{precedence, pre_cmp}
 use Rattle.semver_texts.specs.Versions.{numbers, IdentifierValue, numeric, alphanumeric, PlainVersion}
 use Rattle.semver_ranges.specs.Partials.{filled, leading_place}
 use Rattle.semver_ranges.specs.OwnMeaning.{meets_stated, agrees, agrees_past_zeros}
-use Rattle.semver_ranges.specs.RewritingTable.{PlainComparator, Cell, from_zero, below_zero, against, below, between, cell, raised, up}
+use Rattle.semver_ranges.specs.RewritingTable.{PlainComparator, Cell, from_zero, below_zero, against, below, between, cell, up, up_with}
 use Rattle.semver_ranges.specs.RewritingTable.{comparator, written_cell, cell_comparators, cell_raised}
-use Rattle.semver_ranges.specs.ExactBounds.{lowest_pre_release, exact_bound}
+use Rattle.semver_ranges.specs.ExactBounds.{lowest_pre_release}
 use Rattle.semver_ranges.specs.Meeting.{meets_comparator, has_pre_release, is_pre_release_of}
 use Rattle.semver_ranges.proofs.CaretPlaces.{same_agreement}
 
@@ -203,26 +203,6 @@ pub data Shape : List ℕ → Type 0 where
   two : (x y : ℕ) → Shape (x ∷ y ∷ [])
   three : (x y w : ℕ) → Shape (x ∷ y ∷ w ∷ [])
 
--- up(k) with the pre-release f
-abbrev raised_to : List IdentifierValue → ℕ → List ℕ → PlainVersion
-raised_to f k s = filled (raised k s) f
-
--- the comparators of a cell, whose raised bound has the pre-release f
-abbrev bounded : List IdentifierValue → Cell → List ℕ → PlainVersion → List PlainComparator
-bounded f (below k) s z = comparator Lt (raised_to f k s) ∷ []
-bounded f (between k) s z = comparator Gte z ∷ comparator Lt (raised_to f k s) ∷ []
-bounded f from_zero s z = cell_comparators from_zero s z
-bounded f below_zero s z = cell_comparators below_zero s z
-bounded f (against op) s z = cell_comparators (against op) s z
-
-plain_bounds : (c : Cell) (s : List ℕ) (z : PlainVersion) → cell_comparators c s z ≡ bounded [] c s z
-plain_bounds (below k) s z = refl
-plain_bounds _ s z = refl
-
-exact_bounds : (c : Cell) (s : List ℕ) (z : PlainVersion) → written_cell exact_bound c s z ≡ bounded lowest_pre_release c s z
-exact_bounds (below k) s z = refl
-exact_bounds _ s z = refl
-
 -- whether a version with the numbers of the bound is below it, where i says so of its pre-release
 abbrev excepted : Bool → PlainVersion → Option PlainVersion → Bool
 excepted i v None = false
@@ -239,7 +219,7 @@ excepted_never v (Some bound) = refl
 
 -- what a row says: the comparators of its cell are met exactly if its meaning is, or the version is excepted
 abbrev RowAgrees : List IdentifierValue → Bool → Compat → Form → List ℕ → List IdentifierValue → PlainVersion → Type 0
-RowAgrees f i mode form s p v = list_all (meets_comparator v) (bounded f (cell mode form s) s (filled s p))
+RowAgrees f i mode form s p v = list_all (meets_comparator v) (written_cell f (cell mode form s) s (filled s p))
     ≡ (meets_stated mode form s (filled s p) v || excepted i v (cell_raised (cell mode form s) s))
 
 -- nothing stated
@@ -258,29 +238,29 @@ row_none f i mode caret p v = alone (is_ge (precedence v (filled [] [])))
 module _ (v : PlainVersion) (f : List IdentifierValue) {i : Bool} (t : Tail (pre_cmp v.pre f) i) where
   -- `<up(1)`
   under_one : (x : ℕ)
-      → (is_lt (precedence v (raised_to f 1 (x ∷ []))) && true) ≡ (is_le (slice_cmp nat_cmp (take 1 (numbers v)) (x ∷ []))
+      → (is_lt (precedence v (up_with f 1 (x ∷ []))) && true) ≡ (is_le (slice_cmp nat_cmp (take 1 (numbers v)) (x ∷ []))
       || excepted i v (Some (up 1 (x ∷ []))))
   under_one x = below_first (place v.major x) (rest v.minor) (rest v.patch) t
 
   under_two : (x y : ℕ)
-      → (is_lt (precedence v (raised_to f 2 (x ∷ y ∷ []))) && true)
+      → (is_lt (precedence v (up_with f 2 (x ∷ y ∷ []))) && true)
       ≡ (is_le (slice_cmp nat_cmp (take 2 (numbers v)) (x ∷ y ∷ [])) || excepted i v (Some (up 2 (x ∷ y ∷ []))))
   under_two x y = below_second (step v.major x) (place v.minor y) (rest v.patch) t
 
   -- `>=z <up(1)`
   within_one : (x y w : ℕ) (p : List IdentifierValue) → let z = filled (x ∷ y ∷ w ∷ []) p in
-      (is_ge (precedence v z) && (is_lt (precedence v (raised_to f 1 (x ∷ []))) && true))
+      (is_ge (precedence v z) && (is_lt (precedence v (up_with f 1 (x ∷ []))) && true))
       ≡ ((is_ge (precedence v z) && agrees 1 (x ∷ []) v) || excepted i v (Some (up 1 (x ∷ []))))
   within_one x y w p =
       between_first (place v.major x) (rest v.minor) (rest v.patch) t (nat_cmp v.minor y) (nat_cmp v.patch w) (pre_cmp v.pre p)
 
   within_two : (x y w : ℕ) (p : List IdentifierValue) → let z = filled (x ∷ y ∷ w ∷ []) p in
-      (is_ge (precedence v z) && (is_lt (precedence v (raised_to f 2 (x ∷ y ∷ []))) && true))
+      (is_ge (precedence v z) && (is_lt (precedence v (up_with f 2 (x ∷ y ∷ []))) && true))
       ≡ ((is_ge (precedence v z) && agrees 2 (x ∷ y ∷ []) v) || excepted i v (Some (up 2 (x ∷ y ∷ []))))
   within_two x y w p = between_second (step v.major x) (place v.minor y) (rest v.patch) t (nat_cmp v.patch w) (pre_cmp v.pre p)
 
   within_three : (x y w : ℕ) (p : List IdentifierValue) → let z = filled (x ∷ y ∷ w ∷ []) p in
-      (is_ge (precedence v z) && (is_lt (precedence v (raised_to f 3 (x ∷ y ∷ w ∷ []))) && true))
+      (is_ge (precedence v z) && (is_lt (precedence v (up_with f 3 (x ∷ y ∷ w ∷ []))) && true))
       ≡ ((is_ge (precedence v z) && agrees 3 (x ∷ y ∷ w ∷ []) v) || excepted i v (Some (up 3 (x ∷ y ∷ w ∷ []))))
   within_three x y w p = between_third (step v.major x) (step v.minor y) (place v.patch w) t (pre_cmp v.pre p)
 
@@ -305,7 +285,7 @@ module _ (v : PlainVersion) (f : List IdentifierValue) {i : Bool} (t : Tail (pre
   row_one mode caret x p = past_zeros (x ∷ []) (filled (x ∷ []) p) _ (within_one x 0 0 p)
 
   caret_two : (b : Bool) (x y : ℕ) (p : List IdentifierValue) → let k : ℕ = (if b then 2 else 1) in let z = filled (x ∷ y ∷ []) p in
-      (is_ge (precedence v z) && (is_lt (precedence v (raised_to f k (x ∷ y ∷ []))) && true))
+      (is_ge (precedence v z) && (is_lt (precedence v (up_with f k (x ∷ y ∷ []))) && true))
       ≡ ((is_ge (precedence v z) && agrees k (x ∷ y ∷ []) v) || excepted i v (Some (up k (x ∷ y ∷ []))))
   caret_two true x y p = within_two x y 0 p
   caret_two false x y p = within_one x y 0 p
@@ -324,7 +304,7 @@ module _ (v : PlainVersion) (f : List IdentifierValue) {i : Bool} (t : Tail (pre
 
   caret_three : (b c : Bool) (x y w : ℕ) (p : List IdentifierValue)
       → let k : ℕ = (if b then suc (if c then 2 else 1) else 1) in let z = filled (x ∷ y ∷ w ∷ []) p in
-      (is_ge (precedence v z) && (is_lt (precedence v (raised_to f k (x ∷ y ∷ w ∷ []))) && true))
+      (is_ge (precedence v z) && (is_lt (precedence v (up_with f k (x ∷ y ∷ w ∷ []))) && true))
       ≡ ((is_ge (precedence v z) && agrees k (x ∷ y ∷ w ∷ []) v) || excepted i v (Some (up k (x ∷ y ∷ w ∷ []))))
   caret_three true true x y w p = within_three x y w p
   caret_three true false x y w p = within_two x y w p
@@ -360,14 +340,13 @@ pub row : (v : PlainVersion) (mode : Compat) (form : Form) {s : List ℕ} → Sh
 row v mode form {s = s} shape p =
     let c : Cell = cell mode form s in
     let z : PlainVersion = filled s p in
-    ap (list_all (meets_comparator v)) (plain_bounds c s z) ∙ any_row v [] (tail v.pre) mode form shape p
-    ∙ ap (λ (b : Bool). meets_stated mode form s z v || b) (excepted_plainly v (cell_raised c s))
+    any_row v [] (tail v.pre) mode form shape p ∙ ap (λ (b : Bool). meets_stated mode form s z v || b) (excepted_plainly v (cell_raised c s))
 
 -- with exact bounds they are met exactly if its meaning is
 pub exact_row : (v : PlainVersion) (mode : Compat) (form : Form) {s : List ℕ} → Shape s → (p : List IdentifierValue)
-    → list_all (meets_comparator v) (written_cell exact_bound (cell mode form s) s (filled s p)) ≡ meets_stated mode form s (filled s p) v
+    → list_all (meets_comparator v) (written_cell lowest_pre_release (cell mode form s) s (filled s p)) ≡ meets_stated mode form s (filled s p) v
 exact_row v mode form {s = s} shape p =
     let c : Cell = cell mode form s in
     let z : PlainVersion = filled s p in
-    ap (list_all (meets_comparator v)) (exact_bounds c s z) ∙ any_row v lowest_pre_release (floor v.pre) mode form shape p
+    any_row v lowest_pre_release (floor v.pre) mode form shape p
     ∙ ap (λ (b : Bool). meets_stated mode form s z v || b) (excepted_never v (cell_raised c s)) ∙ or_false (meets_stated mode form s z v)

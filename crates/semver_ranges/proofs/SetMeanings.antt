@@ -9,7 +9,7 @@ use Rattle.semver_ranges.specs.RangeTree.{is_wildcard, PartialTree, one, two, th
 use Rattle.semver_ranges.specs.RangeTree.{hyphen, simples, SetTree}
 use Rattle.semver_texts.specs.Texts.{is_empty}
 use Rattle.semver_ranges.specs.Precedence.{precedence}
-use Rattle.semver_texts.specs.Versions.{PlainVersion}
+use Rattle.semver_texts.specs.Versions.{IdentifierValue, PlainVersion}
 use Rattle.semver_ranges.specs.Partials.{stated, states_nothing, zero_filled, zero_version}
 use Rattle.semver_ranges.specs.Terms.{Term, of_simple, of_nothing, left_side, right_side, terms}
 use Rattle.semver_ranges.specs.RewritingTable.{cell, written_cell, written_simple, written_range, written_set}
@@ -45,29 +45,29 @@ twice : (b : Bool) → (b && true) ≡ ((b && true) && ((b && true) && true))
 twice true = refl
 twice false = refl
 
-module _ (write : PlainVersion → PlainVersion) (mode : Compat) (v : PlainVersion) where
+module _ (bound_pre : List IdentifierValue) (mode : Compat) (v : PlainVersion) where
   -- the comparators of a side that states nothing
   at_least_any : (s : List ℕ) (z : PlainVersion) → is_empty s ≡ true
-      → list_all (meets_comparator v) (written_cell write (cell mode at_least s) s z) ≡ (is_ge (precedence v zero_version) && true)
+      → list_all (meets_comparator v) (written_cell bound_pre (cell mode at_least s) s z) ≡ (is_ge (precedence v zero_version) && true)
   at_least_any [] z e = refl
   at_least_any (x ∷ xs) z e = cc e
 
   at_most_any : (s : List ℕ) (z : PlainVersion) → is_empty s ≡ true
-      → list_all (meets_comparator v) (written_cell write (cell mode at_most s) s z) ≡ (is_ge (precedence v zero_version) && true)
+      → list_all (meets_comparator v) (written_cell bound_pre (cell mode at_most s) s z) ≡ (is_ge (precedence v zero_version) && true)
   at_most_any [] z e = refl
   at_most_any (x ∷ xs) z e = cc e
 
-  module _ (meets : Term → Bool) (simple_meets : (s : Simple) → list_all (meets_comparator v) (written_simple write mode s)
+  module _ (meets : Term → Bool) (simple_meets : (s : Simple) → list_all (meets_comparator v) (written_simple bound_pre mode s)
       ≡ meets (of_simple s))
       (nothing_meets : is_ge (precedence v zero_version) ≡ meets of_nothing) where
     simples_meet : (ss : List Simple)
-        → list_all (meets_comparator v) (flat_map (written_simple write mode) ss) ≡ list_all meets (map of_simple ss)
+        → list_all (meets_comparator v) (flat_map (written_simple bound_pre mode) ss) ≡ list_all meets (map of_simple ss)
     simples_meet [] = refl
-    simples_meet (s ∷ ss) = list_all-append (meets_comparator v) (written_simple write mode s) (flat_map (written_simple write mode) ss)
-        ∙ ap (λ b. b && list_all (meets_comparator v) (flat_map (written_simple write mode) ss)) (simple_meets s)
+    simples_meet (s ∷ ss) = list_all-append (meets_comparator v) (written_simple bound_pre mode s) (flat_map (written_simple bound_pre mode) ss)
+        ∙ ap (λ b. b && list_all (meets_comparator v) (flat_map (written_simple bound_pre mode) ss)) (simple_meets s)
         ∙ ap (λ b. meets (of_simple s) && b) (simples_meet ss)
 
-    range_meets : (r : RangeTree) → list_all (meets_comparator v) (written_range write mode r) ≡ list_all meets (terms r)
+    range_meets : (r : RangeTree) → list_all (meets_comparator v) (written_range bound_pre mode r) ≡ list_all meets (terms r)
     range_meets empty = ap (λ b. b && true) nothing_meets
     range_meets (simples first others) = simples_meet (first ∷ others)
     range_meets (hyphen left right) = elim (cases_Bool (states_nothing left)) [
@@ -88,7 +88,7 @@ module _ (write : PlainVersion → PlainVersion) (mode : Compat) (v : PlainVersi
       ]
     ]
 
-    pub set_meets : (tree : SetTree) → meets_set v (written_set write mode tree) ≡ list_any (λ r. list_all meets (terms r)) tree
+    pub set_meets : (tree : SetTree) → meets_set v (written_set bound_pre mode tree) ≡ list_any (λ r. list_all meets (terms r)) tree
     set_meets [] = refl
-    set_meets (r ∷ rs) = ap (λ b. b || meets_set v (written_set write mode rs)) (range_meets r)
+    set_meets (r ∷ rs) = ap (λ b. b || meets_set v (written_set bound_pre mode rs)) (range_meets r)
         ∙ ap (λ b. list_all meets (terms r) || b) (set_meets rs)

@@ -11,13 +11,13 @@ use Rattle.semver_ranges.specs.declared.range.Compat.{Compat}
 use Rattle.semver_ranges.specs.declared.rewriting.Bounds.{Bounds}
 use Rattle.semver_ranges.specs.declared.rewriting.Bounds.TheVariants.{Against, Below, Between}
 use Rattle.semver_ranges.specs.RangeTree.{Form, bare, equal, less, at_most, greater, at_least, tilde, caret, Simple}
-use Rattle.semver_texts.specs.Versions.{PlainVersion}
+use Rattle.semver_texts.specs.Versions.{IdentifierValue, PlainVersion}
 use Rattle.semver_ranges.specs.Partials.{stated, zero_filled, zero_version, fits_u64}
 use Rattle.semver_ranges.specs.RewritingTable.{Cell, cell, nothing_stated, cell_raised, written_cell, bound_fits, written_simple}
-use Rattle.semver_ranges.specs.PartialViews.{stated_at, stated_of, version_of, states_none, written}
-use Rattle.semver_ranges.specs.CursorViews.{form_of, IsSimpleOf}
-use Rattle.semver_ranges.specs.RangeEvents.{simple_fits}
-use Rattle.semver_ranges.specs.BoundsViews.{cell_of, with_version, comparators_of, bounds_fit, IsPlaced, IsRow}
+use Rattle.semver_ranges.specs.Means.PartialViews.{stated_at, stated_of, version_of, states_none, pre_of}
+use Rattle.semver_ranges.specs.Means.CursorViews.{form_of, IsSimpleOf}
+use Rattle.semver_ranges.specs.Means.RangeEvents.{simple_fits}
+use Rattle.semver_ranges.specs.Means.BoundsViews.{cell_of, with_version, comparators_of, bounds_fit, IsPlaced, IsRow}
 
 -- the column where nothing is stated raises no bound, and compares with 0.0.0
 nothing_raised : (form : Form)
@@ -25,10 +25,10 @@ nothing_raised : (form : Form)
 nothing_raised bare = refl
 nothing_raised _ = refl
 
-nothing_written : (write : PlainVersion → PlainVersion) (form : Form)
-    → written_cell write (with_version (nothing_stated form)) [] zero_version ≡ written_cell write (nothing_stated form) [] zero_version
-nothing_written write bare = refl
-nothing_written write _ = refl
+nothing_written : (bound_pre : List IdentifierValue) (form : Form)
+    → written_cell bound_pre (with_version (nothing_stated form)) [] zero_version ≡ written_cell bound_pre (nothing_stated form) [] zero_version
+nothing_written bound_pre bare = refl
+nothing_written bound_pre _ = refl
 
 -- what states no number fits
 none_fits : (p : Partial) → (p.fits ≡ false → states_none p.kind ≡ false) → p.kind ≡ XRangeOnly → p.fits ≡ true
@@ -39,7 +39,7 @@ none_fits p some kind = elim (cases_Bool p.fits) [
 
 -- the comparators are those of the cell
 cell_comparators : (raised : RaisedBounds) (b : Bounds) (p : Partial)
-    → comparators_of raised b p ≡ written_cell (written raised) (cell_of b) (stated_of p) (version_of p)
+    → comparators_of raised b p ≡ written_cell (pre_of raised) (cell_of b) (stated_of p) (version_of p)
 cell_comparators raised (Against op) p = refl
 cell_comparators raised (Below place) p = refl
 cell_comparators raised (Between place) p = refl
@@ -49,15 +49,15 @@ row_of : (mode : Compat) (s : Simple) (simple : read.Simple) (b : Bounds) → Is
     → (simple.partial.fits ≡ true
     → bound_fits (cell_raised (cell_of b) (stated s.partial))
     ≡ bound_fits (cell_raised (cell mode s.form (stated s.partial)) (stated s.partial)))
-    → (simple.partial.fits ≡ true → (write : PlainVersion → PlainVersion)
-    → written_cell write (cell_of b) (stated s.partial) (zero_filled s.partial) ≡ written_simple write mode s)
+    → (simple.partial.fits ≡ true → (bound_pre : List IdentifierValue)
+    → written_cell bound_pre (cell_of b) (stated s.partial) (zero_filled s.partial) ≡ written_simple bound_pre mode s)
     → IsRow mode s simple.partial b
 row_of mode s simple b placed is raised comparators = (
   (is.1.3, placed),
   fits (cases_Bool p.fits),
   λ all bounds. let f = (and_parts p.fits (bound_fits (cell_raised (cell_of b) (stated_of p))) all).0 in
-      cell_comparators bounds b p ∙ ap (λ (l : List ℕ). written_cell (written bounds) (cell_of b) l (version_of p)) (is.1.1 f).0
-      ∙ ap (written_cell (written bounds) (cell_of b) (stated s.partial)) (is.1.1 f).1 ∙ comparators f (written bounds),
+      cell_comparators bounds b p ∙ ap (λ (l : List ℕ). written_cell (pre_of bounds) (cell_of b) l (version_of p)) (is.1.1 f).0
+      ∙ ap (written_cell (pre_of bounds) (cell_of b) (stated s.partial)) (is.1.1 f).1 ∙ comparators f (pre_of bounds),
 )
   where
     p : Partial
@@ -80,7 +80,7 @@ row_of_nothing mode s simple b kind column placed is =
     ∙ ap (λ (k : PartialKind). stated_at k p.major p.minor p.patch) kind in
     let same : cell_of b ≡ with_version (nothing_stated s.form) = column ∙ ap (λ (f : Form). with_version (nothing_stated f)) is.0 in
     row_of mode s simple b placed is (λ _. rw (none, same) (nothing_raised s.form))
-    (λ _ write. rw (none, same) (nothing_written write s.form))
+    (λ _ bound_pre. rw (none, same) (nothing_written bound_pre s.form))
 
 -- the other columns
 pub row_of_cell : (mode : Compat) (s : Simple) (simple : read.Simple) (b : Bounds)
@@ -90,7 +90,7 @@ row_of_cell mode s simple b column placed is =
     let p : Partial = simple.partial in
     row_of mode s simple b placed is
     (λ f. ap (λ (c : Cell). bound_fits (cell_raised c (stated s.partial))) (same f))
-    (λ f write. ap (λ (c : Cell). written_cell write c (stated s.partial) (zero_filled s.partial)) (same f))
+    (λ f bound_pre. ap (λ (c : Cell). written_cell bound_pre c (stated s.partial) (zero_filled s.partial)) (same f))
   where
     same : simple.partial.fits ≡ true → cell_of b ≡ cell mode s.form (stated s.partial)
     same f = column ∙ ap (λ (form : Form). cell mode form (stated_of simple.partial)) is.0 ∙ ap (cell mode s.form) (is.1.1 f).0

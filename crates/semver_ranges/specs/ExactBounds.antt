@@ -18,13 +18,13 @@ exact_bound bound = record bound { pre = lowest_pre_release }
 
 -- the comparators of a simple: `<up(k)-0` where the table has `<up(k)`, and else the table's own
 abbrev pub exact_simple_comparators : Compat → Simple → List PlainComparator
-exact_simple_comparators mode s = written_simple exact_bound mode s
+exact_simple_comparators mode s = written_simple lowest_pre_release mode s
 
 -- the comparators of a range
 abbrev pub exact_range_comparators : Compat → RangeTree → List PlainComparator
-exact_range_comparators mode r = written_range exact_bound mode r
+exact_range_comparators mode r = written_range lowest_pre_release mode r
 
 -- the set that a tree is rewritten to exactly: `<up(k)-0` wherever the table has `<up(k)`, and else
 -- as `rewritten`
 abbrev pub rewritten_exactly : Compat → SetTree → PlainSet
-rewritten_exactly mode tree = written_set exact_bound mode tree
+rewritten_exactly mode tree = written_set lowest_pre_release mode tree

@@ -9,12 +9,7 @@ pub mod ExactBounds
 pub mod Meeting
 pub mod PrintedRanges
 pub mod RangeViews
-pub mod Reading
-pub mod RangeEvents
-pub mod Answers
-pub mod PartialViews
-pub mod CursorViews
-pub mod BoundsViews
+pub mod Means
 pub use Rattle.semver_texts.specs.Texts
 pub use Rattle.semver_texts.specs.Versions
 pub use Rattle.semver_texts.specs.PrintedText

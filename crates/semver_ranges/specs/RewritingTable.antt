@@ -10,7 +10,7 @@ use Rattle.semver_ranges.specs.declared.range.Compat.TheVariants.{Cargo, Npm}
 use Rattle.semver_ranges.specs.RangeTree.{Form, bare, equal, less, at_most, greater, at_least}
 use Rattle.semver_ranges.specs.RangeTree.{tilde, caret, Simple, RangeTree, empty, hyphen, simples}
 use Rattle.semver_ranges.specs.RangeTree.{SetTree}
-use Rattle.semver_texts.specs.Versions.{numbers, PlainVersion}
+use Rattle.semver_texts.specs.Versions.{numbers, IdentifierValue, PlainVersion}
 use Rattle.semver_ranges.specs.Partials.{stated, states_nothing, filled, zero_filled, zero_version}
 use Rattle.semver_ranges.specs.Partials.{leading_place, fits_u64}
 use Rattle.semver_ranges.specs.Terms.{Term, of_simple, of_nothing, sides, terms}
@@ -82,26 +82,30 @@ raised (suc k) [] = []
 raised (suc zero) (n ∷ rest) = (n + 1) ∷ []
 raised (suc (suc k)) (n ∷ rest) = n ∷ raised (suc k) rest
 
+-- up(k) with a pre-release: the raised numbers, filled with zeros
+abbrev pub up_with : List IdentifierValue → ℕ → List ℕ → PlainVersion
+up_with pre k s = filled (raised k s) pre
+
 -- up(k): the raised numbers, filled with zeros, without pre-release
 abbrev pub up : ℕ → List ℕ → PlainVersion
-up k s = filled (raised k s) []
+up k s = up_with [] k s
 
 -- a comparator of an operator and a version
 abbrev pub comparator : Op → PlainVersion → PlainComparator
 comparator op v = record { op = op; version = v }
 
--- the comparators of a cell, where `write` says how a raised bound is written
-abbrev pub written_cell : (PlainVersion → PlainVersion) → Cell → List ℕ → PlainVersion
+-- the comparators of a cell, where `bound_pre` is the pre-release of a raised bound
+abbrev pub written_cell : List IdentifierValue → Cell → List ℕ → PlainVersion
     → List PlainComparator
-written_cell write from_zero s z = comparator Gte zero_version ∷ []
-written_cell write below_zero s z = comparator Lt zero_version ∷ []
-written_cell write (against op) s z = comparator op z ∷ []
-written_cell write (below k) s z = comparator Lt (write (up k s)) ∷ []
-written_cell write (between k) s z = comparator Gte z ∷ comparator Lt (write (up k s)) ∷ []
+written_cell bound_pre from_zero s z = comparator Gte zero_version ∷ []
+written_cell bound_pre below_zero s z = comparator Lt zero_version ∷ []
+written_cell bound_pre (against op) s z = comparator op z ∷ []
+written_cell bound_pre (below k) s z = comparator Lt (up_with bound_pre k s) ∷ []
+written_cell bound_pre (between k) s z = comparator Gte z ∷ comparator Lt (up_with bound_pre k s) ∷ []
 
--- the comparators of a cell, with the raised bound as it is
+-- the comparators of a cell, whose raised bound has no pre-release
 abbrev pub cell_comparators : Cell → List ℕ → PlainVersion → List PlainComparator
-cell_comparators c s z = written_cell (λ bound. bound) c s z
+cell_comparators c s z = written_cell [] c s z
 
 -- the raised bound of a cell, where it has one
 abbrev pub cell_raised : Cell → List ℕ → Option PlainVersion
@@ -110,39 +114,39 @@ cell_raised (between k) s = Some (up k s)
 cell_raised _ s = None
 
 -- the comparators of a simple
-abbrev pub written_simple : (PlainVersion → PlainVersion) → Compat → Simple → List PlainComparator
-written_simple write mode s =
-    written_cell write (cell mode s.form (stated s.partial)) (stated s.partial)
+abbrev pub written_simple : List IdentifierValue → Compat → Simple → List PlainComparator
+written_simple bound_pre mode s =
+    written_cell bound_pre (cell mode s.form (stated s.partial)) (stated s.partial)
     (zero_filled s.partial)
 
 abbrev pub simple_comparators : Compat → Simple → List PlainComparator
-simple_comparators mode s = written_simple (λ bound. bound) mode s
+simple_comparators mode s = written_simple [] mode s
 
 -- the comparators of a range: those of its simples or sides in order; `>=0.0.0` where it is empty
 -- or both sides state nothing
-abbrev pub written_range : (PlainVersion → PlainVersion) → Compat → RangeTree → List PlainComparator
-written_range write mode empty = comparator Gte zero_version ∷ []
-written_range write mode (hyphen left right) =
+abbrev pub written_range : List IdentifierValue → Compat → RangeTree → List PlainComparator
+written_range bound_pre mode empty = comparator Gte zero_version ∷ []
+written_range bound_pre mode (hyphen left right) =
     if states_nothing left && states_nothing right then comparator Gte zero_version ∷ []
-    else flat_map (written_simple write mode) (sides left right)
-written_range write mode (simples first others) =
-    flat_map (written_simple write mode) (first ∷ others)
+    else flat_map (written_simple bound_pre mode) (sides left right)
+written_range bound_pre mode (simples first others) =
+    flat_map (written_simple bound_pre mode) (first ∷ others)
 
 abbrev pub range_comparators : Compat → RangeTree → List PlainComparator
-range_comparators mode r = written_range (λ bound. bound) mode r
+range_comparators mode r = written_range [] mode r
 
 -- the set that a tree is rewritten to: the comparators of its ranges in order, with the mode in the
 -- set and in each range
-abbrev pub written_set : (PlainVersion → PlainVersion) → Compat → SetTree → PlainSet
-written_set write mode tree =
+abbrev pub written_set : List IdentifierValue → Compat → SetTree → PlainSet
+written_set bound_pre mode tree =
     record {
-      ranges = map (λ r. record { comparators = written_range write mode r; compat = mode })
+      ranges = map (λ r. record { comparators = written_range bound_pre mode r; compat = mode })
           tree;
       compat = mode;
     }
 
 abbrev pub rewritten : Compat → SetTree → PlainSet
-rewritten mode tree = written_set (λ bound. bound) mode tree
+rewritten mode tree = written_set [] mode tree
 
 -- the raised bound of a term, where its row has one
 abbrev pub raised_bound : Compat → Term → Option PlainVersion

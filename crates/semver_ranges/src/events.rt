@@ -4,11 +4,11 @@
 
 ghost use Rattle.std.specs.Prelude.{◌≡◌, ◌<◌, ◌≤◌, ◌++◌, Some, None, true, false, length, codes};
 ghost use Rattle.semver_ranges.specs.RangeTree.{Simple as SimpleTree, PartialTree, hyphen};
-ghost use Rattle.semver_ranges.specs.Reading.{ends_range, right_side, with_right};
-ghost use Rattle.semver_ranges.specs.PartialViews.{IsPartialOf};
-ghost use Rattle.semver_ranges.specs.RangeEvents.{yielded, events};
-ghost use Rattle.semver_ranges.specs.CursorViews.{AreSides, FindsSides, TakesEvent, HasLeft};
-ghost use Rattle.semver_ranges.specs.CursorViews.{IsSimpleOf};
+ghost use Rattle.semver_ranges.specs.Means.Reading.{ends_range, right_side, with_right};
+ghost use Rattle.semver_ranges.specs.Means.PartialViews.{IsPartialOf};
+ghost use Rattle.semver_ranges.specs.Means.RangeEvents.{yielded, events};
+ghost use Rattle.semver_ranges.specs.Means.CursorViews.{AreSides, FindsSides, TakesEvent, HasLeft};
+ghost use Rattle.semver_ranges.specs.Means.CursorViews.{IsSimpleOf};
 
 use crate::grammar::{
     Form, Simple, after_byte, behind_bars, behind_blanks, ends_range, read_right_side, read_simple,
@@ -107,7 +107,7 @@ impl<'input> Events<'input> {
 
 impl<'input> Iterator for Events<'input> {
     ghost use Rattle.std.specs.Iterator.{at_most};
-    ghost use Rattle.semver_ranges.specs.CursorViews.{NextGives, size_left};
+    ghost use Rattle.semver_ranges.specs.Means.CursorViews.{NextGives, size_left};
 
     type Item = Result<Event<'input>, RangeError>;
 

@@ -11,13 +11,16 @@ ghost use Rattle.std.specs.Str.Parse.{digits_value};
 ghost use Rattle.std.specs.Char.{is_ascii_digit};
 ghost use Rattle.semver_texts.specs.Texts.{Text, is_part_byte as part_byte};
 ghost use Rattle.semver_ranges.specs.RangeTree.{one, two, three, is_blank as blank, is_part};
-ghost use Rattle.semver_ranges.specs.Reading.{back, begins_with, ends_range, ends_word, component};
-ghost use Rattle.semver_ranges.specs.Reading.{partial, operator, simple, right_side, with_second};
-ghost use Rattle.semver_ranges.specs.Reading.{with_third, behind_three, with_first, behind_bars};
-ghost use Rattle.semver_ranges.specs.Reading.{in_parts, front, is_dot, behind_blanks};
-ghost use Rattle.semver_ranges.specs.RangeEvents.{wildcard};
-ghost use Rattle.semver_ranges.specs.PartialViews.{parts_of, IsValue, IsComponentOf, IsPartialOf};
-ghost use Rattle.semver_ranges.specs.CursorViews.{form_of, marked_parts, Finds, IsSimpleOf};
+ghost use Rattle.semver_ranges.specs.Means.Reading.{back, begins_with, ends_range, ends_word};
+ghost use Rattle.semver_ranges.specs.Means.Reading.{component, partial, operator, simple};
+ghost use Rattle.semver_ranges.specs.Means.Reading.{right_side, with_second, with_third};
+ghost use Rattle.semver_ranges.specs.Means.Reading.{behind_three, with_first, behind_bars};
+ghost use Rattle.semver_ranges.specs.Means.Reading.{in_parts, front, is_dot, behind_blanks};
+ghost use Rattle.semver_ranges.specs.Means.RangeEvents.{wildcard};
+ghost use Rattle.semver_ranges.specs.Means.PartialViews.{parts_of, IsValue, IsComponentOf};
+ghost use Rattle.semver_ranges.specs.Means.PartialViews.{IsPartialOf};
+ghost use Rattle.semver_ranges.specs.Means.CursorViews.{form_of, marked_parts, Finds, FindsPre};
+ghost use Rattle.semver_ranges.specs.Means.CursorViews.{IsSimpleOf};
 
 use crate::partial::{Component, Partial};
 
@@ -47,9 +50,10 @@ impl<'input> Simple<'input> {
     pub(crate) fn wildcard() -> Simple<'input>
         ensures { IsSimpleOf wildcard result }
     {
+        let none = Component::Wildcard;
         Simple {
             form: Form::Bare,
-            partial: Partial::new(),
+            partial: Partial::new(none, none, none, &[]),
         }
     }
 }
@@ -118,78 +122,55 @@ fn read_first(text: &[u8]) -> Option<(Partial<'_>, &[u8])>
     ensures { Finds IsPartialOf (with_first (component text.now)) result }
 {
     let (major, rest) = read_component(text)?;
-    let partial = Partial::new().with_major(major);
     match after_byte(rest, b'.') {
-        Some(behind) => read_minor(partial, behind),
-        None => Some((partial, rest)),
+        Some(behind) => read_minor(major, behind),
+        None => {
+            let partial = Partial::new(major, Component::Wildcard, Component::Wildcard, &[]);
+            Some((partial, rest))
+        }
     }
 }
 
 /// A partial from its second component on.
 #[inline(always)]
-fn read_minor<'input>(
-    partial: Partial<'input>,
-    text: &'input [u8],
-) -> Option<(Partial<'input>, &'input [u8])>
-    ensures { (a : Text) → IsPartialOf (one a) partial.entry
+fn read_minor(major: Component, text: &[u8]) -> Option<(Partial<'_>, &[u8])>
+    ensures { (a : Text) → IsComponentOf a major
         → Finds IsPartialOf (with_second a (component text.now)) result }
 {
     let (minor, rest) = read_component(text)?;
-    let partial = partial.with_minor(minor);
     match after_byte(rest, b'.') {
-        Some(behind) => read_patch(partial, behind),
-        None => Some((partial, rest)),
+        Some(behind) => read_patch(major, minor, behind),
+        None => Some((Partial::new(major, minor, Component::Wildcard, &[]), rest)),
     }
 }
 
 /// A partial from its third component on.
 #[inline(always)]
-fn read_patch<'input>(
-    partial: Partial<'input>,
-    text: &'input [u8],
-) -> Option<(Partial<'input>, &'input [u8])>
-    ensures { (a b : Text) → IsPartialOf (two a b) partial.entry
+fn read_patch(major: Component, minor: Component, text: &[u8]) -> Option<(Partial<'_>, &[u8])>
+    ensures { (a b : Text) → IsComponentOf a major → IsComponentOf b minor
         → Finds IsPartialOf (with_third a b (component text.now)) result }
 {
     let (patch, rest) = read_component(text)?;
-    let partial = partial.with_patch(patch);
-    if begins_qualifier(rest) {
-        read_qualifier(partial, rest)
-    } else {
-        Some((partial, rest))
-    }
-}
-
-/// Whether a pre-release or a build follows.
-#[inline(always)]
-fn begins_qualifier(text: &[u8]) -> bool
-    ensures { result ≡ (begins_with 45 text.now || begins_with 43 text.now) }
-{
-    matches!(text, [b'-' | b'+', ..])
-}
-
-/// A partial of three components from its pre-release and its build on, each where it is there.
-#[inline(always)]
-fn read_qualifier<'input>(
-    partial: Partial<'input>,
-    text: &'input [u8],
-) -> Option<(Partial<'input>, &'input [u8])>
-    ensures { (a b c : Text) → IsPartialOf (three a b c [] []) partial.entry
-        → Finds IsPartialOf (behind_three a b c text.now) result }
-{
-    let (pre, rest) = read_pre(text)?;
-    Some((partial.with_pre(pre), rest))
+    let (pre, rest) = read_qualifier(rest)?;
+    Some((Partial::new(major, minor, patch, pre), rest))
 }
 
 /// The pre-release at the front of a text, and what follows it and the build behind it, each where
 /// it is there.
+#[inline(always)]
+fn read_qualifier(text: &[u8]) -> Option<(&[u8], &[u8])>
+    ensures { FindsPre text.now result }
+{
+    match text {
+        [b'-' | b'+', ..] => read_pre(text),
+        _ => Some((&[], text)),
+    }
+}
+
+/// The same where one of them is there, which is seldom.
 #[inline(never)]
 fn read_pre(text: &[u8]) -> Option<(&[u8], &[u8])>
-    ensures found { (a b c : Text) → MatchOption result (behind_three a b c text.now ≡ None)
-        (λ f. (build : List Text)
-        × (behind_three a b c text.now
-        ≡ Some (three a b c (parts_of f.0.now) build, f.1.now))) }
-    ensures parts_pass { IfSome result (λ f. list_all is_part (parts_of f.0.now) ≡ true) }
+    ensures { FindsPre text.now result }
 {
     let (pre, rest) = read_parts(text, b'-')?;
     let (_, rest) = read_parts(rest, b'+')?;

@@ -7,12 +7,13 @@ ghost use Rattle.std.specs.Str.{IsUtf8};
 ghost use Rattle.semver_texts.specs.Texts.{Text};
 ghost use Rattle.semver_ranges.specs.RangeTree.{PartialTree, one, two, three, is_part};
 ghost use Rattle.semver_ranges.specs.Partials.{kept, leading_place};
-ghost use Rattle.semver_ranges.specs.Reading.{is_dot};
-ghost use Rattle.semver_ranges.specs.RewritingTable.{comparator, up, bound_fits};
+ghost use Rattle.semver_ranges.specs.Means.Reading.{is_dot};
+ghost use Rattle.semver_ranges.specs.RewritingTable.{comparator, up, up_with, bound_fits};
 ghost use Rattle.semver_ranges.specs.RangeViews.{comparator_of, identifier_of};
-ghost use Rattle.semver_ranges.specs.PartialViews.{parts_of, states_none, stated_of, version_of};
-ghost use Rattle.semver_ranges.specs.PartialViews.{place_number, pre_of, written, IsComponentOf};
-ghost use Rattle.semver_ranges.specs.PartialViews.{IsPartialOf, PartsPass};
+ghost use Rattle.semver_ranges.specs.Means.PartialViews.{parts_of, states_none, stated_of};
+ghost use Rattle.semver_ranges.specs.Means.PartialViews.{version_of, place_number, pre_of};
+ghost use Rattle.semver_ranges.specs.Means.PartialViews.{AreComponentsOf, IsPartialOf};
+ghost use Rattle.semver_ranges.specs.Means.PartialViews.{PartsPass};
 
 use crate::range::{Comparator, Identifier, Op};
 use std::alloc::{AllocError, Global};
@@ -67,21 +68,54 @@ pub(crate) struct Partial<'input> {
 }
 
 impl<'input> Partial<'input> {
-    /// Nothing stated.
+    /// The partial of three components, of which those that aren't there are wildcards, and of the
+    /// parts of a pre-release, which count behind three numbers alone.
     #[inline(always)]
-    pub(crate) fn new() -> Partial<'input>
-        ensures numbers { version_of result ≡ record { major = 0; minor = 0; patch = 0; pre = [] } }
-        ensures kind { result.kind ≡ PartialKind.XRangeOnly }
-        ensures fits { result.fits ≡ true }
-        ensures parts_pass { PartsPass result }
+    pub(crate) fn new(
+        major: Component,
+        minor: Component,
+        patch: Component,
+        pre: &'input [u8],
+    ) -> Partial<'input>
+        requires { list_all is_part (parts_of pre.now) ≡ true }
+        ensures { (t : PartialTree) → AreComponentsOf t major minor patch pre.now
+            → IsPartialOf t result }
     {
-        Partial {
+        let nothing = Partial {
             major: 0,
             minor: 0,
             patch: 0,
             pre: &[],
             kind: PartialKind::XRangeOnly,
             fits: true,
+        };
+        let Component::Number(major) = major else {
+            return nothing;
+        };
+        let one = Partial {
+            major: major.unwrap_or(0),
+            kind: PartialKind::MajorOnly,
+            fits: major.is_some(),
+            ..nothing
+        };
+        let Component::Number(minor) = minor else {
+            return one;
+        };
+        let two = Partial {
+            minor: minor.unwrap_or(0),
+            kind: PartialKind::MajorMinor,
+            fits: one.fits & minor.is_some(),
+            ..one
+        };
+        let Component::Number(patch) = patch else {
+            return two;
+        };
+        Partial {
+            patch: patch.unwrap_or(0),
+            pre,
+            kind: PartialKind::MajorMinorPatch,
+            fits: two.fits & patch.is_some(),
+            ..two
         }
     }
 
@@ -107,79 +141,6 @@ impl<'input> Partial<'input> {
         ensures { result ≡ self.now.fits }
     {
         self.fits
-    }
-
-    /// With a first component.
-    #[inline(always)]
-    pub(crate) fn with_major(mut self, component: Component) -> Partial<'input>
-        requires kind { self.kind ≡ PartialKind.XRangeOnly }
-        requires fits { self.fits ≡ true }
-        requires numbers { version_of self ≡ record { major = 0; minor = 0; patch = 0; pre = [] } }
-        requires parts_pass { PartsPass self }
-        ensures { (a : Text) → IsComponentOf a component → IsPartialOf (one a) result }
-    {
-        let Component::Number(number) = component else {
-            return self;
-        };
-        self.kind = PartialKind::MajorOnly;
-        match number {
-            Some(number) => self.major = number,
-            None => self.fits = false,
-        }
-        self
-    }
-
-    /// With a second component.
-    #[inline(always)]
-    pub(crate) fn with_minor(mut self, component: Component) -> Partial<'input>
-        ensures { (a b : Text) → IsPartialOf (one a) self.entry → IsComponentOf b component
-            → IsPartialOf (two a b) result }
-    {
-        let Component::Number(number) = component else {
-            return self;
-        };
-        if self.kind != PartialKind::MajorOnly {
-            return self;
-        }
-        self.kind = PartialKind::MajorMinor;
-        match number {
-            Some(number) => self.minor = number,
-            None => self.fits = false,
-        }
-        self
-    }
-
-    /// With a third component.
-    #[inline(always)]
-    pub(crate) fn with_patch(mut self, component: Component) -> Partial<'input>
-        ensures { (a b c : Text) → IsPartialOf (two a b) self.entry → IsComponentOf c component
-            → IsPartialOf (three a b c [] []) result }
-    {
-        let Component::Number(number) = component else {
-            return self;
-        };
-        if self.kind != PartialKind::MajorMinor {
-            return self;
-        }
-        self.kind = PartialKind::MajorMinorPatch;
-        match number {
-            Some(number) => self.patch = number,
-            None => self.fits = false,
-        }
-        self
-    }
-
-    /// With the parts of a pre-release, which count behind three numbers alone.
-    #[inline(always)]
-    pub(crate) fn with_pre(mut self, pre: &'input [u8]) -> Partial<'input>
-        requires { list_all is_part (parts_of pre.now) ≡ true }
-        ensures { (a b c : Text) (build : List Text) → IsPartialOf (three a b c [] []) self.entry
-            → IsPartialOf (three a b c (parts_of pre.now) build) result }
-    {
-        if self.kind == PartialKind::MajorMinorPatch {
-            self.pre = pre;
-        }
-        self
     }
 
     /// The place of the first number that isn't 0, or of the last that is stated.
@@ -245,7 +206,7 @@ impl<'input> Partial<'input> {
         requires stated { place_number place ≤ length (stated_of self.now) }
         requires fits { bound_fits (Some (up (place_number place) (stated_of self.now))) ≡ true }
         ensures { IfOk result (λ c. comparator_of c
-            ≡ comparator Op.Lt (written raised (up (place_number place) (stated_of self.now)))) }
+            ≡ comparator Op.Lt (up_with (pre_of raised) (place_number place) (stated_of self.now))) }
     {
         let (major, minor, patch) = match place {
             Place::Major => (self.major + 1, 0, 0),

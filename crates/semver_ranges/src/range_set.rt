@@ -13,14 +13,15 @@ ghost use Rattle.semver_ranges.specs.ExactBounds.{rewritten_exactly};
 ghost use Rattle.semver_ranges.specs.Meeting.{meets_set, meets_tree_or_bounds};
 ghost use Rattle.semver_ranges.specs.PrintedRanges.{IsPrintableSet, set_text};
 ghost use Rattle.semver_ranges.specs.RangeViews.{range_of, set_of};
-ghost use Rattle.semver_ranges.specs.Reading.{read};
-ghost use Rattle.semver_ranges.specs.Answers.{IsAnswer, IsRefusal};
-ghost use Rattle.semver_ranges.specs.RangeEvents.{Event as EventTree, simple_fits, event_fits};
-ghost use Rattle.semver_ranges.specs.RangeEvents.{range_simples, range_others};
-ghost use Rattle.semver_ranges.specs.CursorViews.{HasLeft};
-ghost use Rattle.semver_ranges.specs.PartialViews.{written};
-ghost use Rattle.semver_ranges.specs.BoundsViews.{comparators_of, bounds_fit, range_of_simples};
-ghost use Rattle.semver_ranges.specs.BoundsViews.{range_for, IsBuildable, IsRow};
+ghost use Rattle.semver_ranges.specs.Means.Reading.{read};
+ghost use Rattle.semver_ranges.specs.Means.Answers.{IsAnswer, IsRefusal};
+ghost use Rattle.semver_ranges.specs.Means.RangeEvents.{Event as EventTree, simple_fits};
+ghost use Rattle.semver_ranges.specs.Means.RangeEvents.{event_fits, range_simples, range_others};
+ghost use Rattle.semver_ranges.specs.Means.CursorViews.{HasLeft};
+ghost use Rattle.semver_ranges.specs.Means.PartialViews.{pre_of};
+ghost use Rattle.semver_ranges.specs.Means.BoundsViews.{comparators_of, bounds_fit};
+ghost use Rattle.semver_ranges.specs.Means.BoundsViews.{range_of_simples, range_for, IsBuildable};
+ghost use Rattle.semver_ranges.specs.Means.BoundsViews.{IsRow};
 
 use crate::events::{Event, Events};
 use crate::grammar::read_simple;
@@ -223,7 +224,7 @@ fn parse_with(
     compat: Compat,
     raised: RaisedBounds,
 ) -> Result<RangeSet, RangeError>
-    ensures { IsAnswer (written raised) input.now compat result }
+    ensures { IsAnswer (pre_of raised) input.now compat result }
 {
     let text = input.as_bytes();
     let Some((partial, bounds)) = read_only_simple(text, compat) else {
@@ -295,7 +296,7 @@ fn read_ranges(
     compat: Compat,
     raised: RaisedBounds,
 ) -> Result<RangeSet, RangeError>
-    ensures { IsAnswer (written raised) text.now compat result }
+    ensures { IsAnswer (pre_of raised) text.now compat result }
 {
     let sizes = survey(text, compat)?;
     match build(alloc, text, &sizes, compat, raised) {
@@ -358,7 +359,7 @@ fn build(
     requires { (tree : SetTree) × (read text.now ≡ Some tree) × IsTrue (fits compat tree)
         × (sizes.now.ranges ≡ length tree) }
     ensures { IfOk result (λ ranges. (tree : SetTree) → read text.now ≡ Some tree →
-        map range_of ranges.items ≡ map (range_for (written raised) compat) tree) }
+        map range_of ranges.items ≡ map (range_for (pre_of raised) compat) tree) }
 {
     let mut events = Events::new(text);
     let mut ranges = Vec::with_capacity(alloc, sizes.ranges)?;
@@ -384,7 +385,7 @@ fn build_range(
         × IsTrue (list_all (event_fits compat) es) }
     ensures { IfOk result (λ range. (es : List EventTree) → HasLeft events.old (Some es)
         → IsTrue (list_all (event_fits compat) es) →
-        (range_of range ≡ range_of_simples (written raised) compat (range_simples es))
+        (range_of range ≡ range_of_simples (pre_of raised) compat (range_simples es))
         × HasLeft events.new (Some (range_others es))) }
 {
     let mut comparator_set = Vec::with_capacity(alloc, count)?;

@@ -1,6 +1,6 @@
 use Rattle.std.proofs.Common.{rules, ◌≡◌, ℕ, ◌+◌, ◌≤◌, Bool, false, ◌&&◌, length, get_or, drop, sym, ap, ◌∙◌, arith}
 use Rattle.semver_texts.specs.Texts.{Text}
-use Rattle.semver_ranges.specs.Reading.{in_parts}
+use Rattle.semver_ranges.specs.Means.Reading.{in_parts}
 use Rattle.semver_ranges.proofs.Fronts.{back_stops, back_ends, taken_stops, taken_ends}
 use Rattle.semver_ranges.proofs.PartRuns.{run_pass, run_decides, run-dot, run-stop, run-end, in_parts-not, run_length}
 use Rattle.semver_ranges.proofs.grammar.parts_len.Goals as goal

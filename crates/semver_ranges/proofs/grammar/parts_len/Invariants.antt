@@ -1,5 +1,5 @@
 use Rattle.std.proofs.Common.{◌≡◌, ◌++◌, false, take, drop}
-use Rattle.semver_ranges.specs.Reading.{front, back, in_parts}
+use Rattle.semver_ranges.specs.Means.Reading.{front, back, in_parts}
 use Rattle.semver_ranges.proofs.PartRuns.{run_pass}
 use Rattle.semver_ranges.proofs.grammar.parts_len.Given as goal
 

@@ -8,7 +8,7 @@ use Rattle.semver_ranges.specs.RangeTree.{is_part}
 use Rattle.semver_texts.specs.Texts.{Text}
 use Rattle.semver_texts.specs.Versions.{IdentifierValue}
 use Rattle.semver_ranges.specs.Partials.{kept}
-use Rattle.semver_ranges.specs.Reading.{is_dot}
+use Rattle.semver_ranges.specs.Means.Reading.{is_dot}
 use Rattle.semver_ranges.specs.RangeViews.{identifier_of}
 use Rattle.semver_ranges.proofs.KeptLists.{all_at, mapped_more, mapped_all}
 use Rattle.semver_ranges.proofs.partial.read_identifiers.Goals as goal

@@ -2,16 +2,16 @@ use Rattle.std.proofs.Common.{◌≡◌, ◌+◌, ◌++◌, length, Some, true}
 use Rattle.std.specs.Prelude.{map}
 use Rattle.semver_ranges.specs.RangeTree.{SetTree}
 use Rattle.semver_ranges.specs.RewritingTable.{fits}
-use Rattle.semver_ranges.specs.Reading.{read}
+use Rattle.semver_ranges.specs.Means.Reading.{read}
 use Rattle.semver_ranges.specs.RangeViews.{range_of}
-use Rattle.semver_ranges.specs.PartialViews.{written}
-use Rattle.semver_ranges.specs.BoundsViews.{range_for}
-use Rattle.semver_ranges.specs.RangeEvents.{events_of}
-use Rattle.semver_ranges.specs.CursorViews.{HasLeft}
+use Rattle.semver_ranges.specs.Means.PartialViews.{pre_of}
+use Rattle.semver_ranges.specs.Means.BoundsViews.{range_for}
+use Rattle.semver_ranges.specs.Means.RangeEvents.{events_of}
+use Rattle.semver_ranges.specs.Means.CursorViews.{HasLeft}
 use Rattle.semver_ranges.proofs.range_set.build.Given as goal
 
 abbrev pub invariant-loop-at : goal.invariant-loop-at
 invariant-loop-at l =
     (tree : SetTree) × (left : SetTree) × (read l.text ≡ Some tree) × (fits l.compat left ≡ true) × (l.at + length left ≡ length tree)
     × (l.sizes.ranges ≡ length tree) × HasLeft l.events (Some (events_of left))
-    × (map range_of l.ranges.items ++ map (range_for (written l.raised) l.compat) left ≡ map (range_for (written l.raised) l.compat) tree)
+    × (map range_of l.ranges.items ++ map (range_for (pre_of l.raised) l.compat) left ≡ map (range_for (pre_of l.raised) l.compat) tree)

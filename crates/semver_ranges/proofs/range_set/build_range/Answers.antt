@@ -4,9 +4,9 @@ use Rattle.std.specs.List.{list_all, flat_map}
 use Rattle.std.proofs.lemmas.Bool.{and_parts}
 use Rattle.semver_ranges.specs.RewritingTable.{PlainComparator, written_simple}
 use Rattle.semver_ranges.specs.RangeViews.{comparator_of}
-use Rattle.semver_ranges.specs.PartialViews.{written}
-use Rattle.semver_ranges.specs.RangeEvents.{Event, simple_fits, event_fits, range_simples, range_others}
-use Rattle.semver_ranges.specs.CursorViews.{HasLeft}
+use Rattle.semver_ranges.specs.Means.PartialViews.{pre_of}
+use Rattle.semver_ranges.specs.Means.RangeEvents.{Event, simple_fits, event_fits, range_simples, range_others}
+use Rattle.semver_ranges.specs.Means.CursorViews.{HasLeft}
 use Rattle.semver_ranges.proofs.FoundEvents.{NextSimple, next_simple}
 use Rattle.semver_ranges.proofs.range_set.build_range.Goals as goal
 use Rattle.semver_ranges.proofs.range_set.build_range.Goals.{In-Some-Ok-Simple}
@@ -38,8 +38,8 @@ loop-simple-preserved c = λ es has fits.
     let row = c.rewritten.ensures first.s first.is in
     let fit = and_parts (simple_fits c.args.compat first.s) _ (sym (ap (list_all (event_fits c.args.compat)) first.whole) ∙ so_far.2) in
     let before : List PlainComparator = map comparator_of c.loop-simple.comparator_set.items in
-    let here : List PlainComparator = written_simple (written c.args.raised) c.args.compat first.s in
-    let behind : List PlainComparator = flat_map (written_simple (written c.args.raised) c.args.compat) (range_simples first.behind) in (
+    let here : List PlainComparator = written_simple (pre_of c.args.raised) c.args.compat first.s in
+    let behind : List PlainComparator = flat_map (written_simple (pre_of c.args.raised) c.args.compat) (range_simples first.behind) in (
       first.behind,
       first.has,
       fit.1,
@@ -47,6 +47,6 @@ loop-simple-preserved c = λ es has fits.
       ap (λ (l : List PlainComparator). l ++ behind) (c.in_ok-push.ensures
           ∙ ap (λ (l : List PlainComparator). before ++ l) (row.2 (row.1 ∙ fit.0) c.args.raised))
           ∙ append_assoc before here behind
-          ∙ sym (ap (λ (l : List Event). before ++ flat_map (written_simple (written c.args.raised) c.args.compat) (range_simples l))
+          ∙ sym (ap (λ (l : List Event). before ++ flat_map (written_simple (pre_of c.args.raised) c.args.compat) (range_simples l))
           first.whole) ∙ so_far.4,
     )

@@ -1,8 +1,8 @@
 use Rattle.std.proofs.Common.{◌∷◌, [], sym, ap, ◌∙◌}
 use Rattle.semver_ranges.specs.RangeTree.{simples}
-use Rattle.semver_ranges.specs.Reading.{read}
-use Rattle.semver_ranges.specs.PartialViews.{written}
-use Rattle.semver_ranges.specs.BoundsViews.{comparators_of}
+use Rattle.semver_ranges.specs.Means.Reading.{read}
+use Rattle.semver_ranges.specs.Means.PartialViews.{pre_of}
+use Rattle.semver_ranges.specs.Means.BoundsViews.{comparators_of}
 use Rattle.semver_ranges.proofs.OnlySimples.{one_fits, one_made}
 use Rattle.semver_ranges.proofs.range_set.parse_with.Goals as goal
 
@@ -13,7 +13,7 @@ returns-in-Ok c =
       ap read (sym c.as_bytes-text.ensures.value) ∙ found.1,
       one_fits c.args.compat found.0 found.3,
       c.in-Ok.ensures
-          ∙ one_made (written c.args.raised) c.args.compat found.0 (comparators_of c.args.raised c.in-Some.bounds c.in-Some.partial)
+          ∙ one_made (pre_of c.args.raised) c.args.compat found.0 (comparators_of c.args.raised c.in-Some.bounds c.in-Some.partial)
           (found.2.2 (found.2.1 ∙ found.3) c.args.raised),
     )
 

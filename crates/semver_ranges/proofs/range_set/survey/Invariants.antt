@@ -1,6 +1,6 @@
 use Rattle.std.proofs.Common.{◌≡◌, ◌+◌, ◌≤◌, true, List, Option, length}
-use Rattle.semver_ranges.specs.RangeEvents.{Event, events}
-use Rattle.semver_ranges.specs.CursorViews.{HasLeft}
+use Rattle.semver_ranges.specs.Means.RangeEvents.{Event, events}
+use Rattle.semver_ranges.specs.Means.CursorViews.{HasLeft}
 use Rattle.semver_ranges.proofs.EventSums.{summed}
 use Rattle.semver_ranges.proofs.range_set.survey.Given as goal
 

@@ -3,8 +3,8 @@ use Rattle.std.proofs.lemmas.Bool.{true≢false}
 use Rattle.std.specs.Prelude.{is_some}
 use Rattle.semver_texts.specs.Texts.{Text}
 use Rattle.semver_ranges.specs.RangeTree.{Simple, RangeTree}
-use Rattle.semver_ranges.specs.Reading.{begins_with}
-use Rattle.semver_ranges.specs.RangeEvents.{one_simple, yielded, put_simples, events_left}
+use Rattle.semver_ranges.specs.Means.Reading.{begins_with}
+use Rattle.semver_ranges.specs.Means.RangeEvents.{one_simple, yielded, put_simples, events_left}
 use Rattle.semver_ranges.proofs.ReadingSteps.{shorter_simple, shorter_right, right_ends}
 use Rattle.semver_ranges.proofs.EventSteps.{end_left, simple_left, hyphen_left}
 use Rattle.semver_ranges.proofs.FoundEvents.{sides_first, flag_small}

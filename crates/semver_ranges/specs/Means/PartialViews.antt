@@ -14,12 +14,13 @@ use Rattle.semver_ranges.specs.declared.partial.RaisedBounds.{RaisedBounds}
 use Rattle.semver_ranges.specs.declared.partial.RaisedBounds.TheVariants.{Plain, Exact}
 use Rattle.semver_ranges.specs.declared.partial.Place.{Place}
 use Rattle.semver_ranges.specs.declared.partial.Place.TheVariants.{Major, Minor, Patch}
-use Rattle.semver_ranges.specs.RangeTree.{PartialTree, is_wildcard, is_part}
+use Rattle.semver_ranges.specs.RangeTree.{PartialTree, one, two, three, is_wildcard}
+use Rattle.semver_ranges.specs.RangeTree.{is_part}
 use Rattle.semver_texts.specs.Texts.{Text}
 use Rattle.semver_texts.specs.Versions.{IdentifierValue, PlainVersion}
 use Rattle.semver_ranges.specs.Partials.{fits_u64, kept, stated, zero_filled}
-use Rattle.semver_ranges.specs.Reading.{is_dot}
-use Rattle.semver_ranges.specs.ExactBounds.{lowest_pre_release, exact_bound}
+use Rattle.semver_ranges.specs.Means.Reading.{is_dot}
+use Rattle.semver_ranges.specs.ExactBounds.{lowest_pre_release}
 
 -- the parts of a slice between dots; none where it is empty
 abbrev pub parts_of : Text → List Text
@@ -53,14 +54,10 @@ place_number Major = 1
 place_number Minor = 2
 place_number Patch = 3
 
--- the pre-release of a raised bound, and how the bound is written
+-- the pre-release of a raised bound
 abbrev pub pre_of : RaisedBounds → List IdentifierValue
 pre_of Plain = []
 pre_of Exact = lowest_pre_release
-
-abbrev pub written : RaisedBounds → PlainVersion → PlainVersion
-written Plain = λ bound. bound
-written Exact = exact_bound
 
 -- the value of a number, which is none where it is above 2^64 - 1
 abbrev pub IsValue : ℕ → Option ℕ → Type 0
@@ -87,3 +84,11 @@ IsPartialOf t p =
     (list_all fits_u64 (stated t) ≡ p.fits)
     × (p.fits ≡ true → (stated_of p ≡ stated t) × (version_of p ≡ zero_filled t))
     × (p.fits ≡ false → states_none p.kind ≡ false) × PartsPass p
+
+-- the components of a partial, wildcards for those that it hasn't, and the bytes of its pre-release
+abbrev pub AreComponentsOf : PartialTree → Component → Component → Component → Text → Type 0
+AreComponentsOf (one a) major minor patch pre = IsComponentOf a major × (minor ≡ Wildcard)
+AreComponentsOf (two a b) major minor patch pre =
+    IsComponentOf a major × IsComponentOf b minor × (patch ≡ Wildcard)
+AreComponentsOf (three a b c parts build) major minor patch pre =
+    IsComponentOf a major × IsComponentOf b minor × IsComponentOf c patch × (parts ≡ parts_of pre)

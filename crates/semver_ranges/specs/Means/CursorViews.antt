@@ -4,6 +4,7 @@ use Rattle.std.specs.Prelude.{◌≡◌, ◌+◌, ◌*◌, ◌<◌, ◌≤◌, l
 use Rattle.std.specs.Prelude.{if◌then◌else◌, Option, Some, None, is_some, Result, Ok, Err, List, []}
 use Rattle.std.specs.Prelude.{◌∷◌}
 use Rattle.std.specs.Borrow.{Bor}
+use Rattle.std.specs.List.{list_all}
 use Rattle.semver_ranges.specs.declared.grammar.Form.{Form}
 use Rattle.semver_ranges.specs.declared.grammar.Form.TheVariants as form
 use Rattle.semver_ranges.specs.declared.grammar.Simple.{Simple}
@@ -13,11 +14,12 @@ use Rattle.semver_ranges.specs.declared.events.Events.{Events}
 use Rattle.semver_ranges.specs.declared.range_set.RangeError.{RangeError}
 use Rattle.semver_ranges.specs.declared.range_set.RangeError.TheVariants.{NotARange}
 use Rattle.semver_ranges.specs.RangeTree as tree
+use Rattle.semver_ranges.specs.RangeTree.{three, is_part}
 use Rattle.semver_texts.specs.Texts.{Text}
-use Rattle.semver_ranges.specs.Reading.{parts}
-use Rattle.semver_ranges.specs.RangeEvents as list
-use Rattle.semver_ranges.specs.RangeEvents.{one_simple, next_range, yielded, put, events_left}
-use Rattle.semver_ranges.specs.PartialViews.{IsPartialOf}
+use Rattle.semver_ranges.specs.Means.Reading.{parts, behind_three}
+use Rattle.semver_ranges.specs.Means.RangeEvents as list
+use Rattle.semver_ranges.specs.Means.RangeEvents.{one_simple, next_range, yielded, put, events_left}
+use Rattle.semver_ranges.specs.Means.PartialViews.{parts_of, IsPartialOf}
 
 -- what is found at the front of a text, and what follows it
 abbrev pub Finds : {X A : Type 0} → (X → A → Type 0) → Option (X × Text) → Option (A × Bor Text)
@@ -29,6 +31,14 @@ Finds {X = X} Is o (Some found) = (x : X) × (o ≡ Some (x, found.1.now)) × Is
 abbrev pub marked_parts : ℕ → Text → Option (List Text × Text)
 marked_parts mark [] = Some ([], [])
 marked_parts mark (b ∷ t) = if b == mark then parts t else Some ([], b ∷ t)
+
+-- the parts of a pre-release that stand behind three components, and what follows them and a build
+abbrev pub FindsPre : Text → Option (Bor Text × Bor Text) → Type 0
+FindsPre t None = (a b c : Text) → behind_three a b c t ≡ None
+FindsPre t (Some found) =
+    ((a b c : Text) → (build : List Text)
+    × (behind_three a b c t ≡ Some (three a b c (parts_of found.0.now) build, found.1.now)))
+    × (list_all is_part (parts_of found.0.now) ≡ true)
 
 -- what stands before a partial
 abbrev pub form_of : Form → tree.Form

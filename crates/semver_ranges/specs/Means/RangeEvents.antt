@@ -9,7 +9,8 @@ use Rattle.semver_texts.specs.Texts.{Text}
 use Rattle.semver_ranges.specs.Partials.{states_nothing}
 use Rattle.semver_ranges.specs.Terms.{of_simple, left_side, right_side}
 use Rattle.semver_ranges.specs.RewritingTable.{term_fits}
-use Rattle.semver_ranges.specs.Reading.{all_simples, range_here, behind_range, behind_bars, read}
+use Rattle.semver_ranges.specs.Means.Reading.{all_simples, range_here, behind_range, behind_bars}
+use Rattle.semver_ranges.specs.Means.Reading.{read}
 
 -- an event: a simple of the range, or two bars
 pub data Event : Type 0 where

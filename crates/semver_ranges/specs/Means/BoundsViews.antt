@@ -12,14 +12,14 @@ use Rattle.semver_ranges.specs.declared.range.Op.TheVariants.{Lt, Gte}
 use Rattle.semver_ranges.specs.declared.rewriting.Bounds.{Bounds}
 use Rattle.semver_ranges.specs.declared.rewriting.Bounds.TheVariants.{Against, Below, Between}
 use Rattle.semver_ranges.specs.RangeTree.{Simple, RangeTree}
-use Rattle.semver_texts.specs.Versions.{PlainVersion}
-use Rattle.semver_ranges.specs.RewritingTable.{PlainComparator, PlainRange, comparator, up, Cell}
-use Rattle.semver_ranges.specs.RewritingTable.{from_zero, below_zero, against, below, between}
+use Rattle.semver_texts.specs.Versions.{IdentifierValue, PlainVersion}
+use Rattle.semver_ranges.specs.RewritingTable.{PlainComparator, PlainRange, comparator, up_with}
+use Rattle.semver_ranges.specs.RewritingTable.{Cell, from_zero, below_zero, against, below, between}
 use Rattle.semver_ranges.specs.RewritingTable.{cell_raised, bound_fits, written_simple}
 use Rattle.semver_ranges.specs.RewritingTable.{written_range}
-use Rattle.semver_ranges.specs.PartialViews.{stated_of, version_of, place_number, written}
-use Rattle.semver_ranges.specs.PartialViews.{PartsPass}
-use Rattle.semver_ranges.specs.RangeEvents.{simple_fits}
+use Rattle.semver_ranges.specs.Means.PartialViews.{stated_of, version_of, place_number, pre_of}
+use Rattle.semver_ranges.specs.Means.PartialViews.{PartsPass}
+use Rattle.semver_ranges.specs.Means.RangeEvents.{simple_fits}
 
 -- the cell of the table
 abbrev pub cell_of : Bounds → Cell
@@ -67,7 +67,7 @@ compared (Some op) v = comparator op v ∷ []
 
 abbrev pub raised_at : RaisedBounds → Option Place → List ℕ → List PlainComparator
 raised_at raised None s = []
-raised_at raised (Some place) s = comparator Lt (written raised (up (place_number place) s)) ∷ []
+raised_at raised (Some place) s = comparator Lt (up_with (pre_of raised) (place_number place) s) ∷ []
 
 abbrev pub comparators_of : RaisedBounds → Bounds → Partial → List PlainComparator
 comparators_of raised b p =
@@ -77,12 +77,12 @@ comparators_of raised b p =
 abbrev pub IsRow : Compat → Simple → Partial → Bounds → Type 0
 IsRow mode s p b = IsBuildable b p × (bounds_fit b p ≡ simple_fits mode s)
     × (bounds_fit b p ≡ true → (raised : RaisedBounds)
-    → comparators_of raised b p ≡ written_simple (written raised) mode s)
+    → comparators_of raised b p ≡ written_simple (pre_of raised) mode s)
 
 -- simples and a range in a mode, as they are rewritten
-abbrev pub range_of_simples : (PlainVersion → PlainVersion) → Compat → List Simple → PlainRange
-range_of_simples write mode ss =
-    record { comparators = flat_map (written_simple write mode) ss; compat = mode }
+abbrev pub range_of_simples : List IdentifierValue → Compat → List Simple → PlainRange
+range_of_simples bound_pre mode ss =
+    record { comparators = flat_map (written_simple bound_pre mode) ss; compat = mode }
 
-abbrev pub range_for : (PlainVersion → PlainVersion) → Compat → RangeTree → PlainRange
-range_for write mode r = record { comparators = written_range write mode r; compat = mode }
+abbrev pub range_for : List IdentifierValue → Compat → RangeTree → PlainRange
+range_for bound_pre mode r = record { comparators = written_range bound_pre mode r; compat = mode }

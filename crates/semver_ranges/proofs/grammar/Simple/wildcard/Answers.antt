@@ -1,0 +1,6 @@
+use Rattle.std.proofs.Common.{codes, refl}
+use Rattle.semver_ranges.specs.RangeTree.{one}
+use Rattle.semver_ranges.proofs.grammar.Simple.wildcard.Goals as goal
+
+pub returns : goal.returns
+returns c = (refl, c.new.ensures (one (codes "*")) (refl, refl))

@@ -1,0 +1,6 @@
+pub mod Reading
+pub mod RangeEvents
+pub mod Answers
+pub mod PartialViews
+pub mod CursorViews
+pub mod BoundsViews
