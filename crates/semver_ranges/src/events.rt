@@ -4,7 +4,8 @@
 
 ghost use Rattle.std.specs.Prelude.{◌≡◌, ◌<◌, ◌≤◌, ◌++◌, Some, None, true, false, length, codes};
 ghost use Rattle.semver_ranges.specs.RangeTree.{Simple as SimpleTree, PartialTree, hyphen};
-ghost use Rattle.semver_ranges.specs.Means.Reading.{ends_range, right_side, with_right};
+ghost use Rattle.semver_ranges.specs.Means.Reading.{ends_range, simple, right_side};
+ghost use Rattle.semver_ranges.specs.Means.Reading.{with_right};
 ghost use Rattle.semver_ranges.specs.Means.PartialViews.{IsPartialOf};
 ghost use Rattle.semver_ranges.specs.Means.RangeEvents.{yielded, events};
 ghost use Rattle.semver_ranges.specs.Means.CursorViews.{AreSides, FindsSides, TakesEvent, HasLeft};
@@ -91,17 +92,29 @@ impl<'input> Events<'input> {
     {
         let (simple, rest) = read_simple(self.rest)?;
         match after_byte(rest, b'-') {
-            Some(behind) if begins_range => {
-                let (lower, upper, rest) = read_hyphen_range(simple, behind)?;
-                self.rest = rest;
-                self.upper = upper;
-                Some(Event::Simple(lower))
-            }
+            Some(behind) if begins_range => self.read_sides(simple, behind),
             _ => {
                 self.rest = rest;
                 Some(Event::Simple(simple))
             }
         }
+    }
+
+    /// Goes on behind a hyphen range, whose left side and hyphen were read. For speed it is a
+    /// function of its own: its locals cost only where it is called.
+    #[inline(always)]
+    fn read_sides(&mut self, left: Simple<'input>, behind: &'input [u8]) -> Option<Event<'input>>
+        requires alone { self.old.upper ≡ None }
+        requires begun { self.old.begins_range ≡ false }
+        requires goes_on { ends_range self.old.rest.now ≡ false }
+        requires left { (s : SimpleTree) × IsSimpleOf s left
+            × (simple self.old.rest.now ≡ Some (s, codes "-" ++ behind.now)) }
+        ensures { TakesEvent true self.old.rest.now result self.new }
+    {
+        let (lower, upper, rest) = read_hyphen_range(left, behind)?;
+        self.rest = rest;
+        self.upper = upper;
+        Some(Event::Simple(lower))
     }
 }
 
