@@ -108,7 +108,7 @@ fn read_operator(text: &[u8]) -> (Form, &[u8])
 fn read_partial(text: &[u8]) -> Option<(Partial<'_>, &[u8])>
     ensures { Finds IsPartialOf (partial text.now) result }
 {
-    let (partial, rest) = read_first(text)?;
+    let (partial, rest) = read_components(text)?;
     if ends_word(rest) {
         Some((partial, rest))
     } else {
@@ -116,41 +116,21 @@ fn read_partial(text: &[u8]) -> Option<(Partial<'_>, &[u8])>
     }
 }
 
-/// A partial from its first component on.
+/// The partial at the front of a text, whatever follows it.
 #[inline(always)]
-fn read_first(text: &[u8]) -> Option<(Partial<'_>, &[u8])>
+fn read_components(text: &[u8]) -> Option<(Partial<'_>, &[u8])>
     ensures { Finds IsPartialOf (with_first (component text.now)) result }
 {
+    let none = Component::Wildcard;
     let (major, rest) = read_component(text)?;
-    match after_byte(rest, b'.') {
-        Some(behind) => read_minor(major, behind),
-        None => {
-            let partial = Partial::new(major, Component::Wildcard, Component::Wildcard, &[]);
-            Some((partial, rest))
-        }
-    }
-}
-
-/// A partial from its second component on.
-#[inline(always)]
-fn read_minor(major: Component, text: &[u8]) -> Option<(Partial<'_>, &[u8])>
-    ensures { (a : Text) → IsComponentOf a major
-        → Finds IsPartialOf (with_second a (component text.now)) result }
-{
-    let (minor, rest) = read_component(text)?;
-    match after_byte(rest, b'.') {
-        Some(behind) => read_patch(major, minor, behind),
-        None => Some((Partial::new(major, minor, Component::Wildcard, &[]), rest)),
-    }
-}
-
-/// A partial from its third component on.
-#[inline(always)]
-fn read_patch(major: Component, minor: Component, text: &[u8]) -> Option<(Partial<'_>, &[u8])>
-    ensures { (a b : Text) → IsComponentOf a major → IsComponentOf b minor
-        → Finds IsPartialOf (with_third a b (component text.now)) result }
-{
-    let (patch, rest) = read_component(text)?;
+    let Some(behind) = after_byte(rest, b'.') else {
+        return Some((Partial::new(major, none, none, &[]), rest));
+    };
+    let (minor, rest) = read_component(behind)?;
+    let Some(behind) = after_byte(rest, b'.') else {
+        return Some((Partial::new(major, minor, none, &[]), rest));
+    };
+    let (patch, rest) = read_component(behind)?;
     let (pre, rest) = read_qualifier(rest)?;
     Some((Partial::new(major, minor, patch, pre), rest))
 }
