@@ -1,4 +1,3 @@
 pub mod Joins
 pub mod Numerals
-pub mod DecimalSteps
 pub mod Numbers

@@ -1,17 +1,26 @@
 -- Texts, and the numbers that they spell.
-use Rattle.std.proofs.Common.{◌≡◌, ℕ, ◌^◌, ◌<◌, ◌≢◌, true, false, List, [], ◌∷◌, length, get_or, Ok, Err, sym, refl, ap, ◌∙◌, subst, ⊎_elim}
-use Rattle.std.proofs.Common.{arith, decimal, ◌⊎◌}
-use Rattle.std.specs.Char.{is_ascii_digit}
+use Rattle.std.proofs.Common.{◌≡◌, ℕ, ◌^◌, ◌<◌, ◌≢◌, Bool, true, false, cond, eqb, List, [], ◌∷◌, ◌++◌, length, take, drop, map, get_or}
+use Rattle.std.proofs.Common.{sym, refl, ap, ◌∙◌, subst, ⊎_elim}
+use Rattle.std.proofs.Common.{arith, decimal, ◌⊎◌, ◌+◌, ◌-◌, ◌*◌, ◌≤◌, one-add, append_assoc, append-nil, length-drop}
+use Rattle.std.proofs.Math.Seq.{take-length}
+use Rattle.std.specs.Char.{is_ascii_digit, digit_value}
 use Rattle.std.specs.Str.{all_ascii_digits}
-use Rattle.std.specs.Str.Parse.{digits_value, ParsesUnsigned}
-use Rattle.std.proofs.lemmas.Str.Parse.{parse_plain}
+use Rattle.std.specs.Prelude.{slice_index}
+use Rattle.std.specs.List.{prefix_len, join_with_byte}
+use Rattle.std.specs.Str.Parse.{digits_value}
 use Rattle.std.proofs.lemmas.Fmt.{digits_decimal, digits_value-decimal, decimal-digits_value, decimal_digit, decimal_nonempty}
-use Rattle.std.proofs.lemmas.Fmt.{first_decimal}
+use Rattle.std.proofs.lemmas.Fmt.{first_decimal, decimal_injective}
+use Rattle.std.proofs.lemmas.Str.{digit_value_digit}
+use Rattle.std.proofs.lemmas.Str.Parse.{digits_value-take-le}
+use Rattle.std.proofs.lemmas.Int.Digits.{digits_value_more}
+use Rattle.std.proofs.lemmas.List.Sums.{prefix_len-drop_yes}
+use Rattle.std.proofs.lemmas.List.{take_at, drop_at, take-append-drop, take-take}
+use Rattle.std.proofs.lemmas.List.Folds.{length-prefix_len}
 use Rattle.std.proofs.lemmas.Bool.{and_parts}
 use Rattle.std.proofs.lemmas.Grind.{common_steps}
 use Rattle.semver_texts.proofs.Numerals.{own}
-use Rattle.semver_texts.specs.Texts.{IsNumber}
-use Rattle.semver_texts.specs.Means.Decimals.{begins_number, is_number}
+use Rattle.semver_texts.specs.Texts.{IsNumber, BeginsWithNumber, BeginsWithNumbers}
+use Rattle.semver_texts.specs.Means.Decimals.{is_number, digits_front}
 
 -- what makes a run a number
 pub record IsCanonical (run : List ℕ) : Type 0 where
@@ -52,53 +61,209 @@ digits_value_number run n small e = ap (digits_value 10) e ∙ digits_value-deci
 pub canonical_from_IsNumber : (run : List ℕ) → IsNumber run → IsCanonical run
 canonical_from_IsNumber run number = subst IsCanonical (sym number.2) (canonical_decimal number.0 number.1)
 
--- ---- what `parse` reads
+-- ---- a number at the front of a text
 
-begins : (bs : List ℕ) → 0 < length bs → is_ascii_digit (get_or bs 0 0) ≡ true → (get_or bs 0 0 ≡ 48 → length bs ≡ 1)
-    → begins_number bs ≡ true
-begins [] some digit no_zero = absurd (omega (arith, some))
-begins (b ∷ []) some digit no_zero = digit
-begins (b ∷ c ∷ bs) some digit no_zero = grind (arith, common_steps)
+digits_end : (ds rest : List ℕ) → all_ascii_digits ds ≡ true → is_ascii_digit (slice_index rest 0) ≡ false
+    → prefix_len is_ascii_digit (ds ++ rest) ≡ length ds
+digits_end [] [] all ended = refl
+digits_end [] (b ∷ rest) all ended = rw ended
+digits_end (d ∷ ds) rest all ended =
+    let parts = and_parts (is_ascii_digit d) (all_ascii_digits ds) all in rw (parts.0, digits_end ds rest parts.1 ended, one-add)
 
-begins_digit : (bs : List ℕ) → begins_number bs ≡ true → is_ascii_digit (get_or bs 0 0) ≡ true
-begins_digit [] e = cc
-begins_digit (b ∷ []) e = e
-begins_digit (b ∷ c ∷ bs) e = (and_parts (is_ascii_digit b) _ e).0
-
-begins_no_zero : (bs : List ℕ) → begins_number bs ≡ true → get_or bs 0 0 ≡ 48 → length bs ≡ 1
-begins_no_zero [] e zero = cc
-begins_no_zero (b ∷ []) e zero = refl
-begins_no_zero (b ∷ c ∷ bs) e zero = grind (arith, common_steps)
-
-no_plus : (bs : List ℕ) → begins_number bs ≡ true → get_or bs 0 0 ≢ 43
-no_plus bs e plus = let d : is_ascii_digit 43 ≡ true = ap is_ascii_digit (sym plus) ∙ begins_digit bs e in cc
-
--- a number begins with a digit, which is no zero where more follows
-pub number_begins : (bs : List ℕ) → begins_number bs ≡ false → ¬ (IsNumber bs)
-number_begins bs e number =
-    let c = canonical_from_IsNumber bs number in
-    let yes : begins_number bs ≡ true = begins bs (number_some bs number)
-    (first_digit bs (number_some bs number) c.digits) c.no_leading_zero in cc
+front_digits : (text : List ℕ) → all_ascii_digits (digits_front text) ≡ true
+front_digits [] = refl
+front_digits (b ∷ text) = by (is_ascii_digit b) refl (front_digits text)
   where
-    number_some : (bs : List ℕ) → IsNumber bs → 0 < length bs
-    number_some bs number = subst (λ (l : List ℕ). 0 < length l) (sym number.2) (decimal_nonempty number.0 number.1)
+    by : (e : Bool) → is_ascii_digit b ≡ e → all_ascii_digits (digits_front text) ≡ true
+        → all_ascii_digits (take (cond e (1 + prefix_len is_ascii_digit text) 0) (b ∷ text)) ≡ true
+    by true e more = rw (one-add, e, more)
+    by false e more = refl
 
-    first_digit : (bs : List ℕ) → 0 < length bs → all_ascii_digits bs ≡ true → is_ascii_digit (get_or bs 0 0) ≡ true
-    first_digit [] some all = absurd (omega (arith, some))
-    first_digit (b ∷ bs) some all = (and_parts (is_ascii_digit b) (all_ascii_digits bs) all).0
-
-pub parsed_number : (bs : List ℕ) (n : ℕ) → begins_number bs ≡ true → ParsesUnsigned {E = Unit {0}} 64 10 bs (Ok n)
-    → (n < 2 ^ 64) × (bs ≡ decimal n)
-parsed_number bs n e h =
-    let p = parse_plain own {E = Unit {0}} 64 bs (Ok n) h (no_plus bs e) in
-    let c : IsCanonical bs = record { digits = p.0.0; no_leading_zero = begins_no_zero bs e; small = p.0.2 } in
-    (subst (λ k. k < 2 ^ 64) (sym p.1) p.0.2, sym (ap decimal p.1 ∙ decimal_canonical bs p.0.1 c))
-
-pub parsed_other : (bs : List ℕ) → begins_number bs ≡ true → ParsesUnsigned {E = Unit {0}} 64 10 bs (Err tt) → ¬ (IsNumber bs)
-parsed_other bs e h number =
-    let c = canonical_from_IsNumber bs number in
-    parse_plain own {E = Unit {0}} 64 bs (Err tt) h (no_plus bs e) (c.digits, begins_some bs e, c.small)
+front_ended : (text : List ℕ) → is_ascii_digit (slice_index (drop (prefix_len is_ascii_digit text) text) 0) ≡ false
+front_ended [] = refl
+front_ended (b ∷ text) = by (is_ascii_digit b) refl (front_ended text)
   where
-    begins_some : (bs : List ℕ) → begins_number bs ≡ true → 0 < length bs
-    begins_some [] e = cc
-    begins_some (b ∷ bs) e = omega arith
+    by : (e : Bool) → is_ascii_digit b ≡ e → is_ascii_digit (slice_index (drop (prefix_len is_ascii_digit text) text) 0) ≡ false
+        → is_ascii_digit (slice_index (drop (cond e (1 + prefix_len is_ascii_digit text) 0) (b ∷ text)) 0) ≡ false
+    by true e more = rw one-add more
+    by false e more = e
+
+-- the digits at the front are the number's decimal
+front_is : (text : List ℕ) (n : ℕ) (rest : List ℕ) → BeginsWithNumber text n rest
+    → (digits_front text ≡ decimal n) × (rest ≡ drop (length (digits_front text)) text)
+front_is text n rest w =
+    let len : prefix_len is_ascii_digit text ≡ length (decimal n) =
+    ap (prefix_len is_ascii_digit) w.split ∙ digits_end (decimal n) rest (canonical_decimal n w.fits).digits w.ended in
+    let front : digits_front text ≡ decimal n =
+    (λ i. take (len i) (w.split i)) ∙ take_at (decimal n) rest (length (decimal n)) refl in (
+      front,
+      sym ((λ i. drop (length (front i)) (w.split i)) ∙ drop_at (decimal n) rest (length (decimal n)) refl),
+    )
+
+front_canonical : (text : List ℕ) (n : ℕ) (rest : List ℕ) → BeginsWithNumber text n rest
+    → (0 < length (digits_front text)) × IsCanonical (digits_front text)
+front_canonical text n rest w =
+    let front = (front_is text n rest w).0 in (
+      subst (λ (l : List ℕ). 0 < length l) (sym front) (decimal_nonempty n w.fits),
+      subst IsCanonical (sym front) (canonical_decimal n w.fits),
+    )
+
+-- and where they are canonical, they are that of a number
+front_begins : (text : List ℕ) → 0 < length (digits_front text) → (get_or (digits_front text) 0 0 ≡ 48 → length (digits_front text) ≡ 1)
+    → digits_value 10 (digits_front text) < 2 ^ 64
+    → BeginsWithNumber text (digits_value 10 (digits_front text)) (drop (length (digits_front text)) text)
+front_begins text some no_zero small = record {
+  fits = small;
+  split = sym (ap (λ (l : List ℕ). l ++ drop (length (digits_front text)) text)
+      (decimal_canonical (digits_front text) some (record { digits = front_digits text; no_leading_zero = no_zero; small = small }))
+      ∙ ap (λ (k : ℕ). digits_front text ++ drop k text) (length-prefix_len is_ascii_digit text)
+      ∙ take-append-drop (prefix_len is_ascii_digit text) text);
+  ended = ap (λ (k : ℕ). is_ascii_digit (slice_index (drop k text) 0)) (length-prefix_len is_ascii_digit text) ∙ front_ended text;
+}
+
+first_of_front : (text : List ℕ) → 0 < length (digits_front text) → get_or (digits_front text) 0 0 ≡ get_or text 0 0
+first_of_front [] some = refl
+first_of_front (b ∷ text) some = by (is_ascii_digit b) some
+  where
+    by : (e : Bool) → 0 < length (take (cond e (1 + prefix_len is_ascii_digit text) 0) (b ∷ text))
+        → get_or (take (cond e (1 + prefix_len is_ascii_digit text) 0) (b ∷ text)) 0 0 ≡ b
+    by true some = rw one-add refl
+    by false some = absurd (omega (arith, some))
+
+-- what was read is a number, where it has no leading zero
+pub number_read : (text rest : List ℕ) (n len : ℕ) → n < 2 ^ 64 → n ≡ digits_value 10 (digits_front text)
+    → len ≡ length (digits_front text) → 0 < len → (get_or text 0 0 ≡ 48 → len ≡ 1) → rest ≡ take (length text - len) (drop len text)
+    → BeginsWithNumber text n rest
+number_read text rest n len small is count some no_zero behind =
+    let filled : 0 < length (digits_front text) = omega (arith, some, count) in
+    let left : rest ≡ drop (length (digits_front text)) text =
+    behind ∙ ap (λ (k : ℕ). take k (drop len text)) (sym (length-drop len text)) ∙ take-length (drop len text)
+    ∙ ap (λ (k : ℕ). drop k text) count in
+    subst (λ (l : List ℕ). BeginsWithNumber text n l) (sym left)
+    (subst (λ (m : ℕ). BeginsWithNumber text m (drop (length (digits_front text)) text)) (sym is)
+    (front_begins text filled (λ z. sym count ∙ no_zero (sym (first_of_front text filled) ∙ z)) (subst (λ (m : ℕ). m < 2 ^ 64) is small)))
+
+-- and else there is none
+pub none_read : (text : List ℕ) (len : ℕ) → len ≡ length (digits_front text) → (len ≡ 0) ⊎ ((get_or text 0 0 ≡ 48) × (len ≢ 1))
+    → (n : ℕ) (rest : List ℕ) → ¬ (BeginsWithNumber text n rest)
+none_read text len count other n rest w =
+    let c = front_canonical text n rest w in
+    ⊎_elim (λ none. absurd (omega (arith, c.0, count, none)))
+    (λ zero. zero.1 (count ∙ c.1.no_leading_zero (first_of_front text c.0 ∙ zero.0))) other
+
+pub too_large : (text : List ℕ) → 2 ^ 64 ≤ digits_value 10 (digits_front text) → (n : ℕ) (rest : List ℕ) → ¬ (BeginsWithNumber text n rest)
+too_large text large n rest w = absurd (omega (arith, large, (front_canonical text n rest w).1.small))
+
+-- it is one number
+pub same_number : (text : List ℕ) (n m : ℕ) (rest more : List ℕ) → BeginsWithNumber text n rest → BeginsWithNumber text m more
+    → (n ≡ m) × (rest ≡ more)
+same_number text n m rest more a b =
+    let front = front_is text n rest a in
+    let again = front_is text m more b in
+    (decimal_injective n m a.fits b.fits (sym front.0 ∙ again.0), front.1 ∙ sym again.1)
+
+-- a whole text that is a number begins with it
+begins_whole : (text : List ℕ) → (number : IsNumber text) → BeginsWithNumber text number.0 []
+begins_whole text number = record { fits = number.1; split = number.2 ∙ sym (append-nil (decimal number.0)); ended = refl }
+
+pub none_whole : (text : List ℕ) → ((n : ℕ) (rest : List ℕ) → ¬ (BeginsWithNumber text n rest)) → ¬ (IsNumber text)
+none_whole text none number = none number.0 [] (begins_whole text number)
+
+pub more_behind : (text rest : List ℕ) (n : ℕ) → BeginsWithNumber text n rest → eqb (length rest) 0 ≡ false → ¬ (IsNumber text)
+more_behind text [] n begins some number = cc
+more_behind text (b ∷ rest) n begins some number =
+    absurd (omega (arith, ap length (same_number text number.0 n [] (b ∷ rest) (begins_whole text number) begins).1))
+
+-- ---- three of them, joined by dots
+
+-- what each of the three is
+record AreThree (text : List ℕ) (major minor patch : ℕ) (rest : List ℕ) : Type 0 where
+  second : List ℕ
+  third : List ℕ
+  first_is : BeginsWithNumber text major (46 ∷ second)
+  second_is : BeginsWithNumber second minor (46 ∷ third)
+  third_is : BeginsWithNumber third patch rest
+
+three_apart : (text : List ℕ) (major minor patch : ℕ) (rest : List ℕ) → BeginsWithNumbers text major minor patch rest
+    → AreThree text major minor patch rest
+three_apart text major minor patch rest w = record {
+  second = decimal minor ++ (46 ∷ (decimal patch ++ rest));
+  third = decimal patch ++ rest;
+  first_is = record { fits = w.major_fits; split = w.split ∙ grouped; ended = refl };
+  second_is = record { fits = w.minor_fits; split = refl; ended = refl };
+  third_is = record { fits = w.patch_fits; split = refl; ended = w.ended };
+}
+  where
+    grouped : join_with_byte 46 (map decimal (major ∷ minor ∷ patch ∷ [])) ++ rest
+        ≡ decimal major ++ (46 ∷ (decimal minor ++ (46 ∷ (decimal patch ++ rest))))
+    grouped = simp append_assoc
+
+-- where none follows the first, or the second, there aren't three
+abbrev pub NoneBehindDot : List ℕ → Type 0
+NoneBehindDot text = (n : ℕ) (behind more : List ℕ) → text ≡ 46 ∷ behind → ¬ (BeginsWithNumber behind n more)
+
+abbrev pub NotThree : List ℕ → Type 0
+NotThree text = (major minor patch : ℕ) (rest : List ℕ) → ¬ (BeginsWithNumbers text major minor patch rest)
+
+pub no_second : (text rest : List ℕ) (n : ℕ) → BeginsWithNumber text n rest → NoneBehindDot rest → NotThree text
+no_second text rest n first none major minor patch more w =
+    let a = three_apart text major minor patch more w in
+    none minor a.second (46 ∷ a.third) (sym (same_number text major n _ rest a.first_is first).1) a.second_is
+
+tails : {x y : ℕ} {xs ys : List ℕ} → x ∷ xs ≡ y ∷ ys → xs ≡ ys
+tails e = cc
+
+pub no_third : (text second rest : List ℕ) (n m : ℕ) → BeginsWithNumber text n (46 ∷ second) → BeginsWithNumber second m rest
+    → NoneBehindDot rest → NotThree text
+no_third text second rest n m first next none major minor patch more w =
+    let a = three_apart text major minor patch more w in
+    let same : a.second ≡ second = tails (same_number text major n _ _ a.first_is first).1 in
+    none patch a.third more
+    (sym (same_number second minor m _ rest (subst (λ (l : List ℕ). BeginsWithNumber l minor (46 ∷ a.third)) same a.second_is) next).1)
+    a.third_is
+
+-- what follows the three is one text
+pub same_rest : (text : List ℕ) (major minor patch major' minor' patch' : ℕ) (rest more : List ℕ)
+    → BeginsWithNumbers text major minor patch rest → BeginsWithNumbers text major' minor' patch' more → rest ≡ more
+same_rest text major minor patch major' minor' patch' rest more v w =
+    let a = three_apart text major minor patch rest v in
+    let b = three_apart text major' minor' patch' more w in
+    let second : a.second ≡ b.second = tails (same_number text major major' _ _ a.first_is b.first_is).1 in
+    let third : a.third ≡ b.third = tails (same_number b.second minor minor' _ _
+    (subst (λ (l : List ℕ). BeginsWithNumber l minor (46 ∷ a.third)) second a.second_is) b.second_is).1 in
+    (same_number b.third patch patch' rest more (subst (λ (l : List ℕ). BeginsWithNumber l patch rest) third a.third_is) b.third_is).1
+
+-- ---- digit by digit
+
+-- the digits before a place are at the front, and it goes on at it
+abbrev pub GoesOn : List ℕ → ℕ → Type 0
+GoesOn text at = prefix_len is_ascii_digit text ≡ at + prefix_len is_ascii_digit (drop at text)
+
+-- at a place where no digit follows, they are all of them
+pub front_read : (text : List ℕ) (at n : ℕ) → at ≤ length text → prefix_len is_ascii_digit (drop at text) ≡ 0
+    → n ≡ digits_value 10 (take at text) → GoesOn text at
+    → (n ≡ digits_value 10 (digits_front text)) × (at ≡ length (digits_front text))
+front_read text at n within none is on =
+    let all : prefix_len is_ascii_digit text ≡ at = omega (arith, on, none) in (
+      is ∙ ap (λ (k : ℕ). digits_value 10 (take k text)) (sym all),
+      sym (length-prefix_len is_ascii_digit text ∙ all),
+    )
+
+-- one digit more
+pub value_more : (text : List ℕ) (at n : ℕ) → at < length text → is_ascii_digit (get_or text at 0) ≡ true
+    → n ≡ digits_value 10 (take at text) → n * 10 + (get_or text at 0 - 48) ≡ digits_value 10 (take (at + 1) text)
+value_more text at n within digit is =
+    let range : (48 ≤ get_or text at 0) × (get_or text at 0 ≤ 57) = grind arith in
+    let value : digit_value (get_or text at 0) ≡ get_or text at 0 - 48 = omega (arith, digit_value_digit (get_or text at 0) range) in
+    (λ i. is i * 10 + sym value i) ∙ sym (digits_value_more 10 text at within)
+
+pub goes_on : (text : List ℕ) (at : ℕ) → at < length text → is_ascii_digit (get_or text at 0) ≡ true → GoesOn text at
+    → GoesOn text (at + 1)
+goes_on text at within digit on = omega (arith, on, prefix_len-drop_yes is_ascii_digit text at 0 within digit)
+
+-- the digits before a place write no more than all at the front
+pub value_before : (text : List ℕ) (at : ℕ) → GoesOn text at → digits_value 10 (take at text) ≤ digits_value 10 (digits_front text)
+value_before text at on =
+    subst (λ (l : List ℕ). digits_value 10 l ≤ digits_value 10 (digits_front text))
+    (take-take at (prefix_len is_ascii_digit text) text (omega (arith, on)))
+    (digits_value-take-le 10 (digits_front text) at (omega arith))

@@ -1,7 +1,7 @@
 -- Texts as their bytes, and how they are joined.
 use Rattle.std.specs.Prelude.{◌≡◌, ℕ, ◌^◌, ◌<◌, Bool, true, false, ◌||◌, ◌==◌, List, [], ◌∷◌, ◌++◌}
-use Rattle.std.specs.Prelude.{length, IsTrue, decimal}
-use Rattle.std.specs.Char.{is_ascii_alphanumeric}
+use Rattle.std.specs.Prelude.{length, map, slice_index, IsTrue, decimal}
+use Rattle.std.specs.Char.{is_ascii_alphanumeric, is_ascii_digit}
 use Rattle.std.specs.List.{AllByRecursion, join_with_byte}
 
 -- a text, as its bytes
@@ -33,6 +33,20 @@ IsRun bytes = (0 < length bytes) × AllByRecursion (λ b. IsTrue (is_ascii_alpha
 -- the canonical decimal of a number below 2^64
 abbrev pub IsNumber : List ℕ → Type 0
 IsNumber bytes = (n : ℕ) × (n < 2 ^ 64) × (bytes ≡ decimal n)
+
+-- the text begins with this number, and goes on with what doesn't begin with a digit
+pub record BeginsWithNumber (text : Text) (n : ℕ) (rest : Text) : Type 0 where
+  pub fits : n < 2 ^ 64
+  pub split : text ≡ decimal n ++ rest
+  pub ended : is_ascii_digit (slice_index rest 0) ≡ false
+
+-- so with three numbers joined by dots
+pub record BeginsWithNumbers (text : Text) (major minor patch : ℕ) (rest : Text) : Type 0 where
+  pub major_fits : major < 2 ^ 64
+  pub minor_fits : minor < 2 ^ 64
+  pub patch_fits : patch < 2 ^ 64
+  pub split : text ≡ join_with_byte 46 (map decimal (major ∷ minor ∷ patch ∷ [])) ++ rest
+  pub ended : is_ascii_digit (slice_index rest 0) ≡ false
 
 -- texts joined by another
 abbrev pub joined : Text → List Text → Text

@@ -1,56 +1,69 @@
 //! Numbers: canonical decimals, which are `0`, or digits that don't begin with `0`.
-ghost use Rattle.std.specs.Prelude.{◌≡◌, ◌<◌, ◌^◌, ◌++◌, [], ◌∷◌, map, decimal, IfSome};
-ghost use Rattle.std.specs.Prelude.{MatchOption};
-ghost use Rattle.std.specs.List.{join_with_byte};
-ghost use Rattle.semver_texts.specs.Texts.{IsNumber};
-ghost use Rattle.semver_texts.specs.Means.Decimals.{begins_number};
+ghost use Rattle.std.specs.Prelude.{◌≡◌, ℕ, ◌+◌, ◌*◌, ◌<◌, ◌≤◌, ◌^◌, ◌⊎◌, ◌≢◌, ◌∷◌, length};
+ghost use Rattle.std.specs.Prelude.{decimal};
+ghost use Rattle.std.specs.Prelude.{true, false, slice_index, MatchOption};
+ghost use Rattle.std.specs.Str.Parse.{digits_value};
+ghost use Rattle.semver_texts.specs.Texts.{Text, IsNumber, BeginsWithNumber, BeginsWithNumbers};
+ghost use Rattle.semver_texts.specs.Means.Decimals.{digits_front};
 
-/// What is below this may be multiplied by ten and a digit added.
+/// For speed: what is below this may be multiplied by ten and a digit added without a test.
 const LIMIT: u64 = 1_000_000_000_000_000_000;
 
-/// The number of a first digit and the digits behind it, and what follows them; none from twenty
-/// digits on.
+/// The number with one digit more behind it.
 #[inline(always)]
-fn more_digits(bytes: &[u8], first: u64) -> Option<(u64, &[u8])>
-    requires positive { 0 < first }
-    requires digit { first < 10 }
-    ensures { IfSome result (λ r. (decimal first ++ bytes.now ≡ decimal r.0 ++ r.1.now)
-        × (r.0 < 2 ^ 64)) }
+fn with_digit(number: u64, digit: u8) -> Option<u64>
+    requires { digit < 10 }
+    ensures { MatchOption result (2 ^ 64 ≤ number * 10 + digit)
+        (λ n. (n < 2 ^ 64) × (n ≡ number * 10 + digit)) }
 {
-    let mut value = first;
-    'digits: for at in 0..bytes.len() {
+    if number < LIMIT {
+        return Some(number * 10 + u64::from(digit));
+    }
+    number.checked_mul(10)?.checked_add(u64::from(digit))
+}
+
+/// The number that the digits at the front write, whatever the first one is, and how many they are;
+/// none where it is 2^64 or more.
+#[inline(always)]
+fn digits(bytes: &[u8]) -> Option<(u64, usize)>
+    ensures { MatchOption result (2 ^ 64 ≤ digits_value 10 (digits_front bytes.now))
+        (λ r. (r.0 < 2 ^ 64) × (r.0 ≡ digits_value 10 (digits_front bytes.now))
+        × (r.1 ≡ length (digits_front bytes.now))) }
+{
+    let mut number = 0;
+    for at in 0..bytes.len() {
         let digit = bytes[at];
         if !digit.is_ascii_digit() {
-            return Some((value, &bytes[at..]));
+            return Some((number, at));
         }
-        if value >= LIMIT {
-            return None;
-        }
-        value = value * 10 + u64::from(digit - b'0');
+        number = with_digit(number, digit - b'0')?;
     }
-    Some((value, &bytes[bytes.len()..]))
+    Some((number, bytes.len()))
 }
 
-/// A number, and what follows it; none from twenty digits on.
+/// Whether so many digits at the front are a canonical decimal: one, or more that don't begin with
+/// `0`.
+#[inline(always)]
+fn is_canonical(bytes: &[u8], len: usize) -> bool
+    requires { len ≤ length bytes.now }
+    ensures some { result ≡ true → 0 < len }
+    ensures first { result ≡ true → slice_index bytes.now 0 ≡ 48 → len ≡ 1 }
+    ensures other { result ≡ false → (len ≡ 0) ⊎ ((slice_index bytes.now 0 ≡ 48) × (len ≢ 1)) }
+{
+    len == 1 || len > 1 && bytes[0] != b'0'
+}
+
+/// The number at the front, and what follows it, which doesn't begin with a digit.
 #[inline(always)]
 fn number(bytes: &[u8]) -> Option<(u64, &[u8])>
-    ensures { IfSome result (λ r. (bytes.now ≡ decimal r.0 ++ r.1.now) × (r.0 < 2 ^ 64)) }
+    ensures { MatchOption result ((n : ℕ) (rest : Text) → ¬ (BeginsWithNumber bytes.now n rest))
+        (λ r. BeginsWithNumber bytes.now r.0 r.1.now) }
 {
-    match bytes {
-        [b'0', rest @ ..] => Some((0, rest)),
-        [first, rest @ ..] if first.is_ascii_digit() => more_digits(rest, u64::from(*first - b'0')),
-        _ => None,
-    }
-}
-
-/// The bytes begin with a digit, which is no zero where more follows.
-#[inline(always)]
-fn begins_number(bytes: &[u8]) -> bool
-    ensures { result ≡ begins_number bytes.now }
-{
-    match bytes {
-        [] | [b'0', _, ..] => false,
-        [first, ..] => first.is_ascii_digit(),
+    let (number, len) = digits(bytes)?;
+    if is_canonical(bytes, len) {
+        Some((number, &bytes[len..]))
+    } else {
+        None
     }
 }
 
@@ -60,38 +73,34 @@ pub fn whole_number(text: &str) -> Option<u64>
     ensures { MatchOption result (¬ (IsNumber text.now))
         (λ n. (n < 2 ^ 64) × (text.now ≡ decimal n)) }
 {
-    if !begins_number(text.as_bytes()) {
-        return None;
-    }
-    if let Some((number, [])) = number(text.as_bytes()) {
-        return Some(number);
-    }
-    match text.parse::<u64>() {
-        Ok(number) => Some(number),
-        Err(_) => None,
-    }
+    let (number, rest) = number(text.as_bytes())?;
+    if rest.is_empty() { Some(number) } else { None }
 }
 
-/// What follows a dot.
+/// The number behind a dot, and what follows it.
 #[inline(always)]
-fn after_dot(bytes: &[u8]) -> Option<&[u8]>
-    ensures { IfSome result (λ r. bytes.now ≡ 46 ∷ r.now) }
+fn dot_number(bytes: &[u8]) -> Option<(u64, &[u8])>
+    ensures { MatchOption result ((n : ℕ) (behind rest : Text) → bytes.now ≡ 46 ∷ behind
+        → ¬ (BeginsWithNumber behind n rest))
+        (λ r. (behind : Text) × (bytes.now ≡ 46 ∷ behind)
+        × BeginsWithNumber behind r.0 r.1.now) }
 {
     match bytes {
-        [b'.', rest @ ..] => Some(rest),
+        [b'.', behind @ ..] => number(behind),
         _ => None,
     }
 }
 
-/// Three numbers joined by dots, and what follows them; none where one of them has twenty digits.
+/// The three numbers at the front, joined by dots, and what follows them, which doesn't begin with
+/// a digit: 1, 2, 3 and `-rc` of `1.2.3-rc`. A number is at most 2^64 - 1.
 #[inline(always)]
 pub fn numbers(bytes: &[u8]) -> Option<(u64, u64, u64, &[u8])>
-    ensures text { IfSome result (λ r. bytes.now
-        ≡ join_with_byte 46 (map decimal (r.0 ∷ r.1 ∷ r.2 ∷ [])) ++ r.3.now) }
-    ensures fit { IfSome result (λ r. (r.0 < 2 ^ 64) × (r.1 < 2 ^ 64) × (r.2 < 2 ^ 64)) }
+    ensures { MatchOption result ((major minor patch : ℕ) (rest : Text) →
+        ¬ (BeginsWithNumbers bytes.now major minor patch rest))
+        (λ r. BeginsWithNumbers bytes.now r.0 r.1 r.2 r.3.now) }
 {
     let (major, rest) = number(bytes)?;
-    let (minor, rest) = number(after_dot(rest)?)?;
-    let (patch, rest) = number(after_dot(rest)?)?;
+    let (minor, rest) = dot_number(rest)?;
+    let (patch, rest) = dot_number(rest)?;
     Some((major, minor, patch, rest))
 }

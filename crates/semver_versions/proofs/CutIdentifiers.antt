@@ -1,22 +1,26 @@
 -- Identifiers as they are found byte by byte, and as they are cut at dots.
-use Rattle.std.proofs.Common.{◌≡◌, ℕ, ◌<◌, ◌≤◌, suc, ◌+◌, ◌-◌, Bool, true, false, List, [], ◌∷◌, ◌++◌, zero, length, take, drop, flat_map}
-use Rattle.std.proofs.Common.{get_or, sym, refl, ap, ◌∙◌, subst, inl, inr, ⊎_elim, ◌⊎◌, arith, append_assoc, append-nil, length-append}
-use Rattle.std.proofs.Common.{length-drop}
-use Rattle.std.specs.Prelude.{IsTrue, ◌==◌, ◌||◌}
-use Rattle.std.specs.List.{All, AllByRecursion, AllZip, slice_split, join_with_byte}
+use Rattle.std.proofs.Common.{◌≡◌, ℕ, ◌<◌, suc, ◌+◌, Bool, true, false, cond, List, [], ◌∷◌, ◌++◌, zero, length, take, drop}
+use Rattle.std.proofs.Common.{get_or, sym, refl, ap, ◌∙◌, subst, arith, append_assoc, append-nil, length-append, one-add}
+use Rattle.std.specs.Prelude.{IsTrue, ◌==◌, ◌||◌, ◌&&◌, slice_index, MatchOption}
+use Rattle.std.specs.Bool.{then_some}
+use Rattle.std.specs.List.{All, AllByRecursion, AllZip, slice_split, join_with_byte, prefix_len}
 use Rattle.std.specs.Char.{is_ascii_alphanumeric}
-use Rattle.std.proofs.Math.Seq.{take-suc, take-length}
+use Rattle.std.proofs.Math.Seq.{take-suc}
+use Rattle.std.proofs.lemmas.Bool.{eqb-true, eq-eqb}
 use Rattle.std.proofs.lemmas.Bool.Decides.{nat_tests}
+use Rattle.std.proofs.lemmas.List.Folds.{length-prefix_len}
+use Rattle.std.proofs.lemmas.List.{take-append-drop, drop_more, take_at, drop_at}
+use Rattle.std.proofs.lemmas.List.Sums.{prefix_len-drop_no}
 use Rattle.std.proofs.lemmas.List.Splits.{slice_split_none, slice_split_at, join_with_byte-slice_split, length-slice_split}
-use Rattle.std.proofs.lemmas.List.{length-take-le, take-append-drop}
 use Rattle.std.proofs.lemmas.List.Elements.{All-nil, All-cons}
 use Rattle.semver_texts.specs.Texts.{Text, marked, is_part_byte, IsRun, is_dot}
 use Rattle.semver_texts.specs.Versions.{IdentifierValue}
 use Rattle.semver_texts.specs.VersionGrammar.{IsIdentifierText, SpellsIdentifier}
-use Rattle.semver_versions.specs.Means.Cutting.{cut_at_dots, AreIdentifiers}
-use Rattle.semver_versions.proofs.OneVersion.{Passes, IsPartText, joined_runs}
+use Rattle.semver_versions.specs.Means.Cutting.{cut_at_dots, AreIdentifiers, is_inner_byte, BeginsWithIdentifiers, IsPart}
+use Rattle.semver_versions.proofs.OneVersion.{Passes, IsPartText, joined_runs, dotted_bytes}
+use Rattle.semver_tokens.proofs.TokenLists.{prefix_is}
 
--- ---- one byte more
+-- ---- one run more
 
 all_append : {X : Type 0} (P : X → Type 0) (xs ys : List X) → AllByRecursion P xs → AllByRecursion P ys → AllByRecursion P (xs ++ ys)
 all_append P [] ys a b = b
@@ -29,131 +33,129 @@ run_more run b is_run letter =
 one_run : (b : ℕ) → is_ascii_alphanumeric b ≡ true → IsRun (b ∷ [])
 one_run b letter = (omega arith, (letter, tt))
 
--- one or more runs that are joined to this text
-record AreRunsOf (text : Text) : Type 0 where
-  runs : List Text
-  some : 0 < length runs
-  each : AllByRecursion IsRun runs
-  joined : join_with_byte 45 runs ≡ text
+joined_behind : (mark : ℕ) (t : Text) (ts : List Text) → 0 < length ts → join_with_byte mark (t ∷ ts) ≡ t ++ (mark ∷ join_with_byte mark ts)
+joined_behind mark t [] some = absurd (omega (arith, some))
+joined_behind mark t (next ∷ ts) some = refl
 
-joined_behind : (run : Text) (runs : List Text) → 0 < length runs → join_with_byte 45 (run ∷ runs) ≡ run ++ (45 ∷ join_with_byte 45 runs)
-joined_behind run [] some = absurd (omega (arith, some))
-joined_behind run (next ∷ runs) some = refl
+pub run_identifier : (run : Text) → IsRun run → IsIdentifierText run
+run_identifier run is = record { runs = run ∷ []; some = omega arith; each = (is, tt); joined = refl }
 
-in_front : (run text : Text) → IsRun run → AreRunsOf text → AreRunsOf (run ++ (45 ∷ text))
-in_front run text is_run w = record {
+run_in_front : (run text : Text) → IsRun run → IsIdentifierText text → IsIdentifierText (run ++ (45 ∷ text))
+run_in_front run text is w = record {
   runs = run ∷ w.runs;
   some = omega arith;
-  each = (is_run, w.each);
-  joined = joined_behind run w.runs w.some ∙ ap (λ (t : Text). run ++ (45 ∷ t)) w.joined;
+  each = (is, w.each);
+  joined = ap (λ (t : Text). run ++ (45 ∷ t)) w.joined ∙ sym (joined_behind 45 run w.runs w.some);
 }
 
--- the last run goes on
-goes_on : (runs : List Text) (b : ℕ) → 0 < length runs → AllByRecursion IsRun runs → is_ascii_alphanumeric b ≡ true
-    → AreRunsOf (join_with_byte 45 runs ++ b ∷ [])
-goes_on [] b some each letter = absurd (omega (arith, some))
-goes_on (run ∷ []) b some each letter =
-    record { runs = (run ++ b ∷ []) ∷ []; some = omega arith; each = (run_more run b each.0 letter, tt); joined = refl }
-goes_on (run ∷ next ∷ runs) b some each letter =
-    subst AreRunsOf (sym (append_assoc run (45 ∷ join_with_byte 45 (next ∷ runs)) (b ∷ [])))
-    (in_front run (join_with_byte 45 (next ∷ runs) ++ b ∷ []) each.0 (goes_on (next ∷ runs) b (omega arith) each.1 letter))
+-- one or more identifiers joined by dots
+record AreJoined (text : Text) : Type 0 where
+  texts : List Text
+  some : 0 < length texts
+  each : AllByRecursion IsIdentifierText texts
+  joined : text ≡ join_with_byte 46 texts
 
--- a run begins behind a hyphen
-begins_anew : (runs : List Text) (b : ℕ) → 0 < length runs → AllByRecursion IsRun runs → is_ascii_alphanumeric b ≡ true
-    → AreRunsOf (join_with_byte 45 runs ++ 45 ∷ b ∷ [])
-begins_anew [] b some each letter = absurd (omega (arith, some))
-begins_anew (run ∷ []) b some each letter =
-    in_front run (b ∷ []) each.0 (record { runs = (b ∷ []) ∷ []; some = omega arith; each = (one_run b letter, tt); joined = refl })
-begins_anew (run ∷ next ∷ runs) b some each letter =
-    subst AreRunsOf (sym (append_assoc run (45 ∷ join_with_byte 45 (next ∷ runs)) (45 ∷ b ∷ [])))
-    (in_front run (join_with_byte 45 (next ∷ runs) ++ 45 ∷ b ∷ []) each.0 (begins_anew (next ∷ runs) b (omega arith) each.1 letter))
+alone : (run : Text) → IsRun run → AreJoined run
+alone run is = record { texts = run ∷ []; some = omega arith; each = (run_identifier run is, tt); joined = refl }
 
-identifier_of_runs : (text : Text) → AreRunsOf text → IsIdentifierText text
-identifier_of_runs text w = record { runs = w.runs; some = w.some; each = w.each; joined = sym w.joined }
-
--- what was read of an identifier: it may end here, or a run has to follow
-abbrev IsOpen : Bool → Text → Type 0
-IsOpen true last = IsIdentifierText last
-IsOpen false last = (last ≡ []) ⊎ ((front : Text) × IsIdentifierText front × (last ≡ front ++ 45 ∷ []))
-
-letter_more : (in_run : Bool) (last : Text) (b : ℕ) → is_ascii_alphanumeric b ≡ true → IsOpen in_run last
-    → IsIdentifierText (last ++ b ∷ [])
-letter_more true last b letter w =
-    identifier_of_runs (last ++ b ∷ []) (subst (λ (t : Text). AreRunsOf (t ++ b ∷ [])) (sym w.joined)
-    (goes_on w.runs b w.some w.each letter))
-letter_more false last b letter (inl none) =
-    subst (λ (t : Text). IsIdentifierText (t ++ b ∷ [])) (sym none)
-    (record { runs = (b ∷ []) ∷ []; some = omega arith; each = (one_run b letter, tt); joined = refl })
-letter_more false last b letter (inr w) =
-    identifier_of_runs (last ++ b ∷ [])
-    (subst (λ (t : Text). AreRunsOf t) (ap (λ (t : Text). t ++ 45 ∷ b ∷ []) (sym w.1.joined) ∙ sym (append_assoc w.0 (45 ∷ []) (b ∷ []))
-    ∙ ap (λ (t : Text). t ++ b ∷ []) (sym w.2))
-    (begins_anew w.1.runs b w.1.some w.1.each letter))
-
--- ---- what was read of identifiers
-
-abbrev dotted : List Text → Text
-dotted texts = flat_map (λ t. t ++ 46 ∷ []) texts
-
--- whole ones, each with its dot, and what was read of the last
-pub record AreBegun (in_run : Bool) (text : Text) : Type 0 where
-  pub done : List Text
-  pub last : Text
-  pub each : AllByRecursion IsIdentifierText done
-  pub so_far : IsOpen in_run last
-  pub cut : text ≡ dotted done ++ last
-
-pub nothing_begun : AreBegun false []
-nothing_begun = record { done = []; last = []; each = tt; so_far = inl refl; cut = refl }
-
-one_more : (done : List Text) (text last : Text) (b : ℕ) → text ≡ dotted done ++ last → text ++ b ∷ [] ≡ dotted done ++ (last ++ b ∷ [])
-one_more done text last b e = ap (λ (t : Text). t ++ b ∷ []) e ∙ append_assoc (dotted done) last (b ∷ [])
-
-pub letter_begun : (in_run : Bool) (text : Text) (b : ℕ) → is_ascii_alphanumeric b ≡ true → AreBegun in_run text
-    → AreBegun true (text ++ b ∷ [])
-letter_begun in_run text b letter w =
-    record {
-      done = w.done;
-      last = w.last ++ b ∷ [];
-      each = w.each;
-      so_far = letter_more in_run w.last b letter w.so_far;
-      cut = one_more
-          w.done text w.last b w.cut;
-    }
-
-hyphen_begun : (text : Text) → AreBegun true text → AreBegun false (text ++ 45 ∷ [])
-hyphen_begun text w =
-    record {
-      done = w.done;
-      last = w.last ++ 45 ∷ [];
-      each = w.each;
-      so_far = inr
-          (w.last, w.so_far, refl);
-      cut = one_more w.done text w.last 45 w.cut;
-    }
-
-dotted_more : (done : List Text) (last : Text) → dotted (done ++ last ∷ []) ≡ dotted done ++ (last ++ 46 ∷ [])
-dotted_more [] last = append-nil (last ++ 46 ∷ [])
-dotted_more (t ∷ done) last = ap (λ (u : Text). (t ++ 46 ∷ []) ++ u) (dotted_more done last)
-    ∙ sym (append_assoc (t ++ 46 ∷ []) (dotted done) (last ++ 46 ∷ []))
-
-dot_begun : (text : Text) → AreBegun true text → AreBegun false (text ++ 46 ∷ [])
-dot_begun text w = record {
-  done = w.done ++ w.last ∷ [];
-  last = [];
-  each = all_append IsIdentifierText w.done (w.last ∷ []) w.each (w.so_far, tt);
-  so_far = inl refl;
-  cut = one_more w.done text w.last 46 w.cut ∙ sym (dotted_more w.done w.last) ∙ sym (append-nil (dotted (w.done ++ w.last ∷ [])));
+before_dot : (run text : Text) → IsRun run → AreJoined text → AreJoined (run ++ (46 ∷ text))
+before_dot run text is w = record {
+  texts = run ∷ w.texts;
+  some = omega arith;
+  each = (run_identifier run is, w.each);
+  joined = ap (λ (t : Text). run ++ (46 ∷ t)) w.joined ∙ sym (joined_behind 46 run w.texts w.some);
 }
 
-pub mark_begun : (text : Text) (b : ℕ) → (b == 45 || b == 46) ≡ true → AreBegun true text → AreBegun false (text ++ b ∷ [])
-mark_begun text b mark w = ⊎_elim
-    (λ hyphen. subst (λ (c : ℕ). AreBegun false (text ++ c ∷ [])) (sym hyphen) (hyphen_begun text w))
-    (λ dot. subst (λ (c : ℕ). AreBegun false (text ++ c ∷ [])) (sym dot) (dot_begun text w))
-    (which b mark)
+before_hyphen : (run text : Text) → IsRun run → AreJoined text → AreJoined (run ++ (45 ∷ text))
+before_hyphen run text is w = subst (λ (t : Text). AreJoined (run ++ (45 ∷ t))) (sym w.joined) (go w.texts w.some w.each)
   where
-    which : (b : ℕ) → (b == 45 || b == 46) ≡ true → (b ≡ 45) ⊎ (b ≡ 46)
-    which b h = grind (arith, nat_tests)
+    go : (texts : List Text) → 0 < length texts → AllByRecursion IsIdentifierText texts
+        → AreJoined (run ++ (45 ∷ join_with_byte 46 texts))
+    go [] some each = absurd (omega (arith, some))
+    go (t ∷ []) some each =
+        record { texts = (run ++ (45 ∷ t)) ∷ []; some = omega arith; each = (run_in_front run t is each.0, tt); joined = refl }
+    go (t ∷ next ∷ texts) some each = record {
+      texts = (run ++ (45 ∷ t)) ∷ next ∷ texts;
+      some = omega arith;
+      each = (run_in_front run t is each.0, each.1);
+      joined = sym (append_assoc run (45 ∷ t) (46 ∷ join_with_byte 46 (next ∷ texts)));
+    }
+
+-- ---- byte by byte
+
+-- each hyphen and each dot before the first other byte stands between letters or digits
+abbrev pub stands : Bool → Text → Bool
+stands in_run [] = in_run
+stands in_run (b ∷ bs) =
+    cond (is_ascii_alphanumeric b) (stands true bs) (cond (b == 45 || b == 46) (in_run && stands false bs) in_run)
+
+abbrev front : Text → Text
+front bytes = take (prefix_len is_inner_byte bytes) bytes
+
+-- then they are identifiers
+begun : (bytes : Text) → (stands false bytes ≡ true → AreJoined (front bytes))
+    × ((run : Text) → IsRun run → stands true bytes ≡ true → AreJoined (run ++ front bytes))
+begun [] = (λ e. cc, λ run is e. subst AreJoined (sym (append-nil run)) (alone run is))
+begun (b ∷ bytes) = by (is_ascii_alphanumeric b) (b == 45) (b == 46) refl refl refl (begun bytes)
+  where
+    one_taken : (n : ℕ) → take (1 + n) (b ∷ bytes) ≡ b ∷ take n bytes
+    one_taken n = rw one-add refl
+
+    by : (letter hyphen dot : Bool) → is_ascii_alphanumeric b ≡ letter → (b == 45) ≡ hyphen → (b == 46) ≡ dot
+        → (stands false bytes ≡ true → AreJoined (front bytes))
+        × ((run : Text) → IsRun run → stands true bytes ≡ true → AreJoined (run ++ front bytes))
+        → (cond letter (stands true bytes) (cond (hyphen || dot) (false && stands false bytes) false) ≡ true
+        → AreJoined (take (cond ((letter || hyphen) || dot) (1 + prefix_len is_inner_byte bytes) 0) (b ∷ bytes)))
+        × ((run : Text) → IsRun run → cond letter (stands true bytes) (cond (hyphen || dot) (true && stands false bytes) true) ≡ true
+        → AreJoined (run ++ take (cond ((letter || hyphen) || dot) (1 + prefix_len is_inner_byte bytes) 0) (b ∷ bytes)))
+    by true hyphen dot is h d more = (
+      λ e. subst AreJoined (sym (one_taken _)) (more.1 (b ∷ []) (one_run b is) e),
+      λ run r e. subst AreJoined (append_assoc run (b ∷ []) (front bytes) ∙ ap (λ (t : Text). run ++ t) (sym (one_taken _)))
+          (more.1 (run ++ b ∷ []) (run_more run b r is) e),
+    )
+    by false true dot is h d more = (
+      λ e. cc,
+      λ run r e. subst AreJoined ((λ i. run ++ (sym (eqb-true b 45 h) i ∷ front bytes)) ∙ ap (λ (t : Text). run ++ t) (sym (one_taken _)))
+          (before_hyphen run (front bytes) r (more.0 e)),
+    )
+    by false false true is h d more = (
+      λ e. cc,
+      λ run r e. subst AreJoined ((λ i. run ++ (sym (eqb-true b 46 d) i ∷ front bytes)) ∙ ap (λ (t : Text). run ++ t) (sym (one_taken _)))
+          (before_dot run (front bytes) r (more.0 e)),
+    )
+    by false false false is h d more = (λ e. cc, λ run r e. subst AreJoined (sym (append-nil run)) (alone run r))
+
+-- ---- and identifiers stand so
+
+letters_stand : (run more : Text) → Passes is_ascii_alphanumeric run → stands true (run ++ more) ≡ stands true more
+letters_stand [] more all = refl
+letters_stand (b ∷ run) more all = rw all.0 (letters_stand run more all.1)
+
+run_stands : (in_run : Bool) (run more : Text) → IsRun run → stands in_run (run ++ more) ≡ stands true more
+run_stands in_run [] more is = absurd (omega (arith, is.0))
+run_stands in_run (b ∷ run) more is = rw is.1.0 (letters_stand run more is.1.1)
+
+runs_stand : (in_run : Bool) (runs : List Text) (more : Text) → 0 < length runs → AllByRecursion IsRun runs
+    → stands in_run (join_with_byte 45 runs ++ more) ≡ stands true more
+runs_stand in_run [] more some each = absurd (omega (arith, some))
+runs_stand in_run (run ∷ []) more some each = run_stands in_run run more each.0
+runs_stand in_run (run ∷ next ∷ runs) more some each =
+    ap (stands in_run) (append_assoc run (45 ∷ join_with_byte 45 (next ∷ runs)) more)
+    ∙ run_stands in_run run (45 ∷ (join_with_byte 45 (next ∷ runs) ++ more)) each.0
+    ∙ runs_stand false (next ∷ runs) more (omega arith) each.1
+
+identifier_stands : (in_run : Bool) (text more : Text) → IsIdentifierText text → stands in_run (text ++ more) ≡ stands true more
+identifier_stands in_run text more w =
+    ap (λ (t : Text). stands in_run (t ++ more)) w.joined ∙ runs_stand in_run w.runs more w.some w.each
+
+identifiers_stand : (in_run : Bool) (texts : List Text) (more : Text) → 0 < length texts → AllByRecursion IsIdentifierText texts
+    → stands in_run (join_with_byte 46 texts ++ more) ≡ stands true more
+identifiers_stand in_run [] more some each = absurd (omega (arith, some))
+identifiers_stand in_run (t ∷ []) more some each = identifier_stands in_run t more each.0
+identifiers_stand in_run (t ∷ next ∷ texts) more some each =
+    ap (stands in_run) (append_assoc t (46 ∷ join_with_byte 46 (next ∷ texts)) more)
+    ∙ identifier_stands in_run t (46 ∷ (join_with_byte 46 (next ∷ texts) ++ more)) each.0
+    ∙ identifiers_stand false (next ∷ texts) more (omega arith) each.1
 
 -- ---- where they end they are cut so
 
@@ -167,29 +169,96 @@ no_dots (b ∷ bytes) all = All-cons (λ b. (b == 46) ≡ false) b bytes (no_dot
 pub identifier_part : (text : Text) → IsIdentifierText text → IsPartText text
 identifier_part text w = subst IsPartText (sym w.joined) (joined_runs w.runs w.some w.each)
 
-cut_dotted : (done : List Text) (last : Text) → AllByRecursion IsIdentifierText done → IsIdentifierText last
-    → slice_split is_dot (dotted done ++ last) ≡ done ++ last ∷ []
-cut_dotted [] last each is = slice_split_none is_dot last (no_dots last (identifier_part last is).1)
-cut_dotted (t ∷ done) last each is =
-    ap (slice_split is_dot) (append_assoc (t ++ 46 ∷ []) (dotted done) last ∙ append_assoc t (46 ∷ []) (dotted done ++ last))
-    ∙ slice_split_at is_dot t 46 (dotted done ++ last) (no_dots t (identifier_part t each.0).1) refl
-    ∙ ap (λ (ts : List Text). t ∷ ts) (cut_dotted done last each.1 is)
+cut_joined : (texts : List Text) → 0 < length texts → AllByRecursion IsIdentifierText texts
+    → slice_split is_dot (join_with_byte 46 texts) ≡ texts
+cut_joined [] some each = absurd (omega (arith, some))
+cut_joined (t ∷ []) some each = slice_split_none is_dot t (no_dots t (identifier_part t each.0).1)
+cut_joined (t ∷ next ∷ texts) some each =
+    slice_split_at is_dot t 46 (join_with_byte 46 (next ∷ texts)) (no_dots t (identifier_part t each.0).1) refl
+    ∙ ap (λ (ts : List Text). t ∷ ts) (cut_joined (next ∷ texts) (omega arith) each.1)
+
+some_joined : (texts : List Text) → 0 < length texts → AllByRecursion IsIdentifierText texts → 0 < length (join_with_byte 46 texts)
+some_joined [] some each = absurd (omega (arith, some))
+some_joined (t ∷ []) some each = (identifier_part t each.0).0
+some_joined (t ∷ next ∷ texts) some each =
+    omega (arith, (identifier_part t each.0).0, length-append t (46 ∷ join_with_byte 46 (next ∷ texts)))
 
 pub some_cut : (text : Text) → 0 < length text → cut_at_dots text ≡ slice_split is_dot text
 some_cut [] some = absurd (omega (arith, some))
 some_cut (b ∷ text) some = refl
 
-pub begun_whole : (text : Text) → AreBegun true text → (0 < length text) × AreIdentifiers text
-begun_whole text w =
-    let some : 0 < length text = omega (arith, ap length w.cut, length-append (dotted w.done) w.last, (identifier_part w.last w.so_far).0)
-    in
-    let cut : cut_at_dots text ≡ w.done ++ w.last ∷ [] = some_cut text some ∙ ap (slice_split is_dot) w.cut
-    ∙ cut_dotted w.done w.last w.each w.so_far in
-    (some, subst (AllByRecursion IsIdentifierText) (sym cut) (all_append IsIdentifierText w.done (w.last ∷ []) w.each (w.so_far, tt)))
+pub cut_texts : (texts : List Text) → 0 < length texts → AllByRecursion IsIdentifierText texts
+    → cut_at_dots (join_with_byte 46 texts) ≡ texts
+cut_texts texts some each = some_cut (join_with_byte 46 texts) (some_joined texts some each) ∙ cut_joined texts some each
 
--- the next byte of some
-pub next_byte : (bytes : Text) (at : ℕ) → at < length bytes → take (at + 1) bytes ≡ take at bytes ++ (get_or bytes at 0 ∷ [])
-next_byte bytes at inside = let next : at + 1 ≡ suc at = omega arith in ap (λ (k : ℕ). take k bytes) next ∙ take-suc bytes at 0 inside
+pub stand_found : (bytes : Text) → stands false bytes ≡ true → BeginsWithIdentifiers bytes
+stand_found bytes e =
+    let w = (begun bytes).0 e in (
+      omega (arith, some_joined w.texts w.some w.each, ap length w.joined, length-prefix_len is_inner_byte bytes),
+      subst AreIdentifiers (sym w.joined) (subst (AllByRecursion IsIdentifierText) (sym (cut_texts w.texts w.some w.each)) w.each),
+    )
+
+-- what follows the front begins with no byte of it
+pub ends_front : (p : ℕ → Bool) → p 0 ≡ false → (text : Text) → p (slice_index (drop (prefix_len p text) text) 0) ≡ false
+ends_front p past [] = past
+ends_front p past (b ∷ text) = by (p b) refl (ends_front p past text)
+  where
+    by : (e : Bool) → p b ≡ e → p (slice_index (drop (prefix_len p text) text) 0) ≡ false
+        → p (slice_index (drop (cond e (1 + prefix_len p text) 0) (b ∷ text)) 0) ≡ false
+    by true e more = rw one-add more
+    by false e more = e
+
+other_stands : (more : Text) → is_inner_byte (slice_index more 0) ≡ false → stands true more ≡ true
+other_stands [] e = refl
+other_stands (b ∷ more) e = let n = not_inner b e in rw (n.0, n.1) refl
+  where
+    not_inner : (b : ℕ) → is_inner_byte b ≡ false → (is_ascii_alphanumeric b ≡ false) × ((b == 45 || b == 46) ≡ false)
+    not_inner b e = (grind (arith, nat_tests), grind (arith, nat_tests))
+
+pub found_stand : (bytes : Text) → BeginsWithIdentifiers bytes → stands false bytes ≡ true
+found_stand bytes w =
+    let n : ℕ = prefix_len is_inner_byte bytes in
+    let some : 0 < length (take n bytes) = omega (arith, w.0, length-prefix_len is_inner_byte bytes) in
+    let is : join_with_byte 46 (cut_at_dots (take n bytes)) ≡ take n bytes =
+    ap (join_with_byte 46) (some_cut (take n bytes) some) ∙ join_with_byte-slice_split 46 (take n bytes) in
+    let count : 0 < length (cut_at_dots (take n bytes)) =
+    omega (arith, ap length (some_cut (take n bytes) some), length-slice_split is_dot (take n bytes)) in
+    ap (stands false) (sym (take-append-drop n bytes) ∙ ap (λ (t : Text). t ++ drop n bytes) (sym is))
+    ∙ identifiers_stand false (cut_at_dots (take n bytes)) (drop n bytes) count w.1
+    ∙ other_stands (drop n bytes) (ends_front is_inner_byte refl bytes)
+
+-- ---- at a place of a loop over the bytes
+
+-- what was read so far: whether a run is being read, and how far the front goes
+pub record IsRead (bytes : Text) (at : ℕ) (in_run : Bool) : Type 0 where
+  pub standing : stands false bytes ≡ stands in_run (drop at bytes)
+  pub front_goes_on : prefix_len is_inner_byte bytes ≡ at + prefix_len is_inner_byte (drop at bytes)
+
+-- a mark that no run comes before
+pub none_read : (bytes : Text) (at : ℕ) → at < length bytes → is_ascii_alphanumeric (get_or bytes at 0) ≡ false
+    → (get_or bytes at 0 == 45 || get_or bytes at 0 == 46) ≡ true → IsRead bytes at false → ¬ (BeginsWithIdentifiers bytes)
+none_read bytes at inside other mark w found =
+    let e : false ≡ true = sym (w.standing ∙ ap (stands false) (drop_more bytes at 0 inside) ∙ rw (other, mark) refl)
+    ∙ found_stand bytes found
+    in cc
+
+-- where the front ends
+pub at_end : (bytes : Text) (at : ℕ) (in_run : Bool) → prefix_len is_inner_byte (drop at bytes) ≡ 0 → stands in_run (drop at bytes) ≡ in_run
+    → IsRead bytes at in_run → MatchOption (then_some in_run at) (¬ (BeginsWithIdentifiers bytes))
+    (λ len. BeginsWithIdentifiers bytes × (len ≡ prefix_len is_inner_byte bytes))
+at_end bytes at true ended same w = (stand_found bytes (w.standing ∙ same), omega (arith, w.front_goes_on, ended))
+at_end bytes at false ended same w = λ found. let e : false ≡ true = sym (w.standing ∙ same) ∙ found_stand bytes found in cc
+
+pub other_ends : (bytes : Text) (at : ℕ) (in_run : Bool) → at < length bytes → is_ascii_alphanumeric (get_or bytes at 0) ≡ false
+    → (get_or bytes at 0 == 45 || get_or bytes at 0 == 46) ≡ false
+    → (prefix_len is_inner_byte (drop at bytes) ≡ 0) × (stands in_run (drop at bytes) ≡ in_run)
+other_ends bytes at in_run inside other no_mark = (
+  prefix_len-drop_no is_inner_byte bytes at 0 inside (outer (get_or bytes at 0) other no_mark),
+  ap (stands in_run) (drop_more bytes at 0 inside) ∙ rw (other, no_mark) refl,
+)
+  where
+    outer : (b : ℕ) → is_ascii_alphanumeric b ≡ false → (b == 45 || b == 46) ≡ false → is_inner_byte b ≡ false
+    outer b h m = grind (arith, nat_tests)
 
 -- ---- a part behind its mark
 
@@ -203,27 +272,77 @@ marked_cut mark text some =
     ∙ marked_some (mark ∷ []) (slice_split is_dot text) (omega (arith, length-slice_split is_dot text))
     ∙ ap (λ (t : Text). mark ∷ t) (join_with_byte-slice_split 46 text)
 
--- the text is its mark, so many bytes of identifiers, and what follows them
-pub marked_part : (text inner rest : Text) (mark len : ℕ) → 1 ≤ length text → get_or text 0 0 ≡ mark → 0 < len
-    → len ≤ length (take (length text - 1) (drop 1 text)) → AreIdentifiers (take len (take (length text - 1) (drop 1 text)))
-    → inner ≡ take ((len + 1) - 1) (drop 1 text) → rest ≡ take (length text - (len + 1)) (drop (len + 1) text)
-    → AreIdentifiers inner × (text ≡ marked (mark ∷ []) (cut_at_dots inner) ++ rest)
-marked_part [] inner rest mark len some first long within are front back = absurd (omega (arith, some))
-marked_part (b ∷ t) inner rest mark len some first long within are front back =
-    let one : length (b ∷ t) - 1 ≡ length t = omega arith in
-    let all : take (length (b ∷ t) - 1) t ≡ t = ap (λ (k : ℕ). take k t) one ∙ take-length t in
-    let short : len ≤ length t = omega (arith, within, ap length all) in
-    let less : (len + 1) - 1 ≡ len = omega arith in
-    let next : len + 1 ≡ suc len = omega arith in
-    let same : inner ≡ take len t = front ∙ ap (λ (k : ℕ). take k t) less in
-    let left : drop (len + 1) (b ∷ t) ≡ drop len t = ap (λ (k : ℕ). drop k (b ∷ t)) next in
-    let count : length (b ∷ t) - (len + 1) ≡ length (drop len t) = omega (arith, length-drop len t) in
-    let behind : rest ≡ drop len t = back ∙ (λ i. take (count i) (left i)) ∙ take-length (drop len t) in
-    let filled : 0 < length inner = omega (arith, long, short, ap length same, length-take-le len t short) in (
-      subst AreIdentifiers (ap (take len) all ∙ sym same) are,
-      sym (ap (λ (u : Text). u ++ rest) (marked_cut mark inner filled) ∙ (λ i. sym first i ∷ (same i ++ behind i))
-          ∙ ap (λ (u : Text). b ∷ u) (take-append-drop len t)),
-    )
+inner_passes : (inner : Text) → AreIdentifiers inner → Passes is_inner_byte inner
+inner_passes [] each = tt
+inner_passes (b ∷ inner) each =
+    subst (Passes is_inner_byte) (join_with_byte-slice_split 46 (b ∷ inner))
+    (dotted_bytes is_inner_byte (λ c h. rw h refl) refl (cut_at_dots (b ∷ inner)) (part_texts (cut_at_dots (b ∷ inner)) each))
+  where
+    part_texts : (texts : List Text) → AllByRecursion IsIdentifierText texts → AllByRecursion IsPartText texts
+    part_texts [] each = tt
+    part_texts (t ∷ texts) each = (identifier_part t each.0, part_texts texts each.1)
+
+module _ (text behind : Text) (mark : ℕ) (apart : text ≡ mark ∷ behind) where
+  -- the part that is found
+  pub part_found : (inner rest : Text) (len : ℕ) → BeginsWithIdentifiers behind → len ≡ prefix_len is_inner_byte behind
+      → inner ≡ take len behind → rest ≡ drop len behind → AreIdentifiers inner × (text ≡ marked (mark ∷ []) (cut_at_dots inner) ++ rest)
+  part_found inner rest len begins is front back =
+      let same : inner ≡ take (prefix_len is_inner_byte behind) behind = front ∙ ap (λ (k : ℕ). take k behind) is in
+      let some : 0 < length inner = omega (arith, begins.0, ap length same, length-prefix_len is_inner_byte behind) in (
+        subst AreIdentifiers (sym same) begins.1,
+        apart ∙ ap (λ (t : Text). mark ∷ t) (sym (take-append-drop len behind) ∙ (λ i. sym front i ++ sym back i))
+            ∙ ap (λ (t : Text). t ++ rest) (sym (marked_cut mark inner some)),
+      )
+
+  part_begins : (inner rest : Text) → IsPart mark text inner rest
+      → (0 < length inner) × (behind ≡ inner ++ rest) × (prefix_len is_inner_byte behind ≡ length inner)
+  part_begins [] rest w = absurd (clash (sym (ap (λ (t : Text). slice_index t 0 == mark) (sym apart ∙ w.split)) ∙ same mark) w.no_mark)
+    where
+      same : (n : ℕ) → (n == n) ≡ true
+      same n = eq-eqb n n refl
+
+      clash : {b : Bool} → b ≡ true → b ≡ false → ⊥
+      clash e f = cc
+  part_begins (b ∷ inner) rest w =
+      let behind_is : behind ≡ (b ∷ inner) ++ rest =
+      tails (sym apart ∙ w.split ∙ ap (λ (t : Text). t ++ rest) (marked_cut mark (b ∷ inner) (omega arith))) in (
+        omega arith,
+        behind_is,
+        ap (prefix_len is_inner_byte) behind_is
+            ∙ prefix_is is_inner_byte (b ∷ inner) rest (inner_passes (b ∷ inner) w.each) refl w.ended,
+      )
+    where
+      tails : {x y : ℕ} {xs ys : Text} → x ∷ xs ≡ y ∷ ys → xs ≡ ys
+      tails e = cc
+
+  -- where there is a part, it is that
+  pub part_not_found : ¬ (BeginsWithIdentifiers behind) → (inner rest : Text) → ¬ (IsPart mark text inner rest)
+  part_not_found none inner rest w =
+      let b = part_begins inner rest w in
+      none (
+        omega (arith, b.0, b.2),
+        subst AreIdentifiers (sym (take_at inner rest (length inner) refl) ∙ (λ i. take (sym b.2 i) (sym b.1 i))) w.each,
+      )
+
+  pub part_is : (inner rest found left : Text) (len : ℕ) → len ≡ prefix_len is_inner_byte behind → found ≡ take len behind
+      → left ≡ drop len behind → IsPart mark text inner rest → (found ≡ inner) × (left ≡ rest)
+  part_is inner rest found left len is front back w =
+      let b = part_begins inner rest w in
+      let count : len ≡ length inner = is ∙ b.2 in (
+        front ∙ (λ i. take (count i) (b.1 i)) ∙ take_at inner rest (length inner) refl,
+        back ∙ (λ i. drop (count i) (b.1 i)) ∙ drop_at inner rest (length inner) refl,
+      )
+
+-- and a text that doesn't begin with the mark has none
+pub no_part : (text : Text) (mark : ℕ) → ((behind : Text) → ¬ (text ≡ mark ∷ behind)) → (inner rest : Text)
+    → IsPart mark text inner rest → ([] ≡ inner) × (text ≡ rest)
+no_part text mark other [] rest w = (refl, w.split)
+no_part text mark other (b ∷ inner) rest w =
+    absurd (other ((b ∷ inner) ++ rest) (w.split ∙ ap (λ (t : Text). t ++ rest) (marked_cut mark (b ∷ inner) (omega arith))))
+
+-- an inner byte is ASCII
+pub inner_ascii : (b : ℕ) → is_inner_byte b ≡ true → b < 128
+inner_ascii b h = grind (arith, nat_tests)
 
 -- ---- identifiers one after the other
 

@@ -147,7 +147,7 @@ part_passes p more dot mark here ids text w =
     subst (Passes p) (sym w.joined) (marked_bytes p more dot mark here w.texts (identifiers_bytes ids w.texts w.each))
 
 -- a part that is there begins with its mark
-begins_marked : (P : ℕ → Type 0) (mark : ℕ) (xs : List (List ℕ)) (more : List ℕ) → P mark → P (slice_index more 0)
+pub begins_marked : (P : ℕ → Type 0) (mark : ℕ) (xs : List (List ℕ)) (more : List ℕ) → P mark → P (slice_index more 0)
     → P (slice_index (marked (mark ∷ []) xs ++ more) 0)
 begins_marked P mark [] more here there = there
 begins_marked P mark (x ∷ xs) more here there = here

@@ -1,5 +1,5 @@
 -- What a call of `parse` answers, from the outcome of the text.
-use Rattle.std.proofs.Common.{◌≡◌, ℕ, List, [], ◌∷◌, Some, None, Option, Result, Ok, Err, sym, refl, ap, ◌∙◌, subst, inl, inr, IsUtf8, IfOk}
+use Rattle.std.proofs.Common.{◌≡◌, ℕ, List, [], ◌∷◌, Some, None, Option, Result, Ok, Err, sym, refl, ap, subst, inl, inr, IsUtf8, IfOk}
 use Rattle.std.proofs.Common.{◌↔◌}
 use Rattle.semver_tokens.specs.Tokens.{TokenValue}
 use Rattle.semver_texts.specs.Versions.{VersionValue}

@@ -1,19 +1,16 @@
 //! A version read from the bytes of its text: three numbers, and the pre-release and the build as
-//! slices, which are cut at dots.
-//!
-//! What is found here is what the text spells. Where nothing is found the text may spell a version
-//! all the same, as between white space: its tokens decide that.
-ghost use Rattle.std.specs.Prelude.{◌≡◌, ◌==◌, ◌||◌, ◌<◌, ◌≤◌, ◌++◌, [], ◌∷◌, length, map, take};
-ghost use Rattle.std.specs.Prelude.{codes, decimal, IfOk, IfErr, IfSome, MatchResult};
-ghost use Rattle.std.specs.List.{AllByRecursion, AllZip, count_by, slice_split, join_with_byte};
-ghost use Rattle.semver_texts.specs.Texts.{marked, is_dot};
+//! slices, which are cut at dots once the whole text is known to be a version.
+ghost use Rattle.std.specs.Prelude.{◌≡◌, ◌==◌, ◌||◌, ◌<◌, ◌++◌, [], ◌∷◌, true, false, length, map};
+ghost use Rattle.std.specs.Prelude.{IfOk, IfErr, IfSome, MatchOption};
+ghost use Rattle.std.specs.List.{AllByRecursion, AllZip, prefix_len, slice_split};
+ghost use Rattle.semver_texts.specs.Texts.{Text, BeginsWithNumbers, marked, is_dot};
 ghost use Rattle.semver_texts.specs.VersionGrammar.{IsIdentifierText, SpellsIdentifier};
-ghost use Rattle.semver_texts.specs.VersionGrammar.{SpellsVersion};
-ghost use Rattle.semver_steps.specs.VersionReading.{TextMayRunOut};
-ghost use Rattle.semver_texts.specs.VersionViews.{identifier_value, version_value};
-ghost use Rattle.semver_versions.specs.Means.Cutting.{cut_at_dots, AreIdentifiers};
+ghost use Rattle.semver_texts.specs.VersionViews.{identifier_value};
+ghost use Rattle.semver_versions.specs.Means.Cutting.{cut_at_dots, AreIdentifiers, is_inner_byte};
+ghost use Rattle.semver_versions.specs.Means.Cutting.{BeginsWithIdentifiers, AreSpaces, IsPart};
+ghost use Rattle.semver_versions.specs.Means.Cutting.{AreParts, IsFound, HasIdentifiers};
 
-use semver_texts::bytes::count_dots;
+use semver_texts::bytes::{count_dots, space_len};
 use semver_texts::decimals::{numbers, whole_number};
 use semver_texts::version::{Identifier, Version};
 use std::alloc::{AllocError, Global};
@@ -26,11 +23,13 @@ fn is_between_runs(byte: u8) -> bool
     matches!(byte, b'-' | b'.')
 }
 
-/// How many bytes at the front are identifiers joined by dots, where the bytes or a plus end them.
+/// How many bytes at the front are identifiers joined by dots, up to a byte that can't stand in
+/// them.
 #[inline(always)]
 fn identifiers_len(bytes: &[u8]) -> Option<usize>
-    ensures { IfSome result (λ len. (0 < len) × (len ≤ length bytes.now)
-        × AreIdentifiers (take len bytes.now)) }
+    ensures { MatchOption result (¬ (BeginsWithIdentifiers bytes.now))
+        (λ len. BeginsWithIdentifiers bytes.now
+        × (len ≡ prefix_len is_inner_byte bytes.now)) }
 {
     let mut in_run = false;
     for at in 0..bytes.len() {
@@ -39,47 +38,66 @@ fn identifiers_len(bytes: &[u8]) -> Option<usize>
             in_run = true;
             continue;
         }
-        if !in_run {
-            return None;
-        }
-        if byte == b'+' {
-            return Some(at);
-        }
         if !is_between_runs(byte) {
+            return in_run.then_some(at);
+        }
+        if !in_run {
             return None;
         }
         in_run = false;
     }
-    if in_run { Some(bytes.len()) } else { None }
+    in_run.then_some(bytes.len())
+}
+
+/// What follows the mark, where the text begins with it.
+#[inline(always)]
+fn behind_mark(text: &str, mark: u8) -> Option<&str>
+    requires { mark < 128 }
+    ensures { MatchOption result ((behind : Text) → ¬ (text.now ≡ mark ∷ behind))
+        (λ behind. text.now ≡ mark ∷ behind.now) }
+{
+    match text.as_bytes() {
+        [first, ..] if *first == mark => Some(&text[1..]),
+        _ => None,
+    }
 }
 
 /// The identifiers behind the mark, and what follows them; where the text doesn't begin with the
 /// mark, nothing and all of it.
 #[inline(always)]
 fn part(text: &str, mark: u8) -> Option<(&str, &str)>
-    ensures { IfSome result (λ r. AreIdentifiers r.0.now
+    requires { mark < 128 }
+    ensures found { IfSome result (λ r. AreIdentifiers r.0.now
         × (text.now ≡ marked (mark ∷ []) (cut_at_dots r.0.now) ++ r.1.now)) }
+    ensures only { (inner rest : Text) → IsPart mark text.now inner rest →
+        MatchOption result ⊥ (λ r. (r.0.now ≡ inner) × (r.1.now ≡ rest)) }
 {
-    match text.as_bytes() {
-        [first, behind @ ..] if *first == mark => {
-            let len = identifiers_len(behind)?;
-            Some((text.get(1..len + 1)?, text.get(len + 1..)?))
-        }
-        _ => Some(("", text)),
-    }
+    let Some(behind) = behind_mark(text, mark) else {
+        return Some(("", text));
+    };
+    let len = identifiers_len(behind.as_bytes())?;
+    Some(behind.split_at(len))
 }
 
-/// The identifiers of the pre-release and those of the build that the text is, each with its mark;
-/// nothing where there are none.
+/// Whether the bytes are white space alone.
+#[inline(always)]
+fn are_spaces(bytes: &[u8]) -> bool
+    ensures yes { result ≡ true → AreSpaces bytes.now }
+    ensures no { result ≡ false → ¬ (AreSpaces bytes.now) }
+{
+    space_len(bytes) == bytes.len()
+}
+
+/// The identifiers of the pre-release and those of the build that the text is, each with its mark,
+/// and white space behind them; nothing where there are none.
 #[inline(always)]
 fn parts(text: &str) -> Option<(&str, &str)>
-    ensures each { IfSome result (λ r. AreIdentifiers r.0.now × AreIdentifiers r.1.now) }
-    ensures text { IfSome result (λ r. text.now
-        ≡ marked (codes "-") (cut_at_dots r.0.now) ++ marked (codes "+") (cut_at_dots r.1.now)) }
+    ensures { MatchOption result ((pre build : Text) → ¬ (AreParts text.now pre build))
+        (λ r. AreParts text.now r.0.now r.1.now) }
 {
     let (pre, rest) = part(text, b'-')?;
     let (build, rest) = part(rest, b'+')?;
-    if rest.is_empty() {
+    if are_spaces(rest.as_bytes()) {
         Some((pre, build))
     } else {
         None
@@ -126,33 +144,27 @@ fn identifiers(alloc: Global, text: &str) -> Result<Vec<Identifier>, AllocError>
     cut_identifiers(alloc, text)
 }
 
-/// The version of a text that begins with these numbers and goes on with the rest, a pre-release or
-/// a build; an error is want of memory.
+/// The version that the text spells, of which these numbers and this rest are known.
 #[inline(never)]
 fn with_parts(
     alloc: Global,
-    input: &str,
+    text: &str,
     major: u64,
     minor: u64,
     patch: u64,
     rest: &[u8],
-) -> Option<Result<Version, AllocError>>
-    requires { input.now ≡ join_with_byte 46 (map decimal (major ∷ minor ∷ patch ∷ []))
-        ++ rest.now }
-    ensures { IfSome result (λ read. MatchResult read
-        (λ v. SpellsVersion (version_value v) input.now) (λ _. TextMayRunOut input.now)) }
+) -> Result<Option<Version>, AllocError>
+    requires { BeginsWithNumbers text.now major minor patch rest.now }
+    ensures found { IfOk result (λ found. IsFound text.now found) }
+    ensures memory { IfErr result (λ _. HasIdentifiers text.now) }
 {
-    let rest = input.get(input.len() - rest.len()..)?;
-    let (pre, build) = parts(rest)?;
-    let pre = match identifiers(alloc, pre) {
-        Ok(pre) => pre,
-        Err(error) => return Some(Err(error)),
+    let rest = &text[text.len() - rest.len()..];
+    let Some((pre, build)) = parts(rest) else {
+        return Ok(None);
     };
-    let build = match identifiers(alloc, build) {
-        Ok(build) => build,
-        Err(error) => return Some(Err(error)),
-    };
-    Some(Ok(Version {
+    let pre = identifiers(alloc, pre)?;
+    let build = identifiers(alloc, build)?;
+    Ok(Some(Version {
         major,
         minor,
         patch,
@@ -161,25 +173,27 @@ fn with_parts(
     }))
 }
 
-/// The version that the text spells, where it is found so; an error is want of memory for its
+/// The version that the text spells, if it spells one; an error is want of memory for its
 /// identifiers.
 ///
-/// It isn't found between white space, nor with a number of twenty digits.
+/// No memory is asked for before the whole text is known to be a version.
 #[inline(always)]
-pub(crate) fn version(alloc: Global, input: &str) -> Option<Result<Version, AllocError>>
-    ensures { IfSome result (λ read. MatchResult read
-        (λ v. SpellsVersion (version_value v) input.now) (λ _. TextMayRunOut input.now)) }
+pub(crate) fn version(alloc: Global, input: &str) -> Result<Option<Version>, AllocError>
+    ensures found { IfOk result (λ found. IsFound input.now found) }
+    ensures memory { IfErr result (λ _. HasIdentifiers input.now) }
 {
-    let (major, minor, patch, rest) = numbers(input.as_bytes())?;
-    match rest {
-        [] => Some(Ok(Version {
+    let text = &input[space_len(input.as_bytes())..];
+    let Some((major, minor, patch, rest)) = numbers(text.as_bytes()) else {
+        return Ok(None);
+    };
+    if are_spaces(rest) {
+        return Ok(Some(Version {
             major,
             minor,
             patch,
             pre: Vec::new(alloc),
             build: Vec::new(alloc),
-        })),
-        [b'-' | b'+', ..] => with_parts(alloc, input, major, minor, patch, rest),
-        _ => None,
+        }));
     }
+    with_parts(alloc, text, major, minor, patch, rest)
 }

@@ -6,18 +6,41 @@
 //! it. A number is a canonical decimal, `0` or digits that don't begin with `0`, up to
 //! 18446744073709551615. An identifier is one or more runs of ASCII letters and digits joined by
 //! single hyphens; there is no limit on runs, identifiers or the length of a text.
-ghost use Rattle.std.specs.Prelude.{◌≡◌, ◌↔◌, [], IfOk};
+ghost use Rattle.std.specs.Prelude.{◌≡◌, ◌↔◌, ◌<◌, ◌⊎◌, [], length, Some, None, option_map};
+ghost use Rattle.std.specs.Prelude.{IfOk, IfErr};
 ghost use Rattle.semver_texts.specs.Versions.{VersionValue};
 ghost use Rattle.semver_texts.specs.PrintedText.{version_text};
 ghost use Rattle.semver_texts.specs.VersionViews.{version_value};
-ghost use Rattle.semver_texts.specs.VersionGrammar.{SpellsVersion, IsTrimmed, IsPrintableVersion};
+ghost use Rattle.semver_texts.specs.VersionGrammar.{SpellsVersion, IsVersionText, IsTrimmed};
+ghost use Rattle.semver_texts.specs.VersionGrammar.{IsPrintableVersion};
 ghost use Rattle.semver_steps.specs.VersionReading.{IsOutcomeOf, TextMayRunOut};
 ghost use Rattle.semver_steps.specs.ParserViews.{answer_of, UnlessOutOfMemory, IfOutOfMemory};
 
 use crate::from_bytes;
 use semver_steps::parser::{self, Parser};
 pub use semver_texts::version::{Identifier, Version};
-use std::alloc::Global;
+use std::alloc::{AllocError, Global};
+
+/// The version that the text spells, if it spells one: `" 1.2.3-rc.4\n"` gives the numbers 1, 2
+/// and 3, the pre-release `"rc"`, 4 and no build, and `1.2` and `1.2.3 a` give `None`. What is
+/// wrong with a text that spells none, [`parse`] tells.
+///
+/// `Err` is want of memory, and comes only where the text spells a version with a pre-release or a
+/// build: nothing is asked for before the whole text is known to spell one. Then memory is taken
+/// for each identifier that isn't a number, and for the lists of identifiers. So a text that spells
+/// no version is always answered, and takes no memory, however long it is.
+pub fn read(alloc: Global, input: &str) -> Result<Option<Version>, AllocError>
+    // Unless memory ran out, a version is answered exactly where the text spells it.
+    ensures exact { (v : VersionValue) → IfOk result (λ found.
+        (option_map version_value found ≡ Some v) ↔ SpellsVersion v input.now) }
+    // Unless memory ran out, no version is answered exactly where the text spells none.
+    ensures none { IfOk result (λ found. (found ≡ None) ↔ ¬ (IsVersionText input.now)) }
+    // Memory runs out only where the text spells a version with a pre-release or a build.
+    ensures out_of_memory { IfErr result (λ _. (v : VersionValue) × SpellsVersion v input.now
+        × ((0 < length v.plain.pre) ⊎ (0 < length v.build))) }
+{
+    from_bytes::version(alloc, input)
+}
 
 /// The version that the text spells: `" 1.2.3-rc.4\n"` gives the numbers 1, 2 and 3, the
 /// pre-release `"rc"`, 4 and no build. It prints as the text without the white space round it, and
@@ -37,10 +60,7 @@ use std::alloc::Global;
 ///   for the lists of identifiers, and for the tokens of `MoreInput`; so a text that spells a
 ///   version without pre-release and build is always answered.
 ///
-/// There are two ways to the answer: a text without white space round it is first read straight
-/// from its bytes, and where no version is found so, the tokens decide. Both answer the same, since
-/// what the bytes give is proved to be the version that the text spells, and no text spells two; a
-/// growth that was refused is the answer, and isn't asked for again.
+/// What [`read`] finds is the answer. Where it finds none, the tokens tell the fault.
 pub fn parse(alloc: Global, input: &str) -> Result<Version, parser::Error<'_>>
     // Unless memory ran out, the answer is a version exactly where the text spells it.
     ensures exact { (v : VersionValue) →
@@ -63,11 +83,9 @@ pub fn parse(alloc: Global, input: &str) -> Result<Version, parser::Error<'_>>
     // Memory runs out only where an identifier's run was read, or in place of `MoreInput`.
     ensures out_of_memory { IfOutOfMemory result (TextMayRunOut input.now) }
 {
-    let Some(read) = from_bytes::version(alloc, input) else {
-        return by_tokens(alloc, input);
-    };
-    match read {
-        Ok(version) => Ok(version),
+    match read(alloc, input) {
+        Ok(Some(version)) => Ok(version),
+        Ok(None) => by_tokens(alloc, input),
         Err(_) => Err(parser::Error::OutOfMemory),
     }
 }

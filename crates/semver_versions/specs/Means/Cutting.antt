@@ -1,10 +1,14 @@
--- A part of a version, cut at its dots. This is how identifiers are read from bytes, and a means of
--- proof: `VersionGrammar` says what the identifiers of a text are, and the public clauses speak of
--- that.
-use Rattle.std.specs.Prelude.{List, [], ◌∷◌}
-use Rattle.std.specs.List.{AllByRecursion, slice_split}
-use Rattle.semver_texts.specs.Texts.{Text, is_dot}
-use Rattle.semver_texts.specs.VersionGrammar.{IsIdentifierText}
+-- A version in parts, as it is read from its bytes: a means of proof. `VersionGrammar` says what
+-- the identifiers of a text are and which version it spells; the public clauses speak of that.
+use Rattle.std.specs.Prelude.{◌≡◌, ◌<◌, Bool, false, ◌||◌, ◌==◌, ℕ, List, [], ◌∷◌, ◌++◌, ◌⊎◌}
+use Rattle.std.specs.Prelude.{length}
+use Rattle.std.specs.Prelude.{take, slice_index, IsTrue, Option, Some, None, codes}
+use Rattle.std.specs.List.{AllByRecursion, prefix_len, slice_split}
+use Rattle.semver_texts.specs.Texts.{Text, marked, is_dot, is_part_byte, is_space}
+use Rattle.semver_texts.specs.Versions.{VersionValue}
+use Rattle.semver_texts.specs.VersionGrammar.{IsIdentifierText, SpellsVersion, IsVersionText}
+use Rattle.semver_texts.specs.VersionViews.{version_value}
+use Rattle.semver_texts.specs.declared.version.Version.{Version}
 
 -- the texts between the dots; none where there is nothing
 abbrev pub cut_at_dots : Text → List Text
@@ -14,3 +18,44 @@ cut_at_dots (b ∷ t) = slice_split is_dot (b ∷ t)
 -- each of them is the text of an identifier
 abbrev pub AreIdentifiers : Text → Type 0
 AreIdentifiers t = AllByRecursion IsIdentifierText (cut_at_dots t)
+
+-- a byte of an identifier, or a dot between two
+abbrev pub is_inner_byte : ℕ → Bool
+is_inner_byte b = is_part_byte b || (b == 46)
+
+-- what stands before the first other byte are one or more identifiers joined by dots
+abbrev pub BeginsWithIdentifiers : Text → Type 0
+BeginsWithIdentifiers t =
+    (0 < prefix_len is_inner_byte t) × AreIdentifiers (take (prefix_len is_inner_byte t) t)
+
+-- the identifiers behind their mark, where there are some, and a rest that can't go on with them
+pub record IsPart (mark : ℕ) (text inner rest : Text) : Type 0 where
+  pub each : AreIdentifiers inner
+  pub split : text ≡ marked (mark ∷ []) (cut_at_dots inner) ++ rest
+  pub ended : is_inner_byte (slice_index rest 0) ≡ false
+  pub no_mark : (slice_index rest 0 == mark) ≡ false
+
+-- white space, or nothing
+abbrev pub AreSpaces : Text → Type 0
+AreSpaces t = AllByRecursion (λ b. IsTrue (is_space b)) t
+
+-- what stands behind the numbers of a version: the identifiers of its pre-release and those of its
+-- build, each with its mark, and white space
+pub record AreParts (text pre build : Text) : Type 0 where
+  pub after : Text
+  pub pre_each : AreIdentifiers pre
+  pub build_each : AreIdentifiers build
+  pub spaces : AreSpaces after
+  pub split : text
+      ≡ marked (codes "-") (cut_at_dots pre) ++ (marked (codes "+") (cut_at_dots build) ++ after)
+
+-- the version that the text spells, or none where it spells none
+abbrev pub IsFound : Text → Option Version → Type 0
+IsFound text None = ¬ (IsVersionText text)
+IsFound text (Some v) = SpellsVersion (version_value v) text
+
+-- the text spells a version with a pre-release or a build
+abbrev pub HasIdentifiers : Text → Type 0
+HasIdentifiers text =
+    (v : VersionValue) × SpellsVersion v text
+    × ((0 < length v.plain.pre) ⊎ (0 < length v.build))

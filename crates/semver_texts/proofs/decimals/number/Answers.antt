@@ -1,17 +1,16 @@
-use Rattle.std.proofs.Common.{rules, ◌≡◌, ℕ, List, ◌-◌, ◌<◌, ◌^◌, ◌++◌, take, drop, length, get_or, decimal, true, sym, ap, subst, ◌∙◌}
-use Rattle.std.proofs.Common.{arith, IfSome}
-use Rattle.std.specs.Char.{is_ascii_digit}
-use Rattle.semver_texts.proofs.DecimalSteps.{zero_front, digit_front}
+use Rattle.std.proofs.Common.{refl}
+use Rattle.semver_texts.proofs.Numbers.{number_read, none_read, too_large}
 use Rattle.semver_texts.proofs.decimals.number.Goals as goal
 
-pub returns-in-48 : goal.returns-in-48
-returns-in-48 c = search (rules, zero_front)
+pub returns-in_err-number : goal.returns-in_err-number
+returns-in_err-number c = rw c.from_residual.ensures (too_large c.args.bytes.now c.in_err-number.ensures)
 
-pub returns-in-len1-up : goal.returns-in-len1-up
-returns-in-len1-up c =
-    let bs : List ℕ = c.args.bytes.now in
-    let d : is_ascii_digit (get_or bs 0 0) ≡ true = sym c.is_ascii_digit.ensures.value ∙ c.if-is_ascii_digit.true in
-    let e : decimal c.from.result ++ take (length bs - 1) (drop 1 bs)
-    ≡ bs = ap (λ (n : ℕ). decimal n ++ take (length bs - 1) (drop 1 bs)) c.from.ensures
-    ∙ digit_front bs (omega arith) d in
-    subst (λ (t : List ℕ). IfSome c.more_digits.result (λ r. (t ≡ decimal r.0 ++ r.1.now) × (r.0 < 2 ^ 64))) e c.more_digits.ensures
+pub returns-then-is_canonical : goal.returns-then-is_canonical
+returns-then-is_canonical c =
+    let read = c.in_ok-number.ensures in
+    number_read c.args.bytes.now _ c.in_ok-number.number c.in_ok-number.len read.0 read.1 read.2
+    (c.is_canonical.ensures.some c.if-is_canonical.true) (c.is_canonical.ensures.first c.if-is_canonical.true) refl
+
+pub returns-else-is_canonical : goal.returns-else-is_canonical
+returns-else-is_canonical c =
+    none_read c.args.bytes.now c.in_ok-number.len c.in_ok-number.ensures.2 (c.is_canonical.ensures.other c.if-is_canonical.false)

@@ -1,40 +1,33 @@
-use Rattle.std.proofs.Common.{◌≡◌, ◌==◌, ◌||◌, ◌<◌, length, take, get_or, true, false, sym, ap, ◌∙◌, subst, arith}
-use Rattle.std.proofs.Math.Seq.{take-length}
-use Rattle.std.proofs.lemmas.List.{length-take-le}
+use Rattle.std.proofs.Common.{◌≡◌, ℕ, [], length, get_or, drop, false, sym, ap, ◌∙◌, subst, arith}
+use Rattle.std.specs.List.{prefix_len}
 use Rattle.std.specs.Char.{is_ascii_alphanumeric}
+use Rattle.std.proofs.lemmas.List.{drop_all}
 use Rattle.semver_texts.specs.Texts.{Text}
-use Rattle.semver_versions.proofs.CutIdentifiers.{AreBegun, letter_begun, mark_begun, begun_whole, next_byte}
+use Rattle.semver_versions.specs.Means.Cutting.{is_inner_byte}
+use Rattle.semver_versions.proofs.CutIdentifiers.{IsRead, stands, at_end, other_ends, none_read}
 use Rattle.semver_versions.proofs.from_bytes.identifiers_len.Goals as goal
+use Rattle.semver_versions.proofs.from_bytes.identifiers_len.Goals.{Else-is_ascii_alphanumeric}
 
-pub loop-at-preserved-then-is_ascii_alphanumeric : goal.loop-at-preserved-then-is_ascii_alphanumeric
-loop-at-preserved-then-is_ascii_alphanumeric c =
-    let bytes : Text = c.args.bytes.now in
-    let letter : is_ascii_alphanumeric (get_or bytes c.loop-at.at 0) ≡ true = sym c.is_ascii_alphanumeric.ensures.value
-    ∙ c.if-is_ascii_alphanumeric.true in
-    subst (AreBegun true) (sym (next_byte bytes c.loop-at.at (omega arith)))
-    (letter_begun c.loop-at.in_run (take c.loop-at.at bytes) (get_or bytes c.loop-at.at 0) letter c.loop-at.invariant)
+no_letter : (c : Else-is_ascii_alphanumeric) → is_ascii_alphanumeric (get_or c.args.bytes.now c.loop-at.at 0) ≡ false
+no_letter c = sym c.is_ascii_alphanumeric.ensures.value ∙ c.if-is_ascii_alphanumeric.false
 
-pub returns-then-byte-eq43 : goal.returns-then-byte-eq43
-returns-then-byte-eq43 c =
-    let bytes : Text = c.args.bytes.now in
-    let whole = begun_whole (take c.loop-at.at bytes) (subst (λ b. AreBegun b (take c.loop-at.at bytes)) c.if-not-in_run.false
-    c.loop-at.invariant) in
-    let some : 0 < c.loop-at.at = omega (arith, whole.0, length-take-le c.loop-at.at bytes (omega arith)) in
-    (some, omega arith, whole.1)
+pub returns-then-not-is_between_runs : goal.returns-then-not-is_between_runs
+returns-then-not-is_between_runs c =
+    let ends = other_ends c.args.bytes.now c.loop-at.at c.loop-at.in_run c.loop-at-test.true
+    (no_letter (goal.at.returns-then-not-is_between_runs c).Else-is_ascii_alphanumeric)
+    (sym c.is_between_runs.ensures ∙ c.if-not-is_between_runs.true) in
+    rw c.then_some.ensures (at_end c.args.bytes.now c.loop-at.at c.loop-at.in_run ends.0 ends.1 c.loop-at.invariant)
 
-pub loop-at-preserved : goal.loop-at-preserved
-loop-at-preserved c =
-    let bytes : Text = c.args.bytes.now in
-    let mark : (get_or bytes c.loop-at.at 0 == 45 || get_or bytes c.loop-at.at 0 == 46) ≡ true = sym c.is_between_runs.ensures
-    ∙ c.if-not-is_between_runs.false in
-    subst (AreBegun false) (sym (next_byte bytes c.loop-at.at (omega arith)))
-    (mark_begun (take c.loop-at.at bytes) (get_or bytes c.loop-at.at 0) mark
-    (subst (λ b. AreBegun b (take c.loop-at.at bytes)) c.if-not-in_run.false c.loop-at.invariant))
+pub returns-then-not-in_run : goal.returns-then-not-in_run
+returns-then-not-in_run c =
+    none_read c.args.bytes.now c.loop-at.at c.loop-at-test.true (no_letter (goal.at.returns-then-not-in_run c).Else-is_ascii_alphanumeric)
+    (sym c.is_between_runs.ensures ∙ c.if-not-is_between_runs.false)
+    (subst (IsRead c.args.bytes.now c.loop-at.at) c.if-not-in_run.true c.loop-at.invariant)
 
-pub returns-then-in_run : goal.returns-then-in_run
-returns-then-in_run c =
+pub returns : goal.returns
+returns c =
     let bytes : Text = c.args.bytes.now in
-    let all : take c.loop-at.at bytes ≡ take (length bytes) bytes = ap (λ n. take n bytes) (omega arith) in
-    let whole = begun_whole (take (length bytes) bytes) (subst (AreBegun true) all
-    (subst (λ b. AreBegun b (take c.loop-at.at bytes)) c.if-in_run.true c.loop-at.invariant)) in
-    (subst (λ (t : Text). 0 < length t) (take-length bytes) whole.0, omega arith, whole.1)
+    let none : drop (length bytes) bytes ≡ [] = drop_all (length bytes) bytes (omega arith) in
+    rw c.then_some-2.ensures (at_end bytes (length bytes) c.loop-at.in_run (ap (prefix_len is_inner_byte) none)
+    (ap (stands c.loop-at.in_run) none)
+    (subst (λ (n : ℕ). IsRead bytes n c.loop-at.in_run) (omega arith) c.loop-at.invariant))

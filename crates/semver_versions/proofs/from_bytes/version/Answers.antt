@@ -1,12 +1,56 @@
-use Rattle.std.proofs.Common.{sym, ◌∙◌, ap, map, arith}
+use Rattle.std.proofs.Common.{◌≡◌, ℕ, subst, sym, ap, ◌∙◌, map, drop, refl, None}
+use Rattle.std.specs.Prelude.{IsCharBoundary}
+use Rattle.std.specs.List.{prefix_len}
+use Rattle.semver_texts.specs.Texts.{Text, is_space, BeginsWithNumbers}
 use Rattle.semver_texts.specs.VersionViews.{identifier_value}
-use Rattle.semver_versions.proofs.SpelledParts.{spells_numbers}
+use Rattle.semver_tokens.proofs.Cuts.{cut_after_prefix}
+use Rattle.semver_tokens.proofs.FirstToken.{space_ascii}
+use Rattle.semver_versions.specs.Means.Cutting.{IsFound, HasIdentifiers}
+use Rattle.semver_versions.proofs.CutIdentifiers.{ends_front}
+use Rattle.semver_versions.proofs.SpelledParts.{no_numbers, spells_numbers, spaced, found_spaced, identifiers_spaced, if_ok_more}
+use Rattle.semver_versions.proofs.SpelledParts.{if_err_more}
 use Rattle.semver_versions.proofs.from_bytes.version.Goals as goal
+use Rattle.semver_versions.proofs.from_bytes.version.Goals.{After-space_len, After-range_from-text, After-with_parts}
 
-pub returns-in-empty : goal.returns-in-empty
-returns-in-empty c =
-    spells_numbers c.args.input.now c.in_ok-major.rest.now c.in_ok-major.major c.in_ok-major.minor c.in_ok-major.patch
-    (sym c.as_bytes.ensures.value ∙ c.in_ok-major.ensures.text) c.in_ok-major.ensures.fit.0 c.in_ok-major.ensures.fit.1
-    c.in_ok-major.ensures.fit.2 (omega arith)
-    (map identifier_value c.new.result.items) (map identifier_value c.new-in-empty.result.items)
-    (ap (map identifier_value) c.new.ensures.items) (ap (map identifier_value) c.new-in-empty.ensures.items)
+-- how much white space stands in front, and what is left
+count : (c : After-space_len) → c.space_len.result ≡ prefix_len is_space c.args.input.now
+count c = c.space_len.ensures ∙ ap (prefix_len is_space) c.as_bytes.ensures.value
+
+left : (c : After-range_from-text) → c.range_from-text.result.now ≡ drop (prefix_len is_space c.args.input.now) c.args.input.now
+left c = c.range_from-text.ensures.value
+    ∙ ap (λ (n : ℕ). drop n c.args.input.now) (count (goal.at.After-range_from-text c).After-space_len)
+
+pub range_from-text-requires : goal.range_from-text-requires
+range_from-text-requires c = λ _.
+    subst (IsCharBoundary c.args.input.now) (sym (count c))
+    (cut_after_prefix is_space space_ascii c.args.input.now c.utf8.input)
+
+pub returns-in_default-clause-found : goal.returns-in_default-clause-found
+returns-in_default-clause-found c =
+    found_spaced c.args.input.now None
+    (no_numbers _ (ends_front is_space refl c.args.input.now)
+    (subst (λ (t : Text). (major minor patch : ℕ) (rest : Text) → ¬ (BeginsWithNumbers t major minor patch rest))
+    (c.as_bytes-2.ensures.value ∙ left (goal.at.returns-in_default-clause-found c).After-range_from-text) c.in_default.ensures))
+
+pub returns-then-are_spaces-clause-found : goal.returns-then-are_spaces-clause-found
+returns-then-are_spaces-clause-found c =
+    spaced _ c.args.input.now
+    (spells_numbers _ c.in-Some.rest.now c.in-Some.major c.in-Some.minor c.in-Some.patch
+    (subst (λ (t : Text). BeginsWithNumbers t c.in-Some.major c.in-Some.minor c.in-Some.patch c.in-Some.rest.now)
+    (c.as_bytes-2.ensures.value ∙ left (goal.at.returns-then-are_spaces-clause-found c).After-range_from-text) c.in-Some.ensures)
+    (c.are_spaces.ensures.yes c.if-are_spaces.true) _ _
+    (ap (map identifier_value) c.new.ensures.items) (ap (map identifier_value) c.new-then-are_spaces.ensures.items))
+
+pub returns-clause-found : goal.returns-clause-found
+returns-clause-found c =
+    if_ok_more c.with_parts.result
+    (λ found is. found_spaced c.args.input.now found
+    (subst (λ (t : Text). IsFound t found) (left (goal.at.returns-clause-found c).After-range_from-text) is))
+    c.with_parts.ensures.found
+
+pub returns-clause-memory : goal.returns-clause-memory
+returns-clause-memory c =
+    if_err_more c.with_parts.result
+    (λ h. identifiers_spaced c.args.input.now
+    (subst HasIdentifiers (left (goal.at.returns-clause-memory c).After-range_from-text) h))
+    c.with_parts.ensures.memory

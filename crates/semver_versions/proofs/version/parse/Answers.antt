@@ -1,17 +1,21 @@
-use Rattle.std.proofs.Common.{Ok, Err}
+use Rattle.std.proofs.Common.{Ok, Err, ap}
+use Rattle.std.specs.Prelude.{option_map}
 use Rattle.semver_texts.specs.VersionViews.{version_value}
 use Rattle.semver_steps.specs.declared.parser.Error.TheVariants as error
+use Rattle.semver_versions.proofs.VersionMemory.{may_run_out}
 use Rattle.semver_versions.proofs.WholeText.{spelled_outcome}
 use Rattle.semver_versions.proofs.ParseFacts.{all_of}
 use Rattle.semver_versions.proofs.version.parse.Goals as goal
 
-pub returns-in_default : goal.returns-in_default
-returns-in_default c = all_of c.args.input.now c.utf8.input c.by_tokens.result c.by_tokens.ensures.outcome c.by_tokens.ensures.out_of_memory
+pub returns-in-Ok-Some : goal.returns-in-Ok-Some
+returns-in-Ok-Some c =
+    all_of c.args.input.now c.utf8.input (Ok c.in-Ok-Some.version) (spelled_outcome (version_value c.in-Ok-Some.version) c.args.input.now
+    ((c.in-Ok-Some.ensures.exact (version_value c.in-Ok-Some.version)).0 (ap (option_map version_value) c.in-Ok-Some.field-0-is))) tt
 
-pub returns-in-Ok : goal.returns-in-Ok
-returns-in-Ok c =
-    all_of c.args.input.now c.utf8.input (Ok c.in-Ok.version) (spelled_outcome (version_value c.in-Ok.version) c.args.input.now
-    (rw c.in-Ok.is at c.in-Some.ensures)) tt
+pub returns-in-Ok-None : goal.returns-in-Ok-None
+returns-in-Ok-None c = all_of c.args.input.now c.utf8.input c.by_tokens.result c.by_tokens.ensures.outcome c.by_tokens.ensures.out_of_memory
 
 pub returns-in-Err : goal.returns-in-Err
-returns-in-Err c = all_of c.args.input.now c.utf8.input (Err error.OutOfMemory) tt (rw c.in-Err.is at c.in-Some.ensures)
+returns-in-Err c =
+    let v = c.in-Err.ensures.out_of_memory in
+    all_of c.args.input.now c.utf8.input (Err error.OutOfMemory) tt (may_run_out v.0 c.args.input.now v.1 v.2)
