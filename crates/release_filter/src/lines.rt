@@ -1,10 +1,8 @@
 //! The filter over a stream of lines.
 
-ghost use Rattle.std.specs.Prelude.{◌≡◌, ◌≢◌, ◌↔◌, ◌&&◌, ◌⊎◌, false, true, IfOk, IfSome, IsTrue};
+ghost use Rattle.std.specs.Prelude.{◌≡◌, ◌↔◌, ◌&&◌, ◌⊎◌, false, true, IfOk, IfSome, IsTrue};
 ghost use Rattle.std.specs.Io.BufRead.{strip_last};
 ghost use Rattle.semver_parser.specs.Meeting.{meets_set};
-ghost use Rattle.semver_parser.specs.ParserState.{OutOfMemory};
-ghost use Rattle.semver_parser.specs.ParserViews.{fault_of};
 ghost use Rattle.semver_parser.specs.RangeTexts.{IsRangeText, HasSet, IsTooLarge};
 ghost use Rattle.semver_parser.specs.RangeTree.{SetTree, Spells};
 ghost use Rattle.semver_parser.specs.RangeViews.{set_of};
@@ -14,7 +12,7 @@ ghost use Rattle.release_filter.specs.KeptLines.{line_text, SpellsOneThat, IsKep
 
 use crate::{PreReleases, is_kept, read_set};
 use semver_parser::writing::write_whole;
-use semver_parser::{Compat, RangeError, RangeSet, parser, version};
+use semver_parser::{Compat, RangeError, RangeSet, version};
 use std::alloc::{AllocError, Global};
 use std::io::{self, BufRead, ErrorKind, Write};
 use thiserror::Error;
@@ -29,7 +27,7 @@ pub enum FilterError {
     /// above 2^64 - 1.
     #[error("number too large")]
     NumberTooLarge,
-    /// A growth was refused: for the range, for a line, or for what `version::parse` reads of one.
+    /// A growth was refused: for the range, for a line, or for the identifiers of its version.
     #[error("out of memory")]
     OutOfMemory,
     /// Reading failed, for the reason given.
@@ -45,14 +43,14 @@ pub enum FilterError {
 ///
 /// A line ends with a line feed, and the last one may have none. Its text is the line without that
 /// line feed, and then without one carriage return at its end. It is kept where its text spells a
-/// version as `version::parse` reads it (docs/GRAMMAR.md): spaces and tabs may stand round the
+/// version as `version::read` reads it (docs/GRAMMAR.md): spaces and tabs may stand round the
 /// version, and each number is at most 2^64 - 1. Kept lines are written as they stand, with their
 /// end, in their order and with repeats. Any other line is passed over, also one that is no UTF-8.
 /// Of `^1.2` in Cargo mode, releases alone, and the input `"1.2.0\r\nx\n1.3.0-rc\n2.0.0\n1.9.0"` it
 /// writes `"1.2.0\r\n1.9.0"`, and answers true.
 ///
-/// It holds one line at a time, and of a line with more behind its version the tokens of that, some
-/// 24 bytes for each byte at most. `out` isn't flushed.
+/// It holds one line at a time, and where the line spells a version the identifiers of that. `out`
+/// isn't flushed.
 ///
 /// # Errors
 ///
@@ -169,18 +167,10 @@ fn is_kept_line(
     let Ok(text) = str::from_utf8(text_of(line)) else {
         return Ok(false);
     };
-    match version::parse(alloc, text) {
-        Ok(version) => Ok(is_kept(set, pre_releases, &version)),
-        Err(error) if is_out_of_memory(&error) => Err(AllocError),
-        Err(_) => Ok(false),
+    match version::read(alloc, text)? {
+        Some(version) => Ok(is_kept(set, pre_releases, &version)),
+        None => Ok(false),
     }
-}
-
-/// Whether a text was refused for want of memory, and not for what it is.
-fn is_out_of_memory(error: &parser::Error<'_>) -> bool
-    ensures { result ≡ false → fault_of error.now ≢ OutOfMemory }
-{
-    matches!(error, parser::Error::OutOfMemory)
 }
 
 /// The text of a line: without the line feed at its end, and then without one carriage return at
