@@ -12,6 +12,7 @@ pub type Call = fn(&str) -> u64;
 
 extern "C" {
     fn speed_version(text: *const u8, len: usize) -> u64;
+    fn speed_is_version(text: *const u8, len: usize) -> u64;
     fn speed_range(text: *const u8, len: usize) -> u64;
     fn speed_filter(
         ranges: *const u8,
@@ -45,7 +46,7 @@ pub fn semver_version(text: &str) -> u64 {
 
 /// 1 where a text is a version here. A version that was read is dropped at once.
 pub fn here_is_version(text: &str) -> u64 {
-    is_version(here_version(text) != REFUSED)
+    unsafe { speed_is_version(text.as_ptr(), text.len()) }
 }
 
 /// 1 where a text is a version to the crate `semver-parser`.

@@ -73,7 +73,7 @@ fn tell(rt: &impl Print, endings: &[(&'static str, Ending)]) -> io::Result<()> {
 }
 
 /// How each call on tokens, versions and their identifiers ends.
-fn of_versions(alloc: Global) -> [(&'static str, Ending); 13] {
+fn of_versions(alloc: Global) -> [(&'static str, Ending); 15] {
     [
         ("identifier", parsers::identifier(alloc)),
         ("parser_version", parsers::version(alloc)),
@@ -86,6 +86,11 @@ fn of_versions(alloc: Global) -> [(&'static str, Ending); 13] {
             versions::with_identifiers(alloc),
         ),
         ("version_with_numbers", versions::with_numbers(alloc)),
+        (
+            "read_without_identifiers",
+            versions::read_without_identifiers(alloc),
+        ),
+        ("version_read", versions::read_with_identifiers(alloc)),
         ("more_input", versions::more_input(alloc)),
         ("version_clone", versions::clone(alloc)),
         ("concat_of_a_number", identifiers::concat_of_a_number(alloc)),

@@ -44,6 +44,36 @@ fn read_as(alloc: Global, text: &str) -> Ending {
     }
 }
 
+/// A text that spells no version is answered without a request, also where it begins with one, and
+/// so is a version without identifiers.
+pub fn read_without_identifiers(alloc: Global) -> Ending {
+    let release = match version::read(alloc, " 1.2.3\n") {
+        Ok(Some(version)) => prints_as(&version, "1.2.3"),
+        _ => false,
+    };
+    let others = [
+        "v1.2.3",
+        "1.2",
+        "1.2.3 a.b",
+        "1.2.3-a.b+c/",
+        "1.2.3-a.b+c d",
+        "1.2.3-a.b.",
+    ];
+    let refused = others
+        .iter()
+        .all(|text| matches!(version::read(alloc, text), Ok(None)));
+    Ending::full_if(release && refused)
+}
+
+/// A version with identifiers, between white space: as many requests as `parse` makes.
+pub fn read_with_identifiers(alloc: Global) -> Ending {
+    match version::read(alloc, " 1.2.3-a-b.c+d\n") {
+        Ok(Some(version)) => Ending::full_if(prints_as(&version, "1.2.3-a-b.c+d")),
+        Ok(None) => Ending::Wrong,
+        Err(_) => Ending::Refused,
+    }
+}
+
 /// The tokens behind a version are asked for at once.
 pub fn more_input(alloc: Global) -> Ending {
     match version::parse(alloc, "1.2.3 a.b.c") {

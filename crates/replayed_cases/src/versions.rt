@@ -11,16 +11,27 @@ use std::io::Write;
 /// Writes the fields of a version, or the fault that stands in its place.
 pub fn write_version<W: Write>(answer: &Result<Version, Error<'_>>, out: &mut W) -> io::Result<()> {
     match answer {
-        Ok(version) => {
-            let (major, minor, patch) = (version.major, version.minor, version.patch);
-            write!(out, "{major} {minor} {patch} pre[")?;
-            write_identifiers(version.pre.as_slice(), out)?;
-            write!(out, "] build[")?;
-            write_identifiers(version.build.as_slice(), out)?;
-            write!(out, "]")
-        }
+        Ok(version) => write_fields(version, out),
         Err(error) => parsing::write_error(error, out),
     }
+}
+
+/// Writes the fields of the version that a text spells, or `none` where it spells none.
+pub fn write_read<W: Write>(alloc: Global, text: &str, out: &mut W) -> io::Result<()> {
+    match version::read(alloc, text) {
+        Ok(Some(version)) => write_fields(&version, out),
+        Ok(None) => write!(out, "none"),
+        Err(_) => write!(out, "OutOfMemory"),
+    }
+}
+
+fn write_fields<W: Write>(version: &Version, out: &mut W) -> io::Result<()> {
+    let (major, minor, patch) = (version.major, version.minor, version.patch);
+    write!(out, "{major} {minor} {patch} pre[")?;
+    write_identifiers(version.pre.as_slice(), out)?;
+    write!(out, "] build[")?;
+    write_identifiers(version.build.as_slice(), out)?;
+    write!(out, "]")
 }
 
 /// Writes what the version prints, or its fault.

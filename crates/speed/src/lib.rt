@@ -33,6 +33,15 @@ pub extern "C" fn speed_version(alloc: Global, text: &[u8]) -> u64
     }
 }
 
+/// 1 where the text is a version, and else 0.
+#[unsafe(no_mangle)]
+pub extern "C" fn speed_is_version(alloc: Global, text: &[u8]) -> u64
+    requires { IsUtf8 text.now }
+{
+    let text = unsafe { std::str::from_utf8_unchecked(text) };
+    u64::from(matches!(version::read(alloc, text), Ok(Some(_))))
+}
+
 /// The count of comparators of the set that the text is in Cargo mode; `u64::MAX` where it is none.
 #[unsafe(no_mangle)]
 pub extern "C" fn speed_range(alloc: Global, text: &[u8]) -> u64
