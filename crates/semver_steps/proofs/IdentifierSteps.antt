@@ -1,7 +1,6 @@
 -- The shape of an identifier, token by token, and that each identifier that is read has a value.
-use Rattle.std.proofs.Common.{◌≡◌, ℕ, ◌^◌, ◌<◌, ◌≤◌, Bool, true, false, List, [], ◌∷◌, ◌++◌, length, map, Some, None, Option, Result, Ok}
-use Rattle.std.proofs.Common.{Err, sym, refl, ap, ◌∙◌, subst, ◌⊎◌, inl, inr, arith, append_assoc, append-nil, cond, decimal, ◌&&◌}
-use Rattle.std.proofs.Common.{length-append}
+use Rattle.std.proofs.Common.{◌≡◌, ℕ, ◌^◌, ◌<◌, Bool, true, false, List, [], ◌∷◌, ◌++◌, length, map, Some, None, Option, Ok}
+use Rattle.std.proofs.Common.{Err, sym, refl, ap, ◌∙◌, subst, arith, append-nil, cond, decimal, ◌&&◌}
 use Rattle.std.specs.Prelude.{option_and_then, option_map, IsTrue, flat_map, slice_get}
 use Rattle.std.specs.List.{AllByRecursion, join_by, join_with_byte}
 use Rattle.std.specs.Str.{all_ascii_digits}
@@ -14,7 +13,7 @@ use Rattle.semver_texts.specs.Versions.{IdentifierValue}
 use Rattle.semver_tokens.specs.ParserState.{ParserState, Fault}
 use Rattle.semver_steps.specs.ParserSteps.{Step, pop, look, number_of}
 use Rattle.semver_steps.specs.Means.Taking.{run, IsTaken, Gives, PassesIdentifier, TakesIdentifier, expect_run, run_of, lone_number}
-use Rattle.semver_steps.specs.VersionReading.{Reads, IsIdentifierShape, inner_text, inner_texts}
+use Rattle.semver_steps.specs.VersionReading.{IsIdentifierShape, inner_text, inner_texts}
 use Rattle.semver_texts.proofs.Numbers.{canonical_from_IsNumber}
 use Rattle.semver_tokens.proofs.TokenLists.{decimal_is_run}
 use Rattle.semver_steps.proofs.ReadingSteps.{IsReadBy, Pops, Stops, none_taken, reads_value, next_given, expected_given}
@@ -156,7 +155,7 @@ abbrev pub IsRead : ParserState → List TokenValue → Bool → ParserState →
 IsRead s front after t = IsTaken id_step false s front after t
 
 pub nothing_read : (s : ParserState) → IsRead s [] false s
-nothing_read s = none_taken id_step (λ b. b) false IsIdentifierShape identifier_is_read s
+nothing_read s = none_taken identifier_is_read s
 
 -- a front that is one token longer was taken
 pub record ReadsMore (s t : ParserState) (front : List TokenValue) (x : TokenValue) (after : Bool) (u : ParserState) : Type 0 where
@@ -174,7 +173,7 @@ module _ (s t : ParserState) (front : List TokenValue) where
   run_given k d e =
       subst (Gives (λ e u. PassesIdentifier s (Err e) u) (λ n u. (x : TokenValue) × ReadsMore s t front x true u × (n ≡ number_of x)))
       (sym e)
-      (expected_given id_step (λ b. b) false IsIdentifierShape identifier_is_read (λ (n : Option ℕ) text. Unit {0}) k
+      (expected_given identifier_is_read (λ (n : Option ℕ) text. Unit {0}) k
       (λ n u. (x : TokenValue) × ReadsMore s t front x true u × (n ≡ number_of x)) run_of true refl (λ x looked. leads x)
       (λ x n u value pops taken. (x, reads_more s t u front x true pops taken, number x n value)))
     where
@@ -193,7 +192,7 @@ module _ (s t : ParserState) (front : List TokenValue) where
       → Gives (λ e u. PassesIdentifier s (Err e) u) (λ x u. ReadsMore s t front Hyphen false u) d
   hyphen_given k looked d e =
       subst (Gives (λ e u. PassesIdentifier s (Err e) u) (λ x u. ReadsMore s t front Hyphen false u)) (sym e)
-      (next_given id_step (λ b. b) false IsIdentifierShape identifier_is_read (λ (n : Option ℕ) text. Unit {0}) k
+      (next_given identifier_is_read (λ (n : Option ℕ) text. Unit {0}) k
       (λ u. ReadsMore s t front Hyphen false u) Hyphen false looked refl
       (λ u pops taken. reads_more s t u front Hyphen false pops taken))
 
@@ -203,7 +202,7 @@ module _ (s t : ParserState) (front : List TokenValue) where
   unfolding reads_value
   identifier_ends n k number other = record {
     passes =
-        reads_value id_step (λ b. b) false IsIdentifierShape identifier_is_read (λ (n : Option ℕ) text. Unit {0}) k n refl
+        reads_value identifier_is_read (λ (n : Option ℕ) text. Unit {0}) k n refl
         (stops t.remaining other) tt;
     number = number;
   }
@@ -221,8 +220,3 @@ not_alone (t ∷ u ∷ front) x y = refl
 
 pub takes_none : (s t : ParserState) (e : Fault) → PassesIdentifier s (Err e) t → TakesIdentifier s (Err e) t
 takes_none s t e p = record { passes = p; number = tt }
-
--- nothing is put back
-pub passes_shorter : {V : Type 0} {Shape : List TokenValue → Type 0} {Spells : V → List ℕ → Type 0} (s t : ParserState) (v : V)
-    → Reads Shape Spells s (Ok v) t → length t.remaining ≤ length s.remaining
-passes_shorter s t v w = let e = ap length w.longest.split in omega (arith, e, ap length w.answer.2, length-append w.front w.rest)

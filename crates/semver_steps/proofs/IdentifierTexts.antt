@@ -13,13 +13,13 @@ use Rattle.semver_tokens.specs.Tokens.{TokenValue, Hyphen, Whitespace, Numeric, 
 use Rattle.semver_tokens.specs.Tokens.{tokens_text, IsTokenAt, IsBadStart, AreInPlace, NoneMerge, AreTokensFrom}
 use Rattle.semver_tokens.specs.ParserState.{ParserState, IsStateFrom}
 use Rattle.semver_texts.specs.VersionGrammar.{SpellsIdentifier}
-use Rattle.semver_steps.specs.VersionReading.{Reads, IsIdentifierShape, inner_text, inner_texts, HoldsRun, MayRunOutInIdentifier}
+use Rattle.semver_steps.specs.VersionReading.{IsIdentifierShape, inner_text, inner_texts, HoldsRun, MayRunOutInIdentifier}
 use Rattle.semver_steps.specs.Means.Taking.{run, PassesIdentifier, lone_number}
-use Rattle.semver_steps.specs.ParserViews.{fault_of, UnlessOutOfMemory, IfOutOfMemory}
+use Rattle.semver_steps.specs.ParserViews.{UnlessOutOfMemory, IfOutOfMemory}
 use Rattle.semver_steps.specs.declared.parser.Error.{Error}
 use Rattle.semver_steps.specs.declared.parser.Error.TheVariants as error
 use Rattle.semver_tokens.proofs.TokenLists.{prefix_is, shows_kind, decimal_is_run, false_from_not, opens_nothing}
-use Rattle.semver_steps.proofs.ReadingSteps.{Stops, longest_stops, refuses_otherwise}
+use Rattle.semver_steps.proofs.ReadingSteps.{Stops, longest_stops}
 use Rattle.semver_steps.proofs.IdentifierSteps.{id_step, identifier_is_read, IsWellFormed, kept_as, kept_spells}
 
 -- a token of an identifier
@@ -167,7 +167,7 @@ front_is_cut text s t n from w =
     let front : List TokenValue = w.front in
     let whole = identifier_is_read.read front w.answer.0.0 in
     let leads : run id_step false front ≡ Some true = whole.1 ∙ ap (λ (b : Bool). Some b) whole.2 in
-    let stop = longest_stops id_step (λ b. b) false IsIdentifierShape identifier_is_read s.remaining front w.rest w.longest in
+    let stop = longest_stops identifier_is_read s.remaining front w.rest w.longest in
     let stops : Stops id_step true w.rest = subst (λ (b : Bool). Stops id_step b w.rest)
     (same_Some stop.0 true (sym stop.1 ∙ leads)) stop.2 in
     let tokens : AreTokensFrom from.input from.place (front ++ w.rest) from.rest = subst
@@ -220,12 +220,6 @@ unless_err _ f p = f p
 pub if_err : {P Q : Type 0} (e : Error) → (P → Q) → IfOutOfMemory {T = Unit {0}} (Err e) P → IfOutOfMemory {T = Unit {0}} (Err e) Q
 if_err error.OutOfMemory f p = f p
 if_err _ f p = tt
-
-pub if_out_of_memory : (T P : Type 0) {V : Type 0} {Shape : List TokenValue → Type 0} {Spells : V → List ℕ → Type 0} (s t : ParserState)
-    (e : Error)
-    → Reads Shape Spells s (Err (fault_of e)) t → IfOutOfMemory {T = T} (Err e) P
-if_out_of_memory T P s t error.OutOfMemory w = absurd (refuses_otherwise s.remaining s.pending w.rest t.remaining w.answer.1)
-if_out_of_memory T P s t _ w = tt
 
 -- where an identifier was read, memory may run out
 pub read_may_run_out : {n : Option ℕ} (s t : ParserState) → PassesIdentifier s (Ok n) t → MayRunOutInIdentifier s t

@@ -1,8 +1,8 @@
 -- Taking a version token by token: each step goes on, or is a way in which reading ends.
-use Rattle.std.proofs.Common.{◌≡◌, ℕ, ◌<◌, ◌^◌, Bool, true, false, List, [], ◌∷◌, ◌++◌, length, Some, None, Option, Result, Ok, Err, sym}
+use Rattle.std.proofs.Common.{◌≡◌, ℕ, ◌<◌, ◌^◌, Bool, true, false, List, [], ◌∷◌, ◌++◌, length, Some, None, Option, Ok, Err, sym}
 use Rattle.std.proofs.Common.{refl, ap, ◌∙◌, subst, ◌⊎◌, inl, inr, ⊎_elim, ◌↔◌, arith, append_assoc, append-nil, length-append, decimal}
 use Rattle.std.proofs.Common.{codes}
-use Rattle.std.specs.Prelude.{option_and_then, option_map, slice_get, IsTrue}
+use Rattle.std.specs.Prelude.{option_map, slice_get, IsTrue}
 use Rattle.std.specs.List.{AllZip, join_with_byte}
 use Rattle.std.proofs.lemmas.Option.{none-some, same_Some}
 use Rattle.std.proofs.lemmas.Grind.{flat_map-append}
@@ -11,15 +11,15 @@ use Rattle.semver_texts.specs.Texts.{Text, marked}
 use Rattle.semver_texts.specs.Versions.{IdentifierValue, VersionValue}
 use Rattle.semver_tokens.specs.Tokens.{TokenValue, Hyphen, Dot, Plus, Whitespace, Numeric, AlphaNumeric, is_whitespace}
 use Rattle.semver_tokens.specs.ParserState.{ParserState, Fault}
-use Rattle.semver_steps.specs.ParserSteps.{Step, pop, look, and_then, expect, number_of, dot_of, numeric, dot_numeric}
+use Rattle.semver_steps.specs.ParserSteps.{Step, pop, look, expect, number_of, dot_of, numeric, dot_numeric}
 use Rattle.semver_texts.specs.VersionGrammar.{SpellsIdentifier, SpellsPart, SpellsVersion}
-use Rattle.semver_steps.specs.VersionReading.{IsIdentifierShape, IsVersionShape, IsLongestFront, Refuses, ReadsIdentifier, ReadsVersion}
+use Rattle.semver_steps.specs.VersionReading.{IsIdentifierShape, IsVersionShape, Refuses, ReadsIdentifier, ReadsVersion}
 use Rattle.semver_steps.specs.VersionReading.{HoldsRun, HoldsIdentifierRun, IsEndPart, MayRunOutInIdentifier, MayRunOutInVersion}
 use Rattle.semver_steps.specs.VersionReading.{inner_text, inner_texts, last_alone}
 use Rattle.semver_steps.specs.Means.Taking.{run, IsTaken, Gives, Number, major, minor, patch, Part, pre_release, build, Place, start}
 use Rattle.semver_steps.specs.Means.Taking.{at_number, behind_number, at_run, behind_run, end, step, accepts, IsTakenTo, IsAtMark}
 use Rattle.semver_steps.specs.Means.Taking.{ArePassed, AtMark, TakesPart, PartMayRunOut, skip_at, skip_whitespace, numbers}
-use Rattle.semver_steps.proofs.ReadingSteps.{run-append, furthest, longest_stops, longest_front, not_whole, Stops, Pops, Popped, popped}
+use Rattle.semver_steps.proofs.ReadingSteps.{run-append, runs_out_behind, longest_stops, longest_front, not_whole, Stops}
 use Rattle.semver_steps.proofs.ReadingSteps.{none_taken, reads_value, next_given, expected_given, then_given}
 use Rattle.semver_steps.proofs.IdentifierSteps.{id_step, identifier_is_read}
 use Rattle.semver_steps.proofs.VersionSteps.{clash, version_is_read, AreNext, behind_major, behind_minor, run_place, identifier_leads}
@@ -29,7 +29,7 @@ abbrev pub RefusesVersion : ParserState → Fault → ParserState → Type 0
 RefusesVersion s e t = ReadsVersion s (Err e) t
 
 pub nothing_taken : (s : ParserState) → IsTakenTo s start [] s
-nothing_taken s = record { front = []; taken = none_taken step accepts start IsVersionShape version_is_read s; text_is = refl }
+nothing_taken s = record { front = []; taken = none_taken version_is_read s; text_is = refl }
 
 -- one token more
 one_more : {s t u : ParserState} {p q : Place} {text : Text} (k : IsTakenTo s p text t) (x : TokenValue)
@@ -45,7 +45,7 @@ one_more k x taken =
 next_taken : {s t : ParserState} {p : Place} {text : Text} (q : Place) (x : TokenValue) → IsTakenTo s p text t → look t ≡ Some x
     → step p x ≡ Some q → Gives (RefusesVersion s) (λ y u. IsTakenTo s q (text ++ inner_text x) u) (pop t)
 next_taken {s} {t} {p} {text} q x k looked leads =
-    next_given step accepts start IsVersionShape version_is_read SpellsVersion k.taken
+    next_given version_is_read SpellsVersion k.taken
     (λ u. IsTakenTo s q (text ++ inner_text x) u) x q looked leads (λ u pops taken. one_more k x taken)
 
 -- ---- white space
@@ -71,7 +71,7 @@ number_given : (s t : ParserState) (p next : Place) (text : Text) → IsTakenTo 
     → ((x : TokenValue) → look t ≡ Some x → step p x ≡ option_map (λ (n : ℕ). next) (number_of x))
     → Gives (RefusesVersion s) (λ n u. IsTakenTo s next (text ++ decimal n) u) (numeric t)
 number_given s t p next text k wants leads =
-    expected_given step accepts start IsVersionShape version_is_read SpellsVersion k.taken
+    expected_given version_is_read SpellsVersion k.taken
     (λ n u. IsTakenTo s next (text ++ decimal n) u) number_of next wants leads
     (λ x n u value pops taken. subst (λ (l : Text). IsTakenTo s next (text ++ l) u) (number_text x n value) (one_more k x taken))
   where
@@ -88,7 +88,7 @@ dot_number_given : (s t : ParserState) (k next : Number) (text : Text) → AreNe
 dot_number_given s t k next text are taken =
     then_given (RefusesVersion s) (λ (x : Unit {0}) u. IsTakenTo s (at_number next) (text ++ codes ".") u)
     (λ n u. IsTakenTo s (behind_number next) ((text ++ codes ".") ++ decimal n) u) (expect dot_of t) (λ x. numeric)
-    (expected_given step accepts start IsVersionShape version_is_read SpellsVersion taken.taken
+    (expected_given version_is_read SpellsVersion taken.taken
     (λ (x : Unit {0}) u. IsTakenTo s (at_number next) (text ++ codes ".") u) dot_of (at_number next) (wanted are)
     (λ x looked. leads are x)
     (λ x d u value pops more. subst (λ (l : Text). IsTakenTo s (at_number next) (text ++ l) u) (dot_text x d value)
@@ -163,7 +163,7 @@ module _ (part : Part) (s t : ParserState) (text : Text) (k : IsTakenTo s (at_ru
   identifier_taken v u w =
       let whole = identifier_is_read.read w.front w.answer.0.0 in
       let leads : run id_step false w.front ≡ Some true = whole.1 ∙ ap (λ (b : Bool). Some b) whole.2 in
-      let stop = longest_stops id_step (λ b. b) false IsIdentifierShape identifier_is_read t.remaining w.front w.rest w.longest in
+      let stop = longest_stops identifier_is_read t.remaining w.front w.rest w.longest in
       let stops : Stops id_step true u.remaining =
       subst (Stops id_step true) (sym w.answer.2) (subst (λ (b : Bool). Stops id_step b w.rest)
       (same_Some stop.0 true (sym stop.1 ∙ leads)) stop.2) in
@@ -191,7 +191,7 @@ module _ (part : Part) (s t : ParserState) (text : Text) (k : IsTakenTo s (at_ru
 
   pub identifier_refused : (e : Fault) (u : ParserState) → ReadsIdentifier t (Err e) u → ReadsVersion s (Err e) u
   identifier_refused e u w =
-      let stop = longest_stops id_step (λ b. b) false IsIdentifierShape identifier_is_read t.remaining w.front w.rest w.longest in
+      let stop = longest_stops identifier_is_read t.remaining w.front w.rest w.longest in
       at_place stop.0 stop.1 stop.2
     where
       last_behind : (front ts : List TokenValue) → 0 < length ts → last_alone (front ++ ts) ≡ last_alone ts
@@ -217,7 +217,7 @@ module _ (part : Part) (s t : ParserState) (text : Text) (k : IsTakenTo s (at_ru
         front = k.front ++ w.front;
         rest = w.rest;
         longest =
-            longest_front step accepts start IsVersionShape version_is_read s.remaining (k.front ++ w.front) w.rest (run_place part b)
+            longest_front version_is_read s.remaining (k.front ++ w.front) w.rest (run_place part b)
             (fronts_split w.front w.rest w.longest.split) (fronts_lead w.front b leads) stops;
         answer = (
           refused,
@@ -240,7 +240,7 @@ module _ (part : Part) (s t : ParserState) (text : Text) (k : IsTakenTo s (at_ru
 
       at_place : (b : Bool) → run id_step false w.front ≡ Some b → Stops id_step b w.rest → ReadsVersion s (Err e) u
       at_place false leads stops =
-          reads false leads (stops_at_run w.rest stops) (λ whole. not_whole step accepts start IsVersionShape version_is_read
+          reads false leads (stops_at_run w.rest stops) (λ whole. not_whole version_is_read
           (k.front ++ w.front) (at_run part) (fronts_lead w.front false leads) refl whole.0)
       at_place true leads stops =
           let shape : IsIdentifierShape w.front = identifier_is_read.shape w.front true leads refl in
@@ -262,13 +262,13 @@ holds_later t ts h =
       is_run = h.is_run;
     }
 
-holds_longer : (ts us : List TokenValue) → HoldsIdentifierRun ts → HoldsIdentifierRun (ts ++ us)
-holds_longer ts us h = record {
+holds_longer : (ts : List TokenValue) (t : TokenValue) → HoldsIdentifierRun ts → HoldsIdentifierRun (ts ++ t ∷ [])
+holds_longer ts t h = record {
   before = h.before;
   sign = h.sign;
   component = h.component;
-  after = h.after ++ us;
-  split = ap (λ (l : List TokenValue). l ++ us) h.split ∙ append_assoc h.before (h.sign ∷ h.component ∷ h.after) us;
+  after = h.after ++ t ∷ [];
+  split = cc (append_assoc h.before (h.sign ∷ h.component ∷ h.after) (t ∷ []));
   is_sign = h.is_sign;
   is_run = h.is_run;
 }
@@ -314,17 +314,7 @@ holds_from p before (_ ∷ ts) part e = absurd (none-some (behind_run part) e)
 runs_out : (s u : ParserState) (front rest : List TokenValue) (part : Part) → s.remaining ≡ front ++ rest
     → run step start front ≡ Some (behind_run part) → IsEndPart s u → MayRunOutInVersion s u
 runs_out s u front rest part split leads left =
-    let far = furthest step (behind_run part) rest in
-    record {
-      front = front ++ far.0;
-      rest = far.1;
-      longest =
-          longest_front step accepts start IsVersionShape version_is_read s.remaining (front ++ far.0) far.1 far.2
-          (split ∙ ap (λ (l : List TokenValue). front ++ l) far.3 ∙ sym (append_assoc front far.0 far.1))
-          (run-append step start (behind_run part) front far.0 leads ∙ far.4) far.5;
-      holds = holds_longer front far.0 (holds_from start refl front part leads);
-      left = left;
-    }
+    runs_out_behind version_is_read holds_longer front rest (behind_run part) split leads (holds_from start refl front part leads) left
 
 module _ (part : Part) (s t : ParserState) (text : Text) where
   -- behind a run
@@ -336,7 +326,7 @@ module _ (part : Part) (s t : ParserState) (text : Text) where
   -- in an identifier
   pub identifier_runs_out : IsTakenTo s (at_run part) text t → (u : ParserState) → MayRunOutInIdentifier t u → MayRunOutInVersion s u
   identifier_runs_out k u m =
-      let stop = longest_stops id_step (λ b. b) false IsIdentifierShape identifier_is_read t.remaining m.front m.rest m.longest in
+      let stop = longest_stops identifier_is_read t.remaining m.front m.rest m.longest in
       at_front m.front stop.0 stop.1 m.longest.split m.holds
     where
       first_run : (x : TokenValue) (front : List TokenValue) (b : Bool) → run id_step false (x ∷ front) ≡ Some b
@@ -400,10 +390,6 @@ mark_given s t part text at d e =
     subst (Gives (RefusesVersion s) (λ x u. IsTakenTo s (at_run part) text u)) (sym e)
     (subst (λ (l : Text). Gives (RefusesVersion s) (λ x u. IsTakenTo s (at_run part) l u) (pop t)) at.text_is
     (next_taken (at_run part) at.mark at.taken at.next at.leads))
-
-pub popped_shorter : (t u : ParserState) (x : TokenValue) → ◌≡◌ {A = Step TokenValue} (Ok x, u) (pop t)
-    → length u.remaining < length t.remaining
-popped_shorter t u x e = let p : Pops t x u = subst (Popped t) (sym e) (popped t) in omega (arith, ap length p.first)
 
 module _ (t u v : ParserState) (ids : List IdentifierValue) (k : AreBeforeMark t ids u) where
   pub mark_refused : (e : Fault) → ◌≡◌ {A = Step TokenValue} (Err e, v) (pop u) → TakesPart true t (Err e, v)
@@ -582,7 +568,7 @@ module _ (s t : ParserState) (text : Text) where
     where
       ended : (u : ParserState) (p : Place) → IsTakenTo s p text u → accepts p ≡ true → Stops step p u.remaining → ReadsAll u
       ended u p k ok stops v spells =
-          reads_value step accepts start IsVersionShape version_is_read SpellsVersion k.taken v ok stops
+          reads_value version_is_read SpellsVersion k.taken v ok stops
           (subst (SpellsVersion v) (sym k.text_is) spells)
 
       stops_at_end : (ts : List TokenValue) → Stops step end ts

@@ -1,5 +1,5 @@
 -- What a call of a parser takes from its state, and what it leaves.
-use Rattle.std.specs.Prelude.{◌≡◌, ℕ, Bool, true, false, List, [], ◌∷◌, Option, Some, None, Result}
+use Rattle.std.specs.Prelude.{ℕ, Bool, false, List, [], ◌∷◌, Option, Some, None, Result}
 use Rattle.std.specs.Prelude.{Ok, Err, slice_get, if◌then◌else◌, is_some, not}
 use Rattle.semver_tokens.specs.Tokens.{TokenValue, Dot, Numeric, is_wildcard}
 use Rattle.semver_tokens.specs.ParserState.{ParserState, Fault, UnexpectedEnd, UnexpectedToken}

@@ -1,6 +1,6 @@
 -- The first token of a text, and what stands behind it.
 use Rattle.std.proofs.Common.{◌≡◌, ℕ, ◌+◌, ◌-◌, ◌<◌, ◌≤◌, Bool, true, false, cond, eqb, ◌&&◌, ◌||◌, List, [], ◌∷◌, ◌++◌, length, take, drop}
-use Rattle.std.proofs.Common.{Option, Some, sym, refl, ap, ◌∙◌, subst, arith, one-add, length-drop, length-take-le, take-append-drop}
+use Rattle.std.proofs.Common.{Option, Some, None, sym, refl, ap, ◌∙◌, subst, arith, one-add, length-drop, length-take-le, take-append-drop}
 use Rattle.std.specs.Prelude.{is_some, IsTrue, slice_range, slice_index, take_while}
 use Rattle.std.specs.List.{prefix_len, AllByRecursion}
 use Rattle.std.specs.Char.{is_ascii_alphanumeric}
@@ -19,6 +19,11 @@ use Rattle.semver_tokens.proofs.Components.{component_number, component_other}
 pub by_test : {A : Type 0} (b : Bool) → (b ≡ true → A) → (b ≡ false → A) → A
 by_test true f g = f refl
 by_test false f g = g refl
+
+-- nothing, or some value
+pub option_cases : {A G : Type 0} (o : Option A) → (o ≡ None → G) → ((x : A) → o ≡ Some x → G) → G
+option_cases None f g = f refl
+option_cases (Some x) f g = g x refl
 
 -- either way a choice goes
 pub split_cond : (b : Bool) {A G : Type 0} {x y z : A} → (b ≡ true → x ≡ z → G) → (b ≡ false → y ≡ z → G) → cond b x y ≡ z → G

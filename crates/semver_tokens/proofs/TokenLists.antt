@@ -1,6 +1,6 @@
 -- The tokens of a text are one list: it is found from the left, and no other is it.
 use Rattle.std.proofs.Common.{◌≡◌, ℕ, zero, suc, ◌+◌, ◌-◌, ◌^◌, ◌<◌, ◌≤◌, Bool, true, false, eqb, ◌&&◌, ◌||◌, not, List, [], ◌∷◌, ◌++◌}
-use Rattle.std.proofs.Common.{length, take, drop, Option, Some, None, sym, refl, ap, ◌∙◌, subst, inl, inr, arith, decimal, ◌⊎◌}
+use Rattle.std.proofs.Common.{length, take, drop, Some, None, sym, refl, ap, ◌∙◌, subst, inl, inr, arith, decimal, ◌⊎◌}
 use Rattle.std.proofs.Common.{append_assoc, one-add, length-append, length-drop, length-take-le}
 use Rattle.std.specs.Prelude.{is_some, slice_get, IsTrue, slice_range, slice_index, take_while}
 use Rattle.std.specs.List.{prefix_len, AllByRecursion}
@@ -11,13 +11,13 @@ use Rattle.std.proofs.lemmas.Option.{same_Some}
 use Rattle.std.proofs.lemmas.Fmt.{decimal_nonempty}
 use Rattle.std.proofs.lemmas.Bool.Decides.{nat_tests}
 use Rattle.semver_texts.specs.Texts.{is_space, IsRun}
-use Rattle.semver_tokens.specs.Tokens.{TokenValue, Eq, Gt, Lt, LtEq, GtEq, Caret, Tilde, Star, Dot, Comma, Hyphen, Plus, Or, Whitespace}
+use Rattle.semver_tokens.specs.Tokens.{TokenValue, Gt, Lt, Whitespace}
 use Rattle.semver_tokens.specs.Tokens.{Numeric, AlphaNumeric, token_text, tokens_text, is_sign, opens_token, IsTokenAt, IsBadStart}
 use Rattle.semver_tokens.specs.Tokens.{AreInPlace, is_component, is_whitespace, is_eq, merges, NoneMerge, AreTokensFrom}
 use Rattle.semver_tokens.specs.Means.Scanning.{component, sign, first_token, scan}
 use Rattle.semver_texts.proofs.Numbers.{IsNumber-from_canonical, canonical_decimal, digits_value_number}
 use Rattle.semver_tokens.proofs.Components.{component_number, component_other}
-use Rattle.semver_tokens.proofs.FirstToken.{never, IsFront, IsFound, goes_on, continues, first_token-found, is_some-first_token}
+use Rattle.semver_tokens.proofs.FirstToken.{never, option_cases, IsFront, IsFound, goes_on, continues, first_token-found, is_some-first_token}
 use Rattle.semver_tokens.proofs.FirstToken.{space_is_no_run, space_is_no_eq, run_is_no_space, run_is_no_eq}
 
 -- ---- a front that is a token is what is found
@@ -281,10 +281,6 @@ module _ (text : List ℕ) where
       }
 
 -- ---- the list that is found, and that it is the only one
-
-option_cases : {A G : Type 0} (o : Option A) → (o ≡ None → G) → ((x : A) → o ≡ Some x → G) → G
-option_cases None f g = f refl
-option_cases (Some x) f g = g x refl
 
 none_opens : (place : ℕ) (bs : List ℕ) → first_token place bs ≡ None → (bs ≡ []) ⊎ IsBadStart bs
 none_opens place [] e = inl refl

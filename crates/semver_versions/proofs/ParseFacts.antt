@@ -90,8 +90,8 @@ at_bad_start text e w = record {
   end = record { remaining = []; pending = Some w.0 };
   state = w.2;
   reads =
-      reads_stuck step accepts start IsVersionShape version_is_read SpellsVersion
-      (none_taken step accepts start IsVersionShape version_is_read _) (at_nothing w.0) (inl refl);
+      reads_stuck version_is_read SpellsVersion
+      (none_taken version_is_read _) (at_nothing w.0) (inl refl);
   whole = ap (λ (x : Fault). Err x) w.1;
 }
 

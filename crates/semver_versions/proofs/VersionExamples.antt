@@ -102,7 +102,7 @@ slash_behind_word = record {
   end = record { remaining = token.AlphaNumeric (codes "a") ∷ []; pending = Some 47 };
   state = (codes "/", tokens_found _ (token.AlphaNumeric (codes "a") ∷ []) _ refl, refl);
   reads =
-      reads_stuck step accepts start IsVersionShape version_is_read SpellsVersion
-      (none_taken step accepts start IsVersionShape version_is_read _) (at_last _ 47) (inl refl);
+      reads_stuck version_is_read SpellsVersion
+      (none_taken version_is_read _) (at_last _ 47) (inl refl);
   whole = refl;
 }

@@ -1,6 +1,5 @@
 use Rattle.std.proofs.Common.{rules, ◌<◌, ◌^◌, map, refl}
 use Rattle.std.proofs.lemmas.Result.{err_from_is_err_and}
-use Rattle.semver_steps.specs.ParserViews.{fault_of}
 use Rattle.semver_texts.specs.VersionViews.{identifier_value, version_value}
 use Rattle.semver_texts.specs.Versions.{VersionValue}
 use Rattle.semver_steps.specs.Means.Taking.{pre_release, build}
