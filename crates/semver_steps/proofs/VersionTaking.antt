@@ -22,7 +22,7 @@ use Rattle.semver_steps.specs.Means.Taking.{ArePassed, AtMark, TakesPart, PartMa
 use Rattle.semver_steps.proofs.ReadingSteps.{run-append, runs_out_behind, longest_stops, longest_front, not_whole, Stops}
 use Rattle.semver_steps.proofs.ReadingSteps.{none_taken, reads_value, next_given, expected_given, then_given}
 use Rattle.semver_steps.proofs.IdentifierSteps.{id_step, identifier_is_read}
-use Rattle.semver_steps.proofs.VersionSteps.{clash, version_is_read, AreNext, behind_major, behind_minor, run_place, identifier_leads}
+use Rattle.semver_steps.proofs.VersionSteps.{version_is_read, run_place, identifier_leads}
 
 -- reading a version from the state s is refused
 abbrev pub RefusesVersion : ParserState → Fault → ParserState → Type 0
@@ -73,7 +73,7 @@ number_given : (s t : ParserState) (p next : Place) (text : Text) → IsTakenTo 
 number_given s t p next text k wants leads =
     expected_given version_is_read SpellsVersion k.taken
     (λ n u. IsTakenTo s next (text ++ decimal n) u) number_of next wants leads
-    (λ x n u value pops taken. subst (λ (l : Text). IsTakenTo s next (text ++ l) u) (number_text x n value) (one_more k x taken))
+    (λ x n u value pops taken. rw (← number_text x n value) (one_more k x taken))
   where
     number_text : (x : TokenValue) (n : ℕ) → number_of x ≡ Some n → inner_text x ≡ decimal n
     number_text (Numeric m) n e = ap decimal (same_Some m n e)
@@ -83,32 +83,34 @@ number_leads : (k : Number) (x : TokenValue) → step (at_number k) x ≡ option
 number_leads k (Numeric n) = refl
 number_leads k _ = refl
 
-dot_number_given : (s t : ParserState) (k next : Number) (text : Text) → AreNext k next → IsTakenTo s (behind_number k) text t
-    → Gives (RefusesVersion s) (λ n u. IsTakenTo s (behind_number next) ((text ++ codes ".") ++ decimal n) u) (dot_numeric t)
-dot_number_given s t k next text are taken =
-    then_given (RefusesVersion s) (λ (x : Unit {0}) u. IsTakenTo s (at_number next) (text ++ codes ".") u)
-    (λ n u. IsTakenTo s (behind_number next) ((text ++ codes ".") ++ decimal n) u) (expect dot_of t) (λ x. numeric)
+-- the number behind another
+abbrev following : Number → Number
+following major = minor
+following _ = patch
+
+dot_leads : (k : Number) → accepts (behind_number k) ≡ false → (x : TokenValue)
+    → step (behind_number k) x ≡ option_map (λ (d : Unit {0}). at_number (following k)) (dot_of x)
+dot_leads major wants Dot = refl
+dot_leads major wants _ = refl
+dot_leads minor wants Dot = refl
+dot_leads minor wants _ = refl
+dot_leads patch wants x = cc
+
+dot_number_given : (s t : ParserState) (k : Number) (text : Text) → accepts (behind_number k) ≡ false → IsTakenTo s (behind_number k) text t
+    → Gives (RefusesVersion s) (λ n u. IsTakenTo s (behind_number (following k)) ((text ++ codes ".") ++ decimal n) u) (dot_numeric t)
+dot_number_given s t k text wants taken =
+    then_given (RefusesVersion s) (λ (x : Unit {0}) u. IsTakenTo s (at_number (following k)) (text ++ codes ".") u)
+    (λ n u. IsTakenTo s (behind_number (following k)) ((text ++ codes ".") ++ decimal n) u) (expect dot_of t) (λ x. numeric)
     (expected_given version_is_read SpellsVersion taken.taken
-    (λ (x : Unit {0}) u. IsTakenTo s (at_number next) (text ++ codes ".") u) dot_of (at_number next) (wanted are)
-    (λ x looked. leads are x)
-    (λ x d u value pops more. subst (λ (l : Text). IsTakenTo s (at_number next) (text ++ l) u) (dot_text x d value)
-    (one_more taken x more)))
-    (λ x u behind. number_given s u (at_number next) (behind_number next) (text ++ codes ".") behind refl (λ y looked. number_leads next y))
+    (λ (x : Unit {0}) u. IsTakenTo s (at_number (following k)) (text ++ codes ".") u) dot_of (at_number (following k)) wants
+    (λ x looked. dot_leads k wants x)
+    (λ x d u value pops more. rw (← dot_text x d value) (one_more taken x more)))
+    (λ x u behind. number_given s u (at_number (following k)) (behind_number (following k)) (text ++ codes ".") behind refl
+    (λ y looked. number_leads (following k) y))
   where
-    wanted : {k next : Number} → AreNext k next → accepts (behind_number k) ≡ false
-    wanted behind_major = refl
-    wanted behind_minor = refl
-
-    leads : {k next : Number} → AreNext k next → (x : TokenValue)
-        → step (behind_number k) x ≡ option_map (λ (d : Unit {0}). at_number next) (dot_of x)
-    leads behind_major Dot = refl
-    leads behind_major _ = refl
-    leads behind_minor Dot = refl
-    leads behind_minor _ = refl
-
     dot_text : (x : TokenValue) (d : Unit {0}) → dot_of x ≡ Some d → inner_text x ≡ codes "."
     dot_text Dot d e = refl
-    dot_text _ d e = absurd (none-some d e)
+    dot_text _ d e = cc
 
 -- their text
 abbrev pub numbers_text : ℕ × ℕ × ℕ → Text
@@ -131,9 +133,9 @@ numbers_given s d e =
     (λ x looked. start_leads x (λ a b e. none a b (looked ∙ ap (λ (y : TokenValue). Some y) e)))))
     (λ _ t first. then_given (RefusesVersion s) (λ a u. IsTakenTo s (behind_number major) (decimal a) u) (HasNumbers s) (numeric t) _ first
     (λ a u taken. then_given (RefusesVersion s) (λ b v. IsTakenTo s (behind_number minor) ((decimal a ++ codes ".") ++ decimal b) v)
-    (HasNumbers s) (dot_numeric u) _ (dot_number_given s u major minor (decimal a) behind_major taken)
+    (HasNumbers s) (dot_numeric u) _ (dot_number_given s u major (decimal a) refl taken)
     (λ b v taken. then_given (RefusesVersion s) (λ c w. HasNumbers s (a, b, c) w) (HasNumbers s) (dot_numeric v) _
-    (dot_number_given s v minor patch ((decimal a ++ codes ".") ++ decimal b) behind_minor taken) (λ c w taken. taken)))))
+    (dot_number_given s v minor ((decimal a ++ codes ".") ++ decimal b) refl taken) (λ c w taken. taken)))))
   where
     start_leads : (x : TokenValue) → ((a b : ℕ) → ¬ (x ≡ Whitespace a b))
         → step start x ≡ option_map (λ (n : ℕ). behind_number major) (number_of x)
@@ -276,7 +278,7 @@ holds_longer ts t h = record {
 -- behind a sign comes a run
 pub sign_holds : (sign : TokenValue) → (sign ≡ Hyphen) ⊎ (sign ≡ Plus) → (part : Part) (ts : List TokenValue) (last : Place)
     → run step (at_run part) ts ≡ Some last → accepts last ≡ true → HoldsIdentifierRun (sign ∷ ts)
-sign_holds sign is_sign part [] last e ok = clash (ap accepts (same_Some (at_run part) last e) ∙ ok)
+sign_holds sign is_sign part [] last e ok = cc
 sign_holds sign is_sign part (Numeric n ∷ ts) last e ok =
     record { before = []; sign = sign; component = Numeric n; after = ts; split = refl; is_sign = is_sign; is_run = refl }
 sign_holds sign is_sign part (AlphaNumeric n ∷ ts) last e ok =
@@ -292,7 +294,7 @@ is_before _ = false
 
 holds_from : (p : Place) → is_before p ≡ true → (ts : List TokenValue) (part : Part) → run step p ts ≡ Some (behind_run part)
     → HoldsIdentifierRun ts
-holds_from p before [] part e = clash (ap is_before (sym (same_Some p (behind_run part) e)) ∙ before)
+holds_from p before [] part e = cc
 holds_from start before (Whitespace a b ∷ ts) part e = holds_later (Whitespace a b) ts (holds_from (at_number major) refl ts part e)
 holds_from start before (Numeric n ∷ ts) part e = holds_later (Numeric n) ts (holds_from (behind_number major) refl ts part e)
 holds_from (at_number k) before (Numeric n ∷ ts) part e = holds_later (Numeric n) ts (holds_from (behind_number k) refl ts part e)
@@ -305,9 +307,9 @@ holds_from (behind_number patch) before (Whitespace a b ∷ ts) part e = end_sta
     end_stays : {G : Type 0} (ts : List TokenValue) → run step end ts ≡ Some (behind_run part) → G
     end_stays [] e = cc (same_Some end (behind_run part) e)
     end_stays (t ∷ ts) e = absurd (none-some (behind_run part) e)
-holds_from (at_run q) before ts part e = clash before
-holds_from (behind_run q) before ts part e = clash before
-holds_from end before ts part e = clash before
+holds_from (at_run q) before ts part e = cc
+holds_from (behind_run q) before ts part e = cc
+holds_from end before ts part e = cc
 holds_from p before (_ ∷ ts) part e = absurd (none-some (behind_run part) e)
 
 -- a front behind a run, taken as far as it goes
@@ -496,7 +498,7 @@ passed_part s t part text ids w = record {
     no_other part Hyphen hyphen dot plus white = absurd (hyphen refl)
     no_other part Dot hyphen dot plus white = absurd (dot refl)
     no_other pre_release Plus hyphen dot plus white = absurd (plus refl refl)
-    no_other part (Whitespace a b) hyphen dot plus white = clash (sym white)
+    no_other part (Whitespace a b) hyphen dot plus white = cc
     no_other part _ hyphen dot plus white = refl
 
 module _ (s t : ParserState) (part : Part) (from : Place) (text : Text) (k : IsTakenTo s from text t)
@@ -515,7 +517,7 @@ module _ (s t : ParserState) (part : Part) (from : Place) (text : Text) (k : IsT
       at_test false is d w = subst (Gives (RefusesVersion s) (IsPart s part text)) (sym w) (record {
         part_text = [];
         spells = record { texts = []; each = tt; joined = refl };
-        behind = subst (λ (l : Text). IsBehind s part l t) (sym (append-nil text)) (none (λ looked. clash (sym is ∙ here.1 looked)));
+        behind = subst (λ (l : Text). IsBehind s part l t) (sym (append-nil text)) (none (λ looked. let there_is = here.1 looked in cc));
       })
 
   pub part_out : (u : ParserState) → PartMayRunOut there t u → MayRunOutInVersion s u
@@ -541,7 +543,7 @@ module _ (s t : ParserState) (text : Text) where
       no_other : (x : TokenValue) → ¬ (x ≡ Hyphen) → ¬ (x ≡ Plus) → is_whitespace x ≡ false → step (behind_number patch) x ≡ None
       no_other Hyphen hyphen plus white = absurd (hyphen refl)
       no_other Plus hyphen plus white = absurd (plus refl)
-      no_other (Whitespace a b) hyphen plus white = clash (sym white)
+      no_other (Whitespace a b) hyphen plus white = cc
       no_other _ hyphen plus white = refl
 
   pub build_given : IsBehind s pre_release text t → (there : Bool) → IsTrue there ↔ (look t ≡ Some Plus) → (d : Step (List IdentifierValue))
