@@ -13,10 +13,10 @@ use Rattle.semver_texts.specs.Versions.{IdentifierValue}
 use Rattle.semver_tokens.specs.ParserState.{ParserState, Fault}
 use Rattle.semver_steps.specs.ParserSteps.{Step, pop, look, number_of}
 use Rattle.semver_steps.specs.Means.Taking.{run, IsTaken, Gives, PassesIdentifier, TakesIdentifier, expect_run, run_of, lone_number}
-use Rattle.semver_steps.specs.VersionReading.{IsIdentifierShape, inner_text, inner_texts}
+use Rattle.semver_steps.specs.VersionReading.{IsIdentifierShape, IsLongestFront, inner_text, inner_texts}
 use Rattle.semver_texts.proofs.Numbers.{canonical_from_IsNumber}
 use Rattle.semver_tokens.proofs.TokenLists.{decimal_is_run}
-use Rattle.semver_steps.proofs.ReadingSteps.{IsReadBy, Pops, Stops, none_taken, reads_value, next_given, expected_given}
+use Rattle.semver_steps.proofs.ReadingSteps.{IsReadBy, Pops, Stops, longest_stops, none_taken, reads_value, next_given, expected_given}
 
 -- at false a run is wanted; at true one has been read
 abbrev pub id_step : Bool → TokenValue → Option Bool
@@ -76,6 +76,15 @@ identifier_is_read = record {
   wants = refl;
   live = id_live;
 }
+
+-- and where it was read, a run is the last that was taken
+pub identifier_stops : {ts front rest : List TokenValue} → IsLongestFront IsIdentifierShape ts front rest → IsIdentifierShape front
+    → (run id_step false front ≡ Some true) × Stops id_step true rest
+identifier_stops {ts} {front} {rest} w shape =
+    let whole = identifier_is_read.read front shape in
+    let stop = longest_stops identifier_is_read ts front rest w in
+    let leads : run id_step false front ≡ Some true = cc (whole.1, whole.2) in
+    (leads, rw (same_Some stop.0 true (sym stop.1 ∙ leads)) at stop.2)
 
 -- ---- the value of an identifier that is whole
 

@@ -268,8 +268,7 @@ module _ {S : Type 0} {step : S → TokenValue → Option S} {accepts : S → Bo
           → ((x : TokenValue) (a : A) (u : ParserState) → value x ≡ Some a → Pops t x u → IsTaken step start s (front ++ x ∷ []) next u
           → P a u) → Gives (λ e u. Reads Shape Spells s (Err e) u) P (expect value t)
       expected_given {A} P value next wants leads more =
-          then_given (λ e u. Reads Shape Spells s (Err e) u) (Pops t) P (pop t) (λ x. valued (value x) x)
-          (pop_given (Pops t) (inl wants) (λ x u pops. pops))
+          then_given _ _ _ (pop t) (λ x. valued (value x) x) (pop_given (Pops t) (inl wants) (λ x u pops. pops))
           (λ x u pops. at_value x u pops (leads x (ap (λ l. slice_get l 0) pops.first)) (value x) refl)
         where
           at_value : (x : TokenValue) (u : ParserState) → Pops t x u → step p x ≡ option_map (λ (a : A). next) (value x) → (o : Option A)

@@ -4,7 +4,7 @@ use Rattle.std.proofs.lemmas.List.{map_push}
 use Rattle.semver_texts.specs.VersionViews.{identifier_value}
 use Rattle.semver_steps.specs.ParserViews.{fault_of}
 use Rattle.semver_steps.proofs.IdentifierTexts.{unless_out_of_memory, unless_err, if_err}
-use Rattle.semver_steps.proofs.VersionTaking.{AreBehindMark, part_begins, mark_refused, mark_taken, part_refused, part_runs_out}
+use Rattle.semver_steps.proofs.VersionTaking.{AreBehindMark, part_begins, mark_popped, part_refused, part_runs_out}
 use Rattle.semver_steps.proofs.VersionTaking.{part_runs_out_behind, part_goes_on, part_ends}
 use Rattle.semver_steps.proofs.parser.Parser.identifiers.Goals as goal
 use Rattle.semver_steps.proofs.parser.Parser.identifiers.Goals.{In_ok-pop}
@@ -16,13 +16,12 @@ pub returns-in_err-pop-clause-answer : goal.returns-in_err-pop-clause-answer
 returns-in_err-pop-clause-answer c =
     let p = err_from_is_err_and c.from_residual.result c.from_residual.ensures.1 in
     unless_out_of_memory c.from_residual.result (rw (p.1, p.2)
-    (mark_refused c.args.self.now c.loop-identifiers.self c.pop.new.self _ c.loop-identifiers.invariant _ c.in_err-pop.ensures))
+    (mark_popped c.args.self.now c.loop-identifiers.self _ c.loop-identifiers.invariant _ c.in_err-pop.ensures))
 
 -- the mark was taken
 behind_mark : (c : In_ok-pop) → AreBehindMark c.args.self.now (map identifier_value c.loop-identifiers.identifiers.items) c.pop.new.self
 behind_mark c =
-    mark_taken c.args.self.now c.loop-identifiers.self c.pop.new.self
-    (map identifier_value c.loop-identifiers.identifiers.items) c.loop-identifiers.invariant _ c.in_ok-pop.ensures
+    mark_popped c.args.self.now c.loop-identifiers.self _ c.loop-identifiers.invariant _ c.in_ok-pop.ensures
 
 pub returns-in_err-identifier-clause-answer : goal.returns-in_err-identifier-clause-answer
 returns-in_err-identifier-clause-answer c =
