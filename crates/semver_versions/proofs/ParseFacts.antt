@@ -8,13 +8,13 @@ use Rattle.semver_texts.specs.VersionGrammar.{SpellsVersion, IsTrimmed, IsPrinta
 use Rattle.semver_tokens.specs.ParserState as fault
 use Rattle.semver_tokens.specs.ParserState.{ParserState, Fault, IsStateOf}
 use Rattle.semver_steps.specs.ParserSteps.{Step, tail, tail_of}
-use Rattle.semver_steps.specs.VersionReading.{IsVersionShape, ReadsVersion, IsOutcomeOf, whole_answer, MayRunOutInVersion, TextMayRunOut}
+use Rattle.semver_steps.specs.VersionReading.{ReadsVersion, IsOutcomeOf, whole_answer, MayRunOutInVersion, TextMayRunOut}
 use Rattle.semver_texts.specs.VersionViews.{version_value}
 use Rattle.semver_steps.specs.ParserViews.{fault_of, answer_of, UnlessOutOfMemory, IfOutOfMemory}
 use Rattle.semver_texts.specs.declared.version.Version.{Version}
 use Rattle.semver_steps.specs.declared.parser.Error.{Error}
 use Rattle.semver_steps.specs.declared.parser.Error.TheVariants as error
-use Rattle.semver_steps.specs.Means.Taking.{Gives, step, accepts, start}
+use Rattle.semver_steps.specs.Means.Taking.{Gives}
 use Rattle.semver_steps.proofs.VersionSteps.{version_is_read}
 use Rattle.semver_steps.proofs.ReadingSteps.{at_nothing, none_taken, reads_stuck}
 use Rattle.semver_versions.proofs.WholeText.{trimmed, printable, printed_spells, accepted_spells, outcome_spelled, plain_has_memory}

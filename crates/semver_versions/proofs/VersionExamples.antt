@@ -17,8 +17,7 @@ use Rattle.semver_texts.proofs.Numbers.{is_number_true, canonical_from_IsNumber}
 use Rattle.semver_tokens.proofs.FirstToken.{never}
 use Rattle.semver_tokens.proofs.TokenLists.{scan_finds}
 use Rattle.semver_texts.specs.VersionGrammar.{SpellsIdentifier, IsPrintableIdentifier, SpellsVersion}
-use Rattle.semver_steps.specs.VersionReading.{IsVersionShape, IsOutcomeOf}
-use Rattle.semver_steps.specs.Means.Taking.{step, accepts, start}
+use Rattle.semver_steps.specs.VersionReading.{IsOutcomeOf}
 use Rattle.semver_steps.proofs.ReadingSteps.{at_last, none_taken, reads_stuck}
 use Rattle.semver_steps.proofs.VersionSteps.{version_is_read}
 
