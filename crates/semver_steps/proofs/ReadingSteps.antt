@@ -122,9 +122,9 @@ module _ {S : Type 0} {step : S → TokenValue → Option S} {accepts : S → Bo
           omega (arith, longer, length-append front (t ∷ []))))
 
   -- reading may run out of memory where a front that was taken holds what takes memory
-  pub runs_out_behind : {Holds : List TokenValue → Type 0} → ((front : List TokenValue) (t : TokenValue) → Holds front → Holds (front ++ t ∷ []))
-      → {s u : ParserState} (front rest : List TokenValue) (p : S) → s.remaining ≡ front ++ rest → run step start front ≡ Some p → Holds front
-      → IsEndPart s u → MayRunOut Shape Holds s u
+  pub runs_out_behind : {Holds : List TokenValue → Type 0}
+      → ((front : List TokenValue) (t : TokenValue) → Holds front → Holds (front ++ t ∷ [])) → {s u : ParserState} (front rest : List TokenValue) (p : S) → s.remaining ≡ front ++ rest
+      → run step start front ≡ Some p → Holds front → IsEndPart s u → MayRunOut Shape Holds s u
   runs_out_behind longer {s} front [] p split leads holds left =
       record { front = front; rest = []; longest = longest_front s.remaining front [] p split leads tt; holds = holds; left = left }
   runs_out_behind longer {s} front (t ∷ rest) p split leads holds left =

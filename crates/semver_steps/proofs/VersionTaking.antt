@@ -57,7 +57,8 @@ module _ {s t : ParserState} {p : Place} {text : Text} (k : IsTakenTo s p text t
     where
       at_look : (o : Option TokenValue) → look t ≡ o → Gives (RefusesVersion s) (λ (x : Unit {0}) u. P u) (skip_at o t)
       at_look (Some (Whitespace a b)) looked =
-          then_given _ (λ x u. IsTakenTo s q (text ++ []) u) _ (pop t) (λ x u. (Ok tt, u)) (next_taken q (Whitespace a b) looked (leads a b looked)) (λ x u taken. some u (rw append-nil at taken))
+          then_given _ (λ x u. IsTakenTo s q (text ++ []) u) _ (pop t) (λ x u. (Ok tt, u))
+          (next_taken q (Whitespace a b) looked (leads a b looked)) (λ x u taken. some u (rw append-nil at taken))
       at_look None looked = none (λ a b d. cc)
       at_look (Some x) looked = none (λ a b d. cc)
 
@@ -100,7 +101,8 @@ dot_leads patch wants x = cc
 dot_number_given : {s t : ParserState} {k : Number} {text : Text} → IsTakenTo s (behind_number k) text t → accepts (behind_number k) ≡ false
     → Gives (RefusesVersion s) (λ n u. IsTakenTo s (behind_number (following k)) ((text ++ codes ".") ++ decimal n) u) (dot_numeric t)
 dot_number_given {t = t} {k = k} taken wants =
-    then_given _ _ _ (expect dot_of t) (λ x. numeric) (valued_given taken dot_of (λ d. codes ".") (at_number (following k)) dot_text wants (λ x looked. dot_leads k wants x))
+    then_given _ _ _ (expect dot_of t) (λ x. numeric)
+    (valued_given taken dot_of (λ d. codes ".") (at_number (following k)) dot_text wants (λ x looked. dot_leads k wants x))
     (λ x u behind. valued_given behind number_of decimal (behind_number (following k)) number_text refl
     (λ y looked. number_leads (following k) y))
 
@@ -515,7 +517,8 @@ module _ {s t : ParserState} {text : Text} where
     pub build_out : (u : ParserState) → PartMayRunOut there t u → MayRunOutInVersion s u
     build_out u out = part_out b.taken build (b.leads Plus) there here u out
 
-  pub end_given : IsBehind s build text t → (d : Step (Unit {0})) → d ≡ skip_whitespace t → Gives (RefusesVersion s) (λ x u. ReadsAll s text u) d
+  pub end_given : IsBehind s build text t → (d : Step (Unit {0})) → d ≡ skip_whitespace t
+      → Gives (RefusesVersion s) (λ x u. ReadsAll s text u) d
   end_given b d e =
       rw e (space_given b.taken (ReadsAll s text) end (λ x y looked. b.leads (Whitespace x y) looked)
       (λ u taken. ended u end taken refl (stops_at_end u.remaining))

@@ -217,7 +217,7 @@ impl<'input> Parser<'input> {
     pub fn dot_component(&mut self) -> Result<(Option<u64>, bool), Error<'input>>
         ensures step { step_of (λ n. n) result self.new ≡ spec.dot_component self.old }
     {
-        if !matches!(self.peek(), Some(Token::Dot)) {
+        if !self.at_dot() {
             return Ok((None, false));
         }
         let _dot = self.pop()?;

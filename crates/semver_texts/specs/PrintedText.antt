@@ -1,4 +1,5 @@
 -- The printed text of identifiers and versions.
+use Prim.Native.Char.{code}
 use Rattle.std.specs.Prelude.{◌++◌, map, codes}
 use Rattle.std.specs.List.{join_with_byte}
 use Rattle.std.specs.Fmt.{decimal}
@@ -15,7 +16,8 @@ identifier_text (alphanumeric t) = t
 -- and the pre-release joined by dots
 abbrev pub plain_text : PlainVersion → Text
 plain_text v =
-    join_with_byte 46 (map decimal (numbers v)) ++ marked (codes "-") (map identifier_text v.pre)
+    join_with_byte (code ".") (map decimal (numbers v))
+    ++ marked (codes "-") (map identifier_text v.pre)
 
 -- a version's text: the same; then, where there is one, `+` and the build joined by dots
 abbrev pub version_text : VersionValue → Text

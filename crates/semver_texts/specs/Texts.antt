@@ -1,4 +1,5 @@
 -- Texts as their bytes, and how they are joined.
+use Prim.Native.Char.{code}
 use Rattle.std.specs.Prelude.{◌≡◌, ℕ, ◌^◌, ◌<◌, Bool, true, false, ◌||◌, ◌==◌, List, [], ◌∷◌, ◌++◌}
 use Rattle.std.specs.Prelude.{length, map, slice_index, IsTrue, decimal}
 use Rattle.std.specs.Char.{is_ascii_alphanumeric, is_ascii_digit}
@@ -16,15 +17,15 @@ is_empty (x ∷ xs) = false
 -- a byte of an identifier of a version, and of a part in a range: an ASCII letter, a digit or a
 -- hyphen
 abbrev pub is_part_byte : ℕ → Bool
-is_part_byte b = is_ascii_alphanumeric b || (b == 45)
+is_part_byte b = is_ascii_alphanumeric b || (b == code "-")
 
 -- a dot
 abbrev pub is_dot : ℕ → Bool
-is_dot b = b == 46
+is_dot b = b == code "."
 
 -- a space, a tab, a line feed or a carriage return
 abbrev pub is_space : ℕ → Bool
-is_space b = (b == 32 || b == 9) || (b == 10 || b == 13)
+is_space b = (b == code " " || b == code "\t") || (b == code "\n" || b == code "\r")
 
 -- one or more ASCII letters and digits
 abbrev pub IsRun : List ℕ → Type 0
@@ -57,4 +58,4 @@ joined between (t ∷ next ∷ others) = t ++ between ++ joined between (next �
 -- parts joined by dots behind their mark; nothing where there are none
 abbrev pub marked : Text → List Text → Text
 marked mark [] = []
-marked mark (part ∷ parts) = mark ++ join_with_byte 46 (part ∷ parts)
+marked mark (part ∷ parts) = mark ++ join_with_byte (code ".") (part ∷ parts)

@@ -1,5 +1,6 @@
 -- The grammar of versions: which version a text spells (SemVer 2.0.0, section 2 and sections 9 and
 -- 10 in this crate's wider form).
+use Prim.Native.Char.{code}
 use Rattle.std.specs.Prelude.{◌≡◌, ◌-◌, ◌^◌, ◌<◌, false, List, ◌++◌, length, map, slice_index}
 use Rattle.std.specs.Prelude.{IsTrue, codes, decimal}
 use Rattle.std.specs.List.{AllByRecursion, AllZip, join_with_byte}
@@ -13,7 +14,7 @@ pub record IsIdentifierText (text : Text) : Type 0 where
   pub runs : List Text
   pub some : 0 < length runs
   pub each : AllByRecursion IsRun runs
-  pub joined : text ≡ join_with_byte 45 runs
+  pub joined : text ≡ join_with_byte (code "-") runs
 
 -- the text spells the identifier: the canonical decimal of a number below 2^64 spells that number,
 -- any other text itself
@@ -42,8 +43,8 @@ pub record SpellsVersion (v : VersionValue) (text : Text) : Type 0 where
   pub build : SpellsPart (codes "+") v.build build_text
   pub spaces_before : AllByRecursion (λ b. IsTrue (is_space b)) before
   pub spaces_after : AllByRecursion (λ b. IsTrue (is_space b)) after
-  pub spelled : text ≡ before ++ join_with_byte 46 (map decimal (numbers v.plain)) ++ pre_text
-      ++ build_text ++ after
+  pub spelled : text ≡ before ++ join_with_byte (code ".") (map decimal (numbers v.plain))
+      ++ pre_text ++ build_text ++ after
 
 -- some version is spelled so
 abbrev pub IsVersionText : Text → Type 0

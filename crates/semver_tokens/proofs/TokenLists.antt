@@ -17,7 +17,8 @@ use Rattle.semver_tokens.specs.Tokens.{AreInPlace, is_component, is_whitespace, 
 use Rattle.semver_tokens.specs.Means.Scanning.{component, sign, first_token, scan}
 use Rattle.semver_texts.proofs.Numbers.{IsNumber-from_canonical, canonical_decimal, digits_value_number}
 use Rattle.semver_tokens.proofs.Components.{component_number, component_other}
-use Rattle.semver_tokens.proofs.FirstToken.{never, option_cases, IsFront, IsFound, goes_on, continues, first_token-found, is_some-first_token}
+use Rattle.semver_tokens.proofs.FirstToken.{never, option_cases, IsFront, IsFound, goes_on, continues, first_token-found}
+use Rattle.semver_tokens.proofs.FirstToken.{is_some-first_token}
 use Rattle.semver_tokens.proofs.FirstToken.{space_is_no_run, space_is_no_eq, run_is_no_space, run_is_no_eq}
 
 -- ---- a front that is a token is what is found

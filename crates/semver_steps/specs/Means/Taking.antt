@@ -1,5 +1,6 @@
 -- Taking identifiers and versions token by token. This is how the parser goes, and a means of
 -- proof: `VersionReading` says what reading answers.
+use Prim.Native.Char.{code}
 use Rattle.std.specs.Prelude.{◌≡◌, ℕ, ◌<◌, ◌⊎◌, Bool, true, false, List, [], ◌∷◌, ◌++◌, length}
 use Rattle.std.specs.Prelude.{Option, Some, None, Result, Ok, Err, IfOk, option_and_then}
 use Rattle.std.specs.Prelude.{if◌then◌else◌}
@@ -135,7 +136,7 @@ pub record ArePassed (s : ParserState) (part : Part) (text : Text) (ids : List I
   pub texts : List Text
   pub some : 0 < length texts
   pub each : AllZip SpellsIdentifier ids texts
-  pub taken : IsTakenTo s (behind_run part) (text ++ join_with_byte 46 texts) t
+  pub taken : IsTakenTo s (behind_run part) (text ++ join_with_byte (code ".") texts) t
   pub no_hyphen : ¬ (look t ≡ Some Hyphen)
   pub no_dot : ¬ (look t ≡ Some Dot)
 

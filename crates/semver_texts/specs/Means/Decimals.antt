@@ -1,5 +1,6 @@
 -- Numbers as their digits are read, and a means of proof: `Texts` says which texts are numbers
 -- (`IsNumber`).
+use Prim.Native.Char.{code}
 use Rattle.std.specs.Prelude.{ℕ, ◌^◌, Bool, ◌&&◌, ◌||◌, not, ◌==◌, nat_lt, List}
 use Rattle.std.specs.Prelude.{length, take, slice_index}
 use Rattle.std.specs.List.{prefix_len}
@@ -10,7 +11,7 @@ use Rattle.std.specs.Str.Parse.{digits_value}
 -- the run is the canonical decimal of a number below 2^64
 abbrev pub is_number : List ℕ → Bool
 is_number run =
-    (all_ascii_digits run && (length run == 1 || not (slice_index run 0 == 48)))
+    (all_ascii_digits run && (length run == 1 || not (slice_index run 0 == code "0")))
     && nat_lt (digits_value 10 run) (2 ^ 64)
 
 -- the digits at the front

@@ -1,6 +1,7 @@
 -- The tokens of a text found one after another, from the left. This is how the lexer goes, and a
 -- means of proof: `Tokens` says what the tokens of a text are, and the public clauses speak of
 -- that.
+use Prim.Native.Char.{code}
 use Rattle.std.specs.Prelude.{ℕ, zero, suc, ◌+◌, Bool, ◌==◌, if◌then◌else◌, List, [], ◌∷◌, length}
 use Rattle.std.specs.Prelude.{drop, Option, Some, None, slice_index, slice_get, chars, take_while}
 use Rattle.std.specs.List.{prefix_len}
@@ -19,17 +20,17 @@ component run = if is_number run then Numeric (digits_value 10 run) else AlphaNu
 -- the sign that these two bytes begin with, and its length
 unfoldable pub sign : ℕ → ℕ → Option (TokenValue × ℕ)
 sign b c =
-    if b == 61 then Some (Eq, 1)
-    else (if b == 62 then (if c == 61 then Some (GtEq, 2) else Some (Gt, 1))
-    else (if b == 60 then (if c == 61 then Some (LtEq, 2) else Some (Lt, 1))
-    else (if b == 94 then Some (Caret, 1)
-    else (if b == 126 then Some (Tilde, 1)
-    else (if b == 42 then Some (Star, 1)
-    else (if b == 46 then Some (Dot, 1)
-    else (if b == 44 then Some (Comma, 1)
-    else (if b == 45 then Some (Hyphen, 1)
-    else (if b == 43 then Some (Plus, 1)
-    else (if b == 124 then (if c == 124 then Some (Or, 2) else None)
+    if b == code "=" then Some (Eq, 1)
+    else (if b == code ">" then (if c == code "=" then Some (GtEq, 2) else Some (Gt, 1))
+    else (if b == code "<" then (if c == code "=" then Some (LtEq, 2) else Some (Lt, 1))
+    else (if b == code "^" then Some (Caret, 1)
+    else (if b == code "~" then Some (Tilde, 1)
+    else (if b == code "*" then Some (Star, 1)
+    else (if b == code "." then Some (Dot, 1)
+    else (if b == code "," then Some (Comma, 1)
+    else (if b == code "-" then Some (Hyphen, 1)
+    else (if b == code "+" then Some (Plus, 1)
+    else (if b == code "|" then (if c == code "|" then Some (Or, 2) else None)
     else None))))))))))
 
 -- the first token of what stands at a place, and its length

@@ -4,7 +4,8 @@ use Rattle.semver_texts.specs.VersionViews.{identifier_value, version_value}
 use Rattle.semver_texts.specs.Versions.{VersionValue}
 use Rattle.semver_steps.specs.Means.Taking.{pre_release}
 use Rattle.semver_steps.proofs.IdentifierTexts.{unless_out_of_memory, unless_err, if_err}
-use Rattle.semver_steps.proofs.VersionTaking.{numbers_text, numbers_given, HasNumbers, IsPart, pre_given, pre_out, build_given, build_out, end_given}
+use Rattle.semver_steps.proofs.VersionTaking.{numbers_text, numbers_given, HasNumbers, IsPart, pre_given}
+use Rattle.semver_steps.proofs.VersionTaking.{pre_out, build_given, build_out, end_given}
 use Rattle.semver_steps.proofs.VersionTaking.{spells_whole}
 use Rattle.semver_steps.proofs.parser.Parser.version.Goals as goal
 use Rattle.semver_steps.proofs.parser.Parser.version.Goals.{In_ok-major, In_ok-pre}
@@ -30,7 +31,8 @@ pub returns-in_err-pre-clause-out_of_memory : goal.returns-in_err-pre-clause-out
 returns-in_err-pre-clause-out_of_memory c =
     let p = err_from_is_err_and c.from_residual-in_err-pre.result c.from_residual-in_err-pre.ensures.1 in
     let k = numbers (goal.at.returns-in_err-pre-clause-out_of_memory c).In_ok-major in
-    rw (p.1, p.2) (if_err c.in_err-pre.field-0.0 (pre_out k c.at_hyphen-has_pre.result c.at_hyphen-has_pre.ensures c.part.new.self) c.in_err-pre.ensures.out_of_memory)
+    rw (p.1, p.2) (if_err c.in_err-pre.field-0.0 (pre_out k c.at_hyphen-has_pre.result c.at_hyphen-has_pre.ensures c.part.new.self)
+    c.in_err-pre.ensures.out_of_memory)
 
 pre : (c : In_ok-pre) → HasNumbers c.args.self.now (c.in_ok-major.major, c.in_ok-major.minor, c.in_ok-major.patch) c.numbers.new.self
     → IsPart c.args.self.now pre_release (numbers_text (c.in_ok-major.major, c.in_ok-major.minor, c.in_ok-major.patch))
@@ -53,7 +55,8 @@ returns-in_err-build-clause-out_of_memory c =
     let p = err_from_is_err_and c.from_residual-in_err-build.result c.from_residual-in_err-build.ensures.1 in
     let at = goal.at.returns-in_err-build-clause-out_of_memory c in
     let b = (pre at.In_ok-pre (numbers at.In_ok-major)).behind in
-    rw (p.1, p.2) (if_err c.in_err-build.field-0.0 (build_out b c.at_plus-has_build.result c.at_plus-has_build.ensures c.part-2.new.self) c.in_err-build.ensures.out_of_memory)
+    rw (p.1, p.2) (if_err c.in_err-build.field-0.0 (build_out b c.at_plus-has_build.result c.at_plus-has_build.ensures c.part-2.new.self)
+    c.in_err-build.ensures.out_of_memory)
 
 -- ---- the end
 
