@@ -1,26 +1,26 @@
 -- The token of a run of letters and digits.
-use Rattle.std.proofs.Common.{◌≡◌, ℕ, ◌^◌, ◌<◌, Bool, true, false, List, length, sym, refl, ap, ◌∙◌, decimal}
+use Rattle.std.proofs.Common.{◌≡◌, ℕ, ◌^◌, ◌<◌, List, length, sym, refl, ap, ◌∙◌, decimal}
 use Rattle.std.specs.Str.Parse.{digits_value}
+use Rattle.std.proofs.lemmas.Bool.{cond_both, both_ways}
 use Rattle.semver_texts.specs.Texts.{IsNumber}
 use Rattle.semver_texts.specs.Means.Decimals.{is_number}
 use Rattle.semver_texts.proofs.Numbers.{IsCanonical, is_number_true, canonical_from_is_number, canonical_from_IsNumber}
 use Rattle.semver_texts.proofs.Numbers.{IsNumber-from_canonical, digits_value_number}
-use Rattle.semver_tokens.specs.Tokens.{Numeric, AlphaNumeric}
+use Rattle.semver_tokens.specs.Tokens.{TokenValue, Numeric, AlphaNumeric}
 use Rattle.semver_tokens.specs.Means.Scanning.{component}
 
 -- a run that is a number is its token `Numeric`, and any other run `AlphaNumeric`
-pub component_number : (run : List ℕ) → IsCanonical run → component run ≡ Numeric (digits_value 10 run)
+pub component_cases : (run : List ℕ) (P : TokenValue → Type 0) → (IsCanonical run → P (Numeric (digits_value 10 run)))
+    → (¬ (IsCanonical run) → P (AlphaNumeric run)) → P (component run)
 unfolding component
-component_number run c = rw (is_number_true run c)
+component_cases run P number other =
+    cond_both (is_number run) _ _ P (λ e. number (canonical_from_is_number run e)) (λ e. other (λ c. both_ways _ e (is_number_true run c)))
+
+pub component_number : (run : List ℕ) → IsCanonical run → component run ≡ Numeric (digits_value 10 run)
+component_number run c = component_cases run (λ t. t ≡ Numeric (digits_value 10 run)) (λ c. refl) (λ other. absurd (other c))
 
 pub component_other : (run : List ℕ) → ¬ (IsCanonical run) → component run ≡ AlphaNumeric run
-unfolding component
-component_other run other =
-    elim_bool (is_number run) (λ e. absurd (other (canonical_from_is_number run e))) (λ e. rw e)
-  where
-    elim_bool : {A : Type 0} (b : Bool) → (b ≡ true → A) → (b ≡ false → A) → A
-    elim_bool true t f = t refl
-    elim_bool false t f = f refl
+component_other run other = component_cases run (λ t. t ≡ AlphaNumeric run) (λ c. absurd (other c)) (λ other. refl)
 
 pub component_decimal : (run : List ℕ) (n : ℕ) → n < 2 ^ 64 → run ≡ decimal n → Numeric n ≡ component run
 component_decimal run n small same = ap Numeric (sym (digits_value_number run n small same))

@@ -1,6 +1,6 @@
 -- The first token of a text, and what stands behind it.
-use Rattle.std.proofs.Common.{◌≡◌, ℕ, ◌+◌, ◌-◌, ◌<◌, ◌≤◌, Bool, true, false, cond, eqb, ◌&&◌, ◌||◌, List, [], ◌∷◌, ◌++◌, length, take, drop}
-use Rattle.std.proofs.Common.{Option, Some, None, sym, refl, ap, ◌∙◌, subst, arith, one-add, length-drop, length-take-le, take-append-drop}
+use Rattle.std.proofs.Common.{◌≡◌, ℕ, ◌+◌, ◌-◌, ◌<◌, ◌≤◌, Bool, true, false, eqb, ◌&&◌, ◌||◌, List, [], ◌∷◌, ◌++◌, length, take, drop}
+use Rattle.std.proofs.Common.{Option, Some, None, sym, refl, ap, ◌∙◌, arith, one-add, length-drop, take-append-drop}
 use Rattle.std.specs.Prelude.{is_some, IsTrue, slice_range, slice_index, take_while}
 use Rattle.std.specs.List.{prefix_len, AllByRecursion}
 use Rattle.std.specs.Char.{is_ascii_alphanumeric}
@@ -8,12 +8,12 @@ use Rattle.std.proofs.lemmas.List.Sums.{prefix_len-le-length}
 use Rattle.std.proofs.lemmas.Option.{some_pair_parts, none-some}
 use Rattle.std.proofs.lemmas.Bool.Decides.{nat_tests}
 use Rattle.semver_texts.specs.Texts.{is_space, IsRun, is_part_byte}
-use Rattle.semver_tokens.specs.Tokens.{TokenValue, Eq, Gt, Lt, LtEq, GtEq, Caret, Tilde, Star, Dot, Comma, Hyphen, Plus, Or, Whitespace}
-use Rattle.semver_tokens.specs.Tokens.{Numeric, AlphaNumeric, token_text, is_sign, opens_token, IsTokenAt}
-use Rattle.semver_texts.specs.Means.Decimals.{is_number}
+use Rattle.semver_tokens.specs.Tokens.{TokenValue, Gt, Lt, Whitespace}
+use Rattle.semver_tokens.specs.Tokens.{Numeric, AlphaNumeric, token_text, is_sign, opens_token, IsTokenAt, is_whitespace, is_component}
 use Rattle.semver_tokens.specs.Means.Scanning.{component, sign, first_token}
-use Rattle.semver_texts.proofs.Numbers.{IsCanonical, is_number_true, canonical_from_is_number, decimal_canonical, canonical_from_IsNumber}
-use Rattle.semver_tokens.proofs.Components.{component_number, component_other}
+use Rattle.semver_texts.proofs.Numbers.{decimal_canonical, canonical_from_IsNumber}
+use Rattle.semver_tokens.proofs.Components.{component_cases}
+use Rattle.std.proofs.lemmas.List.Folds.{length-prefix_len}
 
 -- either way a test goes
 pub by_test : {A : Type 0} (b : Bool) → (b ≡ true → A) → (b ≡ false → A) → A
@@ -24,11 +24,6 @@ by_test false f g = g refl
 pub option_cases : {A G : Type 0} (o : Option A) → (o ≡ None → G) → ((x : A) → o ≡ Some x → G) → G
 option_cases None f g = f refl
 option_cases (Some x) f g = g x refl
-
--- either way a choice goes
-pub split_cond : (b : Bool) {A G : Type 0} {x y z : A} → (b ≡ true → x ≡ z → G) → (b ≡ false → y ≡ z → G) → cond b x y ≡ z → G
-split_cond true f g e = f refl e
-split_cond false f g e = g refl e
 
 pub never : {b : Bool} → b ≡ true → b ≡ false → ⊥
 never t f = cc
@@ -81,105 +76,70 @@ pub is_some-sign : (b c : ℕ) → is_some (sign b c) ≡ (is_sign b || (eqb b 1
 unfolding sign
 is_some-sign b c = grind (arith, nat_tests)
 
-or_true : (a c : Bool) → ((a || true) || c) ≡ true
-or_true true c = refl
-or_true false c = refl
-
-or_late : (a d : Bool) → ((a || false) || (true || d)) ≡ true
-or_late true d = refl
-or_late false d = refl
-
-or_last : (a d : Bool) → ((a || false) || (false || d)) ≡ (a || d)
-or_last true d = refl
-or_last false d = refl
-
 pub is_some-first_token : (place : ℕ) (bs : List ℕ) → is_some (first_token place bs) ≡ opens_token bs
 unfolding first_token
 is_some-first_token place [] = refl
-is_some-first_token place (b ∷ bs) =
-    by_test (is_space b) (λ s. rw s (sym (or_true (is_sign b) _)))
-    (λ s. by_test (is_ascii_alphanumeric b)
-    (λ r. rw (s, r) (sym (or_late (is_sign b) (eqb b 124 && eqb (slice_index bs 0) 124))))
-    (λ r. rw (s, r) (is_some-sign b (slice_index bs 0) ∙ sym (or_last (is_sign b) _))))
+is_some-first_token place (b ∷ bs) = grind (arith, nat_tests, is_some-sign)
+
+-- the token of a run, or white space, is found where it stands
+pub first_token-at_run : (place b : ℕ) (bs : List ℕ) → is_ascii_alphanumeric b ≡ true
+    → first_token place (b ∷ bs) ≡ Some (component (take_while is_ascii_alphanumeric (b ∷ bs)), prefix_len is_ascii_alphanumeric (b ∷ bs))
+unfolding first_token
+first_token-at_run place b bs h = rw (run_is_no_space b h, h) refl
+
+pub first_token-at_space : (place b : ℕ) (bs : List ℕ) → is_space b ≡ true
+    → first_token place (b ∷ bs) ≡ Some (Whitespace place (place + prefix_len is_space (b ∷ bs)), prefix_len is_space (b ∷ bs))
+unfolding first_token
+first_token-at_space place b bs h = rw h refl
+
+pub first_token-at_other : (place b : ℕ) (bs : List ℕ) → is_space b ≡ false → is_ascii_alphanumeric b ≡ false
+    → first_token place (b ∷ bs) ≡ sign b (slice_index bs 0)
+unfolding first_token
+first_token-at_other place b bs s r = rw (s, r) refl
 
 -- ---- what `sign` gives
 
--- the signs, each with the bytes that it is found at
-pub record AtSigns (P : ℕ → ℕ → TokenValue → ℕ → Type 0) : Type 0 where
-  pub eq : (c : ℕ) → P 61 c Eq 1
-  pub gt_eq : P 62 61 GtEq 2
-  pub gt : (c : ℕ) → eqb c 61 ≡ false → P 62 c Gt 1
-  pub lt_eq : P 60 61 LtEq 2
-  pub lt : (c : ℕ) → eqb c 61 ≡ false → P 60 c Lt 1
-  pub caret : (c : ℕ) → P 94 c Caret 1
-  pub tilde : (c : ℕ) → P 126 c Tilde 1
-  pub star : (c : ℕ) → P 42 c Star 1
-  pub dot : (c : ℕ) → P 46 c Dot 1
-  pub comma : (c : ℕ) → P 44 c Comma 1
-  pub hyphen : (c : ℕ) → P 45 c Hyphen 1
-  pub plus : (c : ℕ) → P 43 c Plus 1
-  pub or : P 124 124 Or 2
+sign_text : (text : List ℕ) (b : ℕ) (bs : List ℕ) (t : TokenValue) (n : ℕ) → sign b (slice_index bs 0) ≡ Some (t, n)
+    → token_text text t ≡ take n (b ∷ bs)
+unfolding sign
+sign_text text b [] t n e = grind (arith, nat_tests)
+sign_text text b (c ∷ bs) t n e = grind (arith, nat_tests)
 
--- at the byte k the sign is `given`, so what holds of that holds of what was found
-module _ (P : ℕ → ℕ → TokenValue → ℕ → Type 0) where
-  found_at : (k c : ℕ) (u t : TokenValue) (m n : ℕ) → P k c u m → ◌≡◌ {A = Option (TokenValue × ℕ)} (Some (u, m)) (Some (t, n)) → P k c t n
-  found_at k c u t m n p e =
-      let q = some_pair_parts u t m n e in subst (λ (x : TokenValue). P k c x n) q.0 (subst (λ (x : ℕ). P k c u x) q.1 p)
+sign_len : (text : List ℕ) (b c : ℕ) (t : TokenValue) (n : ℕ) → sign b c ≡ Some (t, n) → length (token_text text t) ≡ n
+unfolding sign
+sign_len text b c t n e = grind (arith, nat_tests)
 
-  -- a test of the first byte: what holds at the byte k and what holds at the others
-  at_byte : (k : ℕ) {b c : ℕ} {t : TokenValue} {n : ℕ} {x y : Option (TokenValue × ℕ)} → (x ≡ Some (t, n) → P k c t n)
-      → (y ≡ Some (t, n) → P b c t n) → cond (eqb b k) x y ≡ Some (t, n) → P b c t n
-  at_byte k {b} {c} {t} {n} {x} {y} here there =
-      by_test (eqb b k)
-      (λ same e. let is_k : b ≡ k = grind (arith, nat_tests) in subst (λ (z : ℕ). P z c t n) (sym is_k) (here (rw same at e)))
-      (λ other e. there (rw other at e))
+sign_stops : (b c x : ℕ) (t : TokenValue) (n : ℕ) → sign b c ≡ Some (t, n) → (n ≡ 1 → x ≡ c) → continues t x ≡ false
+unfolding sign
+sign_stops b c x t n e same = grind (arith, nat_tests)
 
-  -- a test of the second byte
-  at_second : (b : ℕ) {k c : ℕ} {t : TokenValue} {n : ℕ} {x y : Option (TokenValue × ℕ)} → (eqb c b ≡ true → x ≡ Some (t, n) → P k c t n)
-      → (eqb c b ≡ false → y ≡ Some (t, n) → P k c t n) → cond (eqb c b) x y ≡ Some (t, n) → P k c t n
-  at_second b {k} {c} here there = by_test (eqb c b) (λ h e. here h (rw h at e)) (λ h e. there h (rw h at e))
+sign_some : (b c : ℕ) (t : TokenValue) (n : ℕ) → sign b c ≡ Some (t, n) → 0 < n
+unfolding sign
+sign_some b c t n e = grind (arith, nat_tests)
 
-  same_second : (k b c : ℕ) (t : TokenValue) (n : ℕ) → P k b t n → eqb c b ≡ true → P k c t n
-  same_second k b c t n p h = let e : c ≡ b = grind (arith, nat_tests) in subst (λ (z : ℕ). P k z t n) (sym e) p
+sign_plain : (b c : ℕ) (t : TokenValue) (n : ℕ) → sign b c ≡ Some (t, n) → (is_whitespace t || is_component t) ≡ false
+unfolding sign
+sign_plain b c t n e = grind (arith, nat_tests)
 
-  pub sign_found : AtSigns P → (b c : ℕ) (t : TokenValue) (n : ℕ) → sign b c ≡ Some (t, n) → P b c t n
-  unfolding sign
-  sign_found at b c t n =
-      at_byte 61 (found_at 61 c Eq t 1 n (at.eq c))
-      (at_byte 62 (at_second 61 (λ h. found_at 62 c GtEq t 2 n (same_second 62 61 c GtEq 2 at.gt_eq h))
-      (λ h. found_at 62 c Gt t 1 n (at.gt c h)))
-      (at_byte 60 (at_second 61 (λ h. found_at 60 c LtEq t 2 n (same_second 60 61 c LtEq 2 at.lt_eq h))
-      (λ h. found_at 60 c Lt t 1 n (at.lt c h)))
-      (at_byte 94 (found_at 94 c Caret t 1 n (at.caret c))
-      (at_byte 126 (found_at 126 c Tilde t 1 n (at.tilde c))
-      (at_byte 42 (found_at 42 c Star t 1 n (at.star c))
-      (at_byte 46 (found_at 46 c Dot t 1 n (at.dot c))
-      (at_byte 44 (found_at 44 c Comma t 1 n (at.comma c))
-      (at_byte 45 (found_at 45 c Hyphen t 1 n (at.hyphen c))
-      (at_byte 43 (found_at 43 c Plus t 1 n (at.plus c))
-      (at_byte 124 (at_second 124 (λ h. found_at 124 c Or t 2 n (same_second 124 124 c Or 2 at.or h)) (λ h e. absurd (none-some _ e)))
-      (λ e. absurd (none-some _ e))))))))))))
+plain_token : (text : List ℕ) (place : ℕ) (t : TokenValue) → (is_whitespace t || is_component t) ≡ false → IsTokenAt text place t
+plain_token text place (Whitespace first after) e = cc
+plain_token text place (Numeric n) e = cc
+plain_token text place (AlphaNumeric bytes) e = cc
+plain_token text place _ e = tt
 
 -- ---- the token of a run
 
 pub token_text-component : (text run : List ℕ) → 0 < length run → token_text text (component run) ≡ run
 token_text-component text run some =
-    by_test (is_number run)
-    (λ e. let c = canonical_from_is_number run e in ap (token_text text) (component_number run c) ∙ decimal_canonical run some c)
-    (λ e. ap (token_text text) (component_other run (λ c. absurd (never (is_number_true run c) e))))
+    component_cases run (λ t. token_text text t ≡ run) (λ c. decimal_canonical run some c) (λ other. refl)
 
 pub IsTokenAt-component : (text : List ℕ) (place : ℕ) (run : List ℕ) → IsRun run → IsTokenAt text place (component run)
 IsTokenAt-component text place run is_run =
-    by_test (is_number run)
-    (λ e. let c = canonical_from_is_number run e in subst (IsTokenAt text place) (sym (component_number run c)) c.small)
-    (λ e. let other : ¬ (IsCanonical run) = λ c. never (is_number_true run c) e in
-    subst (IsTokenAt text place) (sym (component_other run other)) (is_run, λ number. other (canonical_from_IsNumber run number)))
+    component_cases run (IsTokenAt text place) (λ c. c.small)
+    (λ other. (is_run, λ number. other (canonical_from_IsNumber run number)))
 
 pub continues-component : (run : List ℕ) (b : ℕ) → continues (component run) b ≡ is_ascii_alphanumeric b
-continues-component run b =
-    by_test (is_number run)
-    (λ e. ap (λ t. continues t b) (component_number run (canonical_from_is_number run e)))
-    (λ e. ap (λ t. continues t b) (component_other run (λ c. never (is_number_true run c) e)))
+continues-component run b = component_cases run (λ t. continues t b ≡ is_ascii_alphanumeric b) (λ c. refl) (λ other. refl)
 
 -- the front that passes a test passes it
 pub all_of_prefix : (p : ℕ → Bool) (xs : List ℕ) → AllByRecursion (λ b. IsTrue (p b)) (take (prefix_len p xs) xs)
@@ -199,49 +159,29 @@ pub record IsFound (text : List ℕ) (place : ℕ) (bs : List ℕ) (t : TokenVal
   pub positive : 0 < n
 
 module _ (text : List ℕ) (place : ℕ) where
-  abbrev FoundAt : ℕ → ℕ → TokenValue → ℕ → Type 0
-  FoundAt b c t n = (bs : List ℕ) → slice_index bs 0 ≡ c → IsFound text place (b ∷ bs) t n
-
-  two : (b c : ℕ) (t : TokenValue) → token_text text t ≡ b ∷ c ∷ [] → IsTokenAt text place t → ((x : ℕ) → continues t x ≡ false)
-      → (c ≡ 0 → ⊥) → FoundAt b c t 2
-  two b c t text_is is_token stops some [] e = absurd (some (sym e))
-  two b c t text_is is_token stops some (x ∷ bs) e = record {
-    front =
-        record {
-          spelled = ap (λ (z : ℕ). b ∷ z ∷ bs) e ∙ ap (λ (l : List ℕ). l ++ bs)
-              (sym text_is);
-          is_token = is_token;
-          stops = stops _;
-        };
-    len = ap length text_is;
-    positive = omega arith;
+  found_sign : (b : ℕ) (bs : List ℕ) (t : TokenValue) (n : ℕ) → sign b (slice_index bs 0) ≡ Some (t, n) → IsFound text place (b ∷ bs) t n
+  found_sign b bs t n e = record {
+    front = record {
+      spelled = rw (sign_text text b bs t n e) (sym (take-append-drop n (b ∷ bs)));
+      is_token = plain_token text place t (sign_plain b (slice_index bs 0) t n e);
+      stops = sign_stops b (slice_index bs 0) _ t n e (λ one. rw one refl);
+    };
+    len = sign_len text b (slice_index bs 0) t n e;
+    positive = sign_some b (slice_index bs 0) t n e;
   }
 
-  signs : AtSigns FoundAt
-  signs = record {
-    eq = λ c bs e. record { front = record { spelled = refl; is_token = tt; stops = refl }; len = refl; positive = omega arith };
-    gt_eq = two 62 61 GtEq refl tt (λ x. refl) (λ z. omega arith);
-    gt =
-        λ c h bs e. record {
-          front = record { spelled = refl; is_token = tt; stops = ap (λ (z : ℕ). eqb z 61) e ∙ h };
-          len = refl;
-          positive = omega arith;
-        };
-    lt_eq = two 60 61 LtEq refl tt (λ x. refl) (λ z. omega arith);
-    lt =
-        λ c h bs e. record {
-          front = record { spelled = refl; is_token = tt; stops = ap (λ (z : ℕ). eqb z 61) e ∙ h };
-          len = refl;
-          positive = omega arith;
-        };
-    caret = λ c bs e. record { front = record { spelled = refl; is_token = tt; stops = refl }; len = refl; positive = omega arith };
-    tilde = λ c bs e. record { front = record { spelled = refl; is_token = tt; stops = refl }; len = refl; positive = omega arith };
-    star = λ c bs e. record { front = record { spelled = refl; is_token = tt; stops = refl }; len = refl; positive = omega arith };
-    dot = λ c bs e. record { front = record { spelled = refl; is_token = tt; stops = refl }; len = refl; positive = omega arith };
-    comma = λ c bs e. record { front = record { spelled = refl; is_token = tt; stops = refl }; len = refl; positive = omega arith };
-    hyphen = λ c bs e. record { front = record { spelled = refl; is_token = tt; stops = refl }; len = refl; positive = omega arith };
-    plus = λ c bs e. record { front = record { spelled = refl; is_token = tt; stops = refl }; len = refl; positive = omega arith };
-    or = two 124 124 Or refl tt (λ x. refl) (λ z. omega arith);
+  -- a token of all bytes in front that pass a test
+  found_prefix : (p : ℕ → Bool) (b : ℕ) (bs : List ℕ) (t : TokenValue) → p 0 ≡ false → p b ≡ true
+      → token_text text t ≡ take (prefix_len p (b ∷ bs)) (b ∷ bs) → IsTokenAt text place t → ((x : ℕ) → continues t x ≡ p x)
+      → IsFound text place (b ∷ bs) t (prefix_len p (b ∷ bs))
+  found_prefix p b bs t past h text_is is_token on = record {
+    front = record {
+      spelled = rw text_is (sym (take-append-drop (prefix_len p (b ∷ bs)) (b ∷ bs)));
+      is_token = is_token;
+      stops = on _ ∙ prefix_stops p (b ∷ bs) past;
+    };
+    len = ap length text_is ∙ length-prefix_len p (b ∷ bs);
+    positive = rw h (omega arith);
   }
 
   found_space : (b : ℕ) (bs : List ℕ) → drop place text ≡ b ∷ bs → is_space b ≡ true
@@ -251,57 +191,33 @@ module _ (text : List ℕ) (place : ℕ) where
       let positive : 0 < n = rw h (omega arith) in
       let within : n ≤ length (b ∷ bs) = prefix_len-le-length is_space (b ∷ bs) in
       let room : length (b ∷ bs) ≡ length text - place = ap length (sym e) ∙ length-drop place text in
-      let cut : slice_range text place (place + n) ≡ take n (b ∷ bs) = ap (λ (m : ℕ). take m (drop place text)) (omega arith)
-      ∙ ap (take n) e in
-      record {
-        front = record {
-          spelled = sym (ap (λ (l : List ℕ). l ++ drop n (b ∷ bs)) cut ∙ take-append-drop n (b ∷ bs));
-          is_token = (
-            refl,
-            omega arith,
-            omega arith,
-            subst (AllByRecursion (λ x. IsTrue (is_space x))) (sym cut)
-                (all_of_prefix is_space (b ∷ bs)),
-          );
-          stops = prefix_stops is_space (b ∷ bs) refl;
-        };
-        len = ap length cut ∙ length-take-le n (b ∷ bs) within;
-        positive = positive;
-      }
+      let cut : slice_range text place (place + n) ≡ take n (b ∷ bs) = ap (λ m. take m (drop place text)) (omega arith) ∙ ap (take n) e in
+      found_prefix is_space b bs (Whitespace place (place + n)) refl h cut
+      (refl, omega arith, omega arith, rw cut (all_of_prefix is_space (b ∷ bs))) (λ x. refl)
 
   found_run : (b : ℕ) (bs : List ℕ) → is_ascii_alphanumeric b ≡ true
       → IsFound text place (b ∷ bs) (component (take_while is_ascii_alphanumeric (b ∷ bs))) (prefix_len is_ascii_alphanumeric (b ∷ bs))
   found_run b bs h =
-      let n : ℕ = prefix_len is_ascii_alphanumeric (b ∷ bs) in
       let run : List ℕ = take_while is_ascii_alphanumeric (b ∷ bs) in
-      let positive : 0 < n = rw h (omega arith) in
-      let within : n ≤ length (b ∷ bs) = prefix_len-le-length is_ascii_alphanumeric (b ∷ bs) in
-      let len : length run ≡ n = length-take-le n (b ∷ bs) within in
-      let is_run : IsRun run = (omega arith, all_of_prefix is_ascii_alphanumeric (b ∷ bs)) in
-      let text_is : token_text text (component run) ≡ run = token_text-component text run (is_run.0) in
-      record {
-        front = record {
-          spelled = sym (ap (λ (l : List ℕ). l ++ drop n (b ∷ bs)) text_is ∙ take-append-drop n (b ∷ bs));
-          is_token = IsTokenAt-component text place run is_run;
-          stops = continues-component run _ ∙ prefix_stops is_ascii_alphanumeric (b ∷ bs) refl;
-        };
-        len = ap length text_is ∙ len;
-        positive = positive;
-      }
+      let positive : 0 < prefix_len is_ascii_alphanumeric (b ∷ bs) = rw h (omega arith) in
+      let is_run : IsRun run = (
+        omega (arith, length-prefix_len is_ascii_alphanumeric (b ∷ bs)),
+        all_of_prefix is_ascii_alphanumeric (b ∷ bs),
+      ) in
+      found_prefix is_ascii_alphanumeric b bs (component run) refl h (token_text-component text run is_run.0)
+      (IsTokenAt-component text place run is_run) (continues-component run)
 
   pub first_token-found : (bs : List ℕ) (t : TokenValue) (n : ℕ) → drop place text ≡ bs → first_token place bs ≡ Some (t, n)
       → IsFound text place bs t n
   unfolding first_token
-  first_token-found [] t n at = λ e. absurd (none-some _ e)
-  first_token-found (b ∷ bs) t n at =
-      split_cond (is_space b)
-      (λ s. as_found (b ∷ bs) _ t _ n (found_space b bs at s))
-      (λ s. split_cond (is_ascii_alphanumeric b)
-      (λ r. as_found (b ∷ bs) _ t _ n (found_run b bs r))
-      (λ r e. sign_found FoundAt signs b (slice_index bs 0) t n e bs refl))
+  first_token-found [] t n at e = absurd (none-some _ e)
+  first_token-found (b ∷ bs) t n at e =
+      by_test (is_space b)
+      (λ s. as_found _ (sym (first_token-at_space place b bs s) ∙ e) (found_space b bs at s))
+      (λ s. by_test (is_ascii_alphanumeric b)
+      (λ r. as_found _ (sym (first_token-at_run place b bs r) ∙ e) (found_run b bs r))
+      (λ r. found_sign b bs t n (sym (first_token-at_other place b bs s r) ∙ e)))
     where
-      as_found : (bs : List ℕ) (u t : TokenValue) (m n : ℕ) → IsFound text place bs u m
-          → ◌≡◌ {A = Option (TokenValue × ℕ)} (Some (u, m)) (Some (t, n)) → IsFound text place bs t n
-      as_found bs u t m n f e =
-          let q = some_pair_parts u t m n e in subst (λ (x : TokenValue). IsFound text place bs x n) q.0
-          (subst (λ (x : ℕ). IsFound text place bs u x) q.1 f)
+      as_found : {u : TokenValue} (m : ℕ) → ◌≡◌ {A = Option (TokenValue × ℕ)} (Some (u, m)) (Some (t, n)) → IsFound text place (b ∷ bs) u m
+          → IsFound text place (b ∷ bs) t n
+      as_found {u} m e f = let q = some_pair_parts u t m n e in rw (q.0, q.1) at f

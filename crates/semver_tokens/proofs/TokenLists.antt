@@ -2,7 +2,7 @@
 use Rattle.std.proofs.Common.{◌≡◌, ℕ, zero, suc, ◌+◌, ◌-◌, ◌^◌, ◌<◌, ◌≤◌, Bool, true, false, eqb, ◌&&◌, ◌||◌, not, List, [], ◌∷◌, ◌++◌}
 use Rattle.std.proofs.Common.{length, take, drop, Some, None, sym, refl, ap, ◌∙◌, subst, inl, inr, arith, decimal, ◌⊎◌}
 use Rattle.std.proofs.Common.{append_assoc, one-add, length-append, length-drop, length-take-le}
-use Rattle.std.specs.Prelude.{is_some, slice_get, IsTrue, slice_range, slice_index, take_while}
+use Rattle.std.specs.Prelude.{is_some, slice_get, IsTrue, slice_range, slice_index}
 use Rattle.std.specs.List.{prefix_len, AllByRecursion}
 use Rattle.std.specs.Char.{is_ascii_alphanumeric, is_ascii_digit}
 use Rattle.std.specs.Str.{all_ascii_digits}
@@ -18,7 +18,7 @@ use Rattle.semver_tokens.specs.Means.Scanning.{component, sign, first_token, sca
 use Rattle.semver_texts.proofs.Numbers.{IsNumber-from_canonical, canonical_decimal, digits_value_number}
 use Rattle.semver_tokens.proofs.Components.{component_number, component_other}
 use Rattle.semver_tokens.proofs.FirstToken.{never, option_cases, IsFront, IsFound, goes_on, continues, first_token-found}
-use Rattle.semver_tokens.proofs.FirstToken.{is_some-first_token}
+use Rattle.semver_tokens.proofs.FirstToken.{is_some-first_token, first_token-at_run, first_token-at_space, first_token-at_other}
 use Rattle.semver_tokens.proofs.FirstToken.{space_is_no_run, space_is_no_eq, run_is_no_space, run_is_no_eq}
 
 -- ---- a front that is a token is what is found
@@ -41,22 +41,6 @@ digit_is_run b h = grind (arith, nat_tests)
 digits_are_run : (ds : List ℕ) → all_ascii_digits ds ≡ true → AllByRecursion (λ b. IsTrue (is_ascii_alphanumeric b)) ds
 digits_are_run [] h = tt
 digits_are_run (d ∷ ds) h = let q = both (is_ascii_digit d) (all_ascii_digits ds) h in (digit_is_run d q.0, digits_are_run ds q.1)
-
--- the token of a run, or white space, is found where it stands
-pub first_token-at_run : (place b : ℕ) (bs : List ℕ) → is_ascii_alphanumeric b ≡ true
-    → first_token place (b ∷ bs) ≡ Some (component (take_while is_ascii_alphanumeric (b ∷ bs)), prefix_len is_ascii_alphanumeric (b ∷ bs))
-unfolding first_token
-first_token-at_run place b bs h = rw (run_is_no_space b h, h) refl
-
-pub first_token-at_space : (place b : ℕ) (bs : List ℕ) → is_space b ≡ true
-    → first_token place (b ∷ bs) ≡ Some (Whitespace place (place + prefix_len is_space (b ∷ bs)), prefix_len is_space (b ∷ bs))
-unfolding first_token
-first_token-at_space place b bs h = rw h refl
-
-pub first_token-at_other : (place b : ℕ) (bs : List ℕ) → is_space b ≡ false → is_ascii_alphanumeric b ≡ false
-    → first_token place (b ∷ bs) ≡ sign b (slice_index bs 0)
-unfolding first_token
-first_token-at_other place b bs s r = rw (s, r) refl
 
 pub first_token-empty : (place : ℕ) (bs : List ℕ) → slice_get bs 0 ≡ None → first_token place bs ≡ None
 unfolding first_token
