@@ -1,5 +1,5 @@
 -- What the report writes, from what its lines show.
-use Rattle.std.proofs.Common.{◌≡◌, ◌↔◌, Bool, true, false, List, ℕ, Option, Result, Ok, Err, IfOk, IsTrue, codes, refl, sym, ap, ◌∙◌, subst}
+use Rattle.std.proofs.Common.{◌≡◌, ◌↔◌, Bool, true, false, List, ℕ, Option, Result, Ok, Err, IfOk, IsTrue, codes, refl}
 use Rattle.std.specs.Prelude.{◌||◌}
 use Rattle.semver_ranges.specs.declared.range.Compat.{Compat}
 use Rattle.semver_ranges.specs.declared.range.Compat.TheVariants.{Cargo, Npm}
@@ -33,26 +33,16 @@ pub shows_version : (text : Text) (shown : Shown) (v : VersionValue) → IsOutco
     → (is_value_of shown ≡ false → shown_text shown ≡ codes "out-of-memory")
     → VersionLine text (is_value_of shown) (shown_text shown)
 shows_version text (Value t) v outcome value other =
-    subst (λ s. VersionLine text true s) (sym (value refl)) (version_printed text v outcome)
+    rw (value refl) (version_printed text v outcome)
 shows_version text (Fault w) v outcome value other =
-    subst (λ s. VersionLine text false s) (sym (other refl)) (version_unprinted text v outcome)
+    rw (other refl) (version_unprinted text v outcome)
 
 -- a fault shows as its word
 pub shows_fault : (text : Text) (e : Error) → UnlessOutOfMemory {T = Version} (Err e) (IsOutcomeOf text (answer_of version_value (Err e)))
     → IfOutOfMemory {T = Version} (Err e) (TextMayRunOut text)
     → (word : Text) → word ≡ version_fault_word (fault_of e) → VersionLine text false word
-shows_fault text e outcome memory word is = subst (λ w. VersionLine text false w) (sym is) (go e outcome memory)
-  where
-    go : (e : Error) → UnlessOutOfMemory {T = Version} (Err e) (IsOutcomeOf text (answer_of version_value (Err e)))
-        → IfOutOfMemory {T = Version} (Err e) (TextMayRunOut text)
-        → VersionLine text false (version_fault_word (fault_of e))
-    go error.OutOfMemory outcome memory = version_unread text memory
-    go error.UnexpectedEnd outcome memory = version_refused text _ outcome
-    go (error.UnexpectedToken t) outcome memory = version_refused text _ outcome
-    go (error.Lexer x) outcome memory = version_refused text _ outcome
-    go (error.MoreInput ts) outcome memory = version_refused text _ outcome
-    go error.EmptyPredicate outcome memory = version_refused text _ outcome
-    go error.EmptyRange outcome memory = version_refused text _ outcome
+shows_fault text error.OutOfMemory outcome memory word is = rw is (version_unread text memory)
+shows_fault text _ outcome memory word is = rw is (version_refused text _ outcome)
 
 -- a set that was read shows as its printed text, or as want of memory
 pub shows_set : (mode : Compat) (text : Text) (shown : Shown) (set : PlainSet) (tree : SetTree) → Spells tree text → IsTrue (fits mode tree)
@@ -60,9 +50,9 @@ pub shows_set : (mode : Compat) (text : Text) (shown : Shown) (set : PlainSet) (
     → (is_value_of shown ≡ true → shown_text shown ≡ set_text set) → (is_value_of shown ≡ false → shown_text shown ≡ codes "out-of-memory")
     → RangeLine mode text (is_value_of shown) (shown_text shown)
 shows_set mode text (Value t) set tree spelled fit is value other =
-    subst (λ s. RangeLine mode text true s) (sym (value refl ∙ ap set_text is)) (set_printed mode text tree spelled fit)
+    rw (value refl, is) (set_printed mode text tree spelled fit)
 shows_set mode text (Fault w) set tree spelled fit is value other =
-    subst (λ s. RangeLine mode text false s) (sym (other refl)) (no_memory mode text tree spelled fit)
+    rw (other refl) (no_memory mode text tree spelled fit)
 
 -- a refusal shows as its word
 pub shows_refusal : (mode : Compat) (text : Text) (e : RangeError)
@@ -70,16 +60,11 @@ pub shows_refusal : (mode : Compat) (text : Text) (e : RangeError)
     → (◌≡◌ {A = Result RangeSet RangeError} (Err e) (Err NumberTooLarge)) ↔ IsTooLarge mode text
     → (◌≡◌ {A = Result RangeSet RangeError} (Err e) (Err OutOfMemory) → HasSet mode text)
     → (word : Text) → word ≡ range_fault_word e → RangeLine mode text false word
-shows_refusal mode text e none large memory word is = subst (λ w. RangeLine mode text false w) (sym is) (go e none large memory)
-  where
-    go : (e : RangeError)
-        → (◌≡◌ {A = Result RangeSet RangeError} (Err e) (Err NotARange)) ↔ ¬ (IsRangeText text)
-        → (◌≡◌ {A = Result RangeSet RangeError} (Err e) (Err NumberTooLarge)) ↔ IsTooLarge mode text
-        → (◌≡◌ {A = Result RangeSet RangeError} (Err e) (Err OutOfMemory) → HasSet mode text)
-        → RangeLine mode text false (range_fault_word e)
-    go NotARange none large memory = not_a_range mode text (none.0 refl)
-    go NumberTooLarge none large memory = let found = large.0 refl in number_too_large mode text found.0 found.1 found.2
-    go OutOfMemory none large memory = let found = memory refl in no_memory mode text found.0 found.1 found.2
+shows_refusal mode text NotARange none large memory word is = rw is (not_a_range mode text (none.0 refl))
+shows_refusal mode text NumberTooLarge none large memory word is =
+    let found = large.0 refl in rw is (number_too_large mode text found.0 found.1 found.2)
+shows_refusal mode text OutOfMemory none large memory word is =
+    let found = memory refl in rw is (no_memory mode text found.0 found.1 found.2)
 
 are_lines : (text : Text) (version cargo npm : Shown)
     → VersionLine text (is_value_of version) (shown_text version)
@@ -110,8 +95,7 @@ pub writes_lines : {E : Type 0} (text : Text) (version cargo npm : Shown) (a b :
     → IfOk r (λ good. good ≡ (is_value_of version || (is_value_of cargo || is_value_of npm))) → WritesLines text a b r
 writes_lines text version cargo npm a b (Ok good) p q s wrote is = (
   _,
-  subst (λ g. AreLines text g (lines (shown_text version) (shown_text cargo) (shown_text npm))) (sym is)
-      (are_lines text version cargo npm p q s),
+  rw is (are_lines text version cargo npm p q s),
   wrote,
 )
 writes_lines text version cargo npm a b (Err e) p q s wrote is = (_, _, are_lines text version cargo npm p q s, wrote)

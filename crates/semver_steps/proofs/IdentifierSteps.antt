@@ -1,10 +1,11 @@
 -- The shape of an identifier, token by token, and that each identifier that is read has a value.
 use Rattle.std.proofs.Common.{◌≡◌, ℕ, ◌^◌, ◌<◌, Bool, true, false, List, [], ◌∷◌, ◌++◌, length, map, Some, None, Option, Ok}
-use Rattle.std.proofs.Common.{Err, sym, refl, ap, ◌∙◌, subst, arith, append-nil, cond, decimal, ◌&&◌}
-use Rattle.std.specs.Prelude.{option_and_then, option_map, IsTrue, flat_map, slice_get}
+use Rattle.std.proofs.Common.{Err, sym, refl, ap, ◌∙◌, arith, append-nil, cond, decimal}
+use Rattle.std.specs.Prelude.{option_map, IsTrue, flat_map, slice_get}
 use Rattle.std.specs.List.{AllByRecursion, join_by, join_with_byte}
 use Rattle.std.specs.Str.{all_ascii_digits}
-use Rattle.std.proofs.lemmas.Option.{none-some, same_Some}
+use Rattle.std.proofs.lemmas.Bool.{and_right}
+use Rattle.std.proofs.lemmas.Option.{same_Some}
 use Rattle.semver_texts.specs.Texts.{IsRun, IsNumber}
 use Rattle.semver_tokens.specs.Tokens.{TokenValue, Hyphen, Numeric, AlphaNumeric, is_component}
 use Rattle.semver_texts.specs.Versions.{numeric, alphanumeric}
@@ -15,6 +16,7 @@ use Rattle.semver_steps.specs.ParserSteps.{Step, pop, look, number_of}
 use Rattle.semver_steps.specs.Means.Taking.{run, IsTaken, Gives, PassesIdentifier, TakesIdentifier, expect_run, run_of, lone_number}
 use Rattle.semver_steps.specs.VersionReading.{IsIdentifierShape, IsLongestFront, inner_text, inner_texts}
 use Rattle.semver_texts.proofs.Numbers.{canonical_from_IsNumber}
+use Rattle.semver_tokens.proofs.FirstToken.{by_test}
 use Rattle.semver_tokens.proofs.TokenLists.{decimal_is_run}
 use Rattle.semver_steps.proofs.ReadingSteps.{IsReadBy, Pops, Stops, longest_stops, none_taken, reads_value, next_given, expected_given}
 
@@ -28,41 +30,52 @@ id_step true _ = None
 abbrev pub hyphened : List TokenValue → List TokenValue
 hyphened runs = flat_map (λ t. Hyphen ∷ t ∷ []) runs
 
+-- a first run, and each other behind a hyphen
+pub record HasFirstRun (ts : List TokenValue) : Type 0 where
+  pub first : TokenValue
+  pub runs : List TokenValue
+  pub first_run : IsTrue (is_component first)
+  pub each_run : AllByRecursion (λ t. IsTrue (is_component t)) runs
+  pub is : ts ≡ first ∷ hyphened runs
+
+pub first_run_of : (ts : List TokenValue) → IsIdentifierShape ts → HasFirstRun ts
+first_run_of ts w = of_runs w.runs w.some w.each w.joined
+  where
+    of_runs : (runs : List TokenValue) → 0 < length runs → AllByRecursion (λ t. IsTrue (is_component t)) runs
+        → ts ≡ join_by (λ t. t ∷ []) (Hyphen ∷ []) runs → HasFirstRun ts
+    of_runs [] some each e = absurd (omega (arith, some))
+    of_runs (r ∷ runs) some each e = record { first = r; runs = runs; first_run = each.0; each_run = each.1; is = e }
+
+pub identifier_of : {ts : List TokenValue} → HasFirstRun ts → IsIdentifierShape ts
+identifier_of w = record { runs = w.first ∷ w.runs; some = omega arith; each = (w.first_run, w.each_run); joined = w.is }
+
 component_leads : (t : TokenValue) → IsTrue (is_component t) → (ts : List TokenValue) → run id_step false (t ∷ ts) ≡ run id_step true ts
-component_leads t h ts = ap (λ (b : Bool). option_and_then (λ v. run id_step v ts) (cond b (Some true) None)) h
+component_leads t h ts = rw h refl
 
 runs_lead : (runs : List TokenValue) → AllByRecursion (λ t. IsTrue (is_component t)) runs → run id_step true (hyphened runs) ≡ Some true
 runs_lead [] all = refl
 runs_lead (t ∷ runs) all = component_leads t all.0 (hyphened runs) ∙ runs_lead runs all.1
 
-runs_alone_lead : (runs : List TokenValue) → 0 < length runs → AllByRecursion (λ t. IsTrue (is_component t)) runs
-    → run id_step false (join_by (λ t. t ∷ []) (Hyphen ∷ []) runs) ≡ Some true
-runs_alone_lead [] some all = absurd (omega (arith, some))
-runs_alone_lead (t ∷ runs) some all = component_leads t all.0 (hyphened runs) ∙ runs_lead runs all.1
+identifier_leads_on : (ts : List TokenValue) → IsIdentifierShape ts → run id_step false ts ≡ Some true
+identifier_leads_on ts w =
+    let f = first_run_of ts w in rw f.is (component_leads f.first f.first_run (hyphened f.runs) ∙ runs_lead f.runs f.each_run)
 
-when_component : {G : Type 0} (t : TokenValue) (u : Bool) (ts : List TokenValue)
-    → (IsTrue (is_component t) → run id_step true ts ≡ Some u → G) → run id_step false (t ∷ ts) ≡ Some u → G
-when_component (Numeric n) u ts f e = f refl e
-when_component (AlphaNumeric s) u ts f e = f refl e
-when_component _ u ts f e = absurd (none-some u e)
+-- what was taken from where a run is wanted, and from behind one
+abbrev HasRuns : Bool → List TokenValue → Type 0
+HasRuns false ts = HasFirstRun ts
+HasRuns true ts = (runs : List TokenValue) × AllByRecursion (λ t. IsTrue (is_component t)) runs × (ts ≡ hyphened runs)
 
-false_true : false ≡ true → ⊥
-false_true e = cc
-
-id_shape : (ts : List TokenValue) (u : Bool) → run id_step false ts ≡ Some u → u ≡ true → IsIdentifierShape ts
-id_shape [] u e ok = absurd (false_true (same_Some false u e ∙ ok))
-id_shape (t ∷ []) u e ok = when_component t u [] (λ h d. record { runs = t ∷ []; some = omega arith; each = (h, tt); joined = refl }) e
-id_shape (t ∷ Hyphen ∷ ts) u e ok = when_component t u (Hyphen ∷ ts) (λ h d. more t ts h (id_shape ts u d ok)) e
-  where
-    more : (t : TokenValue) (ts : List TokenValue) → IsTrue (is_component t) → IsIdentifierShape ts → IsIdentifierShape (t ∷ Hyphen ∷ ts)
-    more t ts h s = go s.runs s.some s.each s.joined
-      where
-        go : (runs : List TokenValue) → 0 < length runs → AllByRecursion (λ t. IsTrue (is_component t)) runs
-            → ts ≡ join_by (λ t. t ∷ []) (Hyphen ∷ []) runs → IsIdentifierShape (t ∷ Hyphen ∷ ts)
-        go [] some each e = absurd (omega (arith, some))
-        go (r ∷ runs) some each e =
-            record { runs = t ∷ r ∷ runs; some = omega arith; each = (h, each); joined = ap (λ (l : List TokenValue). t ∷ Hyphen ∷ l) e }
-id_shape (t ∷ x ∷ ts) u e ok = when_component t u (x ∷ ts) (λ h d. absurd (none-some u d)) e
+runs_taken : (b : Bool) (ts : List TokenValue) → run id_step b ts ≡ Some true → HasRuns b ts
+runs_taken false [] e = cc
+runs_taken false (t ∷ ts) e =
+    by_test (is_component t)
+    (λ h. let r = runs_taken true ts (sym (component_leads t h ts) ∙ e) in
+    record { first = t; runs = r.0; first_run = h; each_run = r.1; is = ap (λ l. t ∷ l) r.2 })
+    (λ other. cc)
+runs_taken true [] e = ([], tt, refl)
+runs_taken true (Hyphen ∷ ts) e =
+    let r = runs_taken false ts e in (r.first ∷ r.runs, (r.first_run, r.each_run), ap (λ l. Hyphen ∷ l) r.is)
+runs_taken true (_ ∷ ts) e = cc
 
 id_live : (s : Bool) → (more : List TokenValue) × (u : Bool) × (run id_step s more ≡ Some u) × (u ≡ true)
 id_live true = ([], true, refl, refl)
@@ -71,8 +84,8 @@ id_live false = (Numeric 0 ∷ [], true, refl, refl)
 -- the shape of an identifier is read from where a run is wanted
 pub identifier_is_read : IsReadBy id_step (λ b. b) false IsIdentifierShape
 identifier_is_read = record {
-  shape = id_shape;
-  read = λ ts w. (true, ap (run id_step false) w.joined ∙ runs_alone_lead w.runs w.some w.each, refl);
+  shape = λ ts u e ok. identifier_of (runs_taken false ts (e ∙ ap (λ b. Some b) ok));
+  read = λ ts w. (true, identifier_leads_on ts w, refl);
   wants = refl;
   live = id_live;
 }
@@ -97,7 +110,7 @@ IsWellFormed _ = Unit {0}
 run_text : (t : TokenValue) → IsTrue (is_component t) → IsWellFormed t → IsRun (inner_text t)
 run_text (Numeric n) h w = decimal_is_run n w
 run_text (AlphaNumeric s) h w = w.0
-run_text _ h w = absurd (false_true h)
+run_text _ h w = cc
 
 run_texts : (runs : List TokenValue) → AllByRecursion (λ t. IsTrue (is_component t)) runs → AllByRecursion IsWellFormed runs
     → AllByRecursion IsRun (map inner_text runs)
@@ -111,11 +124,7 @@ texts_joined t (r ∷ runs) = ap (λ (l : List ℕ). inner_text t ++ 45 ∷ l) (
 -- a hyphen is no digit
 hyphen_no_digits : (xs ys : List ℕ) → all_ascii_digits (xs ++ 45 ∷ ys) ≡ false
 hyphen_no_digits [] ys = refl
-hyphen_no_digits (x ∷ xs) ys = rw (hyphen_no_digits xs ys) (and_false _)
-  where
-    and_false : (b : Bool) → (b && false) ≡ false
-    and_false true = refl
-    and_false false = refl
+hyphen_no_digits (x ∷ xs) ys = and_right _ _ (hyphen_no_digits xs ys)
 
 -- what an identifier of these tokens is kept as
 abbrev pub kept_as : Option ℕ → List ℕ → IdentifierValue
@@ -128,33 +137,28 @@ runs_within (t ∷ runs) well = (well.1.0, runs_within runs well.1.1)
 
 pub kept_spells : (ts : List TokenValue) → IsIdentifierShape ts → AllByRecursion IsWellFormed ts
     → SpellsIdentifier (kept_as (lone_number ts) (inner_texts ts)) (inner_texts ts)
-kept_spells ts w well =
-    subst (λ (l : List TokenValue). SpellsIdentifier (kept_as (lone_number l) (inner_texts l)) (inner_texts l)) (sym w.joined)
-    (go w.runs w.some w.each (subst (AllByRecursion IsWellFormed) w.joined well))
+kept_spells ts w well = let f = first_run_of ts w in rw f.is (runs_kept f.first f.runs f.first_run f.each_run (rw f.is at well))
   where
-    go : (runs : List TokenValue) → 0 < length runs → AllByRecursion (λ t. IsTrue (is_component t)) runs
-        → AllByRecursion IsWellFormed (join_by (λ t. t ∷ []) (Hyphen ∷ []) runs)
-        → SpellsIdentifier (kept_as (lone_number (join_by (λ t. t ∷ []) (Hyphen ∷ []) runs))
-        (inner_texts (join_by (λ t. t ∷ []) (Hyphen ∷ []) runs))) (inner_texts (join_by (λ t. t ∷ []) (Hyphen ∷ []) runs))
-    go [] some all well = absurd (omega (arith, some))
-    go ((Numeric n) ∷ []) some all well = (well.0, append-nil (decimal n))
-    go ((AlphaNumeric s) ∷ []) some all well = (
+    runs_kept : (t : TokenValue) (runs : List TokenValue) → IsTrue (is_component t)
+        → AllByRecursion (λ t. IsTrue (is_component t)) runs → AllByRecursion IsWellFormed (t ∷ hyphened runs)
+        → SpellsIdentifier (kept_as (lone_number (t ∷ hyphened runs)) (inner_texts (t ∷ hyphened runs))) (inner_texts (t ∷ hyphened runs))
+    runs_kept (Numeric n) [] first each well = (well.0, append-nil (decimal n))
+    runs_kept (AlphaNumeric s) [] first each well = (
       refl,
       record { runs = s ∷ []; some = omega arith; each = (well.0.0, tt); joined = append-nil s },
-      λ number. well.0.1 (subst IsNumber (append-nil s) number),
+      λ number. well.0.1 (rw append-nil at number),
     )
-    go (t ∷ []) some all well = absurd (false_true all.0)
-    go (t ∷ r ∷ runs) some all well =
+    runs_kept _ [] first each well = cc
+    runs_kept t (r ∷ runs) first each well =
         let text : List ℕ = inner_texts (t ∷ hyphened (r ∷ runs)) in (
           refl,
           record {
             runs = map inner_text (t ∷ r ∷ runs);
             some = omega arith;
-            each = run_texts (t ∷ r ∷ runs) all
-                (well.0, runs_within (r ∷ runs) well.1);
+            each = run_texts (t ∷ r ∷ runs) (first, each) (well.0, runs_within (r ∷ runs) well.1);
             joined = texts_joined t (r ∷ runs);
           },
-          λ number. false_true (sym (hyphen_no_digits (inner_text t) _) ∙ (canonical_from_IsNumber text number).digits),
+          λ number. let digits = (canonical_from_IsNumber text number).digits in cc (hyphen_no_digits (inner_text t) _),
         )
 
 -- ---- taking an identifier from a parser
@@ -180,9 +184,7 @@ module _ (s t : ParserState) (front : List TokenValue) where
   pub run_given : IsRead s front false t → (d : Step (Option ℕ)) → d ≡ expect_run t
       → Gives (λ e u. PassesIdentifier s (Err e) u) (λ n u. (x : TokenValue) × ReadsMore s t front x true u × (n ≡ number_of x)) d
   run_given k d e =
-      subst (Gives (λ e u. PassesIdentifier s (Err e) u) (λ n u. (x : TokenValue) × ReadsMore s t front x true u × (n ≡ number_of x)))
-      (sym e)
-      (expected_given identifier_is_read (λ (n : Option ℕ) text. Unit {0}) k
+      rw e (expected_given identifier_is_read (λ (n : Option ℕ) text. Unit {0}) k
       (λ n u. (x : TokenValue) × ReadsMore s t front x true u × (n ≡ number_of x)) run_of true refl (λ x looked. leads x)
       (λ x n u value pops taken. (x, reads_more s t u front x true pops taken, number x n value)))
     where
@@ -192,16 +194,15 @@ module _ (s t : ParserState) (front : List TokenValue) where
       leads _ = refl
 
       number : (x : TokenValue) (n : Option ℕ) → run_of x ≡ Some n → n ≡ number_of x
-      number (Numeric m) n e = sym (same_Some (Some m) n e)
-      number (AlphaNumeric text) n e = sym (same_Some None n e)
-      number _ n e = absurd (none-some n e)
+      number (Numeric m) n e = cc
+      number (AlphaNumeric text) n e = cc
+      number _ n e = cc
 
   -- the hyphen that comes next
   pub hyphen_given : IsRead s front true t → look t ≡ Some Hyphen → (d : Step TokenValue) → d ≡ pop t
       → Gives (λ e u. PassesIdentifier s (Err e) u) (λ x u. ReadsMore s t front Hyphen false u) d
   hyphen_given k looked d e =
-      subst (Gives (λ e u. PassesIdentifier s (Err e) u) (λ x u. ReadsMore s t front Hyphen false u)) (sym e)
-      (next_given identifier_is_read (λ (n : Option ℕ) text. Unit {0}) k
+      rw e (next_given identifier_is_read (λ (n : Option ℕ) text. Unit {0}) k
       (λ u. ReadsMore s t front Hyphen false u) Hyphen false looked refl
       (λ u pops taken. reads_more s t u front Hyphen false pops taken))
 

@@ -1,12 +1,12 @@
 -- The text that an identifier's tokens spell is the longest front of letters, digits and hyphens.
 use Rattle.std.proofs.Common.{◌≡◌, ℕ, ◌+◌, ◌<◌, Bool, true, false, eqb, ◌||◌, List, [], ◌∷◌, ◌++◌, length, Some, Option, Result, Ok, Err}
-use Rattle.std.proofs.Common.{sym, refl, ap, ◌∙◌, subst, ◌⊎◌, inl, inr, arith, append_assoc}
+use Rattle.std.proofs.Common.{sym, refl, ap, ◌∙◌, ◌⊎◌, inl, inr, arith, append_assoc}
 use Rattle.std.specs.Prelude.{IsTrue, slice_index, take_while, not}
-use Rattle.std.specs.List.{AllByRecursion, prefix_len, join_by}
+use Rattle.std.specs.List.{AllByRecursion, prefix_len}
 use Rattle.std.specs.Char.{is_ascii_alphanumeric}
 use Rattle.std.proofs.lemmas.List.{take_at, get_or_append_left}
 use Rattle.std.proofs.lemmas.Grind.{flat_map-append}
-use Rattle.std.proofs.lemmas.Option.{none-some, same_Some}
+use Rattle.std.proofs.lemmas.Bool.{not-true}
 use Rattle.std.proofs.lemmas.Bool.Decides.{nat_tests}
 use Rattle.semver_texts.specs.Texts.{is_part_byte}
 use Rattle.semver_tokens.specs.Tokens.{TokenValue, Hyphen, Whitespace, Numeric, AlphaNumeric, is_component, is_sign, token_text}
@@ -18,9 +18,9 @@ use Rattle.semver_steps.specs.Means.Taking.{run, PassesIdentifier, lone_number}
 use Rattle.semver_steps.specs.ParserViews.{UnlessOutOfMemory, IfOutOfMemory}
 use Rattle.semver_steps.specs.declared.parser.Error.{Error}
 use Rattle.semver_steps.specs.declared.parser.Error.TheVariants as error
-use Rattle.semver_tokens.proofs.TokenLists.{prefix_is, shows_kind, decimal_is_run, false_from_not, opens_nothing}
-use Rattle.semver_steps.proofs.ReadingSteps.{Stops, longest_stops}
-use Rattle.semver_steps.proofs.IdentifierSteps.{id_step, identifier_is_read, IsWellFormed, kept_as, kept_spells}
+use Rattle.semver_tokens.proofs.TokenLists.{prefix_is, shows_kind, decimal_is_run, opens_nothing}
+use Rattle.semver_steps.proofs.ReadingSteps.{Stops}
+use Rattle.semver_steps.proofs.IdentifierSteps.{id_step, identifier_stops, hyphened, first_run_of, IsWellFormed, kept_as, kept_spells}
 
 -- a token of an identifier
 abbrev pub is_piece : TokenValue → Bool
@@ -67,9 +67,9 @@ pub pieces : (s u : Bool) (ts : List TokenValue) → run id_step s ts ≡ Some u
 pieces s u [] e = tt
 pieces false u (Numeric n ∷ ts) e = (refl, pieces true u ts e)
 pieces false u (AlphaNumeric s ∷ ts) e = (refl, pieces true u ts e)
-pieces false u (t ∷ ts) e = absurd (none-some u e)
+pieces false u (t ∷ ts) e = cc
 pieces true u (Hyphen ∷ ts) e = (refl, pieces false u ts e)
-pieces true u (t ∷ ts) e = absurd (none-some u e)
+pieces true u (t ∷ ts) e = cc
 
 -- ---- the tokens of a text are well formed
 
@@ -116,16 +116,16 @@ bad_byte (b ∷ bs) (inr bad) = no_part b (opens_nothing b bs bad.1).2 (no_sign 
 no_run_follows : (s : Bool) (ts : List TokenValue) (t : TokenValue) (us : List TokenValue) → 0 < length ts → run id_step s ts ≡ Some true
     → NoneMerge (ts ++ t ∷ us) → is_component t ≡ false
 no_run_follows s [] t us some e none = absurd (omega (arith, some))
-no_run_follows false (Numeric n ∷ []) t us some e none = false_from_not (is_component t) none.0
-no_run_follows false (AlphaNumeric b ∷ []) t us some e none = false_from_not (is_component t) none.0
-no_run_follows false (x ∷ []) t us some e none = absurd (none-some true e)
-no_run_follows true (Hyphen ∷ []) t us some e none = cc (same_Some false true e)
-no_run_follows true (x ∷ []) t us some e none = absurd (none-some true e)
+no_run_follows false (Numeric n ∷ []) t us some e none = not-true (is_component t) none.0
+no_run_follows false (AlphaNumeric b ∷ []) t us some e none = not-true (is_component t) none.0
+no_run_follows false (x ∷ []) t us some e none = cc
+no_run_follows true (Hyphen ∷ []) t us some e none = cc
+no_run_follows true (x ∷ []) t us some e none = cc
 no_run_follows false (Numeric n ∷ y ∷ ts) t us some e none = no_run_follows true (y ∷ ts) t us (omega arith) e none.1
 no_run_follows false (AlphaNumeric b ∷ y ∷ ts) t us some e none = no_run_follows true (y ∷ ts) t us (omega arith) e none.1
-no_run_follows false (x ∷ y ∷ ts) t us some e none = absurd (none-some true e)
+no_run_follows false (x ∷ y ∷ ts) t us some e none = cc
 no_run_follows true (Hyphen ∷ y ∷ ts) t us some e none = no_run_follows false (y ∷ ts) t us (omega arith) e none.1
-no_run_follows true (x ∷ y ∷ ts) t us some e none = absurd (none-some true e)
+no_run_follows true (x ∷ y ∷ ts) t us some e none = cc
 
 -- the first of the tokens behind some stands in its place
 pub behind_in_place : (text : List ℕ) (place : ℕ) (ts : List TokenValue) (t : TokenValue) (us : List TokenValue)
@@ -144,14 +144,11 @@ follows text place ts (t ∷ us) end some leads stops in_place none ended =
     let shown : 0 < length (token_text text t) = (shows_kind text here.0 t here.1).some in
     ap (λ (l : List ℕ). is_part_byte (slice_index l 0)) (append_assoc (token_text text t) (tokens_text text us) end)
     ∙ ap is_part_byte (get_or_append_left (token_text text t) (tokens_text text us ++ end) 0 0 shown)
-    ∙ other_hyphen text here.0 t here.1 (λ e. none-some false (sym stops ∙ ap (id_step true) e))
+    ∙ other_hyphen text here.0 t here.1 (λ e. cc)
     (no_run_follows false ts t us some leads none)
 
 some_led : (ts : List TokenValue) → run id_step false ts ≡ Some true → 0 < length ts
-some_led [] e = absurd (clash (same_Some false true e))
-  where
-    clash : false ≡ true → ⊥
-    clash e = cc
+some_led [] e = cc
 some_led (t ∷ ts) e = omega arith
 
 -- ---- what was read
@@ -165,13 +162,9 @@ pub front_is_cut : (text : List ℕ) (s t : ParserState) (n : Option ℕ) → Is
     → IsCut text w.front
 front_is_cut text s t n from w =
     let front : List TokenValue = w.front in
-    let whole = identifier_is_read.read front w.answer.0.0 in
-    let leads : run id_step false front ≡ Some true = whole.1 ∙ ap (λ (b : Bool). Some b) whole.2 in
-    let stop = longest_stops identifier_is_read s.remaining front w.rest w.longest in
-    let stops : Stops id_step true w.rest = subst (λ (b : Bool). Stops id_step b w.rest)
-    (same_Some stop.0 true (sym stop.1 ∙ leads)) stop.2 in
-    let tokens : AreTokensFrom from.input from.place (front ++ w.rest) from.rest = subst
-    (λ (l : List TokenValue). AreTokensFrom from.input from.place l from.rest) w.longest.split from.tokens in
+    let stop = identifier_stops w.longest w.answer.0.0 in
+    let leads = stop.0 in
+    let tokens : AreTokensFrom from.input from.place (front ++ w.rest) from.rest = rw w.longest.split at from.tokens in
     let well : AllByRecursion IsWellFormed front = front_well_formed from.input from.place front w.rest tokens.in_place in
     let after : List ℕ = tokens_text from.input w.rest ++ from.rest in
     let spelled : text ≡ inner_texts front ++ after =
@@ -180,7 +173,7 @@ front_is_cut text s t n from w =
     ∙ ap (λ (l : List ℕ). l ++ after) (pieces_text from.input front (pieces false true front leads)) in
     let len : prefix_len is_part_byte (inner_texts front ++ after) ≡ length (inner_texts front) =
     prefix_is is_part_byte (inner_texts front) after (pieces_bytes front (pieces false true front leads) well) refl
-    (follows from.input from.place front w.rest from.rest (some_led front leads) leads stops tokens.in_place tokens.none_merge tokens.ended)
+    (follows from.input from.place front w.rest from.rest (some_led front leads) leads stop.1 tokens.in_place tokens.none_merge tokens.ended)
     in
     record {
       cut = ap (take_while is_part_byte) spelled ∙ take_at (inner_texts front) after _ (sym len);
@@ -192,18 +185,12 @@ pub front_has_value : (text : List ℕ) (s t : ParserState) (n : Option ℕ) →
     → n ≡ lone_number w.front → SpellsIdentifier (kept_as n (take_while is_part_byte text)) (inner_texts w.front)
 front_has_value text s t n from w number =
     let c = front_is_cut text s t n from w in
-    subst (λ (o : Option ℕ). SpellsIdentifier (kept_as o (take_while is_part_byte text)) (inner_texts w.front)) (sym number)
-    (subst (λ (l : List ℕ). SpellsIdentifier (kept_as (lone_number w.front) l) (inner_texts w.front)) (sym c.cut)
-    (kept_spells w.front w.answer.0.0 c.well))
+    rw (number, c.cut) (kept_spells w.front w.answer.0.0 c.well)
 
 -- and it holds a run
 pub front_holds_run : (front : List TokenValue) → IsIdentifierShape front → HoldsRun front
-front_holds_run front w = go front w.runs w.some w.each w.joined
-  where
-    go : (front runs : List TokenValue) → 0 < length runs → AllByRecursion (λ t. IsTrue (is_component t)) runs
-        → front ≡ join_by (λ t. t ∷ []) (Hyphen ∷ []) runs → HoldsRun front
-    go front [] some each e = absurd (omega (arith, some))
-    go front (r ∷ runs) some each e = record { before = []; component = r; after = _; split = e; is_run = each.0 }
+front_holds_run front w =
+    let f = first_run_of front w in record { before = []; component = f.first; after = hyphened f.runs; split = f.is; is_run = f.first_run }
 
 -- ---- the answers of a call
 
@@ -231,8 +218,7 @@ read_may_run_out s t w = record {
   left =
       record {
         taken = w.front;
-        split = w.longest.split ∙ ap (λ (l : List TokenValue). w.front ++ l)
-            (sym w.answer.2);
+        split = cc;
         pending = w.pending;
       };
 }

@@ -38,14 +38,14 @@ continues (AlphaNumeric bytes) b = is_ascii_alphanumeric b
 continues _ b = false
 
 -- what follows lengthens the token; at the end there is no byte, and 0 lengthens none
-abbrev pub goes_on : TokenValue → List ℕ → Bool
-goes_on t bs = continues t (slice_index bs 0)
+abbrev pub continues_into : TokenValue → List ℕ → Bool
+continues_into t bs = continues t (slice_index bs 0)
 
 -- what stands at a place begins with a token, which ends where more begins
 pub record IsFront (text : List ℕ) (place : ℕ) (t : TokenValue) (bs more : List ℕ) : Type 0 where
   pub spelled : bs ≡ token_text text t ++ more
   pub is_token : IsTokenAt text place t
-  pub stops : goes_on t more ≡ false
+  pub stops : continues_into t more ≡ false
 
 -- ---- tests on one byte
 

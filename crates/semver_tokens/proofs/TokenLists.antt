@@ -1,23 +1,23 @@
 -- The tokens of a text are one list: it is found from the left, and no other is it.
-use Rattle.std.proofs.Common.{◌≡◌, ℕ, zero, suc, ◌+◌, ◌-◌, ◌^◌, ◌<◌, ◌≤◌, Bool, true, false, eqb, ◌&&◌, ◌||◌, not, List, [], ◌∷◌, ◌++◌}
-use Rattle.std.proofs.Common.{length, take, drop, Some, None, sym, refl, ap, ◌∙◌, subst, inl, inr, arith, decimal, ◌⊎◌}
+use Rattle.std.proofs.Common.{◌≡◌, ℕ, zero, suc, ◌+◌, ◌-◌, ◌^◌, ◌<◌, ◌≤◌, Bool, true, false, eqb, ◌||◌, not, List, [], ◌∷◌, ◌++◌}
+use Rattle.std.proofs.Common.{length, take, drop, Some, None, sym, refl, ap, ◌∙◌, inl, inr, arith, decimal, ◌⊎◌}
 use Rattle.std.proofs.Common.{append_assoc, one-add, length-append, length-drop, length-take-le}
 use Rattle.std.specs.Prelude.{is_some, slice_get, IsTrue, slice_range, slice_index}
 use Rattle.std.specs.List.{prefix_len, AllByRecursion}
 use Rattle.std.specs.Char.{is_ascii_alphanumeric, is_ascii_digit}
 use Rattle.std.specs.Str.{all_ascii_digits}
 use Rattle.std.proofs.lemmas.List.{take_at, drop_at, drop-drop, get_or_append_left, drop_all}
-use Rattle.std.proofs.lemmas.Option.{same_Some}
 use Rattle.std.proofs.lemmas.Fmt.{decimal_nonempty}
+use Rattle.std.proofs.lemmas.Bool.{and_parts, not-true, not_from_false}
 use Rattle.std.proofs.lemmas.Bool.Decides.{nat_tests}
 use Rattle.semver_texts.specs.Texts.{is_space, IsRun}
 use Rattle.semver_tokens.specs.Tokens.{TokenValue, Gt, Lt, Whitespace}
 use Rattle.semver_tokens.specs.Tokens.{Numeric, AlphaNumeric, token_text, tokens_text, is_sign, opens_token, IsTokenAt, IsBadStart}
 use Rattle.semver_tokens.specs.Tokens.{AreInPlace, is_component, is_whitespace, is_eq, merges, NoneMerge, AreTokensFrom}
 use Rattle.semver_tokens.specs.Means.Scanning.{component, sign, first_token, scan}
-use Rattle.semver_texts.proofs.Numbers.{IsNumber-from_canonical, canonical_decimal, digits_value_number}
-use Rattle.semver_tokens.proofs.Components.{component_number, component_other}
-use Rattle.semver_tokens.proofs.FirstToken.{never, option_cases, IsFront, IsFound, goes_on, continues, first_token-found}
+use Rattle.semver_texts.proofs.Numbers.{canonical_decimal}
+use Rattle.semver_tokens.proofs.Components.{component_decimal, component_text}
+use Rattle.semver_tokens.proofs.FirstToken.{never, option_cases, IsFront, IsFound, continues_into, continues, first_token-found}
 use Rattle.semver_tokens.proofs.FirstToken.{is_some-first_token, first_token-at_run, first_token-at_space, first_token-at_other}
 use Rattle.semver_tokens.proofs.FirstToken.{space_is_no_run, space_is_no_eq, run_is_no_space, run_is_no_eq}
 
@@ -30,17 +30,13 @@ prefix_is p [] [] all past stop = refl
 prefix_is p [] (y ∷ ys) all past stop = rw stop
 prefix_is p (x ∷ xs) ys all past stop = rw (all.0, prefix_is p xs ys all.1 past stop, one-add)
 
-both : (a b : Bool) → (a && b) ≡ true → (a ≡ true) × (b ≡ true)
-both true b h = (refl, h)
-both false b h = cc
-
 digit_is_run : (b : ℕ) → is_ascii_digit b ≡ true → is_ascii_alphanumeric b ≡ true
 digit_is_run b h = grind (arith, nat_tests)
 
 -- a decimal is a run
 digits_are_run : (ds : List ℕ) → all_ascii_digits ds ≡ true → AllByRecursion (λ b. IsTrue (is_ascii_alphanumeric b)) ds
 digits_are_run [] h = tt
-digits_are_run (d ∷ ds) h = let q = both (is_ascii_digit d) (all_ascii_digits ds) h in (digit_is_run d q.0, digits_are_run ds q.1)
+digits_are_run (d ∷ ds) h = let q = and_parts (is_ascii_digit d) (all_ascii_digits ds) h in (digit_is_run d q.0, digits_are_run ds q.1)
 
 pub first_token-empty : (place : ℕ) (bs : List ℕ) → slice_get bs 0 ≡ None → first_token place bs ≡ None
 unfolding first_token
@@ -48,27 +44,24 @@ first_token-empty place [] e = refl
 first_token-empty place (b ∷ bs) e = cc
 
 -- the same, where only the first byte is known
+behind_first : (bs : List ℕ) (b : ℕ) → slice_get bs 0 ≡ Some b → (rest : List ℕ) × (bs ≡ b ∷ rest)
+behind_first [] b e = cc
+behind_first (x ∷ bs) b e = (bs, cc)
+
 pub front_space : (place : ℕ) (bs : List ℕ) (b : ℕ) → slice_get bs 0 ≡ Some b → is_space b ≡ true
     → first_token place bs ≡ Some (Whitespace place (place + prefix_len is_space bs), prefix_len is_space bs)
-front_space place [] b e h = cc
-front_space place (x ∷ bs) b e h = first_token-at_space place x bs (ap is_space (same_Some x b e) ∙ h)
+front_space place bs b e h = let w = behind_first bs b e in rw w.1 (first_token-at_space place b w.0 h)
 
 pub front_run : (place : ℕ) (bs : List ℕ) (b : ℕ) → slice_get bs 0 ≡ Some b → is_ascii_alphanumeric b ≡ true
     → first_token place bs ≡ Some (component (take (prefix_len is_ascii_alphanumeric bs) bs), prefix_len is_ascii_alphanumeric bs)
-front_run place [] b e h = cc
-front_run place (x ∷ bs) b e h = first_token-at_run place x bs (ap is_ascii_alphanumeric (same_Some x b e) ∙ h)
+front_run place bs b e h = let w = behind_first bs b e in rw w.1 (first_token-at_run place b w.0 h)
 
 pub front_other : (place : ℕ) (bs : List ℕ) (b : ℕ) → slice_get bs 0 ≡ Some b → is_space b ≡ false → is_ascii_alphanumeric b ≡ false
     → first_token place bs ≡ sign b (slice_index bs 1)
-front_other place [] b e s r = cc
-front_other place (x ∷ bs) b e s r =
-    let same = same_Some x b e in
-    first_token-at_other place x bs (ap is_space same ∙ s) (ap is_ascii_alphanumeric same ∙ r)
-    ∙ ap (λ (y : ℕ). sign y (slice_index bs 0)) same
+front_other place bs b e s r = let w = behind_first bs b e in rw w.1 (first_token-at_other place b w.0 s r)
 
 pub some_of_prefix : (p : ℕ → Bool) (bs : List ℕ) (b : ℕ) → slice_get bs 0 ≡ Some b → p b ≡ true → 0 < prefix_len p bs
-some_of_prefix p [] b e h = cc
-some_of_prefix p (x ∷ bs) b e h = let g : p x ≡ true = ap p (same_Some x b e) ∙ h in rw g (omega arith)
+some_of_prefix p bs b e h = let w = behind_first bs b e in rw (w.1, h) (omega arith)
 
 pub first_token-run : (place : ℕ) (run more : List ℕ) → IsRun run → is_ascii_alphanumeric (slice_index more 0) ≡ false
     → first_token place (run ++ more) ≡ Some (component run, length run)
@@ -104,22 +97,12 @@ first_token-front text place Lt bs more f at = rw (f.spelled, f.stops) refl
 first_token-front text place (Whitespace first after) bs more f at =
     let w = f.is_token in
     let len : length (slice_range text first after) + first ≡ after = length_slice text first after w.1 w.2 in
-    ap (first_token place) f.spelled
-    ∙ first_token-space place (slice_range text first after) more (omega arith) w.3 f.stops
-    ∙ ap (λ (t : TokenValue). Some (t, length (slice_range text first after)))
-    (same_space place first (place + length (slice_range text first after)) after (sym w.0) (omega (arith, w.0)))
-  where
-    same_space : (a b c d : ℕ) → a ≡ b → c ≡ d → Whitespace a c ≡ Whitespace b d
-    same_space a b c d p q = cc
+    let ends : place + length (slice_range text first after) ≡ after = omega (arith, len, w.0) in
+    cc (first_token-space place (slice_range text first after) more (omega arith) w.3 f.stops)
 first_token-front text place (Numeric n) bs more f at =
-    ap (first_token place) f.spelled
-    ∙ first_token-run place (decimal n) more (decimal_is_run n f.is_token) f.stops
-    ∙ ap (λ (t : TokenValue). Some (t, length (decimal n))) (component_number (decimal n) (canonical_decimal n f.is_token)
-    ∙ ap Numeric (digits_value_number (decimal n) n f.is_token refl))
+    cc (first_token-run place (decimal n) more (decimal_is_run n f.is_token) f.stops, component_decimal (decimal n) n f.is_token refl)
 first_token-front text place (AlphaNumeric s) bs more f at =
-    ap (first_token place) f.spelled
-    ∙ first_token-run place s more f.is_token.0 f.stops
-    ∙ ap (λ (t : TokenValue). Some (t, length s)) (component_other s (λ c. f.is_token.1 (IsNumber-from_canonical s f.is_token.0.0 c)))
+    cc (first_token-run place s more f.is_token.0 f.stops, component_text s f.is_token.0.0 f.is_token.1)
 first_token-front text place _ bs more f at = rw f.spelled refl
 
 -- ---- neighbours
@@ -170,8 +153,8 @@ continues_merges (Numeric n) u bs k = k.run
 continues_merges (AlphaNumeric s) u bs k = k.run
 continues_merges _ u bs k = refl
 
-goes_on-token : (t u : TokenValue) (bs more : List ℕ) → ShowsKind u bs → goes_on t (bs ++ more) ≡ merges t u
-goes_on-token t u bs more k = ap (continues t) (get_or_append_left bs more 0 0 k.some) ∙ continues_merges t u bs k
+continues_into-token : (t u : TokenValue) (bs more : List ℕ) → ShowsKind u bs → continues_into t (bs ++ more) ≡ merges t u
+continues_into-token t u bs more k = ap (continues t) (get_or_append_left bs more 0 0 k.some) ∙ continues_merges t u bs k
 
 -- no token goes on where no token begins
 pub opens_nothing : (b : ℕ) (bs : List ℕ) → not (opens_token (b ∷ bs)) ≡ true
@@ -193,38 +176,30 @@ stops_at_nothing (Numeric n) b h = h.2
 stops_at_nothing (AlphaNumeric s) b h = h.2
 stops_at_nothing _ b h = refl
 
-stops_at_end : (t : TokenValue) (rest : List ℕ) → (rest ≡ []) ⊎ IsBadStart rest → goes_on t rest ≡ false
+stops_at_end : (t : TokenValue) (rest : List ℕ) → (rest ≡ []) ⊎ IsBadStart rest → continues_into t rest ≡ false
 stops_at_end t [] ended = stops_at_nothing t 0 (refl, refl, refl)
 stops_at_end t (b ∷ bs) (inl e) = cc
 stops_at_end t (b ∷ bs) (inr bad) = stops_at_nothing t b (opens_nothing b bs bad.1)
 
-not_false : (b : Bool) → b ≡ false → not b ≡ true
-not_false true h = cc
-not_false false h = refl
-
-pub false_from_not : (b : Bool) → not b ≡ true → b ≡ false
-false_from_not true h = cc
-false_from_not false h = refl
-
 -- ---- a first token and the tokens after it
 
 module _ (text : List ℕ) where
-  stops_before : (t : TokenValue) (place : ℕ) (ts : List TokenValue) (rest : List ℕ) → NoneMerge (t ∷ ts) → AreInPlace text place ts
-      → (rest ≡ []) ⊎ IsBadStart rest → goes_on t (tokens_text text ts ++ rest) ≡ false
-  stops_before t place [] rest none in_place ended = stops_at_end t rest ended
-  stops_before t place (u ∷ us) rest none in_place ended =
-      ap (goes_on t) (append_assoc (token_text text u) (tokens_text text us) rest)
-      ∙ goes_on-token t u (token_text text u) _ (shows_kind text place u in_place.0)
-      ∙ false_from_not (merges t u) none.0
+  continues_into-tokens : (t u : TokenValue) (place : ℕ) (us : List TokenValue) (rest : List ℕ) → IsTokenAt text place u
+      → continues_into t (tokens_text text (u ∷ us) ++ rest) ≡ merges t u
+  continues_into-tokens t u place us rest here =
+      ap (continues_into t) (append_assoc (token_text text u) (tokens_text text us) rest)
+      ∙ continues_into-token t u (token_text text u) _ (shows_kind text place u here)
 
-  none_merge_more : (t : TokenValue) (place : ℕ) (ts : List TokenValue) (rest : List ℕ) → goes_on t (tokens_text text ts ++ rest) ≡ false
+  stops_before : (t : TokenValue) (place : ℕ) (ts : List TokenValue) (rest : List ℕ) → NoneMerge (t ∷ ts) → AreInPlace text place ts
+      → (rest ≡ []) ⊎ IsBadStart rest → continues_into t (tokens_text text ts ++ rest) ≡ false
+  stops_before t place [] rest none in_place ended = stops_at_end t rest ended
+  stops_before t place (u ∷ us) rest none in_place ended = continues_into-tokens t u place us rest in_place.0 ∙ not-true (merges t u) none.0
+
+  none_merge_more : (t : TokenValue) (place : ℕ) (ts : List TokenValue) (rest : List ℕ) → continues_into t (tokens_text text ts ++ rest) ≡ false
       → AreInPlace text place ts → NoneMerge ts → NoneMerge (t ∷ ts)
   none_merge_more t place [] rest stops in_place none = tt
-  none_merge_more t place (u ∷ us) rest stops in_place none = (
-    not_false (merges t u) (sym (ap (goes_on t) (append_assoc (token_text text u) (tokens_text text us) rest)
-        ∙ goes_on-token t u (token_text text u) _ (shows_kind text place u in_place.0)) ∙ stops),
-    none,
-  )
+  none_merge_more t place (u ∷ us) rest stops in_place none =
+      (not_from_false (merges t u) (sym (continues_into-tokens t u place us rest in_place.0) ∙ stops), none)
 
   none_merge_rest : (t : TokenValue) (ts : List TokenValue) → NoneMerge (t ∷ ts) → NoneMerge ts
   none_merge_rest t [] none = tt
@@ -255,13 +230,11 @@ module _ (text : List ℕ) where
       → AreTokensFrom text (place + n) ts rest → AreTokensFrom text place (t ∷ ts) rest
   tokens_cons place t n ts rest f a =
       let behind : drop n (drop place text) ≡ tokens_text text ts ++ rest = drop-drop n place text ∙ a.spelled in
-      let in_place : AreInPlace text (place + length (token_text text t)) ts = subst (λ (m : ℕ). AreInPlace text (place + m) ts)
-      (sym f.len) a.in_place in
+      let in_place : AreInPlace text (place + length (token_text text t)) ts = rw f.len a.in_place in
       record {
-        spelled = f.front.spelled ∙ ap (λ (l : List ℕ). token_text text t ++ l) behind
-            ∙ sym (append_assoc (token_text text t) (tokens_text text ts) rest);
+        spelled = cc (f.front.spelled, append_assoc (token_text text t) (tokens_text text ts) rest);
         in_place = (f.front.is_token, in_place);
-        none_merge = none_merge_more t _ ts rest (ap (goes_on t) (sym behind) ∙ f.front.stops) in_place a.none_merge;
+        none_merge = none_merge_more t _ ts rest (ap (continues_into t) (sym behind) ∙ f.front.stops) in_place a.none_merge;
         ended = a.ended;
       }
 
@@ -269,7 +242,7 @@ module _ (text : List ℕ) where
 
 none_opens : (place : ℕ) (bs : List ℕ) → first_token place bs ≡ None → (bs ≡ []) ⊎ IsBadStart bs
 none_opens place [] e = inl refl
-none_opens place (b ∷ bs) e = inr (omega arith, not_false (opens_token (b ∷ bs)) (sym (is_some-first_token place (b ∷ bs)) ∙ ap is_some e))
+none_opens place (b ∷ bs) e = inr (omega arith, not_from_false (opens_token (b ∷ bs)) (sym (is_some-first_token place (b ∷ bs)) ∙ ap is_some e))
 
 none_at_end : (place : ℕ) (bs : List ℕ) → (bs ≡ []) ⊎ IsBadStart bs → first_token place bs ≡ None
 none_at_end place bs ended =
@@ -279,7 +252,7 @@ none_at_end place bs ended =
     closed : (bs : List ℕ) → (bs ≡ []) ⊎ IsBadStart bs → opens_token bs ≡ false
     closed [] ended = refl
     closed (b ∷ bs) (inl e) = cc
-    closed (b ∷ bs) (inr bad) = false_from_not (opens_token (b ∷ bs)) bad.1
+    closed (b ∷ bs) (inr bad) = not-true (opens_token (b ∷ bs)) bad.1
 
 module _ (text : List ℕ) where
   pub scan-none : (n place : ℕ) → first_token place (drop place text) ≡ None → scan n text place ≡ ([], drop place text)
@@ -297,49 +270,17 @@ module _ (text : List ℕ) where
   scan_finds zero place enough =
       let done : drop place text ≡ [] = drop_all place text (omega arith) in
       let e : scan zero text place ≡ ([], drop place text) = scan-none zero place (none_at_end place (drop place text) (inl done)) in
-      subst (λ (p : List TokenValue × List ℕ). AreTokensFrom text place p.0 p.1) (sym e)
-      (record { spelled = refl; in_place = tt; none_merge = tt; ended = inl done })
+      rw e (record { spelled = refl; in_place = tt; none_merge = tt; ended = inl done })
   scan_finds (suc n) place enough =
       option_cases (first_token place (drop place text))
-      (λ none. subst (λ (p : List TokenValue × List ℕ). AreTokensFrom text place p.0 p.1) (sym (scan-none (suc n) place none))
+      (λ none. rw (scan-none (suc n) place none)
       (record { spelled = refl; in_place = tt; none_merge = tt; ended = none_opens place (drop place text) none }))
       (λ found e.
       let f : IsFound text place (drop place text) found.0 found.1 = first_token-found text place
       (drop place text) found.0 found.1 refl e in
       let positive : 0 < found.1 = f.positive in
-      subst (λ (p : List TokenValue × List ℕ). AreTokensFrom text place p.0 p.1) (sym (scan-some n place found.0 found.1 e))
+      rw (scan-some n place found.0 found.1 e)
       (tokens_cons text place found.0 found.1 _ _ f (scan_finds n (place + found.1) (omega arith))))
-
-  -- and what they are is what is found
-  pub scan_is : (n place : ℕ) (ts : List TokenValue) (rest : List ℕ) → AreTokensFrom text place ts rest → length text ≤ place + n
-      → scan n text place ≡ (ts, rest)
-  scan_is n place [] rest a enough =
-      scan-none n place (none_at_end place (drop place text) (subst (λ (l : List ℕ). (l ≡ []) ⊎ IsBadStart l) (sym a.spelled) a.ended))
-      ∙ ap (λ (l : List ℕ). ([], l)) a.spelled
-  scan_is zero place (t ∷ ts) rest a enough =
-      absurd (omega (
-        arith,
-        (shows_kind text place t a.in_place.0).some,
-        length-drop place text,
-        ap length a.spelled,
-        length-append (token_text text t ++ tokens_text text ts) rest,
-        length-append (token_text text t) (tokens_text text ts),
-      ))
-  scan_is (suc n) place (t ∷ ts) rest a enough =
-      let len : ℕ = length (token_text text t) in
-      let some : 0 < len = (shows_kind text place t a.in_place.0).some in
-      let rest_is : scan n text (place + len) ≡ (ts, rest) = scan_is n (place + len) ts rest (other_tokens text place t ts rest a)
-      (omega arith) in
-      scan-some n place t len (first_token-front text place t (drop place text) (tokens_text text ts ++ rest)
-      (first_front text place t ts rest a) refl)
-      ∙ ap (λ (p : List TokenValue × List ℕ). (t ∷ p.0, p.1)) rest_is
-
-  -- the tokens of a text are one list
-  pub same_tokens : (place : ℕ) (ts us : List TokenValue) (rest other : List ℕ) → AreTokensFrom text place ts rest
-      → AreTokensFrom text place us other → (ts ≡ us) × (rest ≡ other)
-  same_tokens place ts us rest other a b =
-      let e = sym (scan_is (length text) place ts rest a (omega arith)) ∙ scan_is (length text) place us other b (omega arith) in
-      (ap (λ (p : List TokenValue × List ℕ). p.0) e, ap (λ (p : List TokenValue × List ℕ). p.1) e)
 
   -- each token takes a byte at least
   pub length-tokens : (place : ℕ) (ts : List TokenValue) (rest : List ℕ) → AreTokensFrom text place ts rest
@@ -356,3 +297,27 @@ module _ (text : List ℕ) where
         length-drop place text,
         length-drop (place + length (token_text text t)) text,
       )
+
+  -- and what they are is what is found
+  pub scan_is : (n place : ℕ) (ts : List TokenValue) (rest : List ℕ) → AreTokensFrom text place ts rest → length text ≤ place + n
+      → scan n text place ≡ (ts, rest)
+  scan_is n place [] rest a enough =
+      scan-none n place (none_at_end place (drop place text) (rw a.spelled a.ended))
+      ∙ ap (λ l. ([], l)) a.spelled
+  scan_is zero place (t ∷ ts) rest a enough =
+      absurd (omega (arith, length-tokens place (t ∷ ts) rest a, length-drop place text))
+  scan_is (suc n) place (t ∷ ts) rest a enough =
+      let len : ℕ = length (token_text text t) in
+      let some : 0 < len = (shows_kind text place t a.in_place.0).some in
+      let rest_is : scan n text (place + len) ≡ (ts, rest) = scan_is n (place + len) ts rest (other_tokens text place t ts rest a)
+      (omega arith) in
+      scan-some n place t len (first_token-front text place t (drop place text) (tokens_text text ts ++ rest)
+      (first_front text place t ts rest a) refl)
+      ∙ ap (λ p. (t ∷ p.0, p.1)) rest_is
+
+  -- the tokens of a text are one list
+  pub same_tokens : (place : ℕ) (ts us : List TokenValue) (rest other : List ℕ) → AreTokensFrom text place ts rest
+      → AreTokensFrom text place us other → (ts ≡ us) × (rest ≡ other)
+  same_tokens place ts us rest other a b =
+      let e = sym (scan_is (length text) place ts rest a (omega arith)) ∙ scan_is (length text) place us other b (omega arith) in
+      (ap (λ p. p.0) e, ap (λ p. p.1) e)

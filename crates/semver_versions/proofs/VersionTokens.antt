@@ -15,7 +15,7 @@ use Rattle.semver_texts.specs.VersionGrammar.{SpellsIdentifier, SpellsPart, Spel
 use Rattle.semver_steps.specs.VersionReading.{IsVersionShape, inner_text, inner_texts}
 use Rattle.semver_steps.specs.Means.Taking.{run, major, minor, patch, Part, pre_release, build, Place, start, at_number, behind_number}
 use Rattle.semver_steps.specs.Means.Taking.{at_run, behind_run, end, step, accepts}
-use Rattle.semver_tokens.proofs.FirstToken.{IsFound, goes_on, continues-component, token_text-component, IsTokenAt-component, by_test}
+use Rattle.semver_tokens.proofs.FirstToken.{IsFound, continues_into, continues-component, token_text-component, IsTokenAt-component, by_test}
 use Rattle.semver_tokens.proofs.FirstToken.{never}
 use Rattle.semver_tokens.proofs.TokenLists.{tokens_cons, shows_kind, decimal_is_run}
 use Rattle.semver_texts.proofs.Numbers.{is_number_true, canonical_from_is_number}
@@ -48,7 +48,7 @@ component_kind bytes =
 module _ (text : List ℕ) where
   -- a token, and what ends behind it
   one_more : (t : TokenValue) (p q : Place) (more spelled : List ℕ) (at : ℕ) → drop at text ≡ token_text text t ++ more
-      → IsTokenAt text at t → goes_on t more ≡ false → step p t ≡ Some q → Ends text more q spelled
+      → IsTokenAt text at t → continues_into t more ≡ false → step p t ≡ Some q → Ends text more q spelled
       → AreEnding text p (inner_text t ++ spelled) at
   one_more t p q more spelled at here is_token stops leads rest =
       let n : ℕ = length (token_text text t) in
@@ -60,7 +60,7 @@ module _ (text : List ℕ) where
               spelled = here ∙ ap (λ (l : List ℕ). token_text text t ++ l) (sym behind);
               is_token = is_token;
               stops = ap
-                  (goes_on t) behind ∙ stops;
+                  (continues_into t) behind ∙ stops;
             };
         len = refl;
         positive = (shows_kind text at t is_token).some;
@@ -76,7 +76,7 @@ module _ (text : List ℕ) where
 
   -- a sign or a dot
   mark_more : (t : TokenValue) (b : ℕ) (p q : Place) (more spelled : List ℕ) → token_text text t ≡ b ∷ [] → inner_text t ≡ b ∷ []
-      → ((at : ℕ) → IsTokenAt text at t) → goes_on t more ≡ false → step p t ≡ Some q → Ends text more q spelled
+      → ((at : ℕ) → IsTokenAt text at t) → continues_into t more ≡ false → step p t ≡ Some q → Ends text more q spelled
       → Ends text (b ∷ more) p (b ∷ spelled)
   mark_more t b p q more spelled same inner is_token stops leads rest at here =
       subst (λ (l : List ℕ). AreEnding text p l at) (ap (λ (l : List ℕ). l ++ spelled) inner)
@@ -150,7 +150,7 @@ module _ (text : List ℕ) where
     -- a part, from a place where its mark leads to a run of it, or nothing
     part_more : (mark : TokenValue) (b : ℕ) (from : Place) (ids : List IdentifierValue) (bytes more spelled : List ℕ)
         → token_text text mark ≡ b ∷ [] → inner_text mark ≡ b ∷ [] → ((at : ℕ) → IsTokenAt text at mark)
-        → ((bs : List ℕ) → goes_on mark bs ≡ false) → step from mark ≡ Some (at_run part)
+        → ((bs : List ℕ) → continues_into mark bs ≡ false) → step from mark ≡ Some (at_run part)
         → SpellsPart (b ∷ []) ids bytes → is_ascii_alphanumeric (slice_index more 0) ≡ false → Ends text more from spelled
         → Ends text more (behind_run part) spelled → Ends text (bytes ++ more) from (bytes ++ spelled)
     part_more mark b from ids bytes more spelled same inner is_token stops_mark leads w stops without rest =
