@@ -55,7 +55,7 @@ left_is v (t ∷ left) (Some c) = refl
 read_is : (s t : ParserState) (answer : Result VersionValue Fault) → ReadsVersion s answer t
     → answer_is_of_text (whole_answer answer t.remaining t.pending) ≡ true
 read_is s t (Ok v) reads = left_is v t.remaining t.pending
-read_is s t (Err e) reads = refused_is s.remaining s.pending reads.rest e t.remaining reads.answer.1
+read_is s t (Err e) reads = refused_is s.remaining s.pending reads.rest e t.remaining reads.answer.refuses
 
 outcome_is : (text : Text) (e : Fault) → IsOutcomeOf text (Err e) → is_of_text e ≡ true
 outcome_is text e w = ap answer_is_of_text w.whole ∙ read_is w.start w.end w.answer w.reads

@@ -162,7 +162,7 @@ pub front_is_cut : (text : List ℕ) (s t : ParserState) (n : Option ℕ) → Is
     → IsCut text w.front
 front_is_cut text s t n from w =
     let front : List TokenValue = w.front in
-    let stop = identifier_stops w.longest w.answer.0.0 in
+    let stop = identifier_stops w.longest w.answer.whole.shape in
     let leads = stop.0 in
     let tokens : AreTokensFrom from.input from.place (front ++ w.rest) from.rest = rw w.longest.split at from.tokens in
     let well : AllByRecursion IsWellFormed front = front_well_formed from.input from.place front w.rest tokens.in_place in
@@ -173,7 +173,8 @@ front_is_cut text s t n from w =
     ∙ ap (λ (l : List ℕ). l ++ after) (pieces_text from.input front (pieces false true front leads)) in
     let len : prefix_len is_part_byte (inner_texts front ++ after) ≡ length (inner_texts front) =
     prefix_is is_part_byte (inner_texts front) after (pieces_bytes front (pieces false true front leads) well) refl
-    (follows from.input from.place front w.rest from.rest (some_led front leads) leads stop.1 tokens.in_place tokens.none_merge tokens.ended)
+    (follows from.input from.place front w.rest from.rest (some_led front leads) leads stop.1
+    tokens.in_place tokens.none_merge tokens.ended)
     in
     record {
       cut = ap (take_while is_part_byte) spelled ∙ take_at (inner_texts front) after _ (sym len);
@@ -185,7 +186,7 @@ pub front_has_value : (text : List ℕ) (s t : ParserState) (n : Option ℕ) →
     → n ≡ lone_number w.front → SpellsIdentifier (kept_as n (take_while is_part_byte text)) (inner_texts w.front)
 front_has_value text s t n from w number =
     let c = front_is_cut text s t n from w in
-    rw (number, c.cut) (kept_spells w.front w.answer.0.0 c.well)
+    rw (number, c.cut) (kept_spells w.front w.answer.whole.shape c.well)
 
 -- and it holds a run
 pub front_holds_run : (front : List TokenValue) → IsIdentifierShape front → HoldsRun front
@@ -214,7 +215,7 @@ read_may_run_out s t w = record {
   front = w.front;
   rest = w.rest;
   longest = w.longest;
-  holds = front_holds_run w.front w.answer.0.0;
+  holds = front_holds_run w.front w.answer.whole.shape;
   left =
       record {
         taken = w.front;

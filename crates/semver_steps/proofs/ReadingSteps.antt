@@ -123,7 +123,8 @@ module _ {S : Type 0} {step : S → TokenValue → Option S} {accepts : S → Bo
 
   -- reading may run out of memory where a front that was taken holds what takes memory
   pub runs_out_behind : {Holds : List TokenValue → Type 0}
-      → ((front : List TokenValue) (t : TokenValue) → Holds front → Holds (front ++ t ∷ [])) → {s u : ParserState} (front rest : List TokenValue) (p : S) → s.remaining ≡ front ++ rest
+      → ((front : List TokenValue) (t : TokenValue) → Holds front → Holds (front ++ t ∷ [])) → {s u : ParserState}
+      → (front rest : List TokenValue) (p : S) → s.remaining ≡ front ++ rest
       → run step start front ≡ Some p → Holds front → IsEndPart s u → MayRunOut Shape Holds s u
   runs_out_behind longer {s} front [] p split leads holds left =
       record { front = front; rest = []; longest = longest_front s.remaining front [] p split leads tt; holds = holds; left = left }
@@ -168,7 +169,7 @@ module _ {S : Type 0} {step : S → TokenValue → Option S} {accepts : S → Bo
       front = front;
       rest = rest;
       longest = longest_front s.remaining front rest p split leads stops;
-      answer = (broken, refuses);
+      answer = record { broken = broken; refuses = refuses };
       pending = pending;
     }
 
@@ -180,7 +181,11 @@ module _ {S : Type 0} {step : S → TokenValue → Option S} {accepts : S → Bo
         front = front;
         rest = t.remaining;
         longest = longest_front s.remaining front t.remaining p k.split k.leads stops;
-        answer = ((r.shape front p k.leads takes, known k.known), spelled, refl);
+        answer = record {
+          whole = record { shape = r.shape front p k.leads takes; known = known k.known };
+          spelled = spelled;
+          leaves = refl;
+        };
         pending = k.pending;
       }
         where
@@ -193,7 +198,7 @@ module _ {S : Type 0} {step : S → TokenValue → Option S} {accepts : S → Bo
       pub reads_unexpected : {x : TokenValue} {u : ParserState} → Pops t x u → accepts p ≡ false → step p x ≡ None
           → Reads Shape Spells s (Err (fault.UnexpectedToken x)) u
       reads_unexpected {x} {u} pops refuses none =
-          reads_fault front (x ∷ u.remaining) p (cc) k.leads none (λ whole. not_whole front p k.leads refuses whole.0)
+          reads_fault front (x ∷ u.remaining) p (cc) k.leads none (λ whole. not_whole front p k.leads refuses whole.shape)
           (rw (← k.pending, ← pops.pending) (refused u.remaining u.pending pops.known)) (cc)
         where
           refused : (left : List TokenValue) (pending : Option ℕ) → (0 < length left) ⊎ (pending ≡ None)
@@ -215,14 +220,14 @@ module _ {S : Type 0} {step : S → TokenValue → Option S} {accepts : S → Bo
 
           -- at a pending character nothing is whole without a token behind it
           not_known : {front : List TokenValue} (c : ℕ) → Some c ≡ s.pending → ¬ (IsWhole Shape front s.pending [])
-          not_known c same whole = ⊎_elim (λ some. omega (arith, some)) (λ none. cc) whole.1
+          not_known c same whole = ⊎_elim (λ some. omega (arith, some)) (λ none. cc) whole.known
 
           at_refusal : (rem : List TokenValue) (pending : Option ℕ) (e : Fault) → Refused rem pending e → s.remaining ≡ front ++ rem
               → pending ≡ s.pending → (front ≡ []) ⊎ ((0 < length rem) ⊎ (pending ≡ None))
               → (accepts p ≡ false) ⊎ ((x : TokenValue) × (q : S) × (slice_get rem 0 ≡ Some x) × (step p x ≡ Some q))
               → Reads Shape Spells s (Err e) (record { remaining = rem; pending = pending })
           at_refusal _ _ _ at_end split same known (inl wants) =
-              reads_fault front [] p split k.leads tt (λ whole. not_whole front p k.leads wants whole.0) (rw (← same) (refl, refl)) same
+              reads_fault front [] p split k.leads tt (λ whole. not_whole front p k.leads wants whole.shape) (rw (← same) (refl, refl)) same
           at_refusal _ _ _ at_end split same known (inr next) = cc (next.2)
           at_refusal _ _ _ (at_nothing c) split same (inl empty) way =
               reads_fault front [] p split k.leads tt (not_known c same) (rw (← same, split, empty) (refl, refl)) same
@@ -230,7 +235,7 @@ module _ {S : Type 0} {step : S → TokenValue → Option S} {accepts : S → Bo
           at_refusal _ _ _ (at_nothing c) split same (inr (inr none)) way = cc
           at_refusal _ _ _ (at_last x c) split same known way =
               option_cases (step p x)
-              (λ none. reads_fault front (x ∷ []) p split k.leads none (λ whole. not_whole front p k.leads (wants none way) whole.0)
+              (λ none. reads_fault front (x ∷ []) p split k.leads none (λ whole. not_whole front p k.leads (wants none way) whole.shape)
               (rw (← same, split, last_of) (refl, refl)) same)
               (λ q on. reads_fault (front ++ x ∷ []) [] q (split ∙ sym (append-nil (front ++ x ∷ [])))
               (one_more_leads step start p q front x k.leads on) tt (not_known c same) (rw (← same, split, last_of) (refl, refl)) same)
@@ -289,7 +294,13 @@ pub reads_other : {V W : Type 0} {Shape : List TokenValue → Type 0} {Spells : 
     (s t : ParserState) (v : V) (x : W) (w : Reads Shape Spells s (Ok v) t)
     → Other x (inner_texts w.front) → Reads Shape Other s (Ok x) t
 reads_other Other s t v x w spelled =
-    record { front = w.front; rest = w.rest; longest = w.longest; answer = (w.answer.0, spelled, w.answer.2); pending = w.pending }
+    record {
+      front = w.front;
+      rest = w.rest;
+      longest = w.longest;
+      answer = record { whole = w.answer.whole; spelled = spelled; leaves = w.answer.leaves };
+      pending = w.pending;
+    }
 
 -- the longest front is one
 pub same_front : (Shape : List TokenValue → Type 0) (ts front other rest left : List TokenValue) → IsLongestFront Shape ts front rest
@@ -322,8 +333,8 @@ reads_once {V} Shape Spells once s r q t u a b =
     one_answer : (front rest : List TokenValue) (r q : Result V Fault) (left other : List TokenValue)
         → Answers Shape Spells s.remaining s.pending front rest r left → Answers Shape Spells s.remaining s.pending front rest q other
         → (r ≡ q) × (left ≡ other)
-    one_answer front rest (Ok v) (Ok w) left other x y = (ap (λ z. Ok z) (once v w _ x.1 y.1), cc)
-    one_answer front rest (Ok v) (Err f) left other x y = absurd (y.0 x.0)
-    one_answer front rest (Err e) (Ok w) left other x y = absurd (x.0 y.0)
+    one_answer front rest (Ok v) (Ok w) left other x y = (ap (λ z. Ok z) (once v w _ x.spelled y.spelled), cc)
+    one_answer front rest (Ok v) (Err f) left other x y = absurd (y.broken x.whole)
+    one_answer front rest (Err e) (Ok w) left other x y = absurd (x.broken y.whole)
     one_answer front rest (Err e) (Err f) left other x y =
-        let z = same_refusal s.remaining s.pending rest e f left other x.1 y.1 in (ap (λ k. Err k) z.0, z.1)
+        let z = same_refusal s.remaining s.pending rest e f left other x.refuses y.refuses in (ap (λ k. Err k) z.0, z.1)

@@ -157,21 +157,21 @@ module _ {part : Part} {s t : ParserState} {text : Text} (k : IsTakenTo s (at_ru
 
   pub identifier_taken : (v : IdentifierValue) (u : ParserState) → ReadsIdentifier t (Ok v) u → IsIdentifierTaken v u
   identifier_taken v u w =
-      let stop = identifier_stops w.longest w.answer.0.0 in
+      let stop = identifier_stops w.longest w.answer.whole.shape in
       record {
         id = inner_texts w.front;
-        spells = w.answer.1;
+        spells = w.answer.spelled;
         taken = record {
           front = k.front ++ w.front;
           taken = record {
             split = fronts_split w.front u.remaining (cc);
             leads = fronts_lead w.front true stop.0;
             pending = cc;
-            known = inr (⊎_elim (λ some. inl (rw w.answer.2 some)) (λ none. inr (cc)) w.answer.0.1);
+            known = inr (⊎_elim (λ some. inl (rw w.answer.leaves some)) (λ none. inr (cc)) w.answer.whole.known);
           };
           text_is = cc (flat_map-append inner_text k.front w.front);
         };
-        no_hyphen = stops_no_hyphen u.remaining (rw w.answer.2 stop.1);
+        no_hyphen = stops_no_hyphen u.remaining (rw w.answer.leaves stop.1);
       }
     where
       stops_no_hyphen : (rest : List TokenValue) → Stops id_step true rest → ¬ (slice_get rest 0 ≡ Some Hyphen)
@@ -205,7 +205,7 @@ module _ {part : Part} {s t : ParserState} {text : Text} (k : IsTakenTo s (at_ru
           reads_fault version_is_read SpellsVersion (k.front ++ w.front) w.rest (run_place part b)
           (fronts_split w.front w.rest w.longest.split) (fronts_lead w.front b leads) stops broken
           (rw (← k.taken.pending, k.taken.split)
-          (refuses_more k.front t.remaining t.pending w.rest u.remaining k.taken.known w.answer.1)) (cc)
+          (refuses_more k.front t.remaining t.pending w.rest u.remaining k.taken.known w.answer.refuses)) (cc)
 
       stops_at_run : (rest : List TokenValue) → Stops id_step false rest → Stops step (at_run part) rest
       stops_at_run [] stops = tt
@@ -220,11 +220,14 @@ module _ {part : Part} {s t : ParserState} {text : Text} (k : IsTakenTo s (at_ru
       at_place : (b : Bool) → run id_step false w.front ≡ Some b → Stops id_step b w.rest → ReadsVersion s (Err e) u
       at_place false leads stops =
           reads false leads (stops_at_run w.rest stops)
-          (λ whole. not_whole version_is_read (k.front ++ w.front) (at_run part) (fronts_lead w.front false leads) refl whole.0)
+          (λ whole. not_whole version_is_read (k.front ++ w.front) (at_run part) (fronts_lead w.front false leads) refl whole.shape)
       at_place true leads stops =
           let shape : IsIdentifierShape w.front = identifier_is_read.shape w.front true leads refl in
-          reads true leads (stops_at_none w.rest (λ some. w.answer.0 (shape, inl some)))
-          (λ whole. w.answer.0 (shape, ⊎_elim (λ some. inl some) (λ no. inr (k.taken.pending ∙ no)) whole.1))
+          reads true leads (stops_at_none w.rest (λ some. w.answer.broken (record { shape = shape; known = inl some })))
+          (λ whole. w.answer.broken (record {
+            shape = shape;
+            known = ⊎_elim (λ some. inl some) (λ no. inr (k.taken.pending ∙ no)) whole.known;
+          }))
 
 -- ---- want of memory
 

@@ -88,18 +88,34 @@ Refuses ts pending (t ∷ rest) e left = (e ≡ fault.UnexpectedToken t) × (lef
 
 -- the front has the shape, and it is known that it ends there: a token follows, or no character is
 -- pending
-abbrev pub IsWhole : (List TokenValue → Type 0) → List TokenValue → Option ℕ → List TokenValue
-    → Type 0
-IsWhole Shape front pending rest = Shape front × ((0 < length rest) ⊎ (pending ≡ None))
+pub record IsWhole (Shape : List TokenValue → Type 0) (front : List TokenValue) (pending : Option ℕ)
+    (rest : List TokenValue) : Type 0 where
+  pub shape : Shape front
+  pub known : (0 < length rest) ⊎ (pending ≡ None)
+
+-- a value is answered: the front is whole and spells it, and the rest is left
+pub record AnswersValue {V : Type 0} (Shape : List TokenValue → Type 0)
+    (Spells : V → List ℕ → Type 0) (pending : Option ℕ) (front rest : List TokenValue) (v : V)
+    (left : List TokenValue) : Type 0 where
+  pub whole : IsWhole Shape front pending rest
+  pub spelled : Spells v (inner_texts front)
+  pub leaves : left ≡ rest
+
+-- a fault is answered: the front isn't whole, and it is the fault of the first case that holds
+pub record AnswersFault (Shape : List TokenValue → Type 0) (ts : List TokenValue)
+    (pending : Option ℕ) (front rest : List TokenValue) (e : Fault)
+    (left : List TokenValue) : Type 0 where
+  pub broken : ¬ (IsWhole Shape front pending rest)
+  pub refuses : Refuses ts pending rest e left
 
 -- the answer and the tokens left: the value of a front that is whole, and else a fault
 abbrev pub Answers : {V : Type 0} → (List TokenValue → Type 0) → (V → List ℕ → Type 0)
     → List TokenValue → Option ℕ → List TokenValue → List TokenValue → Result V Fault
     → List TokenValue → Type 0
 Answers Shape Spells ts pending front rest (Ok v) left =
-    IsWhole Shape front pending rest × Spells v (inner_texts front) × (left ≡ rest)
+    AnswersValue Shape Spells pending front rest v left
 Answers Shape Spells ts pending front rest (Err e) left =
-    ¬ (IsWhole Shape front pending rest) × Refuses ts pending rest e left
+    AnswersFault Shape ts pending front rest e left
 
 -- from the state s, reading what has this shape and is spelled so answers r and leaves t
 pub record Reads {V : Type 0} (Shape : List TokenValue → Type 0) (Spells : V → List ℕ → Type 0)

@@ -195,8 +195,8 @@ module _ (text : List ℕ) where
   stops_before t place [] rest none in_place ended = stops_at_end t rest ended
   stops_before t place (u ∷ us) rest none in_place ended = continues_into-tokens t u place us rest in_place.0 ∙ not-true (merges t u) none.0
 
-  none_merge_more : (t : TokenValue) (place : ℕ) (ts : List TokenValue) (rest : List ℕ) → continues_into t (tokens_text text ts ++ rest) ≡ false
-      → AreInPlace text place ts → NoneMerge ts → NoneMerge (t ∷ ts)
+  none_merge_more : (t : TokenValue) (place : ℕ) (ts : List TokenValue) (rest : List ℕ)
+      → continues_into t (tokens_text text ts ++ rest) ≡ false → AreInPlace text place ts → NoneMerge ts → NoneMerge (t ∷ ts)
   none_merge_more t place [] rest stops in_place none = tt
   none_merge_more t place (u ∷ us) rest stops in_place none =
       (not_from_false (merges t u) (sym (continues_into-tokens t u place us rest in_place.0) ∙ stops), none)
@@ -242,7 +242,8 @@ module _ (text : List ℕ) where
 
 none_opens : (place : ℕ) (bs : List ℕ) → first_token place bs ≡ None → (bs ≡ []) ⊎ IsBadStart bs
 none_opens place [] e = inl refl
-none_opens place (b ∷ bs) e = inr (omega arith, not_from_false (opens_token (b ∷ bs)) (sym (is_some-first_token place (b ∷ bs)) ∙ ap is_some e))
+none_opens place (b ∷ bs) e =
+    inr (omega arith, not_from_false (opens_token (b ∷ bs)) (sym (is_some-first_token place (b ∷ bs)) ∙ ap is_some e))
 
 none_at_end : (place : ℕ) (bs : List ℕ) → (bs ≡ []) ⊎ IsBadStart bs → first_token place bs ≡ None
 none_at_end place bs ended =

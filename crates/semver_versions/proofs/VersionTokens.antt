@@ -15,8 +15,8 @@ use Rattle.semver_texts.specs.VersionGrammar.{SpellsIdentifier, SpellsPart, Spel
 use Rattle.semver_steps.specs.VersionReading.{IsVersionShape, inner_text, inner_texts}
 use Rattle.semver_steps.specs.Means.Taking.{run, major, minor, patch, Part, pre_release, build, Place, start, at_number, behind_number}
 use Rattle.semver_steps.specs.Means.Taking.{at_run, behind_run, end, step, accepts}
-use Rattle.semver_tokens.proofs.FirstToken.{IsFound, continues_into, continues-component, token_text-component, IsTokenAt-component, by_test}
-use Rattle.semver_tokens.proofs.FirstToken.{never}
+use Rattle.semver_tokens.proofs.FirstToken.{IsFound, continues_into, continues-component, token_text-component, IsTokenAt-component}
+use Rattle.semver_tokens.proofs.FirstToken.{by_test, never}
 use Rattle.semver_tokens.proofs.TokenLists.{tokens_cons, shows_kind, decimal_is_run}
 use Rattle.semver_texts.proofs.Numbers.{is_number_true, canonical_from_is_number}
 use Rattle.semver_tokens.proofs.Components.{component_number, component_other}

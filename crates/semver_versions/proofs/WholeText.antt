@@ -285,13 +285,13 @@ pub accepted_spells : (v : VersionValue) (text : List ℕ) → IsUtf8 text → I
 accepted_spells v text utf8 o =
     let q = ok_whole v o.answer o.end.remaining o.end.pending o.whole in
     let w : ReadsVersion o.start (Ok v) o.end = subst (λ (r : Result VersionValue Fault). ReadsVersion o.start r o.end) q.0 o.reads in
-    let empty : w.rest ≡ [] = sym w.answer.2 ∙ q.1 in
+    let empty : w.rest ≡ [] = sym w.answer.leaves ∙ q.1 in
     let all : w.front ≡ o.start.remaining = sym (w.longest.split ∙ ap (λ (l : List TokenValue). w.front ++ l) empty ∙ append-nil w.front) in
-    let none : o.start.pending ≡ None = ⊎_elim (λ some. absurd (omega (arith, some, ap length empty))) (λ n. n) w.answer.0.1 in
+    let none : o.start.pending ≡ None = ⊎_elim (λ some. absurd (omega (arith, some, ap length empty))) (λ n. n) w.answer.whole.known in
     let tokens : AreTokensOf text o.start.remaining [] = subst (AreTokensOf text o.start.remaining)
     (no_rest text o.start utf8 o.state none) o.state.1 in
-    whole_spelled v text o.start.remaining tokens (subst IsVersionShape all w.answer.0.0)
-    (subst (λ (l : List TokenValue). SpellsVersion v (inner_texts l)) all w.answer.1)
+    whole_spelled v text o.start.remaining tokens (subst IsVersionShape all w.answer.whole.shape)
+    (subst (λ (l : List TokenValue). SpellsVersion v (inner_texts l)) all w.answer.spelled)
 
 -- ---- a text that spells a version
 
@@ -350,15 +350,15 @@ module _ (v : VersionValue) (text : List ℕ) (spells : SpellsVersion v text) wh
       go (Ok u) w =
           let same = front_is o.start o.state w.front w.rest w.longest in
           let value : u ≡ v = one_version u v (inner_texts has.ts)
-          (subst (λ (l : List TokenValue). SpellsVersion u (inner_texts l)) (sym same.0) w.answer.1) has.spells in
-          ap (λ (l : List TokenValue). whole_answer (Ok u) l o.end.pending) (w.answer.2 ∙ sym same.1)
+          (subst (λ (l : List TokenValue). SpellsVersion u (inner_texts l)) (sym same.0) w.answer.spelled) has.spells in
+          ap (λ (l : List TokenValue). whole_answer (Ok u) l o.end.pending) (w.answer.leaves ∙ sym same.1)
           ∙ ap (λ (z : VersionValue). Ok z) value
       go (Err e) w =
           let same = front_is o.start o.state w.front w.rest w.longest in
-          absurd (w.answer.0 (
-            subst IsVersionShape same.0 has.shape,
-            inr (no_pending text o.start o.state (sym (state_is o.start o.state).1)),
-          ))
+          absurd (w.answer.broken (record {
+            shape = subst IsVersionShape same.0 has.shape;
+            known = inr (no_pending text o.start o.state (sym (state_is o.start o.state).1));
+          }))
 
   -- the state of the text, and its outcome
   abbrev at_start : ParserState
@@ -373,7 +373,13 @@ module _ (v : VersionValue) (text : List ℕ) (spells : SpellsVersion v text) wh
     answer = Ok v;
     end = record { remaining = []; pending = None };
     state = is_start;
-    reads = record { front = has.ts; rest = []; longest = all_longest; answer = ((has.shape, inr refl), has.spells, refl); pending = refl };
+    reads = record {
+      front = has.ts;
+      rest = [];
+      longest = all_longest;
+      answer = record { whole = record { shape = has.shape; known = inr refl }; spelled = has.spells; leaves = refl };
+      pending = refl;
+    };
     whole = refl;
   }
 
