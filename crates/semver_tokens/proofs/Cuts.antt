@@ -1,18 +1,19 @@
 -- A text may be cut where a token ends.
 use Rattle.std.proofs.Common.{◌≡◌, ℕ, zero, suc, ◌+◌, ◌-◌, ◌<◌, ◌≤◌, Bool, true, List, [], ◌∷◌, ◌++◌, length, get_or, take, drop, sym, refl}
 use Rattle.std.proofs.Common.{ap, ◌∙◌, subst, arith, IsUtf8, length-drop, length-append, length-take-le, take-append-drop, zero-add}
-use Rattle.std.proofs.Common.{get_or-drop, Some}
+use Rattle.std.proofs.Common.{get_or-drop, Some, ltb}
 use Rattle.std.specs.Prelude.{IsTrue, IsCharBoundary}
 use Rattle.std.specs.Str.{IsAscii}
 use Rattle.std.specs.List.{prefix_len, AllByRecursion}
 use Rattle.std.specs.Char.{is_ascii_alphanumeric}
 use Rattle.std.proofs.lemmas.List.Sums.{prefix_len-le-length}
 use Rattle.std.proofs.lemmas.List.{get_or_append_left}
+use Rattle.std.proofs.lemmas.Bool.{ltb-true}
 use Rattle.std.proofs.lemmas.Str.{IsCharBoundary-start, IsCharBoundary-after_ascii, IsCharBoundary-from_rest}
 use Rattle.std.proofs.lemmas.Str.Ascii.{IsAscii-cons, IsAscii-nil}
 use Rattle.std.proofs.lemmas.Fmt.{IsAscii-decimal}
 use Rattle.semver_texts.specs.Texts.{is_space}
-use Rattle.semver_tokens.specs.Tokens.{TokenValue, Eq, Gt, Lt, LtEq, GtEq, Caret, Tilde, Star, Dot, Comma, Hyphen, Plus, Or, Whitespace}
+use Rattle.semver_tokens.specs.Tokens.{TokenValue, LtEq, GtEq, Or, Whitespace}
 use Rattle.semver_tokens.specs.Tokens.{Numeric, AlphaNumeric, token_text, IsTokenAt}
 use Rattle.semver_tokens.specs.Means.Scanning.{first_token}
 use Rattle.semver_tokens.proofs.FirstToken.{all_of_prefix, IsFound, first_token-found, run_ascii, space_ascii}
@@ -21,30 +22,18 @@ ascii_from : (p : ℕ → Bool) → ((b : ℕ) → p b ≡ true → b < 128) →
 ascii_from p small [] all = IsAscii-nil
 ascii_from p small (b ∷ bs) all = IsAscii-cons b bs (small b all.0) (ascii_from p small bs all.1)
 
-one : (b : ℕ) → b < 128 → IsAscii (b ∷ [])
-one b small = IsAscii-cons b [] small IsAscii-nil
-
-two : (b c : ℕ) → b < 128 → c < 128 → IsAscii (b ∷ c ∷ [])
-two b c small small' = IsAscii-cons b (c ∷ []) small (one c small')
+small_ascii : (bs : List ℕ) → AllByRecursion (λ b. IsTrue (ltb b 128)) bs → IsAscii bs
+small_ascii bs all = ascii_from (λ b. ltb b 128) (λ b h. ltb-true b 128 h) bs all
 
 -- a token's text is ASCII
 pub IsAscii-token_text : (text : List ℕ) (place : ℕ) (t : TokenValue) → IsTokenAt text place t → IsAscii (token_text text t)
 IsAscii-token_text text place (Whitespace first after) w = ascii_from is_space space_ascii _ w.3
 IsAscii-token_text text place (Numeric n) small = IsAscii-decimal n small
 IsAscii-token_text text place (AlphaNumeric s) w = ascii_from is_ascii_alphanumeric run_ascii s w.0.1
-IsAscii-token_text text place Eq w = one 61 (omega arith)
-IsAscii-token_text text place Gt w = one 62 (omega arith)
-IsAscii-token_text text place Lt w = one 60 (omega arith)
-IsAscii-token_text text place LtEq w = two 60 61 (omega arith) (omega arith)
-IsAscii-token_text text place GtEq w = two 62 61 (omega arith) (omega arith)
-IsAscii-token_text text place Caret w = one 94 (omega arith)
-IsAscii-token_text text place Tilde w = one 126 (omega arith)
-IsAscii-token_text text place Star w = one 42 (omega arith)
-IsAscii-token_text text place Dot w = one 46 (omega arith)
-IsAscii-token_text text place Comma w = one 44 (omega arith)
-IsAscii-token_text text place Hyphen w = one 45 (omega arith)
-IsAscii-token_text text place Plus w = one 43 (omega arith)
-IsAscii-token_text text place Or w = two 124 124 (omega arith) (omega arith)
+IsAscii-token_text text place LtEq w = small_ascii (token_text text LtEq) (refl, (refl, tt))
+IsAscii-token_text text place GtEq w = small_ascii (token_text text GtEq) (refl, (refl, tt))
+IsAscii-token_text text place Or w = small_ascii (token_text text Or) (refl, (refl, tt))
+IsAscii-token_text text place t w = small_ascii (token_text text t) (refl, tt)
 
 -- a text may be cut behind ASCII
 pub cut_after_ascii : (text : List ℕ) (place : ℕ) (xs more : List ℕ) → IsUtf8 text → drop place text ≡ xs ++ more → 0 < length xs
@@ -52,9 +41,8 @@ pub cut_after_ascii : (text : List ℕ) (place : ℕ) (xs more : List ℕ) → I
 cut_after_ascii text place xs more utf8 e some ascii =
     let last : ℕ = length xs - 1 in
     let room : length text - place ≡ length xs + length more = sym (length-drop place text) ∙ ap length e ∙ length-append xs more in
-    let byte : get_or text (place + last) 0 ≡ get_or xs last 0 = sym (get_or-drop place text last 0)
-    ∙ ap (λ (l : List ℕ). get_or l last 0) e ∙ get_or_append_left xs more 0 last (omega arith) in
-    let small : get_or text (place + last) 0 < 128 = subst (λ (b : ℕ). b < 128) (sym byte) (ascii last) in
+    let byte : get_or text (place + last) 0 ≡ get_or xs last 0 = cc (get_or-drop place text last 0, get_or_append_left xs more 0 last (omega arith)) in
+    let small : get_or text (place + last) 0 < 128 = rw byte (ascii last) in
     let after : place + last + 1 ≡ place + length xs = omega arith in
     subst (IsCharBoundary text) after (IsCharBoundary-after_ascii text (place + last) utf8 (omega arith) small)
 
@@ -64,7 +52,7 @@ pub cut_after_token : (text : List ℕ) (place : ℕ) (t : TokenValue) (n : ℕ)
 cut_after_token text place t n within utf8 e =
     let f : IsFound text place (drop place text) t n = first_token-found text place (drop place text) t n refl e in
     let cut : IsCharBoundary (drop place text) (0 + length (token_text text t)) = cut_after_ascii (drop place text) 0 (token_text text t)
-    (drop n (drop place text)) utf8 f.front.spelled (subst (λ (m : ℕ). 0 < m) (sym f.len) f.positive)
+    (drop n (drop place text)) utf8 f.front.spelled (rw f.len f.positive)
     (IsAscii-token_text text place t f.front.is_token) in
     IsCharBoundary-from_rest text place n within (subst (IsCharBoundary (drop place text))
     (zero-add (length (token_text text t)) ∙ f.len) cut)
@@ -84,11 +72,8 @@ module _ (p : ℕ → Bool) (small : (b : ℕ) → p b ≡ true → b < 128) whe
     where
       at_len : (n : ℕ) → n ≡ prefix_len p bs → IsCharBoundary bs n
       at_len zero e = IsCharBoundary-start bs utf8
-      at_len (suc n) e = subst (IsCharBoundary bs) (sym e) (cut_after_some bs utf8 (omega (arith, e)))
+      at_len (suc n) e = rw e (cut_after_some bs utf8 (omega (arith, e)))
 
 -- so behind the longest front of letters and digits
 pub cut_after_run : (bs : List ℕ) → IsUtf8 bs → IsCharBoundary bs (prefix_len is_ascii_alphanumeric bs)
 cut_after_run bs utf8 = cut_after_prefix is_ascii_alphanumeric run_ascii bs utf8
-
-pub prefix_some : (p : ℕ → Bool) (b : ℕ) (bs : List ℕ) → p b ≡ true → 0 < prefix_len p (b ∷ bs)
-prefix_some p b bs h = rw h (omega arith)

@@ -1,4 +1,4 @@
-use Rattle.std.proofs.Common.{◌≡◌, ℕ, ◌-◌, take, ap, sym, ◌∙◌, subst, arith, IsCharBoundary}
+use Rattle.std.proofs.Common.{◌≡◌, take, ap, sym, ◌∙◌, subst, arith, IsCharBoundary}
 use Rattle.std.specs.List.{prefix_len}
 use Rattle.semver_texts.specs.Texts.{is_part_byte}
 use Rattle.semver_tokens.proofs.Cuts.{cut_after_prefix}
@@ -14,7 +14,4 @@ range-requires-clause-end_boundary c =
     subst (IsCharBoundary c.args.text.now) (sym (len_is c)) (cut_after_prefix is_part_byte part_ascii c.args.text.now c.utf8.text)
 
 pub returns : goal.returns
-returns c = c.range.ensures.value ∙ ap (λ (n : ℕ). take n c.args.text.now) (less_none _ ∙ len_is (goal.at.returns c).After-part_len-len)
-  where
-    less_none : (n : ℕ) → n - 0 ≡ n
-    less_none n = omega arith
+returns c = c.range.ensures.value ∙ ap (λ n. take n c.args.text.now) (omega (arith, len_is (goal.at.returns c).After-part_len-len))

@@ -24,9 +24,6 @@ one_less : (c : In-Some-Ok)
 one_less c = sym c.copy-ahead.ensures.same
     ∙ state_at_token c.copy-ahead.result c.next.new.self _ (rw c.in-Some-Ok.field-0-is at c.in-Some-Ok.ensures.steps)
 
-pub overflow_add-count : goal.overflow_add-count
-overflow_add-count c = omega (arith, c.loop-end.invariant.counted, c.copy-end.ensures.small)
-
 pub returns-in_default-clause-count : goal.returns-in_default-clause-count
 returns-in_default-clause-count c = omega (arith, c.loop-end.invariant.counted, ap length (none c))
 

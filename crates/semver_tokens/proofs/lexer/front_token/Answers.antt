@@ -1,8 +1,9 @@
-use Rattle.std.proofs.Common.{Some, ◌≡◌, ℕ, ◌+◌, ◌-◌, ◌<◌, length, take, List, arith, ap, sym, ◌∙◌, subst, length-take-le, IsCharBoundary}
+use Rattle.std.proofs.Common.{Some, ◌≡◌, ℕ, ◌+◌, ◌<◌, length, take, List, arith, ap, sym, ◌∙◌, subst}
 use Rattle.std.specs.Prelude.{slice_get, slice_index}
 use Rattle.std.specs.List.{prefix_len}
 use Rattle.std.specs.Char.{is_ascii_alphanumeric}
 use Rattle.std.proofs.lemmas.List.Sums.{prefix_len-le-length}
+use Rattle.std.proofs.lemmas.List.Folds.{length-prefix_len}
 use Rattle.std.proofs.lemmas.List.{get_or_past}
 use Rattle.semver_texts.specs.Texts.{is_space, IsRun}
 use Rattle.semver_tokens.specs.Tokens.{Whitespace}
@@ -52,25 +53,21 @@ run_some c = some_of_prefix is_ascii_alphanumeric c.args.rest.now _ (first_byte 
     at_first : (c : After-run_len-len) → In_ok-first
     at_first c = (goal.at.range-requires-clause-end_boundary c).In_ok-first
 
-less_none : (n : ℕ) → n - 0 ≡ n
-less_none n = omega arith
-
 -- what was cut
 run_is : (c : After-range) → c.range.result.now ≡ take (prefix_len is_ascii_alphanumeric c.args.rest.now) c.args.rest.now
 run_is c = c.range.ensures.value
-    ∙ ap (λ (n : ℕ). take n c.args.rest.now) (less_none c.run_len-len.result ∙ run_len_is (goal.at.component-requires c).After-run_len-len)
+    ∙ ap (λ n. take n c.args.rest.now) (omega (arith, run_len_is (goal.at.component-requires c).After-run_len-len))
 
 pub range-requires-clause-end_boundary : goal.range-requires-clause-end_boundary
 range-requires-clause-end_boundary c =
-    subst (IsCharBoundary c.args.rest.now) (sym (run_len_is c)) (cut_after_run c.args.rest.now c.utf8.rest)
+    rw (run_len_is c) (cut_after_run c.args.rest.now c.utf8.rest)
 
 pub component-requires : goal.component-requires
 component-requires c =
     let n : ℕ = prefix_len is_ascii_alphanumeric c.args.rest.now in
-    let len : length (take n c.args.rest.now) ≡ n = length-take-le n c.args.rest.now
-    (prefix_len-le-length is_ascii_alphanumeric c.args.rest.now) in
+    let len : length (take n c.args.rest.now) ≡ n = length-prefix_len is_ascii_alphanumeric c.args.rest.now in
     let some : 0 < n = run_some (goal.at.component-requires c).After-run_len-len in
-    subst IsRun (sym (run_is c)) (subst (λ (m : ℕ). 0 < m) (sym len) some, all_of_prefix is_ascii_alphanumeric c.args.rest.now)
+    subst IsRun (sym (run_is c)) (rw len some, all_of_prefix is_ascii_alphanumeric c.args.rest.now)
 
 pub returns-then-is_ascii_alphanumeric : goal.returns-then-is_ascii_alphanumeric
 returns-then-is_ascii_alphanumeric c =
