@@ -9,8 +9,7 @@ use Rattle.std.proofs.lemmas.List.Splits.{join_with_byte-slice_split}
 use Rattle.std.proofs.lemmas.Str.{IsUtf8-from_ascii}
 use Rattle.std.proofs.lemmas.Str.Ascii.{IsAscii-from_all}
 use Rattle.semver_ranges.specs.RangeTree.{is_part}
-use Rattle.semver_texts.specs.Texts.{Text, is_part_byte}
-use Rattle.semver_ranges.specs.Means.Reading.{is_dot}
+use Rattle.semver_texts.specs.Texts.{Text, is_part_byte, is_dot}
 
 abbrev IsSmall : ℕ → Type 0
 IsSmall b = b < 128

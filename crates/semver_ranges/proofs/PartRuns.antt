@@ -5,8 +5,8 @@ use Rattle.std.proofs.Common.{get_or, take, drop, if◌then◌else◌, refl, sym
 use Rattle.std.specs.List.{list_all, slice_split}
 use Rattle.std.proofs.lemmas.Bool.{cases_Bool, eqb-true, false_from_ne_true}
 use Rattle.semver_ranges.specs.RangeTree.{is_part}
-use Rattle.semver_texts.specs.Texts.{Text, is_part_byte}
-use Rattle.semver_ranges.specs.Means.Reading.{front, back, is_dot, in_parts}
+use Rattle.semver_texts.specs.Texts.{Text, is_part_byte, is_dot}
+use Rattle.semver_ranges.specs.Means.Reading.{front, back, in_parts}
 
 -- parts and dots, byte by byte: whether what is left is the rest of a part, where one was begun, and parts behind it
 abbrev pub parts_pass : Bool → Text → Bool

@@ -8,8 +8,8 @@ use Rattle.std.specs.Str.{all_ascii_digits}
 use Rattle.std.specs.List.{list_all, slice_split, join_with_byte}
 use Rattle.semver_ranges.specs.RangeTree.{PartialTree, one, two, three, Form, Simple, is_blank, is_wildcard, is_number, is_component}
 use Rattle.semver_ranges.specs.RangeTree.{is_part, AreBlanks, SpellsPartial, IsSignAndBlanks, SpellsForm, SpellsSimple}
-use Rattle.semver_texts.specs.Texts.{Text, is_empty, marked}
-use Rattle.semver_ranges.specs.Means.Reading.{front, back, behind_blanks, is_bar, ends_range, ends_word, component, is_dot, in_parts, parts}
+use Rattle.semver_texts.specs.Texts.{Text, is_empty, marked, is_dot}
+use Rattle.semver_ranges.specs.Means.Reading.{front, back, behind_blanks, is_bar, ends_range, ends_word, component, in_parts, parts}
 use Rattle.semver_ranges.specs.Means.Reading.{with_build, behind_pre, with_pre, behind_three, with_third, behind_two, with_second}
 use Rattle.semver_ranges.specs.Means.Reading.{behind_one, with_first, whole_word, partial, after_less, after_greater, after_tilde, operator}
 use Rattle.semver_ranges.specs.Means.Reading.{with_form, simple}

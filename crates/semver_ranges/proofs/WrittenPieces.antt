@@ -12,8 +12,8 @@ use Rattle.std.specs.List.{list_all, slice_split, join_with_byte}
 use Rattle.semver_ranges.specs.RangeTree.{PartialTree, one, two, three, Form, bare, equal, less, at_most, greater, at_least, tilde, caret}
 use Rattle.semver_ranges.specs.RangeTree.{Simple, is_blank, is_wildcard, is_number, is_component, is_part, AreBlanks, SpellsPartial}
 use Rattle.semver_ranges.specs.RangeTree.{SpellsForm, SpellsSimple}
-use Rattle.semver_texts.specs.Texts.{is_part_byte, Text, is_empty, marked}
-use Rattle.semver_ranges.specs.Means.Reading.{front, back, behind_blanks, is_bar, ends_word, component, is_dot, in_parts, parts, behind_pre}
+use Rattle.semver_texts.specs.Texts.{is_part_byte, Text, is_empty, marked, is_dot}
+use Rattle.semver_ranges.specs.Means.Reading.{front, back, behind_blanks, is_bar, ends_word, component, in_parts, parts, behind_pre}
 use Rattle.semver_ranges.specs.Means.Reading.{with_pre, behind_three, with_third, behind_two, with_second, behind_one, with_first}
 use Rattle.semver_ranges.specs.Means.Reading.{whole_word, partial, after_less, after_greater, after_tilde, operator, with_form, simple}
 use Rattle.semver_ranges.proofs.Tests.{list_all-weaker}

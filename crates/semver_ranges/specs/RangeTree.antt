@@ -1,6 +1,7 @@
 -- A range set as a tree, and the texts that spell it: node-semver's published range grammar, and
 -- beside it `~>` for `~`, tabs, repeated blanks, and blanks after an operator and round the whole
 -- set.
+use Prim.Native.Char.{code}
 use Rattle.std.specs.Prelude.{◌≡◌, ℕ, Bool, false, ◌&&◌, ◌||◌, not, ◌==◌, ◌⊎◌, List, [], ◌∷◌, ◌++◌}
 use Rattle.std.specs.Prelude.{codes, IsTrue}
 use Rattle.std.specs.List.{list_all, join_with_byte}
@@ -34,7 +35,7 @@ SetTree = List RangeTree
 
 -- a blank: a space or a tab
 abbrev pub is_blank : ℕ → Bool
-is_blank b = (b == 32) || (b == 9)
+is_blank b = (b == code " ") || (b == code "\t")
 
 -- any number of blanks, none included
 abbrev pub AreBlanks : Text → Type 0
@@ -47,11 +48,11 @@ AreSomeBlanks t = IsTrue (not (is_empty t)) × AreBlanks t
 -- a number of any size: `0`, or digits that don't begin with `0`
 abbrev pub is_number : Text → Bool
 is_number [] = false
-is_number (first ∷ rest) = all_ascii_digits (first ∷ rest) && (is_empty rest || not (first == 48))
+is_number (first ∷ rest) = all_ascii_digits (first ∷ rest) && (is_empty rest || not (first == code "0"))
 
 -- a wildcard: `x`, `X` or `*`
 abbrev pub is_wildcard : Text → Bool
-is_wildcard (b ∷ []) = (b == 120) || (b == 88) || (b == 42)
+is_wildcard (b ∷ []) = (b == code "x") || (b == code "X") || (b == code "*")
 is_wildcard _ = false
 
 -- a component of a partial: a wildcard or a number
@@ -85,7 +86,7 @@ HasParts (three a b c pre build) = IsTrue (list_all is_part pre) × IsTrue (list
 abbrev pub SpellsPartial : PartialTree → Text → Type 0
 SpellsPartial p t =
     IsTrue (list_all is_component (components p)) × HasParts p
-    × (t ≡ join_with_byte 46 (components p) ++ qualifier p)
+    × (t ≡ join_with_byte (code ".") (components p) ++ qualifier p)
 
 -- a sign, then any blanks
 abbrev pub IsSignAndBlanks : Text → Text → Type 0

@@ -3,6 +3,7 @@
 //! Nothing here takes memory, and a call looks at each byte a fixed number of times. What can't be
 //! read is `None`.
 
+ghost use Rattle.semver_texts.specs.Texts.{is_dot};
 ghost use Rattle.std.specs.Prelude.{◌≡◌, ◌||◌, ◌<◌, ◌≤◌, ◌+◌, ◌*◌, ◌++◌, ℕ, Some, None, [], ◌∷◌};
 ghost use Rattle.std.specs.Prelude.{length, take, drop, codes, false, true, List, MatchOption};
 ghost use Rattle.std.specs.Prelude.{IfSome};
@@ -15,7 +16,7 @@ ghost use Rattle.semver_ranges.specs.Means.Reading.{back, begins_with, ends_rang
 ghost use Rattle.semver_ranges.specs.Means.Reading.{component, partial, operator, simple};
 ghost use Rattle.semver_ranges.specs.Means.Reading.{right_side, with_second, with_third};
 ghost use Rattle.semver_ranges.specs.Means.Reading.{behind_three, with_first, behind_bars};
-ghost use Rattle.semver_ranges.specs.Means.Reading.{in_parts, front, is_dot, behind_blanks};
+ghost use Rattle.semver_ranges.specs.Means.Reading.{in_parts, front, behind_blanks};
 ghost use Rattle.semver_ranges.specs.Means.RangeEvents.{wildcard};
 ghost use Rattle.semver_ranges.specs.Means.PartialViews.{parts_of, IsValue, IsComponentOf};
 ghost use Rattle.semver_ranges.specs.Means.PartialViews.{IsPartialOf};
@@ -23,6 +24,8 @@ ghost use Rattle.semver_ranges.specs.Means.CursorViews.{form_of, marked_parts, F
 ghost use Rattle.semver_ranges.specs.Means.CursorViews.{IsSimpleOf};
 
 use crate::partial::{Component, Partial};
+use semver_texts::bytes::is_part_byte;
+use semver_texts::decimals;
 
 /// What stands before a partial: nothing, or an operator.
 #[derive(Clone, Copy)]
@@ -233,20 +236,13 @@ fn read_digits(first: u64, text: &[u8]) -> (Option<u64>, &[u8])
     (value, &text[text.len()..])
 }
 
-/// For speed: what is below this may be multiplied by ten and a digit added without a test.
-const LIMIT: u64 = 1_000_000_000_000_000_000;
-
 /// The value of a number with one digit more.
 #[inline(always)]
 fn with_digit(value: Option<u64>, digit: u8) -> Option<u64>
     requires { digit < 10 }
     ensures { (n : ℕ) → IsValue n value → IsValue (n * 10 + digit) result }
 {
-    match value {
-        Some(value) if value < LIMIT => Some(value * 10 + u64::from(digit)),
-        Some(value) => value.checked_mul(10)?.checked_add(u64::from(digit)),
-        None => None,
-    }
+    decimals::with_digit(value?, digit)
 }
 
 /// What follows the blanks at the front of a text.
@@ -323,12 +319,4 @@ fn is_blank(byte: u8) -> bool
     ensures { result ≡ blank byte }
 {
     byte == b' ' || byte == b'\t'
-}
-
-/// Whether a byte may stand in a part of a pre-release or a build.
-#[inline(always)]
-fn is_part_byte(byte: u8) -> bool
-    ensures { result ≡ part_byte byte }
-{
-    byte.is_ascii_alphanumeric() || byte == b'-'
 }

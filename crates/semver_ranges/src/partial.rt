@@ -4,10 +4,9 @@ ghost use Rattle.std.specs.Prelude.{◌≡◌, ◌+◌, ◌-◌, ◌^◌, ◌<�
 ghost use Rattle.std.specs.Prelude.{length, IsTrue, IfOk};
 ghost use Rattle.std.specs.List.{count_by, list_all, slice_split};
 ghost use Rattle.std.specs.Str.{IsUtf8};
-ghost use Rattle.semver_texts.specs.Texts.{Text};
+ghost use Rattle.semver_texts.specs.Texts.{Text, is_dot};
 ghost use Rattle.semver_ranges.specs.RangeTree.{PartialTree, one, two, three, is_part};
 ghost use Rattle.semver_ranges.specs.Partials.{kept, leading_place};
-ghost use Rattle.semver_ranges.specs.Means.Reading.{is_dot};
 ghost use Rattle.semver_ranges.specs.RewritingTable.{comparator, up, up_with, bound_fits};
 ghost use Rattle.semver_ranges.specs.RangeViews.{comparator_of, identifier_of};
 ghost use Rattle.semver_ranges.specs.Means.PartialViews.{parts_of, states_none, stated_of};
@@ -16,6 +15,7 @@ ghost use Rattle.semver_ranges.specs.Means.PartialViews.{AreComponentsOf, IsPart
 ghost use Rattle.semver_ranges.specs.Means.PartialViews.{PartsPass};
 
 use crate::range::{Comparator, Identifier, Op};
+use semver_texts::bytes::count_dots;
 use std::alloc::{AllocError, Global};
 
 /// A component: a wildcard, or a number, whose value is none above 2^64 - 1.
@@ -264,14 +264,6 @@ fn count_parts(pre: &[u8]) -> usize
     ensures { result ≡ length (slice_split is_dot pre.now) }
 {
     count_dots(pre) + 1
-}
-
-/// How many dots bytes have.
-#[inline(always)]
-fn count_dots(bytes: &[u8]) -> usize
-    ensures { result ≡ count_by is_dot bytes.now }
-{
-    bytes.iter().filter(|&&byte| byte == b'.').count()
 }
 
 /// A part as it is kept.

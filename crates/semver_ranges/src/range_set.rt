@@ -241,7 +241,6 @@ const LONGEST_ONLY_SIMPLE: usize = 14;
 
 /// The comparators of a text that is one simple from its first byte on, and that fits. What it
 /// doesn't find, the two runs decide.
-#[inline(always)]
 fn read_only_simple(text: &[u8], compat: Compat) -> Option<(Partial<'_>, Bounds)>
     ensures { IfSome result (λ found. (s : SimpleTree) × (read text.now ≡ Some (simples s [] ∷ []))
         × IsRow compat s found.0 found.1 × (simple_fits compat s ≡ true)) }
@@ -317,7 +316,6 @@ struct Sizes {
 }
 
 /// The sizes of a text, or why there is no set of it.
-#[inline(always)]
 fn survey(text: &[u8], compat: Compat) -> Result<Sizes, RangeError>
     ensures { MatchResult result
         (λ sizes. (tree : SetTree) × (read text.now ≡ Some tree) × IsTrue (fits compat tree)

@@ -12,6 +12,14 @@ pub fn is_space(byte: u8) -> bool
     matches!(byte, b' ' | b'\t' | b'\n' | b'\r')
 }
 
+/// Whether the byte is an ASCII letter, a digit or a hyphen.
+#[inline(always)]
+pub fn is_part_byte(byte: u8) -> bool
+    ensures { result ≡ is_part_byte byte }
+{
+    byte.is_ascii_alphanumeric() || byte == b'-'
+}
+
 /// How many bytes at the front are white space: 2 of ` \t1`.
 #[inline(always)]
 pub fn space_len(bytes: &[u8]) -> usize
@@ -38,7 +46,7 @@ pub fn part_len(bytes: &[u8]) -> usize
 {
     bytes
         .iter()
-        .take_while(|&&byte| byte.is_ascii_alphanumeric() || byte == b'-')
+        .take_while(|&&byte| is_part_byte(byte))
         .count()
 }
 

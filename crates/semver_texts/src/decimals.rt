@@ -11,7 +11,7 @@ const LIMIT: u64 = 1_000_000_000_000_000_000;
 
 /// The number with one digit more behind it.
 #[inline(always)]
-fn with_digit(number: u64, digit: u8) -> Option<u64>
+pub fn with_digit(number: u64, digit: u8) -> Option<u64>
     requires { digit < 10 }
     ensures { MatchOption result (2 ^ 64 ≤ number * 10 + digit)
         (λ n. (n < 2 ^ 64) × (n ≡ number * 10 + digit)) }

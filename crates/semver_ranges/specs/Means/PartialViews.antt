@@ -16,10 +16,9 @@ use Rattle.semver_ranges.specs.declared.partial.Place.{Place}
 use Rattle.semver_ranges.specs.declared.partial.Place.TheVariants.{Major, Minor, Patch}
 use Rattle.semver_ranges.specs.RangeTree.{PartialTree, one, two, three, is_wildcard}
 use Rattle.semver_ranges.specs.RangeTree.{is_part}
-use Rattle.semver_texts.specs.Texts.{Text}
+use Rattle.semver_texts.specs.Texts.{Text, is_dot}
 use Rattle.semver_texts.specs.Versions.{IdentifierValue, PlainVersion}
 use Rattle.semver_ranges.specs.Partials.{fits_u64, kept, stated, zero_filled}
-use Rattle.semver_ranges.specs.Means.Reading.{is_dot}
 use Rattle.semver_ranges.specs.ExactBounds.{lowest_pre_release}
 
 -- the parts of a slice between dots; none where it is empty

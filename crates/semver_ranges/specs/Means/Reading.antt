@@ -1,6 +1,7 @@
 -- A means of proof, which no public clause cites: the functions on lists that the cursor of range
 -- texts follows, from the left to the right. Each answers what stands at the front of a text, and
 -- what follows it; `read` answers the tree that a text spells, or none.
+use Prim.Native.Char.{code}
 use Rattle.std.specs.Prelude.{ℕ, zero, suc, Bool, true, false, ◌&&◌, ◌||◌, ◌==◌, if◌then◌else◌}
 use Rattle.std.specs.Prelude.{Option, Some, None, List, [], ◌∷◌, length}
 use Rattle.std.specs.Char.{is_ascii_digit}
@@ -9,7 +10,7 @@ use Rattle.semver_ranges.specs.RangeTree.{PartialTree, one, two, three, Form, ba
 use Rattle.semver_ranges.specs.RangeTree.{at_most, greater, at_least, tilde, caret, Simple}
 use Rattle.semver_ranges.specs.RangeTree.{RangeTree, empty, hyphen, simples, SetTree, is_blank}
 use Rattle.semver_ranges.specs.RangeTree.{is_wildcard, is_part}
-use Rattle.semver_texts.specs.Texts.{Text, is_part_byte}
+use Rattle.semver_texts.specs.Texts.{Text, is_dot, is_part_byte}
 
 -- the longest front whose bytes pass, and what is left
 abbrev pub front : (ℕ → Bool) → Text → Text
@@ -31,7 +32,7 @@ begins_with b (c ∷ t) = c == b
 
 -- whether a word or a range ends here: at the end of the text, at a bar, and a word at a blank
 abbrev pub is_bar : ℕ → Bool
-is_bar b = b == 124
+is_bar b = b == code "|"
 
 abbrev pub ends_range : Text → Bool
 ends_range [] = true
@@ -45,14 +46,11 @@ ends_word (b ∷ t) = is_blank b || is_bar b
 abbrev pub component : Text → Option (Text × Text)
 component [] = None
 component (b ∷ t) =
-    if is_wildcard (b ∷ []) || (b == 48) then Some (b ∷ [], t)
+    if is_wildcard (b ∷ []) || (b == code "0") then Some (b ∷ [], t)
     else (if is_ascii_digit b then Some (b ∷ front is_ascii_digit t, back is_ascii_digit t)
     else None)
 
 -- parts: the bytes of parts and dots, cut at the dots
-abbrev pub is_dot : ℕ → Bool
-is_dot b = b == 46
-
 abbrev pub in_parts : ℕ → Bool
 in_parts b = is_part_byte b || is_dot b
 
@@ -70,7 +68,7 @@ with_build a b c pre (Some found) = Some (three a b c pre found.0, found.1)
 abbrev pub behind_pre : Text → Text → Text → List Text → Text → Option (PartialTree × Text)
 behind_pre a b c pre [] = Some (three a b c pre [], [])
 behind_pre a b c pre (mark ∷ t) =
-    if mark == 43 then with_build a b c pre (parts t) else Some (three a b c pre [], mark ∷ t)
+    if mark == code "+" then with_build a b c pre (parts t) else Some (three a b c pre [], mark ∷ t)
 
 -- a pre-release, where one is there, and then a build
 abbrev pub with_pre : Text → Text → Text → Option (List Text × Text) → Option (PartialTree × Text)
@@ -80,7 +78,7 @@ with_pre a b c (Some found) = behind_pre a b c found.0 found.1
 abbrev pub behind_three : Text → Text → Text → Text → Option (PartialTree × Text)
 behind_three a b c [] = Some (three a b c [] [], [])
 behind_three a b c (mark ∷ t) =
-    if mark == 45 then with_pre a b c (parts t) else behind_pre a b c [] (mark ∷ t)
+    if mark == code "-" then with_pre a b c (parts t) else behind_pre a b c [] (mark ∷ t)
 
 -- the third, second and first component
 abbrev pub with_third : Text → Text → Option (Text × Text) → Option (PartialTree × Text)
@@ -90,7 +88,7 @@ with_third a b (Some found) = behind_three a b found.0 found.1
 abbrev pub behind_two : Text → Text → Text → Option (PartialTree × Text)
 behind_two a b [] = Some (two a b, [])
 behind_two a b (dot ∷ t) =
-    if dot == 46 then with_third a b (component t) else Some (two a b, dot ∷ t)
+    if dot == code "." then with_third a b (component t) else Some (two a b, dot ∷ t)
 
 abbrev pub with_second : Text → Option (Text × Text) → Option (PartialTree × Text)
 with_second a None = None
@@ -98,7 +96,7 @@ with_second a (Some found) = behind_two a found.0 found.1
 
 abbrev pub behind_one : Text → Text → Option (PartialTree × Text)
 behind_one a [] = Some (one a, [])
-behind_one a (dot ∷ t) = if dot == 46 then with_second a (component t) else Some (one a, dot ∷ t)
+behind_one a (dot ∷ t) = if dot == code "." then with_second a (component t) else Some (one a, dot ∷ t)
 
 abbrev pub with_first : Option (Text × Text) → Option (PartialTree × Text)
 with_first None = None
@@ -115,25 +113,25 @@ partial t = whole_word (with_first (component t))
 -- the operator at the front of a text, and what follows it and its blanks
 abbrev pub after_less : Text → Form × Text
 after_less [] = (less, [])
-after_less (b ∷ t) = if b == 61 then (at_most, behind_blanks t) else (less, behind_blanks (b ∷ t))
+after_less (b ∷ t) = if b == code "=" then (at_most, behind_blanks t) else (less, behind_blanks (b ∷ t))
 
 abbrev pub after_greater : Text → Form × Text
 after_greater [] = (greater, [])
 after_greater (b ∷ t) =
-    if b == 61 then (at_least, behind_blanks t) else (greater, behind_blanks (b ∷ t))
+    if b == code "=" then (at_least, behind_blanks t) else (greater, behind_blanks (b ∷ t))
 
 abbrev pub after_tilde : Text → Form × Text
 after_tilde [] = (tilde, [])
-after_tilde (b ∷ t) = if b == 62 then (tilde, behind_blanks t) else (tilde, behind_blanks (b ∷ t))
+after_tilde (b ∷ t) = if b == code ">" then (tilde, behind_blanks t) else (tilde, behind_blanks (b ∷ t))
 
 abbrev pub operator : Text → Form × Text
 operator [] = (bare, [])
 operator (b ∷ t) =
-    if b == 61 then (equal, behind_blanks t)
-    else (if b == 60 then after_less t
-    else (if b == 62 then after_greater t
-    else (if b == 126 then after_tilde t
-    else (if b == 94 then (caret, behind_blanks t)
+    if b == code "=" then (equal, behind_blanks t)
+    else (if b == code "<" then after_less t
+    else (if b == code ">" then after_greater t
+    else (if b == code "~" then after_tilde t
+    else (if b == code "^" then (caret, behind_blanks t)
     else (bare, b ∷ t)))))
 
 -- a simple, and what follows it and the blanks behind it
@@ -174,7 +172,7 @@ abbrev pub right_side : Text → Option (PartialTree × Text)
 right_side [] = None
 right_side (dash ∷ []) = None
 right_side (dash ∷ blank ∷ t) =
-    if (dash == 45) && is_blank blank then range_end (partial (behind_blanks t)) else None
+    if (dash == code "-") && is_blank blank then range_end (partial (behind_blanks t)) else None
 
 -- a hyphen range of a first simple, which has to be bare, and a right side
 abbrev pub is_bare : Form → Bool
@@ -194,7 +192,7 @@ with_others s (Some found) = Some (simples s found.0, found.1)
 abbrev pub behind_first : Option (Simple × Text) → Option (RangeTree × Text)
 behind_first None = None
 behind_first (Some found) =
-    if begins_with 45 found.1 then with_right found.0 (right_side found.1) else with_others found.0
+    if begins_with (code "-") found.1 then with_right found.0 (right_side found.1) else with_others found.0
     (all_simples found.1)
 
 -- a range and what follows it
