@@ -149,7 +149,6 @@ impl<'input> Iterator for Events<'input> {
 }
 
 /// The simples of a hyphen range, of which the left side has to be bare, and what follows it.
-#[inline(never)]
 fn read_hyphen_range<'input>(
     left: Simple<'input>,
     behind: &'input [u8],

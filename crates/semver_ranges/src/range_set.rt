@@ -288,7 +288,6 @@ fn build_only_simple(
 
 /// The range set of a text in two runs over its events: the first surveys all of it, and the second
 /// builds.
-#[inline(never)]
 fn read_ranges(
     alloc: Global,
     text: &[u8],
