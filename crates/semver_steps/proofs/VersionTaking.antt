@@ -349,9 +349,6 @@ abbrev pub AreBehindMark : ParserState → List IdentifierValue → ParserState 
 AreBehindMark t ids u =
     AtMark t (λ s part text. (texts : List Text) × AllZip SpellsIdentifier ids texts × IsTakenTo s (at_run part) (text ++ dotted texts) u)
 
-pub part_begins : (t : ParserState) → AreBeforeMark t [] t
-part_begins t s part text at = ([], tt, rw append-nil at)
-
 mark_given : {s t : ParserState} {part : Part} {text : Text} → IsAtMark s part text t → (d : Step TokenValue) → d ≡ pop t
     → Gives (RefusesVersion s) (λ x u. IsTakenTo s (at_run part) text u) d
 mark_given {part = part} at d e = rw (e, ← at.text_is) (next_taken at.taken (at_run part) at.mark at.next at.leads)

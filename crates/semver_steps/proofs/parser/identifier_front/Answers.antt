@@ -1,4 +1,4 @@
-use Rattle.std.proofs.Common.{◌≡◌, take, ap, sym, ◌∙◌, subst, arith, IsCharBoundary}
+use Rattle.std.proofs.Common.{◌≡◌, ap, ◌∙◌}
 use Rattle.std.specs.List.{prefix_len}
 use Rattle.semver_texts.specs.Texts.{is_part_byte}
 use Rattle.semver_tokens.proofs.Cuts.{cut_after_prefix}
@@ -11,7 +11,4 @@ len_is c = c.part_len-len.ensures ∙ ap (prefix_len is_part_byte) c.as_bytes.en
 
 pub range-requires-clause-end_boundary : goal.range-requires-clause-end_boundary
 range-requires-clause-end_boundary c =
-    subst (IsCharBoundary c.args.text.now) (sym (len_is c)) (cut_after_prefix is_part_byte part_ascii c.args.text.now c.utf8.text)
-
-pub returns : goal.returns
-returns c = c.range.ensures.value ∙ ap (λ n. take n c.args.text.now) (omega (arith, len_is (goal.at.returns c).After-part_len-len))
+    rw (len_is c) (cut_after_prefix is_part_byte part_ascii c.args.text.now c.utf8.text)

@@ -4,13 +4,10 @@ use Rattle.std.proofs.lemmas.List.{map_push}
 use Rattle.semver_texts.specs.VersionViews.{identifier_value}
 use Rattle.semver_steps.specs.ParserViews.{fault_of}
 use Rattle.semver_steps.proofs.IdentifierTexts.{unless_out_of_memory, unless_err, if_err}
-use Rattle.semver_steps.proofs.VersionTaking.{AreBehindMark, part_begins, mark_popped, part_refused, part_runs_out}
+use Rattle.semver_steps.proofs.VersionTaking.{AreBehindMark, mark_popped, part_refused, part_runs_out}
 use Rattle.semver_steps.proofs.VersionTaking.{part_runs_out_behind, part_goes_on, part_ends}
 use Rattle.semver_steps.proofs.parser.Parser.identifiers.Goals as goal
 use Rattle.semver_steps.proofs.parser.Parser.identifiers.Goals.{In_ok-pop}
-
-pub loop-identifiers-init : goal.loop-identifiers-init
-loop-identifiers-init c = rw c.new-identifiers.ensures.items (part_begins c.args.self.now)
 
 pub returns-in_err-pop-clause-answer : goal.returns-in_err-pop-clause-answer
 returns-in_err-pop-clause-answer c =
