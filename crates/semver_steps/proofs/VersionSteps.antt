@@ -74,9 +74,9 @@ no_part sign = record { ids = []; each = tt; parted = inl (refl, refl) }
 -- ---- from what is accepted to its parts
 
 -- where a run is wanted, identifiers; behind a run, what goes on with it
-abbrev GoesOn : Bool → List TokenValue → Type 0
-GoesOn false ts = AreIds ts
-GoesOn true ts = (t : TokenValue) → IsTrue (is_component t) → AreIds (t ∷ ts)
+abbrev CompletesIds : Bool → List TokenValue → Type 0
+CompletesIds false ts = AreIds ts
+CompletesIds true ts = (t : TokenValue) → IsTrue (is_component t) → AreIds (t ∷ ts)
 
 -- what stands behind the identifiers of a part
 data Follows (u : Place) : Part → List TokenValue → Type 0 where
@@ -87,7 +87,7 @@ data Follows (u : Place) : Part → List TokenValue → Type 0 where
 record IsPartRest (u : Place) (part : Part) (behind : Bool) (ts : List TokenValue) : Type 0 where
   ids : List TokenValue
   rest : List TokenValue
-  on : GoesOn behind ids
+  on : CompletesIds behind ids
   follows : Follows u part rest
   is : ts ≡ ids ++ rest
 
@@ -95,7 +95,7 @@ rest_ends : {u : Place} {part : Part} {ts : List TokenValue} → Follows u part 
 rest_ends {ts = ts} follows = record { ids = []; rest = ts; on = ids_one; follows = follows; is = refl }
 
 rest_more : {u : Place} {part : Part} {before behind : Bool} {ts : List TokenValue} (t : TokenValue)
-    → ((ids : List TokenValue) → GoesOn behind ids → GoesOn before (t ∷ ids)) → IsPartRest u part behind ts
+    → ((ids : List TokenValue) → CompletesIds behind ids → CompletesIds before (t ∷ ids)) → IsPartRest u part behind ts
     → IsPartRest u part before (t ∷ ts)
 rest_more t on r =
     record { ids = t ∷ r.ids; rest = r.rest; on = on r.ids r.on; follows = r.follows; is = ap (λ l. t ∷ l) r.is }

@@ -370,8 +370,8 @@ module _ (t v w : ParserState) (ids : List IdentifierValue) (k : AreBehindMark t
     part_runs_out_behind s part text at = taken_runs_out (identifier_taken (k s part text at).2 id w reads).taken
 
     -- a dot comes next
-    pub part_goes_on : look w ≡ Some Dot → AreBeforeMark t (ids ++ id ∷ []) w
-    part_goes_on dot s part text at =
+    pub part_before_dot : look w ≡ Some Dot → AreBeforeMark t (ids ++ id ∷ []) w
+    part_before_dot dot s part text at =
         let m = k s part text at in
         let q = identifier_taken m.2 id w reads in (
           m.0 ++ q.id ∷ [],

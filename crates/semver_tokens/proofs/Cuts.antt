@@ -41,7 +41,8 @@ pub cut_after_ascii : (text : List ℕ) (place : ℕ) (xs more : List ℕ) → I
 cut_after_ascii text place xs more utf8 e some ascii =
     let last : ℕ = length xs - 1 in
     let room : length text - place ≡ length xs + length more = sym (length-drop place text) ∙ ap length e ∙ length-append xs more in
-    let byte : get_or text (place + last) 0 ≡ get_or xs last 0 = cc (get_or-drop place text last 0, get_or_append_left xs more 0 last (omega arith)) in
+    let byte : get_or text (place + last) 0 ≡ get_or xs last 0 =
+    cc (get_or-drop place text last 0, get_or_append_left xs more 0 last (omega arith)) in
     let small : get_or text (place + last) 0 < 128 = rw byte (ascii last) in
     let after : place + last + 1 ≡ place + length xs = omega arith in
     subst (IsCharBoundary text) after (IsCharBoundary-after_ascii text (place + last) utf8 (omega arith) small)

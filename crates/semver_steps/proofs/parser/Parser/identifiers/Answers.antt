@@ -5,7 +5,7 @@ use Rattle.semver_texts.specs.VersionViews.{identifier_value}
 use Rattle.semver_steps.specs.ParserViews.{fault_of}
 use Rattle.semver_steps.proofs.IdentifierTexts.{unless_out_of_memory, unless_err, if_err}
 use Rattle.semver_steps.proofs.VersionTaking.{AreBehindMark, mark_popped, part_refused, part_runs_out}
-use Rattle.semver_steps.proofs.VersionTaking.{part_runs_out_behind, part_goes_on, part_ends}
+use Rattle.semver_steps.proofs.VersionTaking.{part_runs_out_behind, part_before_dot, part_ends}
 use Rattle.semver_steps.proofs.parser.Parser.identifiers.Goals as goal
 use Rattle.semver_steps.proofs.parser.Parser.identifiers.Goals.{In_ok-pop}
 
@@ -45,7 +45,7 @@ pub loop-identifiers-preserved : goal.loop-identifiers-preserved
 loop-identifiers-preserved c =
     let k = behind_mark (goal.at.loop-identifiers-preserved c).In_ok-pop in
     rw (c.in-Ok.ensures.items, map_push identifier_value c.loop-identifiers.identifiers.items c.in_ok-identifier.identifier)
-    (part_goes_on c.args.self.now c.pop.new.self c.identifier.new.self _ k
+    (part_before_dot c.args.self.now c.pop.new.self c.identifier.new.self _ k
     (identifier_value c.in_ok-identifier.identifier) c.in_ok-identifier.ensures.answer (c.at_dot.ensures.0 c.if-not-at_dot.false))
 
 pub returns-then-not-at_dot-clause-answer : goal.returns-then-not-at_dot-clause-answer
