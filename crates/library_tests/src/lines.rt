@@ -39,22 +39,43 @@ impl Read for Broken<'_> {
 pub fn write_lines(rt: &impl Print, alloc: Global) -> io::Result<()> {
     let mut faults = 0u32;
     for most in [1, 5, usize::MAX] {
-        for place in 0..=INPUT.len() {
-            if !ends_at_a_reader(alloc, place, most)? {
-                println!(rt; "lines: wrong where reading fails after {place} bytes")?;
-            }
-            faults = faults.saturating_add(1);
-        }
+        faults = faults.saturating_add(write_wrong_readers(rt, alloc, most)?);
         for refusal in [Refusal::Fail, Refusal::Interrupt, Refusal::TakeNone] {
-            for left in 0..=OUTPUT.len() {
-                if !ends_at_a_writer(alloc, left, most, refusal) {
-                    println!(rt; "lines: wrong where writing fails after {left} bytes")?;
-                }
-                faults = faults.saturating_add(1);
-            }
+            faults = faults.saturating_add(write_wrong_writers(rt, alloc, most, refusal)?);
         }
     }
     println!(rt; "lines: {faults} readers and writers")
+}
+
+/// Writes at which faults of a reader that gives so many bytes at a call the filter doesn't end as
+/// it has to, and answers how many there were.
+fn write_wrong_readers(rt: &impl Print, alloc: Global, most: usize) -> io::Result<u32> {
+    let mut faults = 0u32;
+    for place in 0..=INPUT.len() {
+        if !ends_at_a_reader(alloc, place, most)? {
+            println!(rt; "lines: wrong where reading fails after {place} bytes")?;
+        }
+        faults = faults.saturating_add(1);
+    }
+    Ok(faults)
+}
+
+/// Writes at which faults of a writer that takes so many bytes at a call the filter doesn't end as
+/// it has to, and answers how many there were.
+fn write_wrong_writers(
+    rt: &impl Print,
+    alloc: Global,
+    most: usize,
+    refusal: Refusal,
+) -> io::Result<u32> {
+    let mut faults = 0u32;
+    for left in 0..=OUTPUT.len() {
+        if !ends_at_a_writer(alloc, left, most, refusal) {
+            println!(rt; "lines: wrong where writing fails after {left} bytes")?;
+        }
+        faults = faults.saturating_add(1);
+    }
+    Ok(faults)
 }
 
 /// Writes which faulty lines aren't passed over, and how many there were.
@@ -113,10 +134,11 @@ fn ends_at_a_reader(alloc: Global, place: usize, most: usize) -> io::Result<bool
         7..=23 => "1.2.0\r\n",
         _ => "1.2.0\r\n1.9.0\n",
     };
-    Ok(
-        out.as_slice() == written.as_bytes()
-            && matches!(ran, Err(FilterError::Read(error)) if error.kind() == ErrorKind::ConnectionReset),
-    )
+    let is_told = match ran {
+        Err(FilterError::Read(error)) => error.kind() == ErrorKind::ConnectionReset,
+        _ => false,
+    };
+    Ok(is_told && out.as_slice() == written.as_bytes())
 }
 
 /// Whether the fault of the writer is told and nothing written after it, or all is written and it

@@ -7,6 +7,10 @@ use semver_parser::{Compat, Op, RangeSet, version};
 use std::alloc::Global;
 use std::io;
 
+/// A range whose comparators are in order.
+const COMPARATORS: &str = "<1.1.1-1 <=0.1.1-1 <=1.0.1-1 <=1.1.0-1 <=1.1.1-0 <=1.1.1-1 >1.0.0 \
+    >=1.0.0 =1.0.0-9.10.1a.A.a.aa";
+
 /// Writes how many values of each enum are in order.
 pub fn write_enums(rt: &impl Print, alloc: Global) -> io::Result<()> {
     let tokens = [
@@ -74,10 +78,7 @@ pub fn write_structs(rt: &impl Print, alloc: Global) -> io::Result<()> {
     }
     let mut sets: Vec<RangeSet> = Vec::new(alloc);
     for (text, compat) in [
-        (
-            "<1.1.1-1 <=0.1.1-1 <=1.0.1-1 <=1.1.0-1 <=1.1.1-0 <=1.1.1-1 >1.0.0 >=1.0.0 =1.0.0-9.10.1a.A.a.aa",
-            Compat::Npm,
-        ),
+        (COMPARATORS, Compat::Npm),
         ("<=1.0.0", Compat::Cargo),
         ("<=1.0.0", Compat::Npm),
     ] {

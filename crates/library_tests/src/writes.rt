@@ -12,20 +12,33 @@ const BYTES: &[u8] = b"1.2.3";
 /// there were.
 pub fn write_writes(rt: &impl Print, alloc: Global) -> io::Result<()> {
     let mut writes = 0u32;
-    for len in 0..=BYTES.len() {
-        let bytes = BYTES.get(..len).unwrap_or_default();
-        for refusal in [Refusal::Fail, Refusal::Interrupt, Refusal::TakeNone] {
-            for most in [1, usize::MAX] {
-                for left in 0..=len {
-                    if !ends_as_documented(alloc, bytes, left, most, refusal) {
-                        println!(rt; "writes: wrong with {left} of {len} bytes")?;
-                    }
-                    writes = writes.saturating_add(1);
-                }
+    for refusal in [Refusal::Fail, Refusal::Interrupt, Refusal::TakeNone] {
+        for most in [1, usize::MAX] {
+            let (count, wrong) = count_writes(alloc, most, refusal);
+            writes = writes.saturating_add(count);
+            if wrong > 0 {
+                println!(rt; "writes: {wrong} wrong where {most} bytes are taken at a call")?;
             }
         }
     }
     println!(rt; "writes: {writes} writers")
+}
+
+/// How many beginnings of the bytes were written to writers with each room, and how many of these
+/// writes didn't end as they have to.
+fn count_writes(alloc: Global, most: usize, refusal: Refusal) -> (u32, u32) {
+    let mut count = 0u32;
+    let mut wrong = 0u32;
+    for len in 0..=BYTES.len() {
+        let bytes = BYTES.get(..len).unwrap_or_default();
+        for left in 0..=len {
+            count = count.saturating_add(1);
+            if !ends_as_documented(alloc, bytes, left, most, refusal) {
+                wrong = wrong.saturating_add(1);
+            }
+        }
+    }
+    (count, wrong)
 }
 
 /// Whether all is written, or what is taken before a refusal, and then the error of the
