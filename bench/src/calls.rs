@@ -44,9 +44,10 @@ pub fn semver_version(text: &str) -> u64 {
     })
 }
 
-/// 1 where a text is a version here. A version that was read is dropped at once.
+/// 1 where a text is a version here, by the call that only asks so. A version that was read is
+/// dropped at once.
 pub fn here_is_version(text: &str) -> u64 {
-    unsafe { speed_is_version(text.as_ptr(), text.len()) }
+    is_version(unsafe { speed_is_version(text.as_ptr(), text.len()) } == 1)
 }
 
 /// 1 where a text is a version to the crate `semver-parser`.

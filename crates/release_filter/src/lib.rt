@@ -68,6 +68,7 @@ fn each_comparator_is_met(comparators: &[Comparator], version: &Version) -> bool
 }
 
 /// Whether a version meets a comparator.
+#[inline(always)]
 fn comparator_is_met(comparator: &Comparator, version: &Version) -> bool
     ensures { result ≡ meets_comparator (version_value version.now).plain
         (comparator_of comparator.now) }

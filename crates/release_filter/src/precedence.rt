@@ -13,19 +13,25 @@ use std::cmp::Ordering;
 
 /// Compares by the three numbers, and where these are equal by the pre-releases. The build of the
 /// version doesn't count.
+#[inline(always)]
 pub fn compare(version: &Version, comparator: &Comparator) -> Ordering
     ensures { result ≡ precedence (version_value version.now).plain
         (comparator_of comparator.now).version }
 {
-    version
-        .major
-        .cmp(&comparator.major)
-        .then(version.minor.cmp(&comparator.minor))
-        .then(version.patch.cmp(&comparator.patch))
-        .then_with(|| compare_pre_releases(&version.pre, &comparator.pre))
+    if version.major != comparator.major {
+        return version.major.cmp(&comparator.major);
+    }
+    if version.minor != comparator.minor {
+        return version.minor.cmp(&comparator.minor);
+    }
+    if version.patch != comparator.patch {
+        return version.patch.cmp(&comparator.patch);
+    }
+    compare_pre_releases(&version.pre, &comparator.pre)
 }
 
 /// No pre-release is above any. Two go identifier by identifier.
+#[inline(never)]
 fn compare_pre_releases(version: &[version::Identifier], comparator: &[Identifier]) -> Ordering
     ensures { result ≡ pre_cmp (map identifier_value version.now)
         (map identifier_of comparator.now) }

@@ -130,29 +130,78 @@ first_of_front (b ∷ text) some = by (is_ascii_digit b) some
     by true some = rw one-add refl
     by false some = absurd (omega (arith, some))
 
+-- what follows so many bytes
+behind : (text rest : List ℕ) (len : ℕ) → rest ≡ take (length text - len) (drop len text) → rest ≡ drop len text
+behind text rest len is = is ∙ ap (λ (k : ℕ). take k (drop len text)) (sym (length-drop len text)) ∙ take-length (drop len text)
+
+digit_some : (text : List ℕ) → is_ascii_digit (slice_index text 0) ≡ true → 0 < length text
+digit_some [] digit = cc
+digit_some (b ∷ text) digit = omega arith
+
+front_some : (text : List ℕ) → is_ascii_digit (slice_index text 0) ≡ true → 0 < length (digits_front text)
+front_some [] digit = cc
+front_some (b ∷ text) digit = omega (arith, length-prefix_len is_ascii_digit (b ∷ text), more)
+  where
+    more : prefix_len is_ascii_digit (b ∷ text) ≡ 1 + prefix_len is_ascii_digit text
+    more = rw digit refl
+
 -- what was read is a number, where it has no leading zero
-pub number_read : (text rest : List ℕ) (n len : ℕ) → n < 2 ^ 64 → n ≡ digits_value 10 (digits_front text)
-    → len ≡ length (digits_front text) → 0 < len → (get_or text 0 0 ≡ 48 → len ≡ 1) → rest ≡ take (length text - len) (drop len text)
+pub number_read : (text rest : List ℕ) (n len : ℕ) → is_ascii_digit (slice_index text 0) ≡ true → slice_index text 0 ≢ 48 → n < 2 ^ 64
+    → n ≡ digits_value 10 (digits_front text) → len ≡ length (digits_front text) → rest ≡ take (length text - len) (drop len text)
     → BeginsWithNumber text n rest
-number_read text rest n len small is count some no_zero behind =
-    let filled : 0 < length (digits_front text) = omega (arith, some, count) in
-    let left : rest ≡ drop (length (digits_front text)) text =
-    behind ∙ ap (λ (k : ℕ). take k (drop len text)) (sym (length-drop len text)) ∙ take-length (drop len text)
-    ∙ ap (λ (k : ℕ). drop k text) count in
-    subst (λ (l : List ℕ). BeginsWithNumber text n l) (sym left)
+number_read text rest n len digit no_zero small is count left =
+    let filled = front_some text digit in
+    subst (λ (l : List ℕ). BeginsWithNumber text n l) (sym (behind text rest len left ∙ ap (λ (k : ℕ). drop k text) count))
     (subst (λ (m : ℕ). BeginsWithNumber text m (drop (length (digits_front text)) text)) (sym is)
-    (front_begins text filled (λ z. sym count ∙ no_zero (sym (first_of_front text filled) ∙ z)) (subst (λ (m : ℕ). m < 2 ^ 64) is small)))
+    (front_begins text filled (λ z. absurd (no_zero (sym (first_of_front text filled) ∙ z))) (subst (λ (m : ℕ). m < 2 ^ 64) is small)))
 
 -- and else there is none
-pub none_read : (text : List ℕ) (len : ℕ) → len ≡ length (digits_front text) → (len ≡ 0) ⊎ ((get_or text 0 0 ≡ 48) × (len ≢ 1))
-    → (n : ℕ) (rest : List ℕ) → ¬ (BeginsWithNumber text n rest)
-none_read text len count other n rest w =
-    let c = front_canonical text n rest w in
-    ⊎_elim (λ none. absurd (omega (arith, c.0, count, none)))
-    (λ zero. zero.1 (count ∙ c.1.no_leading_zero (first_of_front text c.0 ∙ zero.0))) other
-
 pub too_large : (text : List ℕ) → 2 ^ 64 ≤ digits_value 10 (digits_front text) → (n : ℕ) (rest : List ℕ) → ¬ (BeginsWithNumber text n rest)
 too_large text large n rest w = absurd (omega (arith, large, (front_canonical text n rest w).1.small))
+
+-- where no digit stands at the front, where a zero stands before a digit, and where a digit stands alone
+pub no_digit : (text : List ℕ) → is_ascii_digit (slice_index text 0) ≡ false → (n : ℕ) (rest : List ℕ)
+    → ¬ (BeginsWithNumber text n rest)
+no_digit [] other n rest w = absurd (omega (arith, (front_canonical [] n rest w).0))
+no_digit (b ∷ text) other n rest w =
+    absurd (omega (arith, (front_canonical (b ∷ text) n rest w).0, length-prefix_len is_ascii_digit (b ∷ text), ended))
+  where
+    ended : prefix_len is_ascii_digit (b ∷ text) ≡ 0
+    ended = rw other refl
+
+pub leading_zero : (text rest : List ℕ) → rest ≡ take (length text - 1) (drop 1 text) → slice_index text 0 ≡ 48
+    → is_ascii_digit (slice_index rest 0) ≡ true → (n : ℕ) (more : List ℕ) → ¬ (BeginsWithNumber text n more)
+leading_zero [] rest is zero digit n more w = absurd (omega (arith, zero))
+leading_zero (b ∷ []) rest is zero digit n more w =
+    let e : false ≡ true = sym (ap (λ (t : List ℕ). is_ascii_digit (slice_index t 0)) (behind (b ∷ []) rest 1 is)) ∙ digit in cc
+leading_zero (b ∷ c ∷ text) rest is zero digit n more w =
+    let canonical = front_canonical (b ∷ c ∷ text) n more w in
+    absurd (omega (
+      arith,
+      canonical.1.no_leading_zero (first_of_front (b ∷ c ∷ text) canonical.0 ∙ zero),
+      length-prefix_len is_ascii_digit (b ∷ c ∷ text),
+      two,
+    ))
+  where
+    second : is_ascii_digit c ≡ true
+    second = sym (ap (λ (t : List ℕ). is_ascii_digit (slice_index t 0)) (behind (b ∷ c ∷ text) rest 1 is)) ∙ digit
+
+    two : prefix_len is_ascii_digit (b ∷ c ∷ text) ≡ 1 + (1 + prefix_len is_ascii_digit text)
+    two = rw (zero, second) refl
+
+pub one_digit : (text rest : List ℕ) → rest ≡ take (length text - 1) (drop 1 text) → is_ascii_digit (slice_index text 0) ≡ true
+    → is_ascii_digit (slice_index rest 0) ≡ false → (n : ℕ) → n ≡ slice_index text 0 - 48 → BeginsWithNumber text n rest
+one_digit [] rest is digit other n same_n = absurd (omega (arith, digit_some [] digit))
+one_digit (b ∷ text) rest is digit other n same_n =
+    let range : (48 ≤ b) × (b ≤ 57) = grind arith in
+    let same : 48 + (b - 48) ≡ b = omega (arith, range.0) in
+    let alone : decimal (b - 48) ≡ b ∷ [] =
+    decimal_digit (b - 48) (omega (arith, range.1)) ∙ ap (λ (x : ℕ). x ∷ []) same in
+    record {
+      fits = omega (arith, range.1, same_n);
+      split = (λ i. sym (ap decimal same_n ∙ alone) i ++ sym (behind (b ∷ text) rest 1 is) i);
+      ended = other;
+    }
 
 -- it is one number
 pub same_number : (text : List ℕ) (n m : ℕ) (rest more : List ℕ) → BeginsWithNumber text n rest → BeginsWithNumber text m more

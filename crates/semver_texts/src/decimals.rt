@@ -1,7 +1,8 @@
 //! Numbers: canonical decimals, which are `0`, or digits that don't begin with `0`.
-ghost use Rattle.std.specs.Prelude.{◌≡◌, ℕ, ◌+◌, ◌*◌, ◌<◌, ◌≤◌, ◌^◌, ◌⊎◌, ◌≢◌, ◌∷◌, length};
+ghost use Rattle.std.specs.Prelude.{◌≡◌, ℕ, ◌+◌, ◌*◌, ◌<◌, ◌≤◌, ◌^◌, ◌∷◌, length};
 ghost use Rattle.std.specs.Prelude.{decimal};
-ghost use Rattle.std.specs.Prelude.{true, false, slice_index, MatchOption};
+ghost use Rattle.std.specs.Prelude.{true, slice_index, MatchOption};
+ghost use Rattle.std.specs.Char.{is_ascii_digit};
 ghost use Rattle.std.specs.Str.Parse.{digits_value};
 ghost use Rattle.semver_texts.specs.Texts.{Text, IsNumber, BeginsWithNumber, BeginsWithNumbers};
 ghost use Rattle.semver_texts.specs.Means.Decimals.{digits_front};
@@ -22,16 +23,18 @@ pub fn with_digit(number: u64, digit: u8) -> Option<u64>
     number.checked_mul(10)?.checked_add(u64::from(digit))
 }
 
-/// The number that the digits at the front write, whatever the first one is, and how many they are;
-/// none where it is 2^64 or more.
+/// The number that the digits at the front write, and how many they are; none where it is 2^64 or
+/// more.
 #[inline(always)]
 fn digits(bytes: &[u8]) -> Option<(u64, usize)>
+    requires some { 0 < length bytes.now }
+    requires digit { is_ascii_digit (slice_index bytes.now 0) ≡ true }
     ensures { MatchOption result (2 ^ 64 ≤ digits_value 10 (digits_front bytes.now))
         (λ r. (r.0 < 2 ^ 64) × (r.0 ≡ digits_value 10 (digits_front bytes.now))
         × (r.1 ≡ length (digits_front bytes.now))) }
 {
-    let mut number = 0;
-    for at in 0..bytes.len() {
+    let mut number = u64::from(bytes[0] - b'0');
+    for at in 1..bytes.len() {
         let digit = bytes[at];
         if !digit.is_ascii_digit() {
             return Some((number, at));
@@ -41,30 +44,38 @@ fn digits(bytes: &[u8]) -> Option<(u64, usize)>
     Some((number, bytes.len()))
 }
 
-/// Whether so many digits at the front are a canonical decimal: one, or more that don't begin with
-/// `0`.
+/// Whether a digit stands at the front.
 #[inline(always)]
-fn is_canonical(bytes: &[u8], len: usize) -> bool
-    requires { len ≤ length bytes.now }
-    ensures some { result ≡ true → 0 < len }
-    ensures first { result ≡ true → slice_index bytes.now 0 ≡ 48 → len ≡ 1 }
-    ensures other { result ≡ false → (len ≡ 0) ⊎ ((slice_index bytes.now 0 ≡ 48) × (len ≢ 1)) }
+fn begins_with_digit(bytes: &[u8]) -> bool
+    ensures { result ≡ is_ascii_digit (slice_index bytes.now 0) }
 {
-    len == 1 || len > 1 && bytes[0] != b'0'
+    match bytes {
+        [first, ..] => first.is_ascii_digit(),
+        [] => false,
+    }
 }
 
 /// The number at the front, and what follows it, which doesn't begin with a digit.
+///
+/// One digit alone is told first, for speed: so a loop runs for longer numbers only.
 #[inline(always)]
 fn number(bytes: &[u8]) -> Option<(u64, &[u8])>
     ensures { MatchOption result ((n : ℕ) (rest : Text) → ¬ (BeginsWithNumber bytes.now n rest))
         (λ r. BeginsWithNumber bytes.now r.0 r.1.now) }
 {
-    let (number, len) = digits(bytes)?;
-    if is_canonical(bytes, len) {
-        Some((number, &bytes[len..]))
-    } else {
-        None
+    if !begins_with_digit(bytes) {
+        return None;
     }
+    let first = bytes[0];
+    let rest = &bytes[1..];
+    if !begins_with_digit(rest) {
+        return Some((u64::from(first - b'0'), rest));
+    }
+    if first == b'0' {
+        return None;
+    }
+    let (number, len) = digits(bytes)?;
+    Some((number, &bytes[len..]))
 }
 
 /// The number up to 2^64 - 1 that the whole text is.

@@ -29,6 +29,7 @@ use std::alloc::{AllocError, Global};
 /// build: nothing is asked for before the whole text is known to spell one. Then memory is taken
 /// for each identifier that isn't a number, and for the lists of identifiers. So a text that spells
 /// no version is always answered, and takes no memory, however long it is.
+#[inline(always)]
 pub fn read(alloc: Global, input: &str) -> Result<Option<Version>, AllocError>
     // Unless memory ran out, a version is answered exactly where the text spells it.
     ensures exact { (v : VersionValue) → IfOk result (λ found.
