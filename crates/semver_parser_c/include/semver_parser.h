@@ -14,6 +14,8 @@
  *
  * MEMORY. Nothing is kept between calls, and nothing is left for the caller to free: what a call takes from `malloc` it gives back to `free`. So
  * calls may be made from several threads at once, where `malloc` and `free` may. c/heap.c joins the library to these two, and is linked with it.
+ * A version text takes memory for its identifiers alone, and any other none but where it is a version and more (SEMVER_PARSER_MORE_INPUT): the
+ * tokens behind the version are collected to tell that fault, some 24 bytes for each byte at most.
  *
  * TIME. Each call reads its texts anew, in time linear in their lengths; `semver_parser_meets` reads both. So to compare one range with many versions
  * is to read it as many times.
