@@ -111,7 +111,8 @@ module _ (t : Text) (mode : Compat) where
       ∙ some_means mode tree v
   exact_meaning (Err e) h = tt
 
-  pub exact_printable : (r : Result RangeSet RangeError) → IsAnswer lowest_pre_release t mode r → IfOk r (λ set. IsPrintableSet (set_of set))
+  pub exact_printable : (r : Result RangeSet RangeError) → IsAnswer lowest_pre_release t mode r
+      → IfOk r (λ set. IsPrintableSet (set_of set))
   exact_printable r h = printable lowest_pre_release t mode refl r h
 
   pub printed_back : (r : Result RangeSet RangeError) → IsAnswer lowest_pre_release t mode r

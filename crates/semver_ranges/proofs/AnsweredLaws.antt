@@ -94,7 +94,8 @@ module _ (bound_pre : List IdentifierValue) (keeps : list_all is_kept bound_pre 
 
   simples_some : (s : Simple) (ss : List Simple) → is_empty (flat_map (written_simple bound_pre mode) (s ∷ ss)) ≡ false
   simples_some s ss =
-      go (written_simple bound_pre mode s) (cell_some (cell mode s.form (stated s.partial)) (stated s.partial) (zero_filled s.partial)) where
+      go (written_simple bound_pre mode s) (cell_some (cell mode s.form (stated s.partial)) (stated s.partial)
+      (zero_filled s.partial)) where
         go : (cs : List PlainComparator) → is_empty cs ≡ false → is_empty (cs ++ flat_map (written_simple bound_pre mode) ss) ≡ false
         go [] e = cc
         go (c ∷ cs) e = refl
@@ -149,7 +150,8 @@ module _ (bound_pre : List IdentifierValue) (keeps : list_all is_kept bound_pre 
       (padded_printable r head h parts.0) (ranges_printable (next ∷ others) tail more parts.1)
 
   -- what a tree that spells a text and fits is rewritten to is printable
-  pub written_printable : (tree : SetTree) (t : Text) → Spells tree t → fits mode tree ≡ true → IsPrintableSet (written_set bound_pre mode tree)
+  pub written_printable : (tree : SetTree) (t : Text) → Spells tree t → fits mode tree ≡ true
+      → IsPrintableSet (written_set bound_pre mode tree)
   written_printable tree t h e = (some tree h, ranges_printable tree t h e) where
     some : (tree : SetTree) → Spells tree t → not (is_empty (written_set bound_pre mode tree).ranges) ≡ true
     some [] h = absurd h

@@ -56,7 +56,8 @@ sum_end mode t fit ended e = at (read t) refl e where
       (r ∷ others, is, sym (set_fits mode (r ∷ others)) ∙ fit_is ∙ fit_end fit, omega (arith, ended_is, set_bars r others))
 
 -- one range more of a set, and what is left behind it
-pub one_range_more : (bound_pre : List IdentifierValue) (mode : Compat) (tree left : SetTree) (before : List PlainRange) (r : PlainRange) (cursor : Events) (at : ℕ)
+pub one_range_more : (bound_pre : List IdentifierValue) (mode : Compat) (tree left : SetTree) (before : List PlainRange)
+    (r : PlainRange) (cursor : Events) (at : ℕ)
     → fits mode left ≡ true → at + length left ≡ length tree → at < length tree
     → before ++ map (range_for bound_pre mode) left ≡ map (range_for bound_pre mode) tree
     → r ≡ range_of_simples bound_pre mode (range_simples (events_of left)) → HasLeft cursor (Some (range_others (events_of left)))
@@ -64,7 +65,8 @@ pub one_range_more : (bound_pre : List IdentifierValue) (mode : Compat) (tree le
     × ((before ++ r ∷ []) ++ map (range_for bound_pre mode) others ≡ map (range_for bound_pre mode) tree)
 one_range_more bound_pre mode tree [] before r cursor at fit count within whole is has = absurd (omega (arith, count, within))
 one_range_more bound_pre mode tree (x ∷ others) before r cursor at fit count within whole is has =
-    let range : r ≡ range_for bound_pre mode x = is ∙ ap (range_of_simples bound_pre mode) (first_simples x others) ∙ range_made bound_pre mode x in (
+    let range : r ≡ range_for bound_pre mode x = is ∙ ap (range_of_simples bound_pre mode) (first_simples x others)
+    ∙ range_made bound_pre mode x in (
       others,
       (and_parts _ _ fit).1,
       omega (arith, count),

@@ -162,7 +162,8 @@ comparator_again : (bound_pre : List IdentifierValue) (mode : Compat) (c : Plain
 comparator_again bound_pre mode c h =
     let cell_of = cell mode (form_of c.op) in
     ap (λ s. written_cell bound_pre (cell_of s) s (filled s (pre_release (version_tree c.version)))) (stated_numbers c.version h)
-    ∙ ap (λ p. written_cell bound_pre (cell_of (numbers c.version)) (numbers c.version) (filled (numbers c.version) p)) (stated_pre c.version h)
+    ∙ ap (λ p. written_cell bound_pre (cell_of (numbers c.version)) (numbers c.version) (filled (numbers c.version) p))
+    (stated_pre c.version h)
     ∙ of_three bound_pre mode c.op c.version
 
 no_bound : (mode : Compat) (op : Op) (v : PlainVersion) → cell_raised (cell mode (form_of op) (numbers v)) (numbers v) ≡ None
@@ -195,7 +196,8 @@ comparators_again : (bound_pre : List IdentifierValue) (mode : Compat) (cs : Lis
 comparators_again bound_pre mode [] e = refl
 comparators_again bound_pre mode (c ∷ cs) e =
     let parts = and_parts (is_printable_version c.version) (list_all (λ c. is_printable_version c.version) cs) e in
-    ap (λ x. x ++ flat_map (written_simple bound_pre mode) (map simple_of cs)) (comparator_again bound_pre mode c (printable c.version parts.0))
+    ap (λ x. x ++ flat_map (written_simple bound_pre mode) (map simple_of cs))
+    (comparator_again bound_pre mode c (printable c.version parts.0))
     ∙ ap (λ x. c ∷ x) (comparators_again bound_pre mode cs parts.1)
 
 comparators_fit : (mode : Compat) (cs : List PlainComparator) → list_all (λ c. is_printable_version c.version) cs ≡ true

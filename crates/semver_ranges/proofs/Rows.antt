@@ -340,11 +340,13 @@ pub row : (v : PlainVersion) (mode : Compat) (form : Form) {s : List ℕ} → Sh
 row v mode form {s = s} shape p =
     let c : Cell = cell mode form s in
     let z : PlainVersion = filled s p in
-    any_row v [] (tail v.pre) mode form shape p ∙ ap (λ (b : Bool). meets_stated mode form s z v || b) (excepted_plainly v (cell_raised c s))
+    any_row v [] (tail v.pre) mode form shape p
+    ∙ ap (λ (b : Bool). meets_stated mode form s z v || b) (excepted_plainly v (cell_raised c s))
 
 -- with exact bounds they are met exactly if its meaning is
 pub exact_row : (v : PlainVersion) (mode : Compat) (form : Form) {s : List ℕ} → Shape s → (p : List IdentifierValue)
-    → list_all (meets_comparator v) (written_cell lowest_pre_release (cell mode form s) s (filled s p)) ≡ meets_stated mode form s (filled s p) v
+    → list_all (meets_comparator v) (written_cell lowest_pre_release (cell mode form s) s (filled s p))
+    ≡ meets_stated mode form s (filled s p) v
 exact_row v mode form {s = s} shape p =
     let c : Cell = cell mode form s in
     let z : PlainVersion = filled s p in

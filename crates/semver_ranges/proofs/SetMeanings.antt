@@ -63,7 +63,8 @@ module _ (bound_pre : List IdentifierValue) (mode : Compat) (v : PlainVersion) w
     simples_meet : (ss : List Simple)
         → list_all (meets_comparator v) (flat_map (written_simple bound_pre mode) ss) ≡ list_all meets (map of_simple ss)
     simples_meet [] = refl
-    simples_meet (s ∷ ss) = list_all-append (meets_comparator v) (written_simple bound_pre mode s) (flat_map (written_simple bound_pre mode) ss)
+    simples_meet (s ∷ ss) =
+        list_all-append (meets_comparator v) (written_simple bound_pre mode s) (flat_map (written_simple bound_pre mode) ss)
         ∙ ap (λ b. b && list_all (meets_comparator v) (flat_map (written_simple bound_pre mode) ss)) (simple_meets s)
         ∙ ap (λ b. meets (of_simple s) && b) (simples_meet ss)
 

@@ -26,7 +26,8 @@ nothing_raised bare = refl
 nothing_raised _ = refl
 
 nothing_written : (bound_pre : List IdentifierValue) (form : Form)
-    → written_cell bound_pre (with_version (nothing_stated form)) [] zero_version ≡ written_cell bound_pre (nothing_stated form) [] zero_version
+    → written_cell bound_pre (with_version (nothing_stated form)) [] zero_version ≡ written_cell bound_pre
+    (nothing_stated form) [] zero_version
 nothing_written bound_pre bare = refl
 nothing_written bound_pre _ = refl
 

@@ -48,7 +48,8 @@ AreSomeBlanks t = IsTrue (not (is_empty t)) × AreBlanks t
 -- a number of any size: `0`, or digits that don't begin with `0`
 abbrev pub is_number : Text → Bool
 is_number [] = false
-is_number (first ∷ rest) = all_ascii_digits (first ∷ rest) && (is_empty rest || not (first == code "0"))
+is_number (first ∷ rest) =
+    all_ascii_digits (first ∷ rest) && (is_empty rest || not (first == code "0"))
 
 -- a wildcard: `x`, `X` or `*`
 abbrev pub is_wildcard : Text → Bool

@@ -101,7 +101,8 @@ written_cell bound_pre from_zero s z = comparator Gte zero_version ∷ []
 written_cell bound_pre below_zero s z = comparator Lt zero_version ∷ []
 written_cell bound_pre (against op) s z = comparator op z ∷ []
 written_cell bound_pre (below k) s z = comparator Lt (up_with bound_pre k s) ∷ []
-written_cell bound_pre (between k) s z = comparator Gte z ∷ comparator Lt (up_with bound_pre k s) ∷ []
+written_cell bound_pre (between k) s z =
+    comparator Gte z ∷ comparator Lt (up_with bound_pre k s) ∷ []
 
 -- the comparators of a cell, whose raised bound has no pre-release
 abbrev pub cell_comparators : Cell → List ℕ → PlainVersion → List PlainComparator

@@ -206,7 +206,8 @@ impl<'input> Partial<'input> {
         requires stated { place_number place ≤ length (stated_of self.now) }
         requires fits { bound_fits (Some (up (place_number place) (stated_of self.now))) ≡ true }
         ensures { IfOk result (λ c. comparator_of c
-            ≡ comparator Op.Lt (up_with (pre_of raised) (place_number place) (stated_of self.now))) }
+            ≡ comparator Op.Lt (up_with (pre_of raised) (place_number place)
+            (stated_of self.now))) }
     {
         let (major, minor, patch) = match place {
             Place::Major => (self.major + 1, 0, 0),

@@ -44,10 +44,7 @@ pub fn run_len(bytes: &[u8]) -> usize
 pub fn part_len(bytes: &[u8]) -> usize
     ensures { result ≡ prefix_len is_part_byte bytes.now }
 {
-    bytes
-        .iter()
-        .take_while(|&&byte| is_part_byte(byte))
-        .count()
+    bytes.iter().take_while(|&&byte| is_part_byte(byte)).count()
 }
 
 /// How many of the bytes are dots: 2 of `1.2.3`.

@@ -44,9 +44,9 @@ fn digits(bytes: &[u8]) -> Option<(u64, usize)>
     Some((number, bytes.len()))
 }
 
-/// Whether a digit stands at the front.
+/// Whether a digit stands at the front: of `1.2`, and not of `.2` or of nothing.
 #[inline(always)]
-fn begins_with_digit(bytes: &[u8]) -> bool
+pub fn begins_with_digit(bytes: &[u8]) -> bool
     ensures { result ≡ is_ascii_digit (slice_index bytes.now 0) }
 {
     match bytes {

@@ -63,7 +63,8 @@ module _ (text : List ℕ) (utf8 : IsUtf8 text) where
         plain : (v : VersionValue) → SpellsVersion v text → v.plain.pre ≡ [] → v.build ≡ [] → answer_of version_value r ≡ Ok v;
         trimmed : IfOk r (λ v. IsTrimmed text (version_text (version_value v)));
         printable : IfOk r (λ v. IsPrintableVersion (version_value v));
-        read_back : (v : VersionValue) → IsPrintableVersion v → text ≡ version_text v → UnlessOutOfMemory r (answer_of version_value r ≡ Ok v);
+        read_back : (v : VersionValue) → IsPrintableVersion v → text ≡ version_text v
+            → UnlessOutOfMemory r (answer_of version_value r ≡ Ok v);
         outcome : UnlessOutOfMemory r (IsOutcomeOf text (answer_of version_value r));
         out_of_memory : IfOutOfMemory r (TextMayRunOut text);
       }

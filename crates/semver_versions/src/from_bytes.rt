@@ -1,9 +1,9 @@
 //! A version read from the bytes of its text: three numbers, and the pre-release and the build as
 //! slices, which are cut at dots once the whole text is known to be a version.
 ghost use Rattle.std.specs.Prelude.{◌≡◌, ◌==◌, ◌||◌, ◌<◌, ◌++◌, [], ◌∷◌, true, false, length, map};
-ghost use Rattle.std.specs.Prelude.{IfOk, IfErr, IfSome, MatchOption};
+ghost use Rattle.std.specs.Prelude.{drop, IfOk, IfErr, IfSome, MatchOption};
 ghost use Rattle.std.specs.List.{AllByRecursion, AllZip, prefix_len, slice_split};
-ghost use Rattle.semver_texts.specs.Texts.{Text, BeginsWithNumbers, marked, is_dot};
+ghost use Rattle.semver_texts.specs.Texts.{Text, BeginsWithNumbers, marked, is_dot, is_space};
 ghost use Rattle.semver_texts.specs.VersionGrammar.{IsIdentifierText, SpellsIdentifier};
 ghost use Rattle.semver_texts.specs.VersionViews.{identifier_value};
 ghost use Rattle.semver_versions.specs.Means.Cutting.{cut_at_dots, AreIdentifiers, is_inner_byte};
@@ -11,7 +11,7 @@ ghost use Rattle.semver_versions.specs.Means.Cutting.{BeginsWithIdentifiers, Are
 ghost use Rattle.semver_versions.specs.Means.Cutting.{AreParts, IsFound, HasIdentifiers};
 
 use semver_texts::bytes::{count_dots, space_len};
-use semver_texts::decimals::{numbers, whole_number};
+use semver_texts::decimals::{begins_with_digit, numbers, whole_number};
 use semver_texts::version::{Identifier, Version};
 use std::alloc::{AllocError, Global};
 
@@ -173,6 +173,17 @@ fn with_parts(
     }))
 }
 
+/// What follows the white space at the front. For speed, a digit there is told first.
+#[inline(always)]
+fn behind_spaces(text: &str) -> &str
+    ensures { result.now ≡ drop (prefix_len is_space text.now) text.now }
+{
+    if begins_with_digit(text.as_bytes()) {
+        return text;
+    }
+    &text[space_len(text.as_bytes())..]
+}
+
 /// The version that the text spells, if it spells one; an error is want of memory for its
 /// identifiers.
 ///
@@ -182,7 +193,7 @@ pub(crate) fn version(alloc: Global, input: &str) -> Result<Option<Version>, All
     ensures found { IfOk result (λ found. IsFound input.now found) }
     ensures memory { IfErr result (λ _. HasIdentifiers input.now) }
 {
-    let text = &input[space_len(input.as_bytes())..];
+    let text = behind_spaces(input);
     let Some((major, minor, patch, rest)) = numbers(text.as_bytes()) else {
         return Ok(None);
     };

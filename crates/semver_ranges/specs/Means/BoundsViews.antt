@@ -67,7 +67,8 @@ compared (Some op) v = comparator op v ∷ []
 
 abbrev pub raised_at : RaisedBounds → Option Place → List ℕ → List PlainComparator
 raised_at raised None s = []
-raised_at raised (Some place) s = comparator Lt (up_with (pre_of raised) (place_number place) s) ∷ []
+raised_at raised (Some place) s =
+    comparator Lt (up_with (pre_of raised) (place_number place) s) ∷ []
 
 abbrev pub comparators_of : RaisedBounds → Bounds → Partial → List PlainComparator
 comparators_of raised b p =

@@ -96,7 +96,8 @@ with_second a (Some found) = behind_two a found.0 found.1
 
 abbrev pub behind_one : Text → Text → Option (PartialTree × Text)
 behind_one a [] = Some (one a, [])
-behind_one a (dot ∷ t) = if dot == code "." then with_second a (component t) else Some (one a, dot ∷ t)
+behind_one a (dot ∷ t) =
+    if dot == code "." then with_second a (component t) else Some (one a, dot ∷ t)
 
 abbrev pub with_first : Option (Text × Text) → Option (PartialTree × Text)
 with_first None = None
@@ -113,7 +114,8 @@ partial t = whole_word (with_first (component t))
 -- the operator at the front of a text, and what follows it and its blanks
 abbrev pub after_less : Text → Form × Text
 after_less [] = (less, [])
-after_less (b ∷ t) = if b == code "=" then (at_most, behind_blanks t) else (less, behind_blanks (b ∷ t))
+after_less (b ∷ t) =
+    if b == code "=" then (at_most, behind_blanks t) else (less, behind_blanks (b ∷ t))
 
 abbrev pub after_greater : Text → Form × Text
 after_greater [] = (greater, [])
@@ -122,7 +124,8 @@ after_greater (b ∷ t) =
 
 abbrev pub after_tilde : Text → Form × Text
 after_tilde [] = (tilde, [])
-after_tilde (b ∷ t) = if b == code ">" then (tilde, behind_blanks t) else (tilde, behind_blanks (b ∷ t))
+after_tilde (b ∷ t) =
+    if b == code ">" then (tilde, behind_blanks t) else (tilde, behind_blanks (b ∷ t))
 
 abbrev pub operator : Text → Form × Text
 operator [] = (bare, [])
@@ -192,8 +195,8 @@ with_others s (Some found) = Some (simples s found.0, found.1)
 abbrev pub behind_first : Option (Simple × Text) → Option (RangeTree × Text)
 behind_first None = None
 behind_first (Some found) =
-    if begins_with (code "-") found.1 then with_right found.0 (right_side found.1) else with_others found.0
-    (all_simples found.1)
+    if begins_with (code "-") found.1 then with_right found.0 (right_side found.1)
+    else with_others found.0 (all_simples found.1)
 
 -- a range and what follows it
 abbrev pub range_here : Text → Option (RangeTree × Text)

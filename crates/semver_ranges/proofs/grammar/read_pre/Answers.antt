@@ -6,7 +6,8 @@ pub returns : goal.returns
 returns c = (
   λ a b d. (
     parts_of c.in_ok-rest.field-0-0.now,
-    qualifier_found a b d _ _ c.args.text.now c.in_ok-pre.rest.now c.in_ok-rest.rest.now c.in_ok-pre.ensures.found c.in_ok-rest.ensures.found,
+    qualifier_found a b d _ _ c.args.text.now c.in_ok-pre.rest.now c.in_ok-rest.rest.now c.in_ok-pre.ensures.found
+        c.in_ok-rest.ensures.found,
   ),
   c.in_ok-pre.ensures.parts_pass,
 )

@@ -10,34 +10,20 @@ use Rattle.semver_versions.proofs.CutIdentifiers.{ends_front}
 use Rattle.semver_versions.proofs.SpelledParts.{no_numbers, spells_numbers, spaced, found_spaced, identifiers_spaced, if_ok_more}
 use Rattle.semver_versions.proofs.SpelledParts.{if_err_more}
 use Rattle.semver_versions.proofs.from_bytes.version.Goals as goal
-use Rattle.semver_versions.proofs.from_bytes.version.Goals.{After-space_len, After-range_from-text, After-with_parts}
-
--- how much white space stands in front, and what is left
-count : (c : After-space_len) → c.space_len.result ≡ prefix_len is_space c.args.input.now
-count c = c.space_len.ensures ∙ ap (prefix_len is_space) c.as_bytes.ensures.value
-
-left : (c : After-range_from-text) → c.range_from-text.result.now ≡ drop (prefix_len is_space c.args.input.now) c.args.input.now
-left c = c.range_from-text.ensures.value
-    ∙ ap (λ (n : ℕ). drop n c.args.input.now) (count (goal.at.After-range_from-text c).After-space_len)
-
-pub range_from-text-requires : goal.range_from-text-requires
-range_from-text-requires c = λ _.
-    subst (IsCharBoundary c.args.input.now) (sym (count c))
-    (cut_after_prefix is_space space_ascii c.args.input.now c.utf8.input)
 
 pub returns-in_default-clause-found : goal.returns-in_default-clause-found
 returns-in_default-clause-found c =
     found_spaced c.args.input.now None
     (no_numbers _ (ends_front is_space refl c.args.input.now)
     (subst (λ (t : Text). (major minor patch : ℕ) (rest : Text) → ¬ (BeginsWithNumbers t major minor patch rest))
-    (c.as_bytes-2.ensures.value ∙ left (goal.at.returns-in_default-clause-found c).After-range_from-text) c.in_default.ensures))
+    (c.as_bytes.ensures.value ∙ c.behind_spaces-text.ensures) c.in_default.ensures))
 
 pub returns-then-are_spaces-clause-found : goal.returns-then-are_spaces-clause-found
 returns-then-are_spaces-clause-found c =
     spaced _ c.args.input.now
     (spells_numbers _ c.in-Some.rest.now c.in-Some.major c.in-Some.minor c.in-Some.patch
     (subst (λ (t : Text). BeginsWithNumbers t c.in-Some.major c.in-Some.minor c.in-Some.patch c.in-Some.rest.now)
-    (c.as_bytes-2.ensures.value ∙ left (goal.at.returns-then-are_spaces-clause-found c).After-range_from-text) c.in-Some.ensures)
+    (c.as_bytes.ensures.value ∙ c.behind_spaces-text.ensures) c.in-Some.ensures)
     (c.are_spaces.ensures.yes c.if-are_spaces.true) _ _
     (ap (map identifier_value) c.new.ensures.items) (ap (map identifier_value) c.new-then-are_spaces.ensures.items))
 
@@ -45,12 +31,12 @@ pub returns-clause-found : goal.returns-clause-found
 returns-clause-found c =
     if_ok_more c.with_parts.result
     (λ found is. found_spaced c.args.input.now found
-    (subst (λ (t : Text). IsFound t found) (left (goal.at.returns-clause-found c).After-range_from-text) is))
+    (subst (λ (t : Text). IsFound t found) c.behind_spaces-text.ensures is))
     c.with_parts.ensures.found
 
 pub returns-clause-memory : goal.returns-clause-memory
 returns-clause-memory c =
     if_err_more c.with_parts.result
     (λ h. identifiers_spaced c.args.input.now
-    (subst HasIdentifiers (left (goal.at.returns-clause-memory c).After-range_from-text) h))
+    (subst HasIdentifiers c.behind_spaces-text.ensures h))
     c.with_parts.ensures.memory
