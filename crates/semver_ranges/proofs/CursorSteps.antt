@@ -1,6 +1,6 @@
 -- The reader's steps, as the cursor takes them.
-use Rattle.std.proofs.Common.{◌≡◌, false, ◌==◌, ◌||◌, List, [], ◌∷◌, Some, refl, sym, ap, ◌∙◌, inl, inr}
-use Rattle.std.proofs.lemmas.Bool.{cases_Bool, or_parts}
+use Rattle.std.proofs.Common.{◌≡◌, false, ◌==◌, List, [], ◌∷◌, Some, refl, sym, ap, ◌∙◌, inl, inr}
+use Rattle.std.proofs.lemmas.Bool.{cases_Bool}
 use Rattle.semver_ranges.specs.RangeTree.{PartialTree, one, two, three, Form}
 use Rattle.semver_texts.specs.Texts.{Text}
 use Rattle.semver_ranges.specs.Means.Reading.{begins_with, behind_blanks, operator, partial, simple, with_form, parts, behind_pre}

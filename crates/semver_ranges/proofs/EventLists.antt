@@ -7,7 +7,7 @@ use Rattle.semver_ranges.specs.declared.range.Compat.{Compat}
 use Rattle.semver_ranges.specs.declared.range.Op.TheVariants.{Gte}
 use Rattle.semver_ranges.specs.RangeTree.{PartialTree, Simple, RangeTree, empty, hyphen, simples, SetTree}
 use Rattle.semver_texts.specs.Texts.{is_empty}
-use Rattle.semver_texts.specs.Versions.{IdentifierValue, PlainVersion}
+use Rattle.semver_texts.specs.Versions.{IdentifierValue}
 use Rattle.semver_ranges.specs.Partials.{stated, states_nothing, zero_version}
 use Rattle.semver_ranges.specs.Terms.{of_simple, left_side, right_side, terms}
 use Rattle.semver_ranges.specs.RewritingTable.{PlainComparator, comparator, term_fits, written_simple, written_range, fits}

@@ -8,7 +8,7 @@ use Rattle.semver_ranges.specs.declared.range.Compat.{Compat}
 use Rattle.semver_ranges.specs.declared.events.Events.{Events}
 use Rattle.semver_ranges.specs.RangeTree.{Simple, SetTree}
 use Rattle.semver_texts.specs.Texts.{Text}
-use Rattle.semver_texts.specs.Versions.{IdentifierValue, PlainVersion}
+use Rattle.semver_texts.specs.Versions.{IdentifierValue}
 use Rattle.semver_ranges.specs.RewritingTable.{PlainRange, fits}
 use Rattle.semver_ranges.specs.Means.BoundsViews.{range_of_simples, range_for}
 use Rattle.semver_ranges.specs.Means.Reading.{read}

@@ -3,7 +3,7 @@ use Rattle.std.proofs.Common.{◌≡◌, true, ◌&&◌, Bool, List, [], ◌∷�
 use Rattle.semver_ranges.specs.declared.range.Compat.{Compat}
 use Rattle.semver_ranges.specs.RangeTree.{Simple, simples, Spells}
 use Rattle.semver_texts.specs.Texts.{Text}
-use Rattle.semver_texts.specs.Versions.{IdentifierValue, PlainVersion}
+use Rattle.semver_texts.specs.Versions.{IdentifierValue}
 use Rattle.semver_ranges.specs.RewritingTable.{PlainComparator, written_simple, written_set, fits}
 use Rattle.semver_ranges.specs.Means.Reading.{simple, read}
 use Rattle.semver_ranges.specs.Means.RangeEvents.{simple_fits}

@@ -2,7 +2,7 @@
 use Rattle.std.proofs.Common.{◌≡◌, ℕ, zero, suc, true, false, ◌&&◌, ◌==◌, List, [], ◌∷◌, ◌++◌, codes, length, refl, sym, ap, ◌∙◌, subst}
 use Rattle.std.proofs.Common.{inl, inr, Option, Some, None, append_assoc, append-nil}
 use Rattle.std.proofs.lemmas.Bool.{cases_Bool, and_parts, and_from, eqb-true, both_ways, not_from_false}
-use Rattle.semver_ranges.specs.RangeTree.{PartialTree, Form, bare, equal, less, at_most, greater, at_least, tilde, caret, Simple, RangeTree}
+use Rattle.semver_ranges.specs.RangeTree.{PartialTree, Form, bare, Simple, RangeTree}
 use Rattle.semver_ranges.specs.RangeTree.{SetTree, is_blank, AreBlanks, AreSomeBlanks, SpellsPartial, SpellsSimple, SpellsSimples}
 use Rattle.semver_ranges.specs.RangeTree.{SpellsRange, SpellsPadded, Spells}
 use Rattle.semver_texts.specs.Texts.{Text, is_empty}

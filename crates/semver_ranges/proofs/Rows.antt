@@ -7,7 +7,6 @@ use Rattle.std.specs.Ordering.{nat_cmp, ordering_then, is_eq, is_lt, is_gt, is_l
 use Rattle.std.specs.Cmp.Lexicographic.{slice_cmp, pointwise}
 use Rattle.std.specs.declared.cmp.Ordering.{Ordering}
 use Rattle.std.specs.declared.cmp.Ordering.TheVariants.{Less, Equal, Greater}
-use Rattle.semver_ranges.specs.declared.range.Op.TheVariants.{Lt, Gte}
 use Rattle.semver_ranges.specs.declared.range.Compat.{Compat}
 use Rattle.semver_ranges.specs.declared.range.Compat.TheVariants.{Cargo, Npm}
 use Rattle.semver_ranges.specs.RangeTree.{Form, bare, equal, less, at_most, greater, at_least, tilde, caret}
@@ -16,8 +15,8 @@ use Rattle.semver_ranges.specs.Precedence.{precedence, pre_cmp}
 use Rattle.semver_texts.specs.Versions.{numbers, IdentifierValue, numeric, alphanumeric, PlainVersion}
 use Rattle.semver_ranges.specs.Partials.{filled, leading_place}
 use Rattle.semver_ranges.specs.OwnMeaning.{meets_stated, agrees, agrees_past_zeros}
-use Rattle.semver_ranges.specs.RewritingTable.{PlainComparator, Cell, from_zero, below_zero, against, below, between, cell, up, up_with}
-use Rattle.semver_ranges.specs.RewritingTable.{comparator, written_cell, cell_comparators, cell_raised}
+use Rattle.semver_ranges.specs.RewritingTable.{Cell, cell, up, up_with}
+use Rattle.semver_ranges.specs.RewritingTable.{written_cell, cell_comparators, cell_raised}
 use Rattle.semver_ranges.specs.ExactBounds.{lowest_pre_release}
 use Rattle.semver_ranges.specs.Meeting.{meets_comparator, has_pre_release, is_pre_release_of}
 use Rattle.semver_ranges.proofs.CaretPlaces.{same_agreement}

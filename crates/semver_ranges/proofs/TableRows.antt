@@ -10,8 +10,8 @@ use Rattle.semver_ranges.specs.declared.grammar.Simple as read
 use Rattle.semver_ranges.specs.declared.range.Compat.{Compat}
 use Rattle.semver_ranges.specs.declared.rewriting.Bounds.{Bounds}
 use Rattle.semver_ranges.specs.declared.rewriting.Bounds.TheVariants.{Against, Below, Between}
-use Rattle.semver_ranges.specs.RangeTree.{Form, bare, equal, less, at_most, greater, at_least, tilde, caret, Simple}
-use Rattle.semver_texts.specs.Versions.{IdentifierValue, PlainVersion}
+use Rattle.semver_ranges.specs.RangeTree.{Form, bare, Simple}
+use Rattle.semver_texts.specs.Versions.{IdentifierValue}
 use Rattle.semver_ranges.specs.Partials.{stated, zero_filled, zero_version, fits_u64}
 use Rattle.semver_ranges.specs.RewritingTable.{Cell, cell, nothing_stated, cell_raised, written_cell, bound_fits, written_simple}
 use Rattle.semver_ranges.specs.Means.PartialViews.{stated_at, stated_of, version_of, states_none, pre_of}

@@ -1,4 +1,4 @@
-use Rattle.std.proofs.Common.{◌≡◌, ◌∷◌, ◌<◌, length, true, false, refl, sym, ap, ◌∙◌, arith, Some}
+use Rattle.std.proofs.Common.{◌≡◌, ◌<◌, length, true, false, refl, sym, ◌∙◌, arith}
 use Rattle.std.proofs.lemmas.Bool.{true≢false}
 use Rattle.semver_texts.specs.Texts.{Text}
 use Rattle.semver_ranges.specs.Means.Reading.{begins_with}
