@@ -24,6 +24,7 @@ pub mod ReadingSound
 pub mod ReadingSteps
 pub mod Rows
 pub mod SetMeanings
+pub mod StatedLaws
 pub mod StatedNumbers
 pub mod TableRows
 pub mod Tests

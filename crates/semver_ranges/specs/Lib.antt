@@ -7,6 +7,7 @@ pub mod RewritingTable
 pub mod RangeTexts
 pub mod ExactBounds
 pub mod Meeting
+pub mod StatedPreReleases
 pub mod PrintedRanges
 pub mod RangeViews
 pub mod Means

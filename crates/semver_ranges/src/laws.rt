@@ -12,6 +12,7 @@ ghost use Rattle.semver_ranges.specs.OwnMeaning.{meets_tree};
 ghost use Rattle.semver_ranges.specs.RewritingTable.{PlainSet, fits, rewritten};
 ghost use Rattle.semver_ranges.specs.ExactBounds.{exact_bound, rewritten_exactly};
 ghost use Rattle.semver_ranges.specs.Meeting.{is_pre_release_of, meets_set, meets_tree_or_bounds};
+ghost use Rattle.semver_ranges.specs.StatedPreReleases.{meets_set_as_stated, meets_tree_as_stated};
 ghost use Rattle.semver_ranges.specs.PrintedRanges.{IsPrintableSet, set_text};
 
 /// No range text has two trees.
@@ -42,6 +43,19 @@ pub fn exact_bounds_mean_the_text()
     ensures bounds { (bound v : PlainVersion) → bound.pre ≡ [] →
         is_lt (precedence v (exact_bound bound))
         ≡ (is_lt (precedence v bound) && not (is_pre_release_of v (Some bound))) }
+{}
+
+/// With exact bounds, comparators tell npm's and Cargo's rule for pre-releases too: a version meets
+/// them as stated exactly if it meets the text as stated.
+pub fn stated_pre_releases_mean_the_text()
+    ensures exact { (mode : Compat) (tree : SetTree) (v : PlainVersion) →
+        meets_set_as_stated v (rewritten_exactly mode tree) ≡ meets_tree_as_stated mode tree v }
+    // What meets the text as stated meets the text's own meaning.
+    ensures implied { (mode : Compat) (tree : SetTree) (v : PlainVersion) →
+        IsTrue (meets_tree_as_stated mode tree v) → IsTrue (meets_tree mode tree v) }
+    // On releases both are equal.
+    ensures releases { (mode : Compat) (tree : SetTree) (v : PlainVersion) → v.pre ≡ [] →
+        meets_tree_as_stated mode tree v ≡ meets_tree mode tree v }
 {}
 
 /// Precedence is a total order, and two versions are equal in it exactly if they are the same.

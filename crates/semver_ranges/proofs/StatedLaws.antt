@@ -1,0 +1,130 @@
+-- With exact bounds, comparators tell npm's and Cargo's rule for pre-releases.
+use Rattle.std.proofs.Common.{◌≡◌, ℕ, Bool, true, false, not, ◌&&◌, ◌||◌, ◌==◌, nat_eq, if◌then◌else◌, List, [], ◌∷◌, length, map}
+use Rattle.std.proofs.Common.{refl, sym, ◌∙◌, IsTrue}
+use Rattle.std.proofs.Math.Bool.{and-false, and-true}
+use Rattle.std.proofs.lemmas.Bool.{and_parts}
+use Rattle.std.specs.List.{list_all, list_any}
+use Rattle.std.specs.Ordering.{is_lt}
+use Rattle.std.specs.Cmp.Lexicographic.{pointwise}
+use Rattle.std.specs.declared.cmp.Ordering.{Ordering}
+use Rattle.semver_ranges.specs.declared.range.Compat.{Compat}
+use Rattle.semver_ranges.specs.declared.range.Compat.TheVariants.{Cargo, Npm}
+use Rattle.semver_ranges.specs.declared.range.Op.TheVariants.{Lt}
+use Rattle.semver_ranges.specs.RangeTree.{Form, bare, Simple, RangeTree, SetTree}
+use Rattle.semver_texts.specs.Texts.{is_empty}
+use Rattle.semver_texts.specs.Versions.{numbers, IdentifierValue, PlainVersion}
+use Rattle.semver_ranges.specs.Partials.{kept, stated, pre_parts, pre_release, filled, zero_filled}
+use Rattle.semver_ranges.specs.Terms.{Term, of_simple, terms}
+use Rattle.semver_ranges.specs.OwnMeaning.{meets_term, meets_tree}
+use Rattle.semver_ranges.specs.RewritingTable.{PlainComparator, Cell, from_zero, below_zero, against, below, between, cell}
+use Rattle.semver_ranges.specs.RewritingTable.{three_stated, comparator, up_with, written_cell, written_simple, written_range}
+use Rattle.semver_ranges.specs.ExactBounds.{lowest_pre_release, rewritten_exactly}
+use Rattle.semver_ranges.specs.Meeting.{has_pre_release, meets_comparator}
+use Rattle.semver_ranges.specs.StatedPreReleases.{states_pre_release_at, counts_in, meets_tree_as_stated, has_pre_release_at}
+use Rattle.semver_ranges.specs.StatedPreReleases.{meets_set_as_stated}
+use Rattle.semver_ranges.proofs.Rows.{Step, step, Tail, same, past, floor, compared, Shape, none, one, two, three, exact_row}
+use Rattle.semver_ranges.proofs.SetMeanings.{stated_shape, range_holds}
+use Rattle.semver_ranges.proofs.Tests.{list_any-weaker, list_any-same, list_any-mapped, some_of_all}
+
+-- what is below an exact bound hasn't the numbers of the bound
+below_exact : {o : Ordering} {e m : Bool} → Step o e m → {o' : Ordering} {e' m' : Bool} → Step o' e' m' → {o3 : Ordering} {e3 m3 : Bool}
+    → Step o3 e3 m3 → {r : Ordering} → Tail r false
+    → (is_lt (compared o o' o3 r) && not (m && (m' && (m3 && true)))) ≡ is_lt (compared o o' o3 r)
+below_exact Step.lower b c t = refl
+below_exact Step.higher b c t = refl
+below_exact Step.level Step.lower c t = refl
+below_exact Step.level Step.higher c t = refl
+below_exact Step.level Step.level Step.lower t = refl
+below_exact Step.level Step.level Step.higher t = refl
+below_exact Step.level Step.level Step.level same = refl
+below_exact Step.level Step.level Step.level past = refl
+
+-- two tests and what follows, in the other order
+reorder : (x y w : Bool) → ((x && not y) && w) ≡ ((x && w) && not y)
+reorder false y w = refl
+reorder true true true = refl
+reorder true true false = refl
+reorder true false true = refl
+reorder true false false = refl
+
+-- whether a cell compares with the zero-filled version
+abbrev with_z : Cell → Bool
+with_z (against op) = true
+with_z (between k) = true
+with_z _ = false
+
+-- where three numbers are stated, each does
+three_with_z : (mode : Compat) (form : Form) (s : List ℕ) → with_z (three_stated mode form s) ≡ true
+three_with_z Cargo bare s = refl
+three_with_z Npm bare s = refl
+three_with_z _ _ s = refl
+
+module _ (v : PlainVersion) where
+  -- whether a comparator is met, and tells of no pre-release at the numbers of the version
+  abbrev silent : PlainComparator → Bool
+  silent c = meets_comparator v c && not (has_pre_release_at v c)
+
+  silent_bound : (k : ℕ) (s : List ℕ) → let c : PlainComparator = comparator Lt (up_with lowest_pre_release k s) in
+      silent c ≡ meets_comparator v c
+  silent_bound k s = let bound : PlainVersion = up_with lowest_pre_release k s in
+      below_exact (step v.major bound.major) (step v.minor bound.minor) (step v.patch bound.patch) (floor v.pre)
+
+  -- of a cell's comparators only z tells of one
+  silent_cell : (c : Cell) (s : List ℕ) (z : PlainVersion)
+      → list_all silent (written_cell lowest_pre_release c s z)
+      ≡ (list_all (meets_comparator v) (written_cell lowest_pre_release c s z)
+      && not (with_z c && (has_pre_release z && pointwise nat_eq (numbers v) (numbers z))))
+  silent_cell from_zero s z = refl
+  silent_cell below_zero s z = refl
+  silent_cell (against op) s z = reorder _ _ true
+  silent_cell (below k) s z = rw (silent_bound k s) (sym (and-true _))
+  silent_cell (between k) s z = rw (silent_bound k s) (search reorder)
+
+  -- z tells of one exactly if the partial states it
+  told : (mode : Compat) (form : Form) {s : List ℕ} → Shape s → (parts : List IdentifierValue)
+      → let pre : List IdentifierValue = (if length s == 3 then parts else []) in
+      (with_z (cell mode form s) && (not (is_empty pre) && pointwise nat_eq (numbers v) (numbers (filled s pre))))
+      ≡ (not (is_empty pre) && pointwise nat_eq (numbers v) s)
+  told mode form none parts = and-false _
+  told mode form (one x) parts = and-false _
+  told mode form (two x y) parts = and-false _
+  told mode form (three x y w) parts = rw (three_with_z mode form (x ∷ y ∷ w ∷ [])) refl
+
+  module _ (mode : Compat) where
+    abbrev meets : Term → Bool
+    meets term = meets_term mode term v
+
+    abbrev states : Term → Bool
+    states term = states_pre_release_at term v
+
+    met_simple : (s : Simple) → list_all (meets_comparator v) (written_simple lowest_pre_release mode s) ≡ meets (of_simple s)
+    met_simple s = exact_row v mode s.form (stated_shape s.partial) (pre_release s.partial)
+
+    silent_simple : (s : Simple)
+        → list_all silent (written_simple lowest_pre_release mode s) ≡ (meets (of_simple s) && not (states (of_simple s)))
+    silent_simple s = silent_cell (cell mode s.form (stated s.partial)) (stated s.partial) (zero_filled s.partial)
+        ∙ rw (met_simple s, told mode s.form (stated_shape s.partial) (map kept (pre_parts s.partial))) refl
+
+    range_stated : (r : RangeTree) → let cs : List PlainComparator = written_range lowest_pre_release mode r in
+        (list_all (meets_comparator v) cs && (is_empty v.pre || list_any (has_pre_release_at v) cs))
+        ≡ (list_all meets (terms r) && counts_in r v)
+    range_stated r = some_of_all (meets_comparator v) (has_pre_release_at v) (is_empty v.pre) (written_range lowest_pre_release mode r)
+        ∙ rw (
+          range_holds lowest_pre_release mode (meets_comparator v) meets met_simple refl r,
+          range_holds lowest_pre_release mode silent (λ term. meets term && not (states term)) silent_simple refl r,
+        ) (sym (some_of_all meets states (is_empty v.pre) (terms r)))
+
+-- with exact bounds, a version meets comparators as stated exactly if it meets the text as stated
+pub some_stated : (mode : Compat) (tree : SetTree) (v : PlainVersion)
+    → meets_set_as_stated v (rewritten_exactly mode tree) ≡ meets_tree_as_stated mode tree v
+some_stated mode tree v = list_any-mapped _ _ _ (range_stated v mode) tree
+
+-- what meets a text as stated meets its own meaning
+pub as_stated_means : (mode : Compat) (tree : SetTree) (v : PlainVersion) → IsTrue (meets_tree_as_stated mode tree v)
+    → IsTrue (meets_tree mode tree v)
+as_stated_means mode tree v = list_any-weaker _ _ (λ r met. (and_parts _ _ met).0) tree
+
+-- a release that meets a text's own meaning meets it as stated
+pub stated_releases : (mode : Compat) (tree : SetTree) (v : PlainVersion) → v.pre ≡ []
+    → meets_tree_as_stated mode tree v ≡ meets_tree mode tree v
+stated_releases mode tree v e = list_any-same _ _ (λ r. rw e (and-true _)) tree
