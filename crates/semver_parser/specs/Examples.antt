@@ -16,6 +16,7 @@ use Rattle.semver_ranges.specs.Partials.{filled}
 use Rattle.semver_ranges.specs.OwnMeaning.{meets_tree}
 use Rattle.semver_ranges.specs.RewritingTable.{rewritten, fits}
 use Rattle.semver_ranges.specs.Meeting.{meets_set}
+use Rattle.semver_ranges.specs.StatedPreReleases.{meets_tree_as_stated}
 use Rattle.semver_ranges.specs.PrintedRanges.{set_text}
 
 -- a tree that spells the text fits in the mode, and its comparators are printed so
@@ -30,6 +31,12 @@ abbrev pub IsMet : Text → Compat → PlainVersion → Bool → Bool → Type 0
 IsMet text mode v own comparators =
     (tree : SetTree) × Spells tree text × (meets_tree mode tree v ≡ own)
     × (meets_set v (rewritten mode tree) ≡ comparators)
+
+-- a tree that spells the text has this meaning of its own for the version, and is met so as stated
+abbrev pub IsMetAsStated : Text → Compat → PlainVersion → Bool → Bool → Type 0
+IsMetAsStated text mode v own as_stated =
+    (tree : SetTree) × Spells tree text × (meets_tree mode tree v ≡ own)
+    × (meets_tree_as_stated mode tree v ≡ as_stated)
 
 -- a version without pre-release
 abbrev pub release : ℕ → ℕ → ℕ → PlainVersion

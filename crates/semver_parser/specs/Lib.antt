@@ -22,5 +22,6 @@ pub use Rattle.semver_ranges.specs.OwnMeaning
 pub use Rattle.semver_ranges.specs.RewritingTable
 pub use Rattle.semver_ranges.specs.ExactBounds
 pub use Rattle.semver_ranges.specs.Meeting
+pub use Rattle.semver_ranges.specs.StatedPreReleases
 pub use Rattle.semver_ranges.specs.PrintedRanges
 pub use Rattle.semver_ranges.specs.RangeViews

@@ -4,11 +4,11 @@ ghost use Rattle.semver_ranges.specs.declared.range.Compat.{Compat};
 ghost use Rattle.semver_ranges.specs.declared.range.Compat.TheVariants.{Cargo, Npm};
 ghost use Rattle.semver_texts.specs.Versions.{VersionValue, numeric, alphanumeric};
 ghost use Rattle.semver_texts.specs.VersionGrammar.{SpellsVersion};
-ghost use Rattle.semver_parser.specs.Examples.{IsMet, release, version};
+ghost use Rattle.semver_parser.specs.Examples.{IsMet, IsMetAsStated, release, version};
 
 pub use semver_ranges::laws::{
     answered_sets_are_printable, exact_bounds_mean_the_text, meanings_agree, one_tree,
-    precedence_is_total, printed_sets_read_back,
+    precedence_is_total, printed_sets_read_back, stated_pre_releases_mean_the_text,
 };
 pub use semver_tokens::laws::one_token_list;
 pub use semver_versions::laws::{one_outcome, one_version};
@@ -43,4 +43,36 @@ pub fn row_facts()
     ensures bound_of_one_term { (mode : Compat)
         → IsMet (codes "^1 <=1.5") mode (version 1 6 0 (alphanumeric (codes "rc") ∷ [])) false
         true }
+{}
+
+/// What some pre-releases meet: first by the text's own meaning, and then as stated.
+pub fn stated_row_facts()
+    ensures stated { (mode : Compat)
+        → IsMetAsStated (codes "^1.2.3-beta.4") mode
+        (version 1 2 3 (alphanumeric (codes "rc") ∷ [])) true true }
+    ensures other_numbers { (mode : Compat)
+        → IsMetAsStated (codes "^1.2.3-beta.4") mode
+        (version 1 3 0 (alphanumeric (codes "rc") ∷ [])) true false }
+    // Any term of the range may state it.
+    ensures another_term { (mode : Compat)
+        → IsMetAsStated (codes ">=1.2.3 <1.2.4-rc") mode
+        (version 1 2 4 (alphanumeric (codes "a") ∷ [])) true true }
+    // A term of another range doesn't.
+    ensures another_range { (mode : Compat)
+        → IsMetAsStated (codes "=2.0.1-a || >=2.0.0") mode
+        (version 2 0 1 (alphanumeric (codes "b") ∷ [])) true false }
+    ensures side { (mode : Compat)
+        → IsMetAsStated (codes "1.2.3-a - 2") mode
+        (version 1 2 3 (alphanumeric (codes "b") ∷ [])) true true }
+    // The right side is `<=2`, which states no pre-release.
+    ensures other_side { (mode : Compat)
+        → IsMetAsStated (codes "1.2.3-a - 2") mode
+        (version 2 0 0 (alphanumeric (codes "b") ∷ [])) true false }
+    // Two numbers are stated, so the pre-release doesn't count.
+    ensures wildcard { (mode : Compat)
+        → IsMetAsStated (codes "~1.2.*-a") mode
+        (version 1 2 1 (alphanumeric (codes "b") ∷ [])) true false }
+    ensures numbers_alone { (mode : Compat)
+        → IsMetAsStated (codes "<2.0.0") mode
+        (version 2 0 0 (alphanumeric (codes "alpha") ∷ [])) true false }
 {}
