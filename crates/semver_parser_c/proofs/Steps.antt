@@ -18,7 +18,7 @@ use Rattle.semver_parser.specs.ParserViews.{fault_of, answer_of, UnlessOutOfMemo
 use Rattle.semver_parser.specs.VersionViews.{version_value}
 use Rattle.semver_parser.specs.declared.Compat.{Compat}
 use Rattle.semver_parser.specs.RangeTexts.{IsRangeText, IsTooLarge}
-use Rattle.semver_parser.specs.RangeTree.{SetTree, Spells}
+use Rattle.semver_parser.specs.RangeTree.{SetTree}
 use Rattle.semver_parser.specs.RewritingTable.{fits}
 use Rattle.semver_parser.specs.OwnMeaning.{meets_tree}
 use Rattle.semver_parser.proofs.ReadingComplete.{same_tree}

@@ -1,10 +1,6 @@
-use Rattle.std.proofs.Common.{◌≡◌, ℕ, subst, sym, ap, ◌∙◌, map, drop, refl, None}
-use Rattle.std.specs.Prelude.{IsCharBoundary}
-use Rattle.std.specs.List.{prefix_len}
+use Rattle.std.proofs.Common.{ℕ, subst, ap, ◌∙◌, map, refl, None}
 use Rattle.semver_texts.specs.Texts.{Text, is_space, BeginsWithNumbers}
 use Rattle.semver_texts.specs.VersionViews.{identifier_value}
-use Rattle.semver_tokens.proofs.Cuts.{cut_after_prefix}
-use Rattle.semver_tokens.proofs.FirstToken.{space_ascii}
 use Rattle.semver_versions.specs.Means.Cutting.{IsFound, HasIdentifiers}
 use Rattle.semver_versions.proofs.CutIdentifiers.{ends_front}
 use Rattle.semver_versions.proofs.SpelledParts.{no_numbers, spells_numbers, spaced, found_spaced, identifiers_spaced, if_ok_more}
