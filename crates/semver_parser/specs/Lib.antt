@@ -13,6 +13,7 @@ pub use Rattle.semver_steps.specs.ParserViews
 pub use Rattle.semver_texts.specs.VersionGrammar
 pub use Rattle.semver_steps.specs.VersionReading
 pub use Rattle.semver_texts.specs.VersionViews
+pub use Rattle.semver_versions.specs.Outlines
 pub use Rattle.semver_ranges.specs.RangeTree
 pub use Rattle.semver_ranges.specs.RangeTexts
 pub use Rattle.semver_ranges.specs.Partials

@@ -1,5 +1,6 @@
 pub mod CutIdentifiers
 pub mod OneVersion
+pub mod OutlinedTexts
 pub mod ParseFacts
 pub mod SpelledParts
 pub mod VersionExamples

@@ -84,7 +84,7 @@ same_identifiers (id ∷ ids) (o ∷ others) (t ∷ texts) a b =
 tails : {x y : ℕ} {xs ys : List ℕ} → x ∷ xs ≡ y ∷ ys → xs ≡ ys
 tails e = cc
 
-joined_some : (x : List ℕ) (xs : List (List ℕ)) → 0 < length x → 0 < length (join_with_byte 46 (x ∷ xs))
+pub joined_some : (x : List ℕ) (xs : List (List ℕ)) → 0 < length x → 0 < length (join_with_byte 46 (x ∷ xs))
 joined_some x [] some = some
 joined_some x (y ∷ xs) some = omega (arith, some, length-append x (46 ∷ join_with_byte 46 (y ∷ xs)))
 

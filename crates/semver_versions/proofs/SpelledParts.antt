@@ -124,7 +124,7 @@ spells_some t is = ⊎_elim
     clash : true ≡ false → ⊥
     clash e = cc
 
-spell_some : (ts : List Text) → AllByRecursion IsIdentifierText ts
+pub spell_some : (ts : List Text) → AllByRecursion IsIdentifierText ts
     → (ids : List IdentifierValue) × AllZip SpellsIdentifier ids ts × (length ids ≡ length ts)
 spell_some [] all = ([], tt, refl)
 spell_some (t ∷ ts) all =

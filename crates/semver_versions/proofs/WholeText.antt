@@ -36,7 +36,8 @@ spelled_text : (id : IdentifierValue) (text : List ℕ) → SpellsIdentifier id 
 spelled_text (numeric n) text w = w.1
 spelled_text (alphanumeric kept) text w = w.0
 
-spelled_texts : (ids : List IdentifierValue) (texts : List (List ℕ)) → AllZip SpellsIdentifier ids texts → texts ≡ map identifier_text ids
+pub spelled_texts : (ids : List IdentifierValue) (texts : List (List ℕ)) → AllZip SpellsIdentifier ids texts
+    → texts ≡ map identifier_text ids
 spelled_texts [] [] all = refl
 spelled_texts [] (t ∷ texts) all = absurd all
 spelled_texts (id ∷ ids) [] all = absurd all

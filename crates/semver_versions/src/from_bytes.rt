@@ -9,7 +9,9 @@ ghost use Rattle.semver_texts.specs.VersionViews.{identifier_value};
 ghost use Rattle.semver_versions.specs.Means.Cutting.{cut_at_dots, AreIdentifiers, is_inner_byte};
 ghost use Rattle.semver_versions.specs.Means.Cutting.{BeginsWithIdentifiers, AreSpaces, IsPart};
 ghost use Rattle.semver_versions.specs.Means.Cutting.{AreParts, IsFound, HasIdentifiers};
+ghost use Rattle.semver_versions.specs.Means.Cutting.{IsOutlined};
 
+use crate::outlines::Outline;
 use semver_texts::bytes::{count_dots, space_len};
 use semver_texts::decimals::{begins_with_digit, numbers, whole_number};
 use semver_texts::version::{Identifier, Version};
@@ -207,4 +209,45 @@ pub(crate) fn version(alloc: Global, input: &str) -> Result<Option<Version>, All
         }));
     }
     with_parts(alloc, text, major, minor, patch, rest)
+}
+
+/// The outline of the version that the text spells, of which these numbers and this rest are known.
+#[inline(never)]
+fn outline_with_parts<'t>(
+    text: &'t str,
+    major: u64,
+    minor: u64,
+    patch: u64,
+    rest: &[u8],
+) -> Option<Outline<'t>>
+    requires { BeginsWithNumbers text.now major minor patch rest.now }
+    ensures { IsOutlined text.now result }
+{
+    let (pre, build) = parts(&text[text.len() - rest.len()..])?;
+    Some(Outline {
+        major,
+        minor,
+        patch,
+        pre,
+        build,
+    })
+}
+
+/// The outline of the version that the text spells, if it spells one.
+#[inline(always)]
+pub(crate) fn outline(input: &str) -> Option<Outline<'_>>
+    ensures { IsOutlined input.now result }
+{
+    let text = behind_spaces(input);
+    let (major, minor, patch, rest) = numbers(text.as_bytes())?;
+    if are_spaces(rest) {
+        return Some(Outline {
+            major,
+            minor,
+            patch,
+            pre: "",
+            build: "",
+        });
+    }
+    outline_with_parts(text, major, minor, patch, rest)
 }

@@ -4,4 +4,5 @@
 
 mod from_bytes;
 pub mod laws;
+mod outlines;
 pub mod version;

@@ -7,16 +7,18 @@
 //! 18446744073709551615. An identifier is one or more runs of ASCII letters and digits joined by
 //! single hyphens; there is no limit on runs, identifiers or the length of a text.
 ghost use Rattle.std.specs.Prelude.{◌≡◌, ◌↔◌, ◌<◌, ◌⊎◌, [], length, Some, None, option_map};
-ghost use Rattle.std.specs.Prelude.{IfOk, IfErr};
+ghost use Rattle.std.specs.Prelude.{IfOk, IfErr, IfSome};
 ghost use Rattle.semver_texts.specs.Versions.{VersionValue};
 ghost use Rattle.semver_texts.specs.PrintedText.{version_text};
 ghost use Rattle.semver_texts.specs.VersionViews.{version_value};
 ghost use Rattle.semver_texts.specs.VersionGrammar.{SpellsVersion, IsVersionText, IsTrimmed};
 ghost use Rattle.semver_texts.specs.VersionGrammar.{IsPrintableVersion};
+ghost use Rattle.semver_versions.specs.Outlines.{OutlineValue, outline_value, IsOutlineOf};
 ghost use Rattle.semver_steps.specs.VersionReading.{IsOutcomeOf, TextMayRunOut};
 ghost use Rattle.semver_steps.specs.ParserViews.{answer_of, UnlessOutOfMemory, IfOutOfMemory};
 
 use crate::from_bytes;
+pub use crate::outlines::Outline;
 use semver_steps::parser::{self, Parser};
 pub use semver_texts::version::{Identifier, Version};
 use std::alloc::{AllocError, Global};
@@ -41,6 +43,28 @@ pub fn read(alloc: Global, input: &str) -> Result<Option<Version>, AllocError>
         × ((0 < length v.plain.pre) ⊎ (0 < length v.build))) }
 {
     from_bytes::version(alloc, input)
+}
+
+/// The version that the text spells in outline, if it spells one: `" 1.2.3-rc.4+b5\n"` gives the
+/// numbers 1, 2 and 3, the pre-release `rc.4` and the build `b5`, and `1.2` and `1.2.3 a` give
+/// `None`.
+///
+/// It takes no memory: the texts are slices of the input.
+#[inline(always)]
+pub fn outline(input: &str) -> Option<Outline<'_>>
+    // An outline is answered exactly where it is that of a version that the text spells.
+    ensures outlined { (o : OutlineValue) →
+        (option_map outline_value result ≡ Some o) ↔ IsOutlineOf input.now o }
+    // None is answered exactly where the text spells no version.
+    ensures none { (result ≡ None) ↔ ¬ (IsVersionText input.now) }
+    // The text of the pre-release is empty exactly where the version has none.
+    ensures pre_release { (v : VersionValue) → SpellsVersion v input.now →
+        IfSome result (λ o. (o.pre.now ≡ []) ↔ (v.plain.pre ≡ [])) }
+    // So with the build.
+    ensures build { (v : VersionValue) → SpellsVersion v input.now →
+        IfSome result (λ o. (o.build.now ≡ []) ↔ (v.build ≡ [])) }
+{
+    from_bytes::outline(input)
 }
 
 /// The version that the text spells: `" 1.2.3-rc.4\n"` gives the numbers 1, 2 and 3, the

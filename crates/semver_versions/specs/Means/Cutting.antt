@@ -9,6 +9,8 @@ use Rattle.semver_texts.specs.Versions.{VersionValue}
 use Rattle.semver_texts.specs.VersionGrammar.{IsIdentifierText, SpellsVersion, IsVersionText}
 use Rattle.semver_texts.specs.VersionViews.{version_value}
 use Rattle.semver_texts.specs.declared.version.Version.{Version}
+use Rattle.semver_versions.specs.Outlines.{outline_value, IsOutlineOf}
+use Rattle.semver_versions.specs.declared.outlines.Outline.{Outline}
 
 -- the texts between the dots; none where there is nothing
 abbrev pub cut_at_dots : Text → List Text
@@ -59,3 +61,8 @@ abbrev pub HasIdentifiers : Text → Type 0
 HasIdentifiers text =
     (v : VersionValue) × SpellsVersion v text
     × ((0 < length v.plain.pre) ⊎ (0 < length v.build))
+
+-- the outline of a version that the text spells, or none where it spells none
+abbrev pub IsOutlined : Text → Option Outline → Type 0
+IsOutlined text None = ¬ (IsVersionText text)
+IsOutlined text (Some o) = IsOutlineOf text (outline_value o)
