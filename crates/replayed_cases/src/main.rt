@@ -67,6 +67,7 @@ fn answer<W: Write>(
         "parser" => parsing::write_steps(alloc, text, steps, out),
         "version" => versions::write_version(&version::parse(alloc, text), out),
         "read" => versions::write_read(alloc, text, out),
+        "outline" => versions::write_outline(text, out),
         "version-text" => versions::write_printed(alloc, text, out),
         "error-text" => versions::write_error_text(alloc, text, out),
         "concat" => versions::write_joined(alloc, text, steps, out),

@@ -25,6 +25,16 @@ pub fn write_read<W: Write>(alloc: Global, text: &str, out: &mut W) -> io::Resul
     }
 }
 
+/// Writes the outline of the version that a text spells, or `none` where it spells none.
+pub fn write_outline<W: Write>(text: &str, out: &mut W) -> io::Result<()> {
+    let Some(outline) = version::outline(text) else {
+        return write!(out, "none");
+    };
+    let (major, minor, patch) = (outline.major, outline.minor, outline.patch);
+    let (pre, build) = (outline.pre, outline.build);
+    write!(out, "{major} {minor} {patch} pre[{pre}] build[{build}]")
+}
+
 fn write_fields<W: Write>(version: &Version, out: &mut W) -> io::Result<()> {
     let (major, minor, patch) = (version.major, version.minor, version.patch);
     write!(out, "{major} {minor} {patch} pre[")?;
