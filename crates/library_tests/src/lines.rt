@@ -1,6 +1,6 @@
 //! The filter of lines at a reader that fails, and at a writer that refuses.
 use super::writers::{Limited, Refusal};
-use release_filter::{FilterError, PreReleases, filter_lines};
+use release_filter::{Filter, LineError, PreReleases};
 use semver_parser::Compat;
 use std::alloc::Global;
 use std::io;
@@ -70,7 +70,7 @@ fn write_wrong_writers(
 ) -> io::Result<u32> {
     let mut faults = 0u32;
     for left in 0..=OUTPUT.len() {
-        if !ends_at_a_writer(alloc, left, most, refusal) {
+        if !ends_at_a_writer(alloc, left, most, refusal)? {
             println!(rt; "lines: wrong where writing fails after {left} bytes")?;
         }
         faults = faults.saturating_add(1);
@@ -103,14 +103,7 @@ fn passes_over(alloc: Global, before: &str, line: &[u8], behind: &str) -> io::Re
     wanted.extend_from_slice(before.as_bytes())?;
     wanted.extend_from_slice(behind.trim_start().as_bytes())?;
     let mut out = Vec::new(alloc);
-    let ran = filter_lines(
-        alloc,
-        "^1.2",
-        Compat::Cargo,
-        PreReleases::Excluded,
-        &mut input.as_slice(),
-        &mut out,
-    );
+    let ran = filter(alloc)?.copy_lines(alloc, &mut input.as_slice(), &mut out);
     let is_some = !wanted.is_empty();
     Ok(out == wanted && ran.is_ok_and(|some| some == is_some))
 }
@@ -121,43 +114,59 @@ fn ends_at_a_reader(alloc: Global, place: usize, most: usize) -> io::Result<bool
     let bytes = INPUT.as_bytes().get(..place).unwrap_or_default();
     let mut input = BufReader::with_capacity(alloc, 4, Broken { bytes, most })?;
     let mut out = Vec::new(alloc);
-    let ran = filter_lines(
-        alloc,
-        "^1.2",
-        Compat::Cargo,
-        PreReleases::Excluded,
-        &mut input,
-        &mut out,
-    );
+    let ran = filter(alloc)?.copy_lines(alloc, &mut input, &mut out);
     let written = match place {
         0..=6 => "",
         7..=23 => "1.2.0\r\n",
         _ => "1.2.0\r\n1.9.0\n",
     };
     let is_told = match ran {
-        Err(FilterError::Read(error)) => error.kind() == ErrorKind::ConnectionReset,
+        Err(LineError::Read(error)) => error.kind() == ErrorKind::ConnectionReset,
         _ => false,
     };
-    Ok(is_told && out.as_slice() == written.as_bytes())
+    Ok(is_told && out.as_slice() == written.as_bytes() && search_ends(alloc, bytes, most)?)
 }
 
-/// Whether the fault of the writer is told and nothing written after it, or all is written and it
-/// is told that there was a line.
-fn ends_at_a_writer(alloc: Global, left: usize, most: usize, refusal: Refusal) -> bool {
+/// Whether a search for the greatest line tells the fault of the reader, too.
+fn search_ends(alloc: Global, bytes: &[u8], most: usize) -> io::Result<bool> {
+    let mut input = BufReader::with_capacity(alloc, 4, Broken { bytes, most })?;
+    match filter(alloc)?.greatest_line(alloc, &mut input) {
+        Err(LineError::Read(error)) => Ok(error.kind() == ErrorKind::ConnectionReset),
+        _ => Ok(false),
+    }
+}
+
+/// The filter of `^1.2` in Cargo mode, releases alone.
+fn filter(alloc: Global) -> io::Result<Filter> {
+    match Filter::new(alloc, "^1.2", Compat::Cargo, PreReleases::Excluded) {
+        Ok(filter) => Ok(filter),
+        Err(_) => Err(io::Error::from(ErrorKind::OutOfMemory)),
+    }
+}
+
+/// Whether the fault of the writer is told, and nothing is written or read after it; or all is
+/// written and read, and it is told that there was a line.
+fn ends_at_a_writer(
+    alloc: Global,
+    left: usize,
+    most: usize,
+    refusal: Refusal,
+) -> io::Result<bool> {
     let mut out = Limited::new(alloc, left, most, refusal);
     let mut input = INPUT.as_bytes();
-    let ran = filter_lines(
-        alloc,
-        "^1.2",
-        Compat::Cargo,
-        PreReleases::Excluded,
-        &mut input,
-        &mut out,
-    );
+    let ran = filter(alloc)?.copy_lines(alloc, &mut input, &mut out);
     let is_told = match ran {
         Ok(some) => some && left == OUTPUT.len(),
-        Err(FilterError::Write(_)) => left < OUTPUT.len(),
+        Err(LineError::Write(_)) => left < OUTPUT.len(),
         Err(_) => false,
     };
-    is_told && out.late_calls == 0 && Some(out.taken.as_slice()) == OUTPUT.as_bytes().get(..left)
+    let unread = match left {
+        0..=6 => "x\n1.3.0-rc\n1.9.0\n2.0.0\n1.4.0",
+        7..=12 => "2.0.0\n1.4.0",
+        _ => "",
+    };
+    Ok(is_told
+        && input == unread.as_bytes()
+        && out.late_calls == 0
+        && Some(out.taken.as_slice()) == OUTPUT.as_bytes().get(..left))
 }

@@ -2,7 +2,7 @@
 
 use super::Ending;
 use super::fixed::Fixed;
-use release_filter::{FilterError, PreReleases, filter_lines, filter_text, filter_versions};
+use release_filter::{Filter, LineError, PreReleases, filter_text};
 use semver_parser::version::Version;
 use semver_parser::{Compat, RangeError, parser, version};
 use std::alloc::Global;
@@ -35,11 +35,25 @@ fn is_wanted(version: &Version) -> bool {
     (version.major == 0 && version.minor == 2) || (version.major == 2 && version.minor == 5)
 }
 
-/// `>=0.2.0 <3.0.0` on two versions keeps the one that is a pre-release. Making the list is part of
-/// the call.
-pub fn filter_of_all(alloc: Global) -> Ending {
+/// A filter of `>=0.2.0 <3.0.0` in two comparators.
+pub fn new_filter(alloc: Global) -> Ending {
+    match Filter::new(alloc, ">=0.2.0 <3.0.0", Compat::Cargo, PreReleases::Stated) {
+        Ok(_) => Ending::Full,
+        Err(RangeError::OutOfMemory) => Ending::Refused,
+        Err(_) => Ending::Wrong,
+    }
+}
+
+/// `>=0.2.0-a <3.0.0` keeps one of two versions, and it is the greatest. Making the filter and the
+/// list is part of the call.
+pub fn kept_versions(alloc: Global) -> Ending {
+    let filter = match Filter::new(alloc, ">=0.2.0-a <3.0.0", Compat::Cargo, PreReleases::Stated) {
+        Ok(filter) => filter,
+        Err(RangeError::OutOfMemory) => return Ending::Refused,
+        Err(_) => return Ending::Wrong,
+    };
     let mut versions = Vec::new(alloc);
-    for text in ["0.1.0", "2.5.0-1"] {
+    for text in ["2.5.0-1", "0.2.0-1"] {
         match version::parse(alloc, text) {
             Ok(version) => {
                 if versions.push(version).is_err() {
@@ -50,35 +64,63 @@ pub fn filter_of_all(alloc: Global) -> Ending {
             Err(_) => return Ending::Wrong,
         }
     }
-    match filter_versions(alloc, ">=0.2.0 <3.0.0", Compat::Cargo, &versions) {
-        Ok(kept) => Ending::full_if(
-            kept.len() == 1 && kept.iter().all(|version| version.major == 2),
-        ),
-        Err(RangeError::OutOfMemory) => Ending::Refused,
-        Err(_) => Ending::Wrong,
+    let is_greatest = filter
+        .greatest(&versions)
+        .is_some_and(|version| version.minor == 2);
+    match filter.kept(alloc, &versions) {
+        Ok(kept) => Ending::full_if(kept.len() == 1 && is_greatest),
+        Err(_) => Ending::Refused,
     }
 }
 
-/// What `^1.2` keeps of the lines that are filtered below.
-const KEPT_LINES: &[u8] = b"1.2.0\n1.9.0+build";
+/// What `>=1.2.0-rc <1.10.0` keeps of the lines that are filtered below, as stated.
+const KEPT_LINES: &[u8] = b"1.2.0-rc.b\n1.9.0+build";
 
-/// `^1.2` on four lines keeps two. What was written before a refusal is a beginning of them.
-pub fn filter_of_lines(alloc: Global) -> Ending {
-    let mut input: &[u8] = b"1.2.0\n1.3.0-rc.a\n2.0.0\n1.9.0+build";
+/// The lines that are filtered. The pre-release of 1.3.0 has the first number of the range, and so
+/// it is read with its identifiers.
+const LINES: &[u8] = b"1.2.0-rc.b\n1.3.0-rc.a\n2.0.0-rc.a\n1.9.0+build";
+
+/// The greatest of them.
+const LAST_LINE: &[u8] = b"1.9.0+build";
+
+/// Two of the lines are copied. What was written before a refusal is a beginning of them. Making
+/// the filter is part of the call.
+pub fn copied_lines(alloc: Global) -> Ending {
+    let filter = match line_filter(alloc) {
+        Ok(filter) => filter,
+        Err(ending) => return ending,
+    };
+    let mut input = LINES;
     let mut out = Fixed::new();
-    let ran = filter_lines(
-        alloc,
-        "^1.2",
-        Compat::Cargo,
-        PreReleases::Excluded,
-        &mut input,
-        &mut out,
-    );
+    let ran = filter.copy_lines(alloc, &mut input, &mut out);
     let written = out.as_bytes();
     match ran {
         Ok(true) => Ending::full_if(written == KEPT_LINES),
-        Err(FilterError::OutOfMemory) => Ending::refused_if(KEPT_LINES.starts_with(written)),
+        Err(LineError::OutOfMemory) => Ending::refused_if(KEPT_LINES.starts_with(written)),
         _ => Ending::Wrong,
+    }
+}
+
+/// The last of the lines is the greatest. Making the filter is part of the call.
+pub fn greatest_line(alloc: Global) -> Ending {
+    let filter = match line_filter(alloc) {
+        Ok(filter) => filter,
+        Err(ending) => return ending,
+    };
+    let mut input = LINES;
+    match filter.greatest_line(alloc, &mut input) {
+        Ok(Some(line)) => Ending::full_if(line.as_slice() == LAST_LINE),
+        Err(LineError::OutOfMemory) => Ending::Refused,
+        _ => Ending::Wrong,
+    }
+}
+
+/// The filter of the lines.
+fn line_filter(alloc: Global) -> Result<Filter, Ending> {
+    match Filter::new(alloc, ">=1.2.0-rc <1.10.0", Compat::Cargo, PreReleases::Stated) {
+        Ok(filter) => Ok(filter),
+        Err(RangeError::OutOfMemory) => Err(Ending::Refused),
+        Err(_) => Err(Ending::Wrong),
     }
 }
 

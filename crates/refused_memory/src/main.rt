@@ -100,7 +100,7 @@ fn of_versions(alloc: Global) -> [(&'static str, Ending); 15] {
 }
 
 /// How each call on ranges and above them ends.
-fn of_ranges(alloc: Global) -> [(&'static str, Ending); 17] {
+fn of_ranges(alloc: Global) -> [(&'static str, Ending); 19] {
     [
         (
             "one_simple",
@@ -155,8 +155,10 @@ fn of_ranges(alloc: Global) -> [(&'static str, Ending); 17] {
         ("refused_range_texts", ranges::refused_texts(alloc)),
         ("range_set_clone", ranges::clone(alloc)),
         ("filter", filters::filter(alloc)),
-        ("filter_of_all", filters::filter_of_all(alloc)),
-        ("filter_of_lines", filters::filter_of_lines(alloc)),
+        ("new_filter", filters::new_filter(alloc)),
+        ("kept_versions", filters::kept_versions(alloc)),
+        ("copied_lines", filters::copied_lines(alloc)),
+        ("greatest_line", filters::greatest_line(alloc)),
         ("refused_filter_texts", filters::refused_texts(alloc)),
         ("report", reports::report(alloc)),
         ("report_of_faults", reports::report_of_faults(alloc)),

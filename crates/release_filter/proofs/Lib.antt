@@ -1,4 +1,9 @@
-mod Maps
 mod VersionBytes
+mod GreatestSteps
+mod Tests
+mod Passing
+mod DerivedOrder
+mod StoredRanges
 mod LineReading
 mod LineSteps
+mod GreatestLines

@@ -1,46 +1,90 @@
--- What reading the text of a line says of the line.
-use Rattle.std.proofs.Common.{rules, ◌≡◌, refl, ℕ, ◌↔◌, Bool, true, false, List, Some, ap, sym, subst, ◌∙◌}
+-- What stands behind the prefix of a line, and what that says of the line.
+use Rattle.std.proofs.Common.{rules, refl, ◌↔◌, Bor, ◌+◌, Option, Some, None, Result, Ok, Err, IfOk, MatchOption, IsTrue, ◌≡◌, ℕ, ◌++◌, Bool, true, false, List, ap, sym, subst, ◌∙◌, take, drop, length, eqb}
+use Rattle.std.specs.Option.{is_some}
 use Rattle.std.specs.Str.{IsUtf8}
-use Rattle.semver_parser.specs.Versions.{VersionValue}
-use Rattle.semver_parser.specs.VersionGrammar.{SpellsVersion, IsVersionText}
-use Rattle.release_filter.specs.KeptLines.{line_text, SpellsOneThat}
+use Rattle.std.specs.Cmp.Lexicographic.{pointwise, bytes_decides}
+use Rattle.std.proofs.Math.Seq.{take-append_seam}
+use Rattle.std.proofs.lemmas.List.{append_cancel_left, take-append-drop}
+use Rattle.semver_parser.specs.Versions.{PlainVersion, VersionValue}
+use Rattle.semver_parser.specs.VersionGrammar.{SpellsVersion}
+use Rattle.semver_parser.specs.VersionViews.{version_value}
+use Rattle.semver_parser.specs.declared.version.Version.{Version}
+use Rattle.release_filter.specs.Means.Reading.{SpellsPlain}
+use Rattle.release_filter.specs.KeptLines.{line_text, IsKeptLine, SpellsOneThat}
+use Rattle.release_filter.proofs.Passing.{not_both}
 use Rattle.release_filter.proofs.VersionBytes.{version_is_text}
 
-not_true : false ≡ true → ⊥
-not_true e = search rules
+module _ (test : VersionValue → Bool) (prefix line : List ℕ) where
+  -- the line doesn't begin with the prefix
+  pub no_prefix : ((t : List ℕ) → ¬ (line_text line ≡ prefix ++ t)) → ¬ (IsKeptLine test prefix line)
+  no_prefix none = λ (v, (t, at, spells, passes)). none t at
 
--- no test is passed by a line that spells no version
-none_is_kept : (test : VersionValue → Bool) (line : List ℕ) → ((v : VersionValue) → SpellsVersion v (line_text line) → ⊥)
-    → (false ≡ true) ↔ SpellsOneThat test line
-none_is_kept test line none = ((λ e. absurd (not_true e)), (λ (v, spells, passes). absurd (none v spells)))
+  module _ (text : List ℕ) (is : line_text line ≡ prefix ++ text) where
+    -- what stands behind the prefix is this text
+    same_text : (t : List ℕ) → line_text line ≡ prefix ++ t → t ≡ text
+    same_text t e = append_cancel_left prefix t text (sym e ∙ is)
 
--- its text is no UTF-8
-pub no_text : (test : VersionValue → Bool) (line text : List ℕ) → text ≡ line_text line → ¬ (IsUtf8 text)
-    → (false ≡ true) ↔ SpellsOneThat test line
-no_text test line text is not_utf8 =
-    none_is_kept test line (λ v spells. not_utf8 (subst IsUtf8 (sym is) (version_is_text v (line_text line) spells)))
+    -- it is no UTF-8
+    pub no_text : ¬ (IsUtf8 text) → ¬ (IsKeptLine test prefix line)
+    no_text not_utf8 = λ (v, (t, at, spells, passes)). not_utf8 (subst IsUtf8 (same_text t at) (version_is_text v t spells))
 
--- its text spells none
-pub refused : (test : VersionValue → Bool) (line text : List ℕ) → text ≡ line_text line → ¬ (IsVersionText text)
-    → (false ≡ true) ↔ SpellsOneThat test line
-refused test line text is none = none_is_kept test line (λ v spells. none (v, subst (SpellsVersion v) (sym is) spells))
+    -- no version that it spells passes
+    dropped : ((v : VersionValue) → SpellsVersion v text → test v ≡ false) → ¬ (IsKeptLine test prefix line)
+    dropped none = λ (v, (t, at, spells, passes)). not_both passes (none v (subst (SpellsVersion v) (same_text t at) spells))
 
--- its text is a version
-pub judged : (test : VersionValue → Bool) (line text : List ℕ) (version : VersionValue) (kept : Bool) → text ≡ line_text line
-    → ((v : VersionValue) → (Some version ≡ Some v) ↔ SpellsVersion v text) → kept ≡ test version → (kept ≡ true) ↔ SpellsOneThat test line
-judged test line text version kept is exact judges = (
-  (λ e. (version, subst (SpellsVersion version) is ((exact version).0 refl), sym judges ∙ e)),
-  (λ (v, spells, passes). judges ∙ ap test (same ((exact v).1 (subst (SpellsVersion v) (sym is) spells))) ∙ passes),
-)
-  where
-    same : {u w : VersionValue} → Some u ≡ Some w → u ≡ w
-    same e = cc
+    -- what a version of the text is to a filter, it is to the line
+    pub line_judged : {E : Type 0} (found : Result (Option Version) E)
+        → IfOk found (λ found. MatchOption found ((v : VersionValue) → SpellsVersion v text → test v ≡ false)
+        (λ x. (v : VersionValue) × SpellsVersion v text × IsTrue (test v) × ((version_value x).plain ≡ v.plain)))
+        → IfOk found (λ found. MatchOption found (¬ (IsKeptLine test prefix line)) (λ x. SpellsPlain test prefix line (version_value x).plain))
+    line_judged (Err e) h = tt
+    line_judged (Ok None) none = dropped none
+    line_judged (Ok (Some x)) (v, spells, passes, same) = (v, (text, is, spells, passes), same)
 
--- what is known of the bytes of a line is known of the line
-pub is_one : (test : VersionValue → Bool) (bytes line : List ℕ) (kept : Bool) → bytes ≡ line → (kept ≡ true) ↔ SpellsOneThat test bytes
-    → kept ≡ true → SpellsOneThat test line
-is_one test bytes line kept same tells e = subst (SpellsOneThat test) same (tells.0 e)
+-- what `strip_prefix` tells of bytes
+abbrev pub Strips : List ℕ → List ℕ → Option (Bor (List ℕ)) → Type 0
+Strips prefix bytes found =
+    MatchOption found (pointwise eqb (take (length prefix) bytes) prefix ≡ false)
+    (λ x. (pointwise eqb (take (length prefix) bytes) prefix ≡ true) × (x.now ≡ drop (length prefix) bytes)
+    × (length x.now + length prefix ≡ length bytes))
 
-pub is_none : (test : VersionValue → Bool) (bytes line : List ℕ) (kept : Bool) → bytes ≡ line → (kept ≡ true) ↔ SpellsOneThat test bytes
-    → kept ≡ false → ¬ (SpellsOneThat test line)
-is_none test bytes line kept same tells e = λ h. not_true (sym e ∙ tells.1 (subst (SpellsOneThat test) (sym same) h))
+-- what stands behind the prefix, if the bytes begin with it
+pub behind : (prefix bytes : List ℕ) (found : Option (Bor (List ℕ))) → Strips prefix bytes found
+    → MatchOption found ((t : List ℕ) → ¬ (bytes ≡ prefix ++ t)) (λ x. bytes ≡ prefix ++ x.now)
+behind prefix bytes None other = λ t e. not_both ((bytes_decides (take (length prefix) bytes) prefix).1
+    (ap (take (length prefix)) e ∙ take-append_seam prefix t)) other
+behind prefix bytes (Some x) (same, rest, len) =
+    sym (take-append-drop (length prefix) bytes)
+    ∙ ap (λ l. l ++ drop (length prefix) bytes) ((bytes_decides (take (length prefix) bytes) prefix).0 same)
+    ∙ ap (λ l. prefix ++ l) (sym rest)
+
+-- some version of the line passes exactly where the line is kept
+pub some_passes : (test : VersionValue → Bool) (prefix line : List ℕ) (found : Option Version)
+    → MatchOption found (¬ (IsKeptLine test prefix line)) (λ x. SpellsPlain test prefix line (version_value x).plain)
+    → (is_some found ≡ true) ↔ IsKeptLine test prefix line
+some_passes test prefix line None none = ((λ e. absurd (search rules)), (λ kept. absurd (none kept)))
+some_passes test prefix line (Some x) (v, spelled, same) = ((λ e. (v, spelled)), (λ kept. refl))
+
+-- what is told of the bytes of a line is told of the line
+pub is_one : (test : VersionValue → Bool) (prefix bytes line : List ℕ) (kept : Bool) → bytes ≡ line
+    → (kept ≡ true) ↔ IsKeptLine test prefix bytes → kept ≡ true → IsKeptLine test prefix line
+is_one test prefix bytes line kept same tells e = subst (IsKeptLine test prefix) same (tells.0 e)
+
+pub is_none : (test : VersionValue → Bool) (prefix bytes line : List ℕ) (kept : Bool) → bytes ≡ line
+    → (kept ≡ true) ↔ IsKeptLine test prefix bytes → kept ≡ false → ¬ (IsKeptLine test prefix line)
+is_none test prefix bytes line kept same tells e = λ h. not_both (tells.1 (subst (IsKeptLine test prefix) (sym same) h)) e
+
+pub spelled_line : (test : VersionValue → Bool) (prefix bytes line : List ℕ) (plain : PlainVersion) → bytes ≡ line
+    → SpellsPlain test prefix bytes plain → SpellsPlain test prefix line plain
+spelled_line test prefix bytes line plain same h = subst (λ l. SpellsPlain test prefix l plain) same h
+
+pub no_line : (test : VersionValue → Bool) (prefix bytes line : List ℕ) → bytes ≡ line → ¬ (IsKeptLine test prefix bytes)
+    → (w : VersionValue) → ¬ (SpellsOneThat test prefix line w)
+no_line test prefix bytes line same none w = λ h. none (w, subst (λ l. SpellsOneThat test prefix l w) (sym same) h)
+
+-- no text of a line has two versions
+pub one_of_line : ((v w : VersionValue) (text : List ℕ) → SpellsVersion v text → SpellsVersion w text → v ≡ w)
+    → (test : VersionValue → Bool) (prefix line : List ℕ) (v w : VersionValue) → SpellsOneThat test prefix line v
+    → SpellsOneThat test prefix line w → v ≡ w
+one_of_line one test prefix line v w (t, at, spells, passes) (u, at', spells', passes') =
+    one v w t spells (subst (SpellsVersion w) (append_cancel_left prefix u t (sym at' ∙ at)) spells')

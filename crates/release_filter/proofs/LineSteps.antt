@@ -1,16 +1,21 @@
 -- Where a filter stands in the bytes of its reader, line after line.
 use Rattle.std.proofs.Common.{◌≡◌, ℕ, ◌<◌, inl, inr, eqb, Bool, true, false, not, List, [], ◌∷◌, ◌++◌, length, Option, None, Some, IfSome}
-use Rattle.std.proofs.Common.{Result, Ok, Err, refl, sym, ap, subst, ◌∙◌, arith, append_assoc, cond}
+use Rattle.std.proofs.Common.{Ok, Err, refl, sym, ap, subst, ◌∙◌, arith, append_assoc, cond}
 use Rattle.std.proofs.lemmas.List.{append-nil}
+use Rattle.std.proofs.lemmas.List.Elements.{All-nil}
 use Rattle.std.specs.List.{concat}
-use Rattle.std.specs.Io.KnownBytes.{Appends, IsAtEnd}
-use Rattle.std.specs.Io.BufRead.{take_through, drop_through, DropsThrough}
+use Rattle.std.specs.Io.{StopsAt}
+use Rattle.std.specs.Io.KnownBytes.{Appends}
+use Rattle.std.specs.Io.BufRead.{take_through, drop_through}
+use Rattle.std.specs.declared.io.Error.{Error}
 use Rattle.std.proofs.KnownBytes.{Appends-nil, Appends-trans}
 use Rattle.std.proofs.BufReadLemmas.{take_through_nonempty}
 use Rattle.semver_parser.specs.Texts.{is_empty}
-use Rattle.semver_parser.specs.Versions.{VersionValue}
 use Rattle.semver_parser.specs.Writing.{AppendsBeginning}
-use Rattle.release_filter.specs.KeptLines.{onto_first, lines_of, SpellsOneThat, AreThose, CopiesLines}
+use Rattle.release_filter.specs.declared.lines.LineError.{LineError}
+use Rattle.release_filter.specs.declared.lines.LineError.TheVariants.{OutOfMemory, Read, Write}
+use Rattle.release_filter.specs.KeptLines.{onto_first, lines_of, AreThose, CopiesLines, StandsIn}
+use Rattle.release_filter.specs.Means.Reading.{ReadsPart, ReadsLine, FindsEnd, IsNoWriting}
 
 -- the first line, and the lines behind it
 lines_from : (x : ℕ) (xs : List ℕ) → lines_of (x ∷ xs) ≡ take_through 10 (x ∷ xs) ∷ lines_of (drop_through 10 (x ∷ xs))
@@ -47,33 +52,6 @@ dropped_behind IsKept (first ∷ lines) kept line (inl (rest, first_is, whole, t
 dropped_behind IsKept (first ∷ lines) kept line (inr (not_first, those)) is_not =
     inr (not_first, dropped_behind IsKept lines kept line those is_not)
 
--- tests that agree keep the same lines
-kept_alike : (p q : VersionValue → Bool) → ((v : VersionValue) → p v ≡ q v) → (line : List ℕ) → SpellsOneThat p line → SpellsOneThat q line
-kept_alike p q same line (v, spells, passes) = (v, spells, sym (same v) ∙ passes)
-
-those_alike : (p q : VersionValue → Bool) → ((v : VersionValue) → p v ≡ q v) → (lines kept : List (List ℕ))
-    → AreThose (SpellsOneThat p) lines kept → AreThose (SpellsOneThat q) lines kept
-those_alike p q same [] kept none = none
-those_alike p q same (line ∷ lines) kept (inl (rest, is, whole, those)) =
-    inl (rest, kept_alike p q same line is, whole, those_alike p q same lines rest those)
-those_alike p q same (line ∷ lines) kept (inr (is_not, those)) =
-    inr ((λ is. is_not (kept_alike q p (λ v. sym (same v)) line is)), those_alike p q same lines kept those)
-
-pub copies_alike : {E : Type 0} (p q : VersionValue → Bool) → ((v : VersionValue) → p v ≡ q v)
-    → (a w u : Option (List ℕ)) (r : Result Bool E)
-    → IfSome a (λ bytes. CopiesLines (SpellsOneThat p) bytes w u r) → IfSome a (λ bytes. CopiesLines (SpellsOneThat q) bytes w u r)
-copies_alike p q same None w u r h = tt
-copies_alike p q same (Some bytes) w u r h =
-    record {
-      read = h.read;
-      unread = h.unread;
-      kept = h.kept;
-      lines = h.lines;
-      those = those_alike p q same h.read h.kept h.those;
-      written = h.written;
-      answer = h.answer;
-    }
-
 concat_behind : (lines : List (List ℕ)) (line : List ℕ) → concat (lines ++ line ∷ []) ≡ concat lines ++ line
 concat_behind [] line = append-nil line
 concat_behind (first ∷ lines) line = ap (λ l. first ++ l) (concat_behind lines line) ∙ sym (append_assoc first (concat lines) line)
@@ -82,14 +60,53 @@ some_behind : (lines : List (List ℕ)) (line : List ℕ) → not (is_empty (lin
 some_behind [] line = refl
 some_behind (first ∷ lines) line = refl
 
+-- where a reader stands among the lines of its bytes: behind these
+pub record Behind (bytes : List ℕ) (b : Option (List ℕ)) (read : List (List ℕ)) : Type 0 where
+  pub rest : List ℕ
+  pub left : b ≡ Some rest
+  pub lines : lines_of bytes ≡ read ++ lines_of rest
+
+pub at_first : (bytes : List ℕ) → Behind bytes (Some bytes) []
+at_first bytes = record { rest = bytes; left = refl; lines = refl }
+
+module _ (bytes : List ℕ) (b c : Option (List ℕ)) (read : List (List ℕ)) (line : List ℕ) (h : Behind bytes b read) where
+  -- the next line was read
+  pub one_line : ReadsLine b c line → Behind bytes c (read ++ line ∷ [])
+  one_line n =
+      let next : (line ≡ take_through 10 h.rest) × (0 < length line) × (c ≡ Some (drop_through 10 h.rest)) =
+      subst (λ o. ReadsLine o c line) h.left n in
+      let long = take_through_nonempty 10 h.rest (subst (λ l. 0 < length l) next.0 next.1) in
+      record {
+        rest = drop_through 10 h.rest;
+        left = next.2;
+        lines = h.lines ∙ ap (λ l. read ++ l) (first_line h.rest long)
+            ∙ ap (λ l. read ++ l ∷ lines_of (drop_through 10 h.rest)) (sym next.0)
+            ∙ sym (append_assoc read (line ∷ []) (lines_of (drop_through 10 h.rest)));
+      }
+
+  -- it, or a beginning of it, was read, and there it ends
+  pub in_line : ReadsPart b c line → StandsIn bytes read c
+  in_line n =
+      let next : (rest : List ℕ) × (c ≡ Some rest) × (h.rest ≡ line ++ rest) × StopsAt line 10 =
+      subst (λ o. ReadsPart o c line) h.left n in
+      (line, next.0, next.1, h.lines ∙ ap (λ l. read ++ lines_of l) next.2, next.3)
+
+  -- nothing was left
+  pub at_last : FindsEnd b c → (lines_of bytes ≡ read) × (c ≡ Some [])
+  at_last n =
+      let end : (h.rest ≡ []) × (c ≡ Some []) = subst (λ o. FindsEnd o c) h.left n in
+      (h.lines ∙ ap (λ l. read ++ lines_of l) end.0 ∙ append-nil read, end.1)
+
+-- between two lines, and reading no more
+pub between : (bytes : List ℕ) (b : Option (List ℕ)) (read : List (List ℕ)) → Behind bytes b read → StandsIn bytes read b
+between bytes b read h = ([], h.rest, h.left, h.lines, All-nil _)
+
 module _ (IsKept : List ℕ → Type 0) where
-  -- from the reader's bytes a and the writer's bytes w, a filter has come to b and v behind whole lines, and has kept one or not
+  -- from the writer's bytes w, a filter has come to v behind whole lines, and has kept one or not
   pub record Stands (bytes : List ℕ) (b w v : Option (List ℕ)) (some : Bool) : Type 0 where
     pub read : List (List ℕ)
     pub kept : List (List ℕ)
-    pub rest : List ℕ
-    pub left : b ≡ Some rest
-    pub lines : lines_of bytes ≡ read ++ lines_of rest
+    pub behind : Behind bytes b read
     pub those : AreThose IsKept read kept
     pub written : Appends w v (concat kept)
     pub tells : some ≡ not (is_empty kept)
@@ -100,115 +117,82 @@ module _ (IsKept : List ℕ → Type 0) where
   pub at_start : (a w : Option (List ℕ)) → IsAt a a w w false
   at_start None w = tt
   at_start (Some xs) w =
-      record { read = []; kept = []; rest = xs; left = refl; lines = refl; those = refl; written = Appends-nil w; tells = refl }
+      record { read = []; kept = []; behind = at_first xs; those = refl; written = Appends-nil w; tells = refl }
 
-  -- nothing is left
-  pub at_end : (E : Type 0) (a b w v : Option (List ℕ)) (some : Bool) → IsAt a b w v some → IsAtEnd b
-      → IfSome a (λ bytes. CopiesLines {E = E} IsKept bytes w v (Ok some))
-  at_end E None b w v some h e = tt
-  at_end E (Some xs) b w v some h e =
-      let none : h.rest ≡ [] = subst IsAtEnd h.left e in
-      record {
-        read = h.read;
-        unread = [];
-        kept = h.kept;
-        lines = h.lines
-            ∙ ap (λ l. h.read ++ lines_of l) none;
-        those = h.those;
-        written = h.written;
-        answer = (refl, h.tells);
-      }
-
-  -- it ends between lines, by a fault
-  pub at_fault : {E : Type 0} (a b w v : Option (List ℕ)) (some : Bool) (e : E) → IsAt a b w v some
-      → IfSome a (λ bytes. CopiesLines IsKept bytes w v (Err e))
-  at_fault None b w v some e h = tt
-  at_fault (Some xs) b w v some e h =
-      record {
-        read = h.read;
-        unread = lines_of h.rest;
-        kept = h.kept;
-        lines = h.lines;
-        those = h.those;
-        written = (concat h.kept, [], append-nil (concat h.kept), h.written);
-        answer = tt;
-      }
-
-  module _ (a b c w v : Option (List ℕ)) (some : Bool) (line : List ℕ) where
-    -- the next line was read
-    abbrev pub IsNext : Type 0
-    IsNext = DropsThrough b c 10 × IfSome b (λ xs. line ≡ take_through 10 xs) × (0 < length line)
-
-    next_lines : (xs : List ℕ) (h : Stands xs b w v some) → IsNext
-        → (c ≡ Some (drop_through 10 h.rest)) × (lines_of xs ≡ (h.read ++ line ∷ []) ++ lines_of (drop_through 10 h.rest))
-    next_lines xs h n =
-        let first : line ≡ take_through 10 h.rest = subst (λ o. IfSome o (λ l. line ≡ take_through 10 l)) h.left n.1 in
-        let left : c ≡ Some (drop_through 10 h.rest) = subst (λ o. DropsThrough o c 10) h.left n.0 in
-        let long = take_through_nonempty 10 h.rest (subst (λ l. 0 < length l) first n.2) in (
-          left,
-          h.lines ∙ ap (λ l. h.read ++ l) (first_line h.rest long)
-              ∙ ap (λ l. h.read ++ l ∷ lines_of (drop_through 10 h.rest)) (sym first)
-              ∙ sym (append_assoc h.read (line ∷ []) (lines_of (drop_through 10 h.rest))),
-        )
-
-    -- it isn't kept
-    pub at_dropped : IsAt a b w v some → IsNext → ¬ (IsKept line) → IsAt a c w v some
-    at_dropped h n is_not = go a h
+  module _ (a b c w v : Option (List ℕ)) (some : Bool) where
+    -- nothing is left
+    pub at_end : IsAt a b w v some → FindsEnd b c → IfSome a (λ bytes. CopiesLines IsKept bytes c w v (Ok some))
+    at_end h n = go a h
       where
-        go : (a : Option (List ℕ)) → IsAt a b w v some → IsAt a c w v some
+        go : (a : Option (List ℕ)) → IsAt a b w v some → IfSome a (λ bytes. CopiesLines IsKept bytes c w v (Ok some))
         go None h = tt
         go (Some xs) h =
-            let next = next_lines xs h n in
-            record {
-              read = h.read ++ line ∷ [];
-              kept = h.kept;
-              rest = drop_through 10 h.rest;
-              left = next.0;
-              lines = next.1;
-              those = dropped_behind IsKept h.read h.kept line h.those is_not;
-              written = h.written;
-              tells = h.tells;
-            }
+            let last = at_last xs b c h.read [] h.behind n in
+            (h.kept, subst (λ l. AreThose IsKept l h.kept) (sym last.0) h.those, last.1, h.written, h.tells)
 
-    -- it is kept, and was written
-    pub at_kept : (u : Option (List ℕ)) → IsAt a b w v some → IsNext → IsKept line → Appends v u line → IsAt a c w u true
-    at_kept u h n is p = go a h
-      where
-        go : (a : Option (List ℕ)) → IsAt a b w v some → IsAt a c w u true
-        go None h = tt
-        go (Some xs) h =
-            let next = next_lines xs h n in
-            record {
-              read = h.read ++ line ∷ [];
-              kept = h.kept ++ line
-                  ∷ [];
-              rest = drop_through 10 h.rest;
-              left = next.0;
-              lines = next.1;
-              those = kept_behind IsKept h.read h.kept line h.those
-                  is;
-              written = subst (λ l. Appends w u l) (sym (concat_behind h.kept line))
-                  (Appends-trans w v u (concat h.kept) line h.written p);
-              tells = sym (some_behind h.kept line);
-            }
+    -- a fault that isn't one of writing, in a line or between two
+    fault : (bytes : List ℕ) (e : LineError) → IsNoWriting e → (h : Stands bytes b w v some) → StandsIn bytes h.read c
+        → CopiesLines IsKept bytes c w v (Err e)
+    fault bytes OutOfMemory reading h n = (h.read, h.kept, h.those, n, h.written)
+    fault bytes (Read error) reading h n = (h.read, h.kept, h.those, n, h.written)
+    fault bytes (Write error) reading h n = absurd reading
 
-    -- it is kept, and a beginning of it was written
-    pub at_broken : {E : Type 0} (u : Option (List ℕ)) (e : E) → IsAt a b w v some → IsNext → IsKept line → AppendsBeginning v u line
-        → IfSome a (λ bytes. CopiesLines IsKept bytes w u (Err e))
-    at_broken {E} u e h n is p = go a h
-      where
-        go : (a : Option (List ℕ)) → IsAt a b w v some → IfSome a (λ bytes. CopiesLines IsKept bytes w u (Err e))
-        go None h = tt
-        go (Some xs) h =
-            let next = next_lines xs h n in
-            let whole = append_assoc (concat h.kept) p.0 p.1 ∙ ap (λ l. concat h.kept ++ l) p.2 ∙ sym (concat_behind h.kept line) in
-            record {
-              read = h.read ++ line ∷ [];
-              unread = lines_of (drop_through 10 h.rest);
-              kept = h.kept ++ line
-                  ∷ [];
-              lines = next.1;
-              those = kept_behind IsKept h.read h.kept line h.those is;
-              written = (concat h.kept ++ p.0, p.1, whole, Appends-trans w v u (concat h.kept) p.0 h.written p.3);
-              answer = tt;
-            }
+    module _ (line : List ℕ) where
+      pub at_fault : (e : LineError) → IsNoWriting e → IsAt a b w v some → ReadsPart b c line
+          → IfSome a (λ bytes. CopiesLines IsKept bytes c w v (Err e))
+      at_fault e reading h n = go a h
+        where
+          go : (a : Option (List ℕ)) → IsAt a b w v some → IfSome a (λ bytes. CopiesLines IsKept bytes c w v (Err e))
+          go None h = tt
+          go (Some xs) h = fault xs e reading h (in_line xs b c h.read line h.behind n)
+
+      -- a line that isn't kept
+      pub at_dropped : IsAt a b w v some → ReadsLine b c line → ¬ (IsKept line) → IsAt a c w v some
+      at_dropped h n is_not = go a h
+        where
+          go : (a : Option (List ℕ)) → IsAt a b w v some → IsAt a c w v some
+          go None h = tt
+          go (Some xs) h =
+              record {
+                read = h.read ++ line ∷ [];
+                kept = h.kept;
+                behind = one_line xs b c h.read line h.behind n;
+                those = dropped_behind IsKept h.read h.kept line h.those is_not;
+                written = h.written;
+                tells = h.tells;
+              }
+
+      -- one that is kept, and was written
+      pub at_kept : (u : Option (List ℕ)) → IsAt a b w v some → ReadsLine b c line → IsKept line → Appends v u line → IsAt a c w u true
+      at_kept u h n is p = go a h
+        where
+          go : (a : Option (List ℕ)) → IsAt a b w v some → IsAt a c w u true
+          go None h = tt
+          go (Some xs) h =
+              record {
+                read = h.read ++ line ∷ [];
+                kept = h.kept ++ line ∷ [];
+                behind = one_line xs b c h.read line h.behind n;
+                those = kept_behind IsKept h.read h.kept line h.those is;
+                written = subst (λ l. Appends w u l) (sym (concat_behind h.kept line))
+                    (Appends-trans w v u (concat h.kept) line h.written p);
+                tells = sym (some_behind h.kept line);
+              }
+
+      -- one that is kept, and of which a beginning was written
+      pub at_broken : (u : Option (List ℕ)) (e : Error) → IsAt a b w v some → ReadsLine b c line → IsKept line
+          → AppendsBeginning v u line → IfSome a (λ bytes. CopiesLines IsKept bytes c w u (Err (Write e)))
+      at_broken u e h n is p = go a h
+        where
+          go : (a : Option (List ℕ)) → IsAt a b w v some → IfSome a (λ bytes. CopiesLines IsKept bytes c w u (Err (Write e)))
+          go None h = tt
+          go (Some xs) h =
+              let next = one_line xs b c h.read line h.behind n in
+              (h.read, h.kept, line, h.those, is, (next.rest, next.left, next.lines), p.0, p.1, p.2,
+              Appends-trans w v u (concat h.kept) p.0 h.written p.3)
+
+  -- between two lines
+  pub at_limit : (a b w v : Option (List ℕ)) (some : Bool) (e : LineError) → IsNoWriting e → IsAt a b w v some
+      → IfSome a (λ bytes. CopiesLines IsKept bytes b w v (Err e))
+  at_limit None b w v some e reading h = tt
+  at_limit (Some xs) b w v some e reading h = fault (Some xs) b b w v some xs e reading h (between xs b h.read h.behind)

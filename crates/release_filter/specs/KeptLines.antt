@@ -1,16 +1,16 @@
--- The lines of a stream, and which of them a range text keeps.
+-- The lines of a stream, which of them a filter keeps, and what is left of the stream.
 use Rattle.std.specs.Prelude.{◌≡◌, ℕ, ◌==◌, ◌⊎◌, Bool, not, List, [], ◌∷◌, ◌++◌, if◌then◌else◌}
-use Rattle.std.specs.Prelude.{Option, Result, IfOk, IsTrue}
+use Rattle.std.specs.Prelude.{Option, Some, None, Result, Ok, Err, IsTrue, Vec}
 use Rattle.std.specs.List.{concat}
+use Rattle.std.specs.Io.{StopsAt}
+use Rattle.std.specs.Io.KnownBytes.{Appends}
 use Rattle.std.specs.Io.BufRead.{strip_last}
-use Rattle.semver_parser.specs.Texts.{is_empty}
+use Rattle.semver_parser.specs.Texts.{Text, is_empty}
 use Rattle.semver_parser.specs.Versions.{VersionValue}
 use Rattle.semver_parser.specs.VersionGrammar.{SpellsVersion}
-use Rattle.semver_parser.specs.Writing.{WritesOrBegins}
-use Rattle.semver_parser.specs.declared.Compat.{Compat}
-use Rattle.semver_parser.specs.RangeTree.{SetTree}
-use Rattle.release_filter.specs.declared.PreReleases.{PreReleases}
-use Rattle.release_filter.specs.KeptReleases.{meant_with}
+use Rattle.release_filter.specs.Greatest.{IsGreatest, HasNone}
+use Rattle.release_filter.specs.declared.lines.LineError.{LineError}
+use Rattle.release_filter.specs.declared.lines.LineError.TheVariants.{OutOfMemory, Read, Write}
 
 -- a byte at the front of the first line
 abbrev pub onto_first : ℕ → List (List ℕ) → List (List ℕ)
@@ -27,13 +27,14 @@ lines_of (x ∷ xs) = if x == 10 then (x ∷ []) ∷ lines_of xs else onto_first
 abbrev pub line_text : List ℕ → List ℕ
 line_text line = strip_last 13 (strip_last 10 line)
 
--- the text of the line spells a version that passes a test
-abbrev pub SpellsOneThat : (VersionValue → Bool) → List ℕ → Type 0
-SpellsOneThat test line = (v : VersionValue) × SpellsVersion v (line_text line) × IsTrue (test v)
+-- the text of the line is the prefix and then the text of a version that passes a test
+abbrev pub SpellsOneThat : (VersionValue → Bool) → Text → List ℕ → VersionValue → Type 0
+SpellsOneThat test prefix line v =
+    (text : Text) × (line_text line ≡ prefix ++ text) × SpellsVersion v text × IsTrue (test v)
 
--- the text of the line spells a version that counts and that the range text means
-abbrev pub IsKeptLine : PreReleases → Compat → SetTree → List ℕ → Type 0
-IsKeptLine pre_releases mode tree line = SpellsOneThat (meant_with pre_releases mode tree) line
+-- a line to be kept: it spells a version that passes
+abbrev pub IsKeptLine : (VersionValue → Bool) → Text → List ℕ → Type 0
+IsKeptLine test prefix line = (v : VersionValue) × SpellsOneThat test prefix line v
 
 -- the kept lines are exactly those of the lines that are to be kept, in their order and with
 -- repeats
@@ -43,14 +44,43 @@ AreThose IsKept (line ∷ lines) kept =
     ((rest : List (List ℕ)) × IsKept line × (kept ≡ line ∷ rest) × AreThose IsKept lines rest)
     ⊎ (¬ (IsKept line) × AreThose IsKept lines kept)
 
--- a filter of these bytes wrote the kept ones of the lines that it read, or after a fault a
--- beginning of them; with an answer it has read every line, and it tells whether some line was kept
-pub record CopiesLines {E : Type 0} (IsKept : List ℕ → Type 0) (bytes : List ℕ)
-    (old new : Option (List ℕ)) (result : Result Bool E) : Type 0 where
-  pub read : List (List ℕ)
-  pub unread : List (List ℕ)
-  pub kept : List (List ℕ)
-  pub lines : lines_of bytes ≡ read ++ unread
-  pub those : AreThose IsKept read kept
-  pub written : WritesOrBegins old new result (concat kept)
-  pub answer : IfOk result (λ some. (unread ≡ []) × (some ≡ not (is_empty kept)))
+-- of these bytes, the reader has left what stands behind these lines
+abbrev pub StandsBehind : List ℕ → List (List ℕ) → Option (List ℕ) → Type 0
+StandsBehind bytes lines left =
+    (rest : List ℕ) × (left ≡ Some rest) × (lines_of bytes ≡ lines ++ lines_of rest)
+
+-- of these bytes, the reader has left what stands behind these lines and a beginning of the next
+-- one, of which it may have read all or nothing
+abbrev pub StandsIn : List ℕ → List (List ℕ) → Option (List ℕ) → Type 0
+StandsIn bytes lines left =
+    (begun rest : List ℕ) × (left ≡ Some rest) × (lines_of bytes ≡ lines ++ lines_of (begun ++ rest))
+    × StopsAt begun 10
+
+-- what a copy of the kept lines of these bytes wrote, and what it left of them. With an answer it
+-- has read every line, and it tells whether some line was kept. Where writing failed, it has read
+-- to the end of the kept line that it was writing, and wrote a beginning of that. After any other
+-- fault it stands behind lines that it is done with, or in the line behind them
+abbrev pub CopiesLines : (List ℕ → Type 0) → List ℕ → Option (List ℕ) → Option (List ℕ)
+    → Option (List ℕ) → Result Bool LineError → Type 0
+CopiesLines IsKept bytes left old new (Ok some) =
+    (kept : List (List ℕ)) × AreThose IsKept (lines_of bytes) kept × (left ≡ Some [])
+    × Appends old new (concat kept) × (some ≡ not (is_empty kept))
+CopiesLines IsKept bytes left old new (Err (Write error)) =
+    (lines kept : List (List ℕ)) × (line : List ℕ) × AreThose IsKept lines kept × IsKept line
+    × StandsBehind bytes (lines ++ line ∷ []) left
+    × (front back : List ℕ) × (front ++ back ≡ line) × Appends old new (concat kept ++ front)
+CopiesLines IsKept bytes left old new (Err OutOfMemory) =
+    (lines kept : List (List ℕ)) × AreThose IsKept lines kept × StandsIn bytes lines left
+    × Appends old new (concat kept)
+CopiesLines IsKept bytes left old new (Err (Read error)) =
+    (lines kept : List (List ℕ)) × AreThose IsKept lines kept × StandsIn bytes lines left
+    × Appends old new (concat kept)
+
+-- what a search for the greatest line of these bytes answers, and what it left of them. With an
+-- answer it has read every line
+abbrev pub FindsGreatest : {Z : Type 0} → (List ℕ → VersionValue → Type 0) → List ℕ
+    → Option (List ℕ) → Result (Option (Vec ℕ Z)) LineError → Type 0
+FindsGreatest Has bytes left (Ok None) = HasNone Has (lines_of bytes) × (left ≡ Some [])
+FindsGreatest Has bytes left (Ok (Some line)) =
+    IsGreatest Has (lines_of bytes) line.items × (left ≡ Some [])
+FindsGreatest Has bytes left (Err error) = (lines : List (List ℕ)) × StandsIn bytes lines left

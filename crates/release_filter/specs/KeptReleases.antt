@@ -1,6 +1,5 @@
--- What a range text keeps of a list of versions: the releases that it means, or every version that
--- it means.
-use Rattle.std.specs.Prelude.{Bool, true, ◌&&◌, List, filter}
+-- What a range text means by each rule for pre-releases, and what it keeps of a list of versions.
+use Rattle.std.specs.Prelude.{Bool, ◌&&◌, List, filter}
 use Rattle.semver_parser.specs.Texts.{is_empty}
 use Rattle.semver_parser.specs.Versions.{VersionValue}
 use Rattle.semver_parser.specs.VersionViews.{version_value}
@@ -8,8 +7,9 @@ use Rattle.semver_parser.specs.declared.version.Version.{Version}
 use Rattle.semver_parser.specs.declared.Compat.{Compat}
 use Rattle.semver_parser.specs.RangeTree.{SetTree}
 use Rattle.semver_parser.specs.OwnMeaning.{meets_tree}
-use Rattle.release_filter.specs.declared.PreReleases.{PreReleases}
-use Rattle.release_filter.specs.declared.PreReleases.TheVariants.{Excluded, Included}
+use Rattle.semver_parser.specs.StatedPreReleases.{meets_tree_as_stated}
+use Rattle.release_filter.specs.declared.rules.PreReleases.{PreReleases}
+use Rattle.release_filter.specs.declared.rules.PreReleases.TheVariants.{Excluded, Stated, Included}
 
 -- whether a version has no pre-release
 abbrev pub is_release : VersionValue → Bool
@@ -23,19 +23,10 @@ is_kept mode tree v = is_release v && meets_tree mode tree v.plain
 abbrev pub kept_releases : Compat → SetTree → List Version → List Version
 kept_releases mode tree versions = filter (λ v. is_kept mode tree (version_value v)) versions
 
--- whether a version, a pre-release too, meets the text's own meaning
-abbrev pub is_meant : Compat → SetTree → VersionValue → Bool
-is_meant mode tree v = meets_tree mode tree v.plain
-
--- those of the versions that the text means, in their order and with repeats
-abbrev pub meant_versions : Compat → SetTree → List Version → List Version
-meant_versions mode tree versions = filter (λ v. is_meant mode tree (version_value v)) versions
-
--- whether a version counts at all: a release alone, or each
-abbrev pub counts : PreReleases → VersionValue → Bool
-counts Excluded v = is_release v
-counts Included v = true
-
--- whether a version counts and meets the text's own meaning
+-- whether a text means a version by a rule for pre-releases: by the own meaning, of releases alone
+-- or of all versions; or as stated, where a pre-release counts beside a term of the same three
+-- numbers and a pre-release
 abbrev pub meant_with : PreReleases → Compat → SetTree → VersionValue → Bool
-meant_with pre_releases mode tree v = counts pre_releases v && meets_tree mode tree v.plain
+meant_with Excluded mode tree v = is_kept mode tree v
+meant_with Stated mode tree v = meets_tree_as_stated mode tree v.plain
+meant_with Included mode tree v = meets_tree mode tree v.plain

@@ -1,176 +1,250 @@
-//! The filter over a stream of lines.
+//! A filter over the lines of a stream.
 
-ghost use Rattle.std.specs.Prelude.{◌≡◌, ◌↔◌, ◌&&◌, ◌⊎◌, false, true, IfOk, IfSome, IsTrue};
+ghost use Rattle.std.specs.Prelude.{◌≡◌, ◌↔◌, ◌++◌, [], true, false, IfOk, IfErr, IfSome, MatchOption};
 ghost use Rattle.std.specs.Io.BufRead.{strip_last};
-ghost use Rattle.semver_parser.specs.Meeting.{meets_set};
-ghost use Rattle.semver_parser.specs.RangeTexts.{IsRangeText, HasSet, IsTooLarge};
-ghost use Rattle.semver_parser.specs.RangeTree.{SetTree, Spells};
-ghost use Rattle.semver_parser.specs.RangeViews.{set_of};
-ghost use Rattle.semver_parser.specs.Writing.{WritesOrBegins};
-ghost use Rattle.release_filter.specs.KeptReleases.{counts};
-ghost use Rattle.release_filter.specs.KeptLines.{line_text, SpellsOneThat, IsKeptLine, CopiesLines};
+ghost use Rattle.std.specs.declared.cmp.Ordering.TheVariants.{Less};
+ghost use Rattle.semver_parser.specs.Precedence.{precedence};
+ghost use Rattle.semver_parser.specs.VersionViews.{version_value};
+ghost use Rattle.release_filter.specs.Filters.{passes};
+ghost use Rattle.release_filter.specs.KeptLines.{line_text, SpellsOneThat, IsKeptLine};
+ghost use Rattle.release_filter.specs.KeptLines.{CopiesLines, FindsGreatest};
+ghost use Rattle.release_filter.specs.Means.Reading.{ReadsPart, ReadsLine, FindsEnd, IsNoWriting};
+ghost use Rattle.release_filter.specs.Means.Reading.{SpellsPlain};
+ghost use Rattle.semver_parser.specs.Texts.{Text};
 
-use crate::{PreReleases, is_kept, read_set};
+use crate::filter::Filter;
+use crate::precedence;
+use semver_parser::laws;
+use semver_parser::version::Version;
 use semver_parser::writing::write_whole;
-use semver_parser::{Compat, RangeError, RangeSet, version};
 use std::alloc::{AllocError, Global};
 use std::io::{self, BufRead, ErrorKind, Write};
+use std::mem;
 use thiserror::Error;
 
 /// Why a filter of lines ended before the end of its input.
 #[derive(Debug, Error, Drop)]
-pub enum FilterError {
-    /// The range text isn't in the range grammar.
-    #[error("not a range")]
-    NotARange,
-    /// The range text is in the range grammar, and a number that it states or a raised bound is
-    /// above 2^64 - 1.
-    #[error("number too large")]
-    NumberTooLarge,
-    /// A growth was refused: for the range, for a line, or for the identifiers of its version.
+pub enum LineError {
+    /// A growth was refused: for a line, or for the identifiers of its version.
     #[error("out of memory")]
     OutOfMemory,
     /// Reading failed, for the reason given.
-    #[error("cannot read input")]
+    #[error("cannot read input: {0}")]
     Read(io::Error),
     /// Writing failed, was interrupted, or took no byte.
-    #[error("cannot write output")]
+    #[error("cannot write output: {0}")]
     Write(io::Error),
 }
 
-/// Copies those lines of `input` to `out` that spell a version which the range text means, and
-/// tells whether there was one. With `PreReleases::Excluded` the version has to be a release, too.
-///
-/// A line ends with a line feed, and the last one may have none. Its text is the line without that
-/// line feed, and then without one carriage return at its end. It is kept where its text spells a
-/// version as `version::read` reads it (docs/GRAMMAR.md): spaces and tabs may stand round the
-/// version, and each number is at most 2^64 - 1. Kept lines are written as they stand, with their
-/// end, in their order and with repeats. Any other line is passed over, also one that is no UTF-8.
-/// Of `^1.2` in Cargo mode, releases alone, and the input `"1.2.0\r\nx\n1.3.0-rc\n2.0.0\n1.9.0"` it
-/// writes `"1.2.0\r\n1.9.0"`, and answers true.
-///
-/// It holds one line at a time, and where the line spells a version the identifiers of that. `out`
-/// isn't flushed.
-///
-/// # Errors
-///
-/// The range text is read first. Where it is refused, nothing is read and nothing is written:
-/// `NotARange`, `NumberTooLarge`, or `OutOfMemory`, as `filter_text` refuses it. Later `Read`,
-/// `Write` and `OutOfMemory` end the filter; then `out` got a beginning of the kept ones of the
-/// lines that were read. No line is passed over for want of memory. `Read` also ends the filter of
-/// an input of 2^64 - 1 lines or more.
-pub fn filter_lines<R: BufRead, W: Write>(
-    alloc: Global,
-    range: &str,
-    compat: Compat,
-    pre_releases: PreReleases,
-    input: &mut R,
-    out: &mut W,
-) -> Result<bool, FilterError>
-    // From a reader that tells its bytes to a writer that tells its own, the kept lines are copied.
-    ensures copies { (tree : SetTree) → Spells tree range.now
-        → IfSome (R.remaining input.old) (λ bytes.
-        CopiesLines (IsKeptLine pre_releases compat tree) bytes (W.contents out.old)
-        (W.contents out.new) result) }
-
-    // Some tree spells the range text and fits.
-    ensures accepted { IfOk result (λ some. HasSet compat range.now) }
-
-    // Refusals of the range text, exactly; they leave the reader and the writer as they were.
-    ensures not_a_range { (result ≡ Err FilterError.NotARange) ↔ ¬ (IsRangeText range.now) }
-    ensures too_large { (result ≡ Err FilterError.NumberTooLarge) ↔ IsTooLarge compat range.now }
-    ensures unread { (result ≡ Err FilterError.NotARange)
-        ⊎ (result ≡ Err FilterError.NumberTooLarge) → input.new ≡ input.old }
-    ensures unwritten { (result ≡ Err FilterError.NotARange)
-        ⊎ (result ≡ Err FilterError.NumberTooLarge) → out.new ≡ out.old }
-{
-    match read_set(alloc, range, compat, pre_releases) {
-        Ok(set) => copy_kept(alloc, &set, pre_releases, input, out),
-        Err(RangeError::NotARange) => Err(FilterError::NotARange),
-        Err(RangeError::NumberTooLarge) => Err(FilterError::NumberTooLarge),
-        Err(RangeError::OutOfMemory) => Err(FilterError::OutOfMemory),
+impl Filter {
+    /// Copies those lines of `input` to `out` that spell a version which passes, and tells whether
+    /// there was one.
+    ///
+    /// A line ends with a line feed, and the last one may have none. Its text is the line without
+    /// that line feed, and then without one carriage return at its end. It is kept where its text
+    /// spells a version as `version::read` reads it (docs/GRAMMAR.md), and that version passes:
+    /// spaces and tabs may stand round the version, and each number is at most 2^64 - 1. Kept lines
+    /// are written as they stand, with their end, in their order and with repeats. Any other line
+    /// is passed over, also one that is no UTF-8. A filter of `^1.2` in Cargo mode, releases alone,
+    /// writes of the input `"1.2.0\r\nx\n1.3.0-rc\n2.0.0\n1.9.0"` the output `"1.2.0\r\n1.9.0"`,
+    /// and answers true.
+    ///
+    /// It holds one line at a time, and where the line spells a version the identifiers of that.
+    /// `out` isn't flushed.
+    ///
+    /// # Errors
+    ///
+    /// `Read`, `Write` and `OutOfMemory` end the copy, and nothing is read after them. Where
+    /// writing failed, `input` stands behind the kept line that was being written, and `out` got a
+    /// beginning of that. Else `out` has the kept ones of the lines that were read whole, and
+    /// `input` stands behind these, or in the next line. No line is passed over for want of memory.
+    /// `Read` also ends the copy of an input of 2^64 - 1 lines or more.
+    pub fn copy_lines<R: BufRead, W: Write>(
+        &self,
+        alloc: Global,
+        input: &mut R,
+        out: &mut W,
+    ) -> Result<bool, LineError>
+        // From a reader that tells its bytes to a writer that tells its own, the kept lines are
+        // copied, and the reader has left what stands behind the lines that were read.
+        ensures copies { IfSome (R.remaining input.old) (λ bytes.
+            CopiesLines (IsKeptLine (passes self.now) []) bytes (R.remaining input.new)
+            (W.contents out.old) (W.contents out.new) result) }
+    {
+        self.copy_lines_behind(alloc, "", input, out)
     }
-}
 
-/// Copies the lines that spell a version which counts and meets a set, and tells whether there was
-/// one.
-fn copy_kept<R: BufRead, W: Write>(
-    alloc: Global,
-    set: &RangeSet,
-    pre_releases: PreReleases,
-    input: &mut R,
-    out: &mut W,
-) -> Result<bool, FilterError>
-    ensures copies { IfSome (R.remaining input.old) (λ bytes.
-        CopiesLines (SpellsOneThat (λ v. counts pre_releases v
-        && meets_set v.plain (set_of set.now))) bytes (W.contents out.old)
-        (W.contents out.new) result) }
-    ensures range_is_read { ¬ (result ≡ Err FilterError.NotARange)
-        × ¬ (result ≡ Err FilterError.NumberTooLarge) }
-{
-    let mut line = Vec::new(alloc);
-    let mut has_kept = false;
-    'lines: for _ in 0..u64::MAX {
-        line.clear();
-        match input.read_until(b'\n', &mut line) {
-            Ok(0) => return Ok(has_kept),
-            Ok(_) => {}
-            Err(error) => return Err(reading_fault(error)),
-        }
-        let Ok(is_kept) = is_kept_line(alloc, set, pre_releases, line.as_slice()) else {
-            return Err(FilterError::OutOfMemory);
-        };
-        if is_kept {
-            if let Err(error) = write_line(out, line.as_slice()) {
-                return Err(error);
+    /// What [`Filter::copy_lines`] does, of lines that begin with a prefix: a line is kept where
+    /// its text is the prefix and then the text of a version that passes. It is written as it
+    /// stands, with the prefix. With the prefix `v`, `v1.2.0` is kept by `^1.2`, and `1.2.0` is
+    /// passed over.
+    pub fn copy_lines_behind<R: BufRead, W: Write>(
+        &self,
+        alloc: Global,
+        prefix: &str,
+        input: &mut R,
+        out: &mut W,
+    ) -> Result<bool, LineError>
+        ensures copies { IfSome (R.remaining input.old) (λ bytes.
+            CopiesLines (IsKeptLine (passes self.now) prefix.now) bytes (R.remaining input.new)
+            (W.contents out.old) (W.contents out.new) result) }
+    {
+        let mut line = Vec::new(alloc);
+        let mut has_kept = false;
+        'lines: for _ in 0..u64::MAX {
+            match read_line(input, &mut line) {
+                Ok(true) => {}
+                Ok(false) => return Ok(has_kept),
+                Err(error) => return Err(error),
             }
-            has_kept = true;
+            let Ok(is_kept) = self.keeps_line(alloc, prefix, line.as_slice()) else {
+                return Err(LineError::OutOfMemory);
+            };
+            if is_kept {
+                if let Err(error) = write_whole(out, line.as_slice()) {
+                    return Err(LineError::Write(error));
+                }
+                has_kept = true;
+            }
+        }
+        Err(too_many_lines())
+    }
+
+    /// Of the lines that spell a version which passes, the one with the greatest by precedence
+    /// (SemVer 2.0.0, section 11), and the first of those with an equal one; builds don't count. It
+    /// is answered as it stands, with its end. `None` exactly where no line is kept.
+    ///
+    /// Which lines are kept [`Filter::copy_lines`] says. A filter of `^1.2` answers of the input
+    /// `"1.2.0\n1.9.0+a\n1.9.0+b\n2.0.0"` the line `"1.9.0+a\n"`.
+    ///
+    /// # Errors
+    ///
+    /// `Read` and `OutOfMemory` end the search, and nothing is read after them: `input` stands
+    /// behind the lines that were read, or in the next one. `Read` also ends the search of an input
+    /// of 2^64 - 1 lines or more. `Write` never comes.
+    pub fn greatest_line<R: BufRead>(
+        &self,
+        alloc: Global,
+        input: &mut R,
+    ) -> Result<Option<Vec<u8>>, LineError>
+        ensures finds { IfSome (R.remaining input.old) (λ bytes.
+            FindsGreatest (SpellsOneThat (passes self.now) []) bytes (R.remaining input.new)
+            result) }
+        ensures no_writing { IfErr result IsNoWriting }
+    {
+        self.greatest_line_behind(alloc, "", input)
+    }
+
+    /// What [`Filter::greatest_line`] answers, of lines that begin with a prefix: a line is kept
+    /// where its text is the prefix and then the text of a version that passes.
+    pub fn greatest_line_behind<R: BufRead>(
+        &self,
+        alloc: Global,
+        prefix: &str,
+        input: &mut R,
+    ) -> Result<Option<Vec<u8>>, LineError>
+        ensures finds { IfSome (R.remaining input.old) (λ bytes.
+            FindsGreatest (SpellsOneThat (passes self.now) prefix.now) bytes
+            (R.remaining input.new) result) }
+        ensures no_writing { IfErr result IsNoWriting }
+    {
+        laws::precedence_is_total();
+        laws::one_version();
+        let mut line = Vec::new(alloc);
+        let mut greatest_line = Vec::new(alloc);
+        let mut greatest = None;
+        'lines: for _ in 0..u64::MAX {
+            match read_line(input, &mut line) {
+                Ok(true) => {}
+                Ok(false) if greatest.is_some() => return Ok(Some(greatest_line)),
+                Ok(false) => return Ok(None),
+                Err(error) => return Err(error),
+            }
+            let Ok(version) = self.kept_version(alloc, prefix, line.as_slice()) else {
+                return Err(LineError::OutOfMemory);
+            };
+            let Some(version) = version else {
+                continue 'lines;
+            };
+            if is_greatest(&version, &greatest) {
+                mem::swap(&mut line, &mut greatest_line);
+                greatest = Some(version);
+            }
+        }
+        Err(too_many_lines())
+    }
+
+    /// Whether a line is kept.
+    fn keeps_line(&self, alloc: Global, prefix: &str, line: &[u8]) -> Result<bool, AllocError>
+        ensures { IfOk result (λ is_kept. (is_kept ≡ true)
+            ↔ IsKeptLine (passes self.now) prefix.now line.now) }
+    {
+        let version = self.kept_version(alloc, prefix, line)?;
+        Ok(version.is_some())
+    }
+
+    /// The version that a line spells behind the prefix, without its build, if it passes.
+    fn kept_version(
+        &self,
+        alloc: Global,
+        prefix: &str,
+        line: &[u8],
+    ) -> Result<Option<Version>, AllocError>
+        ensures { IfOk result (λ found. MatchOption found
+            (¬ (IsKeptLine (passes self.now) prefix.now line.now))
+            (λ v. SpellsPlain (passes self.now) prefix.now line.now (version_value v).plain)) }
+    {
+        let Some(text) = text_behind(prefix, line) else {
+            return Ok(None);
+        };
+        match str::from_utf8(text) {
+            Ok(text) => self.version_that_passes(alloc, text),
+            Err(_) => Ok(None),
         }
     }
-    Err(FilterError::Read(io::Error::from(ErrorKind::Other)))
 }
 
-/// Writes a line as it stands, its end too.
-fn write_line<W: Write>(out: &mut W, line: &[u8]) -> Result<(), FilterError>
-    ensures writes { WritesOrBegins (W.contents out.old) (W.contents out.new) result line.now }
-    ensures range_is_read { ¬ (result ≡ Err FilterError.NotARange)
-        × ¬ (result ≡ Err FilterError.NumberTooLarge) }
+/// What stands behind the prefix in the text of a line, if the text begins with it.
+fn text_behind<'l>(prefix: &str, line: &'l [u8]) -> Option<&'l [u8]>
+    ensures { MatchOption result
+        ((text : Text) → ¬ (line_text line.now ≡ prefix.now ++ text))
+        (λ text. line_text line.now ≡ prefix.now ++ text.now) }
 {
-    match write_whole(out, line) {
-        Ok(()) => Ok(()),
-        Err(error) => Err(FilterError::Write(error)),
+    text_of(line).strip_prefix(prefix.as_bytes())
+}
+
+/// Whether a version is above another, if there is one.
+fn is_greatest(version: &Version, greatest: &Option<Version>) -> bool
+    ensures { MatchOption greatest.now (result ≡ true) (λ other. (result ≡ true) ↔
+        (precedence (version_value other).plain (version_value version.now).plain ≡ Less)) }
+{
+    match greatest {
+        Some(other) => precedence::is_above(version, other),
+        None => true,
     }
 }
 
-/// What a failed reading is: a line that finds no memory, or a fault of the reader.
-fn reading_fault(error: io::Error) -> FilterError
-    ensures { ¬ (result ≡ FilterError.NotARange) × ¬ (result ≡ FilterError.NumberTooLarge) }
+/// Reads the next line in place of another, with its end: whether there was one.
+fn read_line<R: BufRead>(input: &mut R, line: &mut Vec<u8>) -> Result<bool, LineError>
+    ensures part { ReadsPart (R.remaining input.old) (R.remaining input.new) line.new.items }
+    ensures whole { result ≡ Ok true →
+        ReadsLine (R.remaining input.old) (R.remaining input.new) line.new.items }
+    ensures end { result ≡ Ok false → FindsEnd (R.remaining input.old) (R.remaining input.new) }
+    ensures no_writing { IfErr result IsNoWriting }
 {
-    if error.kind() == ErrorKind::OutOfMemory {
-        FilterError::OutOfMemory
-    } else {
-        FilterError::Read(error)
+    line.clear();
+    match input.read_until(b'\n', line) {
+        Ok(count) => Ok(count > 0),
+        Err(error) if error.kind() == ErrorKind::OutOfMemory => Err(LineError::OutOfMemory),
+        Err(error) => Err(LineError::Read(error)),
     }
 }
 
-/// Whether a line spells a version that counts and meets a set.
-fn is_kept_line(
-    alloc: Global,
-    set: &RangeSet,
-    pre_releases: PreReleases,
-    line: &[u8],
-) -> Result<bool, AllocError>
-    ensures { IfOk result (λ is_kept. (is_kept ≡ true)
-        ↔ SpellsOneThat (λ v. counts pre_releases v && meets_set v.plain (set_of set.now))
-        line.now) }
+/// The fault of an input without end.
+fn too_many_lines() -> LineError
+    ensures { IsNoWriting result }
 {
-    let Ok(text) = str::from_utf8(text_of(line)) else {
-        return Ok(false);
-    };
-    match version::read(alloc, text)? {
-        Some(version) => Ok(is_kept(set, pre_releases, &version)),
-        None => Ok(false),
-    }
+    LineError::Read(io::Error::from(ErrorKind::Other))
 }
 
 /// The text of a line: without the line feed at its end, and then without one carriage return at

@@ -1,7 +1,8 @@
-//! How a version compares with the version of a comparator, by precedence (SemVer 2.0.0, section
-//! 11).
+//! How a version compares with another, and with the version of a comparator, by precedence
+//! (SemVer 2.0.0, section 11).
 
-ghost use Rattle.std.specs.Prelude.{◌≡◌, map};
+ghost use Rattle.std.specs.Prelude.{◌≡◌, ◌↔◌, true, map};
+ghost use Rattle.std.specs.declared.cmp.Ordering.TheVariants.{Less};
 ghost use Rattle.std.specs.Cmp.Lexicographic.{slice_cmp};
 ghost use Rattle.semver_parser.specs.Precedence.{identifier_cmp, pre_cmp, precedence};
 ghost use Rattle.semver_parser.specs.RangeViews.{identifier_of, comparator_of};
@@ -11,8 +12,8 @@ use semver_parser::version::{self, Version};
 use semver_parser::{Comparator, Identifier};
 use std::cmp::Ordering;
 
-/// Compares by the three numbers, and where these are equal by the pre-releases. The build of the
-/// version doesn't count.
+/// How a version compares with a comparator's: by the three numbers, and where these are equal by
+/// the pre-releases. The build of the version doesn't count.
 #[inline(always)]
 pub fn compare(version: &Version, comparator: &Comparator) -> Ordering
     ensures { result ≡ precedence (version_value version.now).plain
@@ -28,6 +29,44 @@ pub fn compare(version: &Version, comparator: &Comparator) -> Ordering
         return version.patch.cmp(&comparator.patch);
     }
     compare_pre_releases(&version.pre, &comparator.pre)
+}
+
+/// Whether a version is above another. Their builds don't count.
+pub fn is_above(version: &Version, other: &Version) -> bool
+    ensures { (result ≡ true) ↔ (precedence (version_value other.now).plain
+        (version_value version.now).plain ≡ Less) }
+{
+    compare_versions(other, version).is_lt()
+}
+
+/// How two versions compare. Their builds don't count.
+fn compare_versions(version: &Version, other: &Version) -> Ordering
+    ensures { result ≡ precedence (version_value version.now).plain
+        (version_value other.now).plain }
+{
+    version
+        .major
+        .cmp(&other.major)
+        .then(version.minor.cmp(&other.minor))
+        .then(version.patch.cmp(&other.patch))
+        .then_with(|| compare_two_pre_releases(&version.pre, &other.pre))
+}
+
+/// No pre-release is above any. Two go by the derived order of their identifiers, which is that of
+/// precedence.
+fn compare_two_pre_releases(
+    version: &[version::Identifier],
+    other: &[version::Identifier],
+) -> Ordering
+    ensures { result ≡ pre_cmp (map identifier_value version.now)
+        (map identifier_value other.now) }
+{
+    match (version.is_empty(), other.is_empty()) {
+        (true, true) => Ordering::Equal,
+        (true, false) => Ordering::Greater,
+        (false, true) => Ordering::Less,
+        (false, false) => version.cmp(other),
+    }
 }
 
 /// No pre-release is above any. Two go identifier by identifier.

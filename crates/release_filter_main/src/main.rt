@@ -1,154 +1,167 @@
-//! The program `release-filter [--npm] [--pre] RANGE`: arguments, standard input and output, and
-//! exit status, nothing else.
+//! The program `release-filter`: arguments, standard input and output, and exit status, nothing
+//! else. What it does with a filter is `copy_lines_behind` and `greatest_line_behind` of the
+//! library.
 #![tactic(auto)]
 
-use release_filter::{FilterError, PreReleases, filter_lines};
-use semver_parser::Compat;
-use std::env;
-use std::io::{self, BufReader, BufWriter, ErrorKind, Write};
+mod arguments;
+
+use arguments::{Refusal, Request, Wanted};
+use release_filter::{Filter, LineError};
+use semver_parser::RangeError;
+use semver_parser::writing::write_whole;
+use std::io::{self, BufReader, BufWriter, ErrorKind, LineWriter, Write};
 use std::process::ExitCode;
-use std::rt::Env;
 
 /// How the program is called.
-const USAGE: &str = "usage: release-filter [--npm] [--pre] RANGE";
+const USAGE: &str = "\
+usage: release-filter [--npm] [--pre | --pre-stated] [--greatest]
+                      [--prefix TEXT] [--line-buffered] RANGE";
 
 /// What the program does.
 const HELP: &str = "
 Copies those lines of standard input to standard output, as they stand,
 that spell a release which RANGE means.
 
-    --npm       read RANGE in npm mode; without it in Cargo mode
-    --pre       copy the pre-releases that RANGE means, too
-    --          end the options
-    -h, --help  write this, and read no input
+    --npm            read RANGE in npm mode; without it in Cargo mode
+    --pre            copy each pre-release that RANGE means, too
+    --pre-stated     copy pre-releases as npm and Cargo do: those that RANGE
+                     means, and of which a term of the same range states the
+                     three numbers and a pre-release
+    --greatest       write the one line of the greatest version alone, by
+                     precedence, and the first of those that are equal
+    --prefix TEXT    read a line without TEXT in front, and pass over lines
+                     that don't begin with it
+    --line-buffered  write each line at once
+    --               end the options
+    -h, --help       write this, and read no input
+    --version        write the version of this program, and read no input
 
-Its status is 0 where a line was copied, 1 where none was, and 2 after a fault,
-which standard error tells.";
+The last of --pre and --pre-stated counts. The status is 0 where a line was
+written, 1 where none was, and 2 after a fault, which standard error tells.";
 
-/// What the arguments ask for.
+/// The version of this program, as the file VERSION has it.
+const VERSION: &str = "release-filter 0.1.0";
+
+/// Why a run ended by a fault.
 #[derive(Drop)]
-enum Request {
-    /// To filter.
-    Filter(Filter),
-    /// To tell the usage.
-    Help,
-}
-
-/// The filter that the arguments ask for.
-#[derive(Drop)]
-struct Filter {
-    /// The range text.
-    range: String,
-    /// The mode in which it is read.
-    compat: Compat,
-    /// Whether pre-releases are copied, too.
-    pre_releases: PreReleases,
-}
-
-/// Why the arguments ask for nothing.
-enum Refusal {
-    /// They can't be read.
-    Unreadable,
-    /// An option is unknown, or they are not one range text.
-    Misused,
+enum Fault {
+    /// The range text was refused.
+    Range(RangeError),
+    /// The lines were not read and written to the end.
+    Lines(LineError),
 }
 
 fn main(rt: HostRuntime) -> ExitCode {
-    match requested(&rt) {
-        Ok(Request::Filter(filter)) => run(&rt, &filter),
-        Ok(Request::Help) => help(&rt),
-        Err(Refusal::Unreadable) => refused(&rt, "release-filter: cannot read arguments"),
-        Err(Refusal::Misused) => refused(&rt, USAGE),
-    }
-}
-
-/// What the arguments ask for. What begins with a hyphen is an option, up to the first `--`.
-fn requested(rt: &(impl Env + AllocGlobal)) -> Result<Request, Refusal> {
-    let Ok(mut arguments) = env::args(rt) else {
-        return Err(Refusal::Unreadable);
-    };
-    let _program = arguments.next();
-    let mut range = None;
-    let mut compat = Compat::Cargo;
-    let mut pre_releases = PreReleases::Excluded;
-    let mut has_options = true;
-    for argument in arguments {
-        match argument.as_str() {
-            "--" if has_options => has_options = false,
-            "--npm" if has_options => compat = Compat::Npm,
-            "--pre" if has_options => pre_releases = PreReleases::Included,
-            "-h" | "--help" if has_options => return Ok(Request::Help),
-            text if has_options && text.starts_with('-') => return Err(Refusal::Misused),
-            _ if range.is_some() => return Err(Refusal::Misused),
-            _ => range = Some(argument),
-        }
-    }
-    match range {
-        Some(range) => Ok(Request::Filter(Filter {
-            range,
-            compat,
-            pre_releases,
-        })),
-        None => Err(Refusal::Misused),
+    match arguments::requested(&rt) {
+        Ok(Request::Filter(wanted)) => run(&rt, &wanted),
+        Ok(Request::Help) => write_text(&rt, &[USAGE, HELP]),
+        Ok(Request::Version) => write_text(&rt, &[VERSION]),
+        Err(refusal) => refused(&rt, &refusal),
     }
 }
 
 /// Filters, and tells a fault. A reader of the output that wants no more is none.
-fn run(rt: &HostRuntime, filter: &Filter) -> ExitCode {
-    match copy(rt, filter) {
+fn run(rt: &HostRuntime, wanted: &Wanted) -> ExitCode {
+    match filtered(rt, wanted) {
         Ok(true) => ExitCode::SUCCESS,
         Ok(false) => ExitCode::from(1),
-        Err(FilterError::Write(error)) if error.kind() == ErrorKind::BrokenPipe =>
-            ExitCode::SUCCESS,
-        Err(error) => {
-            tell(rt, &error, filter.range.as_str());
+        Err(Fault::Lines(LineError::Write(error))) if error.kind() == ErrorKind::BrokenPipe => {
+            ExitCode::SUCCESS
+        }
+        Err(fault) => {
+            tell(rt, &fault, wanted.range.as_str());
             ExitCode::from(2)
         }
     }
 }
 
-/// Copies the lines, and tells whether there was one.
-fn copy(rt: &HostRuntime, filter: &Filter) -> Result<bool, FilterError> {
-    let Ok(mut input) = BufReader::new(rt.alloc(), rt.reader()) else {
-        return Err(FilterError::OutOfMemory);
-    };
-    let Ok(mut output) = BufWriter::new(rt.alloc(), io::writer(rt)) else {
-        return Err(FilterError::OutOfMemory);
-    };
-    let range = filter.range.as_str();
-    let has_copied = filter_lines(
+/// Filters, and tells whether a line was written.
+fn filtered(rt: &HostRuntime, wanted: &Wanted) -> Result<bool, Fault> {
+    let range = wanted.range.as_str();
+    let filter = Filter::new(
         rt.alloc(),
         range,
-        filter.compat,
-        filter.pre_releases,
-        &mut input,
-        &mut output,
-    )?;
-    output.flush().map_err(FilterError::Write)?;
-    Ok(has_copied)
-}
-
-/// Says on standard error what the fault is, in one line, of a range text with the text.
-fn tell(rt: &impl Eprint, error: &FilterError, range: &str) {
-    let _ = match error {
-        FilterError::NotARange | FilterError::NumberTooLarge => eprintln!(rt;
-            "release-filter: {error}: {range:?}"
-        ),
-        _ => eprintln!(rt; "release-filter: {error}"),
+        wanted.options.compat,
+        wanted.options.pre_releases,
+    )
+    .map_err(Fault::Range)?;
+    let Ok(mut input) = BufReader::new(rt.alloc(), rt.reader()) else {
+        return Err(Fault::Lines(LineError::OutOfMemory));
     };
-}
-
-/// Writes the usage to standard output.
-fn help(rt: &HostRuntime) -> ExitCode {
-    match println!(rt; "{USAGE}\n{HELP}") {
-        Ok(()) => ExitCode::SUCCESS,
-        Err(error) if error.kind() == ErrorKind::BrokenPipe => ExitCode::SUCCESS,
-        Err(_) => refused(rt, "release-filter: cannot write output"),
+    if wanted.options.is_line_buffered {
+        let Ok(mut output) = LineWriter::new(rt.alloc(), io::writer(rt)) else {
+            return Err(Fault::Lines(LineError::OutOfMemory));
+        };
+        write_lines(rt, wanted, &filter, &mut input, &mut output).map_err(Fault::Lines)
+    } else {
+        let Ok(mut output) = BufWriter::new(rt.alloc(), io::writer(rt)) else {
+            return Err(Fault::Lines(LineError::OutOfMemory));
+        };
+        write_lines(rt, wanted, &filter, &mut input, &mut output).map_err(Fault::Lines)
     }
 }
 
-/// Says why on standard error, and gives status 2.
-fn refused(rt: &impl Eprint, why: &str) -> ExitCode {
-    let _ = eprintln!(rt; "{why}");
+/// Writes the lines that are wanted, and tells whether there was one.
+fn write_lines<R: io::BufRead, W: Write>(
+    rt: &HostRuntime,
+    wanted: &Wanted,
+    filter: &Filter,
+    input: &mut R,
+    output: &mut W,
+) -> Result<bool, LineError> {
+    let prefix = wanted
+        .options
+        .prefix
+        .as_ref()
+        .map_or("", |prefix| prefix.as_str());
+    let has_written = if wanted.options.is_greatest {
+        match filter.greatest_line_behind(rt.alloc(), prefix, input)? {
+            Some(line) => {
+                write_whole(output, line.as_slice()).map_err(LineError::Write)?;
+                true
+            }
+            None => false,
+        }
+    } else {
+        filter.copy_lines_behind(rt.alloc(), prefix, input, output)?
+    };
+    output.flush().map_err(LineError::Write)?;
+    Ok(has_written)
+}
+
+/// Says on standard error what the fault is, in one line, of a range text with the text.
+fn tell(rt: &impl Eprint, fault: &Fault, range: &str) {
+    let _ = match fault {
+        Fault::Range(error) => eprintln!(rt; "release-filter: {error}: {range:?}"),
+        Fault::Lines(error) => eprintln!(rt; "release-filter: {error}"),
+    };
+}
+
+/// Writes texts to standard output, each with a line feed.
+fn write_text(rt: &HostRuntime, texts: &[&str]) -> ExitCode {
+    for text in texts {
+        match println!(rt; "{text}") {
+            Ok(()) => {}
+            Err(error) if error.kind() == ErrorKind::BrokenPipe => return ExitCode::SUCCESS,
+            Err(error) => {
+                let _ = eprintln!(rt; "release-filter: cannot write output: {error}");
+                return ExitCode::from(2);
+            }
+        }
+    }
+    ExitCode::SUCCESS
+}
+
+/// Says on standard error why the arguments ask for nothing, and gives status 2.
+fn refused(rt: &impl Eprint, refusal: &Refusal) -> ExitCode {
+    let _ = match refusal {
+        Refusal::Unreadable => eprintln!(rt; "release-filter: cannot read arguments"),
+        Refusal::UnknownOption(option) => eprintln!(rt;
+            "release-filter: unknown option: {option:?}\n{USAGE}"
+        ),
+        Refusal::NoPrefix => eprintln!(rt; "release-filter: --prefix wants a text\n{USAGE}"),
+        Refusal::NoRange => eprintln!(rt; "release-filter: no range\n{USAGE}"),
+        Refusal::ManyRanges => eprintln!(rt; "release-filter: more than one range\n{USAGE}"),
+    };
     ExitCode::from(2)
 }

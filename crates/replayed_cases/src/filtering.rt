@@ -1,6 +1,6 @@
 //! What the filter keeps, and which versions meet a set.
 
-use release_filter::{filter_text, filter_versions, version_meets};
+use release_filter::{Filter, PreReleases, filter_text, version_meets};
 use semver_parser::version::Version;
 use semver_parser::{Compat, RangeError, RangeSet, version};
 use std::alloc::Global;
@@ -21,18 +21,86 @@ pub fn write_kept<W: Write>(
     }
 }
 
-/// As `write_kept`, pre-releases too.
-pub fn write_meant<W: Write>(
+/// Writes the versions of a list, parted by blanks, that pass a filter, or the fault of the text.
+pub fn write_passed<W: Write>(
     alloc: Global,
     text: &str,
     compat: Compat,
+    pre_releases: PreReleases,
     list: &str,
     out: &mut W,
 ) -> io::Result<()> {
-    match versions_of(alloc, list)? {
-        Some(versions) => write_answer(&filter_versions(alloc, text, compat, &versions), out),
-        None => write!(out, "not all are versions"),
+    let Some(versions) = versions_of(alloc, list)? else {
+        return write!(out, "not all are versions");
+    };
+    match Filter::new(alloc, text, compat, pre_releases) {
+        Ok(filter) => write_answer(&Ok(filter.kept(alloc, &versions)?), out),
+        Err(error) => write_answer(&Err(error), out),
     }
+}
+
+/// Writes the greatest of those, if there is one.
+pub fn write_greatest<W: Write>(
+    alloc: Global,
+    text: &str,
+    compat: Compat,
+    pre_releases: PreReleases,
+    list: &str,
+    out: &mut W,
+) -> io::Result<()> {
+    let Some(versions) = versions_of(alloc, list)? else {
+        return write!(out, "not all are versions");
+    };
+    let filter = match Filter::new(alloc, text, compat, pre_releases) {
+        Ok(filter) => filter,
+        Err(error) => return write!(out, "{error}"),
+    };
+    match filter.greatest(&versions) {
+        Some(version) => write!(out, "{version}"),
+        None => write!(out, "none"),
+    }
+}
+
+/// Writes the line of the greatest version behind a prefix, and how the rest of the lines is left.
+pub fn write_greatest_line<W: Write>(
+    alloc: Global,
+    text: &str,
+    prefix: &str,
+    lines: &str,
+    out: &mut W,
+) -> io::Result<()> {
+    let filter = match Filter::new(alloc, text, Compat::Npm, PreReleases::Stated) {
+        Ok(filter) => filter,
+        Err(error) => return write!(out, "{error}"),
+    };
+    let mut input = lines.as_bytes();
+    match filter.greatest_line_behind(alloc, prefix, &mut input) {
+        Ok(Some(line)) => write!(out, "{:?}", str::from_utf8(line.as_slice()).ok())?,
+        Ok(None) => write!(out, "none")?,
+        Err(error) => write!(out, "{error}")?,
+    }
+    write!(out, ", {} left", input.len())
+}
+
+/// Writes the lines that are copied, whether there was one, and how many bytes are left.
+pub fn write_copied<W: Write>(
+    alloc: Global,
+    text: &str,
+    prefix: &str,
+    lines: &str,
+    out: &mut W,
+) -> io::Result<()> {
+    let filter = match Filter::new(alloc, text, Compat::Npm, PreReleases::Stated) {
+        Ok(filter) => filter,
+        Err(error) => return write!(out, "{error}"),
+    };
+    let mut input = lines.as_bytes();
+    let mut copied = Vec::new(alloc);
+    match filter.copy_lines_behind(alloc, prefix, &mut input, &mut copied) {
+        Ok(some) => write!(out, "{some} ")?,
+        Err(error) => write!(out, "{error} ")?,
+    }
+    write!(out, "{:?}, {} left", str::from_utf8(copied.as_slice()).ok(), input.len())
 }
 
 /// The versions of a list, if each item is one.

@@ -16,6 +16,8 @@ mod text;
 mod versions;
 
 use checksum::Checksum;
+use filtering::{write_greatest as greatest, write_passed as passed};
+use release_filter::PreReleases;
 use semver_parser::{Compat, version};
 use std::alloc::Global;
 use std::io;
@@ -80,8 +82,19 @@ fn answer<W: Write>(
         "from-str" => ranges::write_from_str(alloc, text, out),
         "filter-cargo" => filtering::write_kept(alloc, text, Compat::Cargo, steps, out),
         "filter-npm" => filtering::write_kept(alloc, text, Compat::Npm, steps, out),
-        "mean-cargo" => filtering::write_meant(alloc, text, Compat::Cargo, steps, out),
-        "mean-npm" => filtering::write_meant(alloc, text, Compat::Npm, steps, out),
+        "mean-cargo" => passed(alloc, text, Compat::Cargo, PreReleases::Included, steps, out),
+        "mean-npm" => passed(alloc, text, Compat::Npm, PreReleases::Included, steps, out),
+        "stated-cargo" => passed(alloc, text, Compat::Cargo, PreReleases::Stated, steps, out),
+        "stated-npm" => passed(alloc, text, Compat::Npm, PreReleases::Stated, steps, out),
+        "releases-cargo" => passed(alloc, text, Compat::Cargo, PreReleases::Excluded, steps, out),
+        "releases-npm" => passed(alloc, text, Compat::Npm, PreReleases::Excluded, steps, out),
+        "greatest-release" => greatest(alloc, text, Compat::Npm, PreReleases::Excluded, steps, out),
+        "greatest-stated" => greatest(alloc, text, Compat::Npm, PreReleases::Stated, steps, out),
+        "greatest-of-all" => greatest(alloc, text, Compat::Npm, PreReleases::Included, steps, out),
+        "copy-lines" => filtering::write_copied(alloc, text, "", steps, out),
+        "copy-tags" => filtering::write_copied(alloc, text, "v", steps, out),
+        "greatest-line" => filtering::write_greatest_line(alloc, text, "", steps, out),
+        "greatest-tag" => filtering::write_greatest_line(alloc, text, "v", steps, out),
         "meet-cargo" => filtering::write_met(alloc, text, Compat::Cargo, steps, out),
         "meet-npm" => filtering::write_met(alloc, text, Compat::Npm, steps, out),
         "report" => reporting::write_report(alloc, text, out),

@@ -1,0 +1,102 @@
+-- The greatest so far of a list that is gone through: what one more item does.
+use Rattle.std.proofs.Common.{IfSome, rules, MatchOption, Option, Some, None, ◌↔◌, ◌≡◌, ◌≢◌, List, [], ◌∷◌, ◌++◌, refl, sym, ap, subst, ◌∙◌, append_assoc}
+use Rattle.std.specs.List.{AllByRecursion}
+use Rattle.std.specs.Cmp.{IsTotalOrder}
+use Rattle.std.specs.Ordering.{ordering_reverse}
+use Rattle.std.specs.Option.{option_map}
+use Rattle.std.specs.declared.cmp.Ordering.{Ordering}
+use Rattle.std.specs.declared.cmp.Ordering.TheVariants.{Less, Equal, Greater}
+use Rattle.semver_parser.specs.Versions.{VersionValue, PlainVersion}
+use Rattle.semver_parser.specs.Precedence.{precedence}
+use Rattle.release_filter.specs.Greatest.{IsBelow, IsNotAbove, IsGreatest, HasNone}
+
+pub all_append : {X : Type 0} (P : X → Type 0) (xs ys : List X) → AllByRecursion P xs → AllByRecursion P ys → AllByRecursion P (xs ++ ys)
+all_append P [] ys h k = k
+all_append P (x ∷ xs) ys h k = (h.0, all_append P xs ys h.1 k)
+
+pub all_map : {X : Type 0} (P Q : X → Type 0) → ((x : X) → P x → Q x) → (xs : List X) → AllByRecursion P xs → AllByRecursion Q xs
+all_map P Q f [] h = tt
+all_map P Q f (x ∷ xs) h = (f x h.0, all_map P Q f xs h.1)
+
+module _ {X : Type 0} (Has : X → VersionValue → Type 0) where
+  pub none_more : (xs : List X) (x : X) → HasNone Has xs → ((w : VersionValue) → ¬ (Has x w)) → HasNone Has (xs ++ x ∷ [])
+  none_more xs x h none = all_append (λ x. (w : VersionValue) → ¬ (Has x w)) xs (x ∷ []) h (none, tt)
+
+  -- the first that passes
+  abbrev pub begins : (xs : List X) (x : X) (v : VersionValue) → HasNone Has xs → Has x v → IsGreatest Has (xs ++ x ∷ []) x
+  begins xs x v none is =
+      record {
+        version = v;
+        has = is;
+        before = xs;
+        after = [];
+        stands = refl;
+        earlier = all_map (λ x. (w : VersionValue) → ¬ (Has x w)) (IsBelow Has v) (λ x none w h. absurd (none w h)) xs none;
+        later = tt;
+      }
+
+  -- an item that isn't above
+  abbrev pub stays : (xs : List X) (x g : X) (h : IsGreatest Has xs g) → IsNotAbove Has h.version x → IsGreatest Has (xs ++ x ∷ []) g
+  stays xs x g h low =
+      record {
+        version = h.version;
+        has = h.has;
+        before = h.before;
+        after = h.after ++ x ∷ [];
+        stands = ap (λ l. l ++ x ∷ []) h.stands ∙ append_assoc h.before (g ∷ h.after) (x ∷ []);
+        earlier = h.earlier;
+        later = all_append (IsNotAbove Has h.version) h.after (x ∷ []) h.later (low, tt);
+      }
+
+  -- an item that is above
+  abbrev pub replaces : IsTotalOrder precedence → ((x : X) (v w : VersionValue) → Has x v → Has x w → v ≡ w)
+      → (xs : List X) (x g : X) (v : VersionValue) (h : IsGreatest Has xs g) → Has x v → precedence h.version.plain v.plain ≡ Less
+      → IsGreatest Has (xs ++ x ∷ []) x
+  replaces total one xs x g v h is above =
+      record {
+        version = v;
+        has = is;
+        before = xs;
+        after = [];
+        stands = refl;
+        earlier = subst (AllByRecursion (IsBelow Has v)) (sym h.stands) (all_append (IsBelow Has v) h.before (g ∷ h.after)
+            (all_map (IsBelow Has h.version) (IsBelow Has v) (λ x low w k. total.trans w.plain h.version.plain v.plain (low w k) above) h.before h.earlier) (
+              (λ w k. subst (λ u. precedence u.plain v.plain ≡ Less) (one g h.version w h.has k) above),
+              all_map (IsNotAbove Has h.version) (IsBelow Has v) (λ x low w k. below w (precedence w.plain h.version.plain) refl (low w k))
+                  h.after h.later,
+            ));
+        later = tt;
+      }
+    where
+      below : (w : VersionValue) (o : Ordering) → o ≡ precedence w.plain h.version.plain → precedence w.plain h.version.plain ≢ Greater
+          → precedence w.plain v.plain ≡ Less
+      below w Less e low = total.trans w.plain h.version.plain v.plain (sym e) above
+      below w Equal e low = total.congr w.plain h.version.plain v.plain (sym e) ∙ above
+      below w Greater e low = absurd (low (sym e))
+
+  -- what is known when a list has been gone through: nothing has passed, or this is the greatest
+  abbrev pub IsSoFar : List X → Option X → Type 0
+  IsSoFar xs found = MatchOption found (HasNone Has xs) (IsGreatest Has xs)
+
+  pub passed_over : (xs : List X) (x : X) (found : Option X) → IsSoFar xs found → ((w : VersionValue) → ¬ (Has x w))
+      → IsSoFar (xs ++ x ∷ []) found
+  passed_over xs x None h none = none_more xs x h none
+  passed_over xs x (Some g) h none = stays xs x g h (λ w k. absurd (none w k))
+
+  module _ {Y : Type 0} (item : Y → X) where
+    pub greatest_is : (xs : List X) (found : Option Y) → IsSoFar xs (option_map item found) → IfSome found (λ y. IsGreatest Has xs (item y))
+    greatest_is xs None h = tt
+    greatest_is xs (Some y) h = h
+
+    -- nothing has passed exactly where there is no greatest
+    pub none_is : (xs : List X) (found : Option Y) → IsSoFar xs (option_map item found) → (found ≡ None) ↔ HasNone Has xs
+    none_is xs None h = ((λ e. h), (λ e. refl))
+    none_is xs (Some y) h = ((λ e. absurd (search rules)), (λ none. absurd (at_place h.before (subst (HasNone Has) h.stands none))))
+      where
+        at_place : (before : List X) → HasNone Has (before ++ item y ∷ h.after) → ⊥
+        at_place [] none = none.0 h.version h.has
+        at_place (b ∷ before) none = at_place before none.1
+
+-- what isn't below isn't above the other way round
+pub not_above : IsTotalOrder precedence → (v w : PlainVersion) → ¬ (precedence w v ≡ Less) → precedence v w ≢ Greater
+not_above total v w low = λ e. low (total.antisymm w v ∙ ap ordering_reverse e)

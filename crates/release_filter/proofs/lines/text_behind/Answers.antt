@@ -1,0 +1,11 @@
+use Rattle.std.proofs.Common.{subst}
+use Rattle.release_filter.specs.KeptLines.{line_text}
+use Rattle.release_filter.proofs.LineReading.{Strips, behind}
+use Rattle.release_filter.proofs.lines.text_behind.Goals as goal
+
+pub returns : goal.returns
+returns c =
+    let bytes : Strips c.args.prefix.now c.text_of.result.now c.strip_prefix.result =
+    subst (λ prefix. Strips prefix c.text_of.result.now c.strip_prefix.result) c.as_bytes.ensures.value c.strip_prefix.ensures.cases in
+    behind c.args.prefix.now (line_text c.args.line.now) c.strip_prefix.result
+    (subst (λ bytes. Strips c.args.prefix.now bytes c.strip_prefix.result) c.text_of.ensures bytes)

@@ -1,0 +1,2 @@
+pub mod Majors
+pub mod Reading

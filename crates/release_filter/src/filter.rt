@@ -1,0 +1,260 @@
+//! A range text read once, as a test on many versions.
+
+ghost use Rattle.std.specs.Prelude.{◌≡◌, ◌↔◌, ◌<◌, ◌^◌, map, filter, false, [], IfOk, IfSome};
+ghost use Rattle.std.specs.Prelude.{IsTrue, MatchOption, None};
+ghost use Rattle.semver_parser.specs.RangeTexts.{IsRangeText, HasSet, IsTooLarge};
+ghost use Rattle.semver_parser.specs.RangeTree.{SetTree, Spells};
+ghost use Rattle.semver_parser.specs.Versions.{PlainVersion, VersionValue};
+ghost use Rattle.semver_parser.specs.VersionGrammar.{SpellsVersion};
+ghost use Rattle.semver_parser.specs.Meeting.{meets_set};
+ghost use Rattle.semver_parser.specs.RangeViews.{set_of};
+ghost use Rattle.semver_parser.specs.VersionViews.{version_value};
+ghost use Rattle.release_filter.specs.KeptReleases.{kept_releases, meant_with};
+ghost use Rattle.release_filter.specs.Filters.{FilterValue, meets_with, passes};
+ghost use Rattle.release_filter.specs.Greatest.{HasNone, IsGreatest, IsOneThat};
+ghost use Rattle.release_filter.specs.Means.Majors.{IsWithin};
+
+use crate::majors::{self, Majors};
+use crate::meeting::{release_meets, version_meets, version_meets_as_stated};
+use crate::precedence;
+use crate::rules::PreReleases;
+use semver_parser::version::{self, Outline, Version};
+use semver_parser::{Compat, RangeError, RangeSet, laws};
+use std::alloc::{AllocError, Global};
+use std::marker::Model;
+
+/// Which versions a range text means, by one of the three rules for pre-releases.
+///
+/// It is read once, by [`Filter::new`], and then answers as often as is asked.
+#[derive(Drop)]
+pub struct Filter {
+    /// The comparators: with exact bounds wherever pre-releases can count.
+    set: RangeSet,
+    /// The rule.
+    pre_releases: PreReleases,
+    /// The first numbers that a version can have which meets the set.
+    majors: Majors,
+}
+
+impl Model for Filter {
+    ghost Value = { FilterValue };
+
+    ghost view = { λ f. record { set = set_of f.set; pre_releases = f.pre_releases } };
+
+    ghost invariant = { λ f. (v : PlainVersion) → v.major < 2 ^ 64
+        → IsTrue (meets_set v (set_of f.set)) → IsWithin f.majors v.major };
+}
+
+impl Filter {
+    /// Reads a range text: `^1.2.3-beta || 3.x` in Cargo mode and with `PreReleases::Stated` gives
+    /// a filter that 1.2.3-rc, 1.9.0 and 3.0.0 pass, and 1.3.0-rc and 2.0.0 don't.
+    ///
+    /// # Errors
+    ///
+    /// Those of `RangeSet::parse`. `NotARange` exactly where the text isn't in the range grammar.
+    /// `NumberTooLarge` exactly where it is, and a stated number or a raised bound is above
+    /// 2^64 - 1. These two take no memory; `OutOfMemory` stands in place of a filter alone.
+    pub fn new(
+        alloc: Global,
+        range: &str,
+        compat: Compat,
+        pre_releases: PreReleases,
+    ) -> Result<Filter, RangeError>
+        // Some tree spells the text and fits, and what passes is what each tree of the text means.
+        ensures accepted { IfOk result (λ filter. HasSet compat range.now) }
+        ensures meaning { IfOk result (λ filter. (tree : SetTree) (v : VersionValue)
+            → Spells tree range.now → passes filter v ≡ meant_with pre_releases compat tree v) }
+
+        // Refusals, exactly; memory may run out in place of a filter alone.
+        ensures not_a_range { (result ≡ Err RangeError.NotARange) ↔ ¬ (IsRangeText range.now) }
+        ensures too_large { (result ≡ Err RangeError.NumberTooLarge) ↔ IsTooLarge compat range.now }
+        ensures out_of_memory { result ≡ Err RangeError.OutOfMemory → HasSet compat range.now }
+    {
+        let set = read_set(alloc, range, compat, pre_releases)?;
+        let majors = majors::of_ranges(&set.ranges);
+        Ok(Filter {
+            set,
+            pre_releases,
+            majors,
+        })
+    }
+
+    /// Whether a version passes. Its build doesn't count. It takes no memory.
+    pub fn meets(&self, version: &Version) -> bool
+        ensures meets { result ≡ passes self.now (version_value version.now) }
+    {
+        self.majors.has(version.major) && self.is_met_by(version)
+    }
+
+    /// The version that a text spells, without its build, if it passes. Memory is taken only where
+    /// the first number can pass, and the text has a pre-release that can.
+    pub(crate) fn version_that_passes(
+        &self,
+        alloc: Global,
+        text: &str,
+    ) -> Result<Option<Version>, AllocError>
+        ensures { IfOk result (λ found. MatchOption found
+            ((v : VersionValue) → SpellsVersion v text.now → passes self.now v ≡ false)
+            (λ version. (v : VersionValue) × SpellsVersion v text.now
+            × IsTrue (passes self.now v) × ((version_value version).plain ≡ v.plain))) }
+    {
+        let Some(outline) = version::outline(text) else {
+            return Ok(None);
+        };
+        if !self.majors.has(outline.major) {
+            return Ok(None);
+        }
+        if outline.pre.is_empty() {
+            return Ok(self.if_it_passes(release(alloc, &outline)));
+        }
+        match version::read(alloc, text)? {
+            Some(version) => Ok(self.if_it_passes(version)),
+            None => Ok(None),
+        }
+    }
+
+    /// The version, if it passes.
+    fn if_it_passes(&self, version: Version) -> Option<Version>
+        ensures { MatchOption result (passes self.now (version_value version) ≡ false)
+            (λ v. (v ≡ version) × IsTrue (passes self.now (version_value version))) }
+    {
+        if self.is_met_by(&version) {
+            Some(version)
+        } else {
+            None
+        }
+    }
+
+    /// Whether a version passes, of whatever first number.
+    fn is_met_by(&self, version: &Version) -> bool
+        ensures { result ≡ passes self.now (version_value version.now) }
+    {
+        match self.pre_releases {
+            PreReleases::Excluded => release_meets(&self.set, version),
+            PreReleases::Stated => version_meets_as_stated(&self.set, version),
+            PreReleases::Included => version_meets(&self.set, version),
+        }
+    }
+
+    /// Those of the versions that pass, in their order and with repeats. Of 0.2.0, 0.3.0, 2.0.0-rc,
+    /// 2.5.0 and 2.5.0 again, a filter of `^0.2 || 2.x` keeps 0.2.0, 2.5.0 and 2.5.0.
+    ///
+    /// Each version is judged once. Memory is asked for as the answer grows, and not at all where no
+    /// version passes. `Err` is want of it.
+    pub fn kept<'v>(
+        &self,
+        alloc: Global,
+        versions: &'v [Version],
+    ) -> Result<Vec<&'v Version>, AllocError>
+        ensures kept { IfOk result (λ kept. map (λ v. v.now) kept.items
+            ≡ filter (λ v. passes self.now (version_value v)) versions.now) }
+    {
+        let mut kept = Vec::new(alloc);
+        for version in versions {
+            if self.meets(version) {
+                kept.push(version)?;
+            }
+        }
+        Ok(kept)
+    }
+
+    /// Of the versions that pass, the greatest by precedence (SemVer 2.0.0, section 11), and the
+    /// first of those that are equal to it; builds don't count. `None` exactly where none passes.
+    /// Of 1.2.0, 2.0.0, 1.9.0+a and 1.9.0+b, a filter of `^1.2` answers 1.9.0+a. It takes no
+    /// memory.
+    pub fn greatest<'v>(&self, versions: &'v [Version]) -> Option<&'v Version>
+        ensures greatest { IfSome result (λ version.
+            IsGreatest (IsOneThat (passes self.now)) versions.now version.now) }
+        ensures none { (result ≡ None) ↔ HasNone (IsOneThat (passes self.now)) versions.now }
+    {
+        laws::precedence_is_total();
+        let mut greatest: Option<&Version> = None;
+        for version in versions {
+            if !self.meets(version) {
+                continue;
+            }
+            match greatest {
+                Some(other) => {
+                    if precedence::is_above(version, other) {
+                        greatest = Some(version);
+                    }
+                }
+                None => greatest = Some(version),
+            }
+        }
+        greatest
+    }
+}
+
+/// The release of an outline, without its build.
+fn release(alloc: Global, outline: &Outline<'_>) -> Version
+    ensures { version_value result ≡ record {
+        plain = record { major = outline.now.major; minor = outline.now.minor;
+        patch = outline.now.patch; pre = [] }; build = [] } }
+{
+    Version {
+        major: outline.major,
+        minor: outline.minor,
+        patch: outline.patch,
+        pre: Vec::new(alloc),
+        build: Vec::new(alloc),
+    }
+}
+
+/// The set whose versions are those that the text means. Raised bounds count for pre-releases
+/// alone, so a filter of releases does with the set that takes less memory.
+fn read_set(
+    alloc: Global,
+    range: &str,
+    compat: Compat,
+    pre_releases: PreReleases,
+) -> Result<RangeSet, RangeError>
+    ensures accepted { IfOk result (λ set. HasSet compat range.now) }
+    ensures meaning { IfOk result (λ set. (tree : SetTree) (v : VersionValue)
+        → Spells tree range.now →
+        meets_with pre_releases (set_of set) v ≡ meant_with pre_releases compat tree v) }
+    ensures not_a_range { (result ≡ Err RangeError.NotARange) ↔ ¬ (IsRangeText range.now) }
+    ensures too_large { (result ≡ Err RangeError.NumberTooLarge) ↔ IsTooLarge compat range.now }
+    ensures out_of_memory { result ≡ Err RangeError.OutOfMemory → HasSet compat range.now }
+{
+    laws::stated_pre_releases_mean_the_text();
+    match pre_releases {
+        PreReleases::Excluded => RangeSet::parse(alloc, range, compat),
+        PreReleases::Stated | PreReleases::Included => RangeSet::parse_exact(alloc, range, compat),
+    }
+}
+
+/// The releases among the versions that a range text means, in the given order and with repeats
+/// kept: each version without pre-release that meets the text's own meaning. Of `^0.2 || 2.x` in
+/// Cargo mode, and of 0.2.0, 0.3.0, 2.0.0-rc, 2.5.0 and 2.5.0 again, these are 0.2.0, 2.5.0 and
+/// 2.5.0.
+///
+/// The text is read first, so its refusal doesn't depend on the versions: `NotARange` where it
+/// isn't in the range grammar, `NumberTooLarge` where it is and a stated number or a raised bound
+/// is above 2^64 - 1. `OutOfMemory` stands in place of an answer alone. Pre-releases are never
+/// among what is answered, whatever the text says.
+///
+/// Each version is judged once. Memory for the answer is asked for as it grows, and not at all
+/// where no version is kept.
+pub fn filter_text<'v>(
+    alloc: Global,
+    text: &str,
+    compat: Compat,
+    versions: &'v [Version],
+) -> Result<Vec<&'v Version>, RangeError>
+    // Some tree spells the text and fits, and what is answered is what each tree of the text keeps.
+    ensures accepted { IfOk result (λ kept. HasSet compat text.now) }
+    ensures kept { IfOk result (λ kept. (tree : SetTree) → Spells tree text.now
+        → map (λ v. v.now) kept.items ≡ kept_releases compat tree versions.now) }
+
+    // Refusals, exactly; memory may run out in place of an answer alone.
+    ensures not_a_range { (result ≡ Err RangeError.NotARange) ↔ ¬ (IsRangeText text.now) }
+    ensures too_large { (result ≡ Err RangeError.NumberTooLarge) ↔ IsTooLarge compat text.now }
+    ensures out_of_memory { result ≡ Err RangeError.OutOfMemory → HasSet compat text.now }
+{
+    let filter = Filter::new(alloc, text, compat, PreReleases::Excluded)?;
+    match filter.kept(alloc, versions) {
+        Ok(kept) => Ok(kept),
+        Err(_) => Err(RangeError::OutOfMemory),
+    }
+}
