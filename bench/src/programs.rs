@@ -11,7 +11,7 @@ use std::path::{Path, PathBuf};
 use std::process::{Command, Stdio};
 
 /// The built program, from the folder `bench`.
-const RELEASE_FILTER: &str = "../crates/release_filter_main/out/release_filter_main";
+const RELEASE_FILTER: &str = "../out/built/release-filter";
 
 /// How many distinct lines a run reads.
 const LINES: usize = 1_000_000;

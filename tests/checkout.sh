@@ -1,0 +1,99 @@
+# What the tests of the scripts share. Reading this file makes a checkout that nobody edits, `checkout`, in a folder with a blank in its name, and
+# goes there: the scripts, and what is built of both programs and the library. It proves nothing: in place of `rt` stands a script.
+work=$(mktemp -d)
+trap 'rm -rf "$work"' EXIT
+umask 022
+chmod 755 "$work"
+unset DESTDIR SOURCE_DATE_EPOCH CC
+checkout="$work/a checkout"
+
+# What is built is copied last, so it is newest.
+copy_checkout() {
+    mkdir -p "$checkout/crates/semver_parser_c/src" "$checkout/crates/semver_parser_c/specs" "$checkout/crates/semver_parser_c/proofs" "$work/bin"
+    cp -R crates.txt VERSION install release-filter semver-parser man tests tools "$checkout"
+    cp -R crates/semver_parser_c/c crates/semver_parser_c/include "$checkout/crates/semver_parser_c"
+    mkdir -p "$checkout/python/semver_parser"
+    echo 'print("imported")' > "$checkout/python/semver_parser/__init__.py"
+    : > "$checkout/python/semver_parser/py.typed"
+    copy_built
+}
+
+copy_built() {
+    mkdir -p "$checkout/out/built"
+    for file in semver-parser release-filter libsemver_parser_c.a; do cp "$top/out/built/$file" "$checkout/out/built/$file"; done
+}
+
+# stub BODY: what runs as `rt` from now on.
+stub() {
+    printf '#!/bin/sh\n%s\n' "$1" > "$work/bin/rt"
+    chmod +x "$work/bin/rt"
+}
+
+# fail WHAT: says what is wrong, and what was written last.
+fail() {
+    echo "$1"
+    cat "$work/stdout" "$work/stderr"
+    exit 1
+}
+
+# ends STATUS COMMAND..: the command has to end with the status. What it writes is kept.
+ends() {
+    wanted=$1 status=0
+    shift
+    "$@" > "$work/stdout" 2> "$work/stderr" || status=$?
+    [ "$status" = "$wanted" ] || fail "$*: status $status in place of $wanted"
+}
+
+# has TEXT FILE: the file of what was written has to hold the text alone.
+has() {
+    printf '%s\n' "$1" | diff -u - "$work/$2"
+}
+
+# refuses WHY COMMAND..: the command has to end with status 2 and one line that says why, and to write nothing else.
+refuses() {
+    why=$1
+    shift
+    ends 2 "$@"
+    has "$why" stderr
+    [ ! -s "$work/stdout" ] || fail "$*: it writes before it refuses"
+}
+
+# holds FOLDER: tells what the folder has, but for folders.
+holds() {
+    (cd "$1" && find . ! -type d | sed 's:^\./::' | LC_ALL=C sort)
+}
+
+# try_library FLAGS..: a program is compiled with the library, linked by the flags, and answers.
+try_library() {
+    cc -Wall -Wextra -Werror -o "$work/caller" tests/c/installed.c "$@"
+    ends 0 env -i LD_LIBRARY_PATH="${libraries-}" "$work/caller"
+    has '>=1.2.3 <2.0.0-0' stdout
+}
+
+# try_programs FOLDER: both programs run by themselves.
+try_programs() {
+    ends 0 env -i "$1/semver-parser" 1.2.3
+    has 'version: 1.2.3
+cargo: >=1.2.3 <2.0.0
+npm: =1.2.3' stdout
+    ends 1 env -i "$1/semver-parser" '|'
+    printf '1.2.2\n1.9.0\n' > "$work/versions"
+    ends 0 env -i "$1/release-filter" '^1.2.3' < "$work/versions"
+    has 1.9.0 stdout
+    ends 0 env -i "$1/release-filter" --help
+    ends 1 env -i "$1/release-filter" '^1' < /dev/null
+}
+
+# same_calls NM-FLAGS..: the names that a library shows are those that the header declares.
+same_calls() {
+    sed 's/^static inline.*//' crates/semver_parser_c/include/semver_parser.h | sed -n 's/^[a-z].*\(semver_parser_[a-z0-9_]*\)(.*/\1/p' |
+        LC_ALL=C sort > "$work/calls"
+    [ -s "$work/calls" ]
+    nm -g --defined-only "$@" | sed -n 's/^[0-9a-f]* [A-Za-z] //p' | LC_ALL=C sort | diff -u "$work/calls" -
+}
+
+top=$PWD
+copy_checkout
+cd "$checkout"
+PATH=$work/bin:$PATH
+export PATH
