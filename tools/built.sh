@@ -6,6 +6,9 @@
 # the kit isn't seen. It is put there by one renaming, once its build has ended well, and is dated back to the time at which that began. So
 # a build that fails or is stopped leaves what was there, and what is edited while it runs is newer.
 
+# So that `cd` and what is run go by the names that they are given, and don't look in other folders.
+unset CDPATH
+
 # A folder for what is needed on the way; a file that isn't whole yet; the command that runs beside the script, whether one is being started, and the
 # signal that came meanwhile. Each is empty where there is none.
 work='' unfinished='' job='' starting='' came=''
