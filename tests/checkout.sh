@@ -84,6 +84,22 @@ npm: =1.2.3' stdout
     ends 1 env -i "$1/release-filter" '^1' < /dev/null
 }
 
+# stopped_while_compiling COMMAND.. FOLDER: the command is stopped while a file of C is compiled. It ends by the signal, leaves no temporary file, and
+# puts nothing into the folder.
+stopped_while_compiling() {
+    rm -rf "$work/temporary" "$work/half"
+    mkdir "$work/temporary"
+    printf '#!/bin/sh\necho $$ > "%s/half"\nexec sleep 60\n' "$work" > "$work/bin/slow-compiler"
+    chmod +x "$work/bin/slow-compiler"
+    TMPDIR=$work/temporary CC=slow-compiler "$@" > "$work/stdout" 2> "$work/stderr" &
+    script=$! status=0
+    until [ -s "$work/half" ]; do sleep 0.05; done
+    kill -s TERM "$script" "$(cat "$work/half")"
+    wait "$script" 2> /dev/null || status=$?
+    shift $(($# - 1))
+    [ "$(kill -l "$status")" = TERM ] && [ -z "$(ls -A "$work/temporary")" ] && [ ! -e "$1" ] || fail "stopped with status $status, and something is left"
+}
+
 # same_calls NM-FLAGS..: the names that a library shows are those that the header declares.
 same_calls() {
     sed 's/^static inline.*//' crates/semver_parser_c/include/semver_parser.h | sed -n 's/^[a-z].*\(semver_parser_[a-z0-9_]*\)(.*/\1/p' |
