@@ -38,7 +38,7 @@ stub() {
 # fail WHAT: says what is wrong, and what was written last.
 fail() {
     echo "$1"
-    cat "$work/stdout" "$work/stderr"
+    cat "$work/stdout" "$work/stderr" 2> /dev/null
     exit 1
 }
 
@@ -76,6 +76,12 @@ try_library() {
     has '>=1.2.3 <2.0.0-0' stdout
 }
 
+# told_prefix PREFIX FOLDER: the file for pkg-config in the folder has the prefix.
+told_prefix() {
+    sed -n 's/^prefix=//p' "$2/lib/pkgconfig/semver_parser.pc" > "$work/stdout"
+    has "$1" stdout
+}
+
 # try_programs FOLDER: both programs run by themselves.
 try_programs() {
     ends 0 env -i "$1/semver-parser" 1.2.3
@@ -110,7 +116,7 @@ stopped_while_compiling() {
 same_calls() {
     sed 's/^static inline.*//' crates/semver_parser_c/include/semver_parser.h | sed -n 's/^[a-z].*\(semver_parser_[a-z0-9_]*\)(.*/\1/p' |
         LC_ALL=C sort > "$work/calls"
-    [ -s "$work/calls" ]
+    [ -s "$work/calls" ] || fail 'the header declares no call'
     nm -g --defined-only "$@" | sed -n 's/^[0-9a-f]* [A-Za-z] //p' | LC_ALL=C sort | diff -u "$work/calls" -
 }
 
