@@ -1,33 +1,45 @@
-/* Version texts and range texts, read, rewritten and compared: the C library of semver_parser.
+/* Version texts and range texts, read, rewritten and compared: the C library of semver_parser, for Linux on x86-64-v2 (what x86-64 processors have had
+ * since about 2009).
  *
- * docs/GRAMMAR.md says which texts are versions and ranges, and docs/MEANING.md what a range means. What each comment here promises is a proved
- * clause of the call in src/lib.rt, but for what is said of memory and time, and what the caller owes.
+ * docs/GRAMMAR.md says which texts are versions and ranges, and docs/MEANING.md what a range means. What each comment here promises of an answer and of
+ * what is written is a proved clause of that call in src/lib.rt, whose names have `proved_` in them. Trusted are the lines of C between: c/calls.c, which
+ * puts a pointer to an object in place of each null pointer and has the two calls without proof, and c/heap.c; so is what is said of memory and time.
  *
- * TEXTS. A text is a pointer to its bytes and their count, in UTF-8; it needs no zero byte at the end. Bytes that are no UTF-8 are a fault of
- * their own, and a zero byte is a byte like any other. All lengths and offsets are counts of bytes.
+ * TEXTS AND ROOMS. A text is a pointer to its bytes and their count, in UTF-8; it needs no zero byte at the end. Bytes that are no UTF-8 are a fault of
+ * their own, and a zero byte is a byte like any other. All lengths and offsets of texts are counts of bytes. A room is a pointer to what a call may
+ * write to, and how many items it has room for. With a length of 0 the pointer of a text or of a room may be null, or point anywhere.
  *
  * WHAT THE CALLER OWES. No check of a proof or of a compiler sees it:
- * - No pointer is null, not even that of an empty text or of an empty room: point to any byte.
- * - A text has as many bytes as is said, and a room has as many bytes to write to. They don't change while the call runs.
- * - What a call writes to (`out`, `length`) overlaps with nothing else that it is given, and is aligned as its type is.
+ * - A text has as many bytes as is said, an array as many items, and a room has room for as many. They don't change while the call runs, but by the call.
+ * - What a call writes to (`out`, `length`, `comparators`, `count`, `meets`, `answers`) overlaps with nothing else that it is given, and is aligned as its
+ *   type is.
+ * - Where a call writes one object (`out` of a version, `length`, `count`, `meets`), its pointer is never null.
  * - A bool is 0 or 1.
+ * - No call is made from a signal handler, nor from the forked child of a process that has several threads: calls take memory from `malloc`.
  *
  * MEMORY. Nothing is kept between calls, and nothing is left for the caller to free: what a call takes from `malloc` it gives back to `free`. So
- * calls may be made from several threads at once, where `malloc` and `free` may. c/heap.c joins the library to these two, and is linked with it.
- * A version text takes memory for its identifiers alone, and any other none but where it is a version and more (SEMVER_PARSER_MORE_INPUT): the
- * tokens behind the version are collected to tell that fault, some 24 bytes for each byte at most.
+ * calls may be made from several threads at once, where `malloc` and `free` may. c/heap.c joins the library to these two. How much a call takes at once
+ * is said at each call: the most that was measured, on texts of 64 bytes to 2 MB that were made to take much, where a block that grows counts twice while
+ * it is moved, and what `malloc` itself needs is left out.
  *
- * TIME. Each call reads its texts anew, in time linear in their lengths; `semver_parser_meets` reads both. So to compare one range with many versions
- * is to read it as many times.
+ * TIME. Each call reads its texts anew, in time linear in their lengths. `semver_parser_meets_each` reads its range once for all its versions.
  *
- * Link: cc program.c c/heap.c out/libsemver_parser_c.a
+ * Link: cc program.c c/calls.c c/heap.c out/libsemver_parser_c.a
  */
 #ifndef SEMVER_PARSER_H
 #define SEMVER_PARSER_H
 
+#ifndef __cplusplus
 #include <stdbool.h>
+#endif
 #include <stddef.h>
 #include <stdint.h>
+
+/* The version of the library that this header belongs to. */
+#define SEMVER_PARSER_VERSION_MAJOR 0
+#define SEMVER_PARSER_VERSION_MINOR 1
+#define SEMVER_PARSER_VERSION_PATCH 0
+#define SEMVER_PARSER_VERSION "0.1.0"
 
 #ifdef __cplusplus
 extern "C" {
@@ -35,12 +47,8 @@ extern "C" {
 
 /* What the calls answer. Each call says which of these it answers, and answers no other number. */
 enum {
-    /* The version was read, or the range rewritten. */
+    /* What was asked for was done. */
     SEMVER_PARSER_OK = 0,
-    /* The version doesn't meet the range. */
-    SEMVER_PARSER_DOES_NOT_MEET = 0,
-    /* The version meets the range. */
-    SEMVER_PARSER_MEETS = 1,
 
     /* Faults of a version text. */
 
@@ -71,8 +79,44 @@ enum {
     /* Memory ran out at the range. */
     SEMVER_PARSER_RANGE_OUT_OF_MEMORY = 13,
 
-    /* The room is too small for the printed set. */
-    SEMVER_PARSER_NO_ROOM = 14
+    /* Faults of a call. */
+
+    /* A room is too small for what is to be put there. */
+    SEMVER_PARSER_NO_ROOM = 14,
+    /* No rule for pre-releases has that number. */
+    SEMVER_PARSER_NO_SUCH_RULE = 15
+};
+
+/* The rules for pre-releases, one of which is passed as `pre_releases`. A version without pre-release counts by each of them (docs/MEANING.md, "Three
+ * rules for pre-releases"). */
+enum {
+    /* No version with a pre-release meets any range. */
+    SEMVER_PARSER_RELEASES_ALONE = 0,
+    /* As npm and Cargo have it: a pre-release meets a range by precedence (SemVer 2.0.0, section 11), and only where a term of that range states the same
+     * three numbers and a pre-release. 1.2.3-rc meets `^1.2.3-beta`, and neither `>=1.2.0` nor `^1.2.0 || =1.2.3-beta`. */
+    SEMVER_PARSER_STATED_PRE_RELEASES = 1,
+    /* A pre-release meets a range by precedence, as any version does: 2.0.0-alpha meets `>=1.0.0`, and neither `^1.0.0` nor `>=2.0.0`. */
+    SEMVER_PARSER_ALL_PRE_RELEASES = 2
+};
+
+/* How a comparator compares. */
+enum {
+    /* `<` */
+    SEMVER_PARSER_LESS = 0,
+    /* `<=` */
+    SEMVER_PARSER_LESS_EQUAL = 1,
+    /* `>` */
+    SEMVER_PARSER_GREATER = 2,
+    /* `>=` */
+    SEMVER_PARSER_GREATER_EQUAL = 3,
+    /* `=` */
+    SEMVER_PARSER_EQUAL = 4
+};
+
+/* What `semver_parser_meets_each` writes for a version that was read. No call answers these. */
+enum {
+    SEMVER_PARSER_DOES_NOT_MEET = 0,
+    SEMVER_PARSER_MEETS = 1
 };
 
 /* Where a part of a text lies: `length` bytes from `offset` on. Both are 0 where there is no such part, and `length` is above 0 where there is. */
@@ -91,9 +135,36 @@ typedef struct {
     semver_parser_part pre;
     /* The identifiers of the build, joined by dots, without the `+` in front of them. */
     semver_parser_part build;
-} semver_parser_read_version;
+} semver_parser_version;
 
-/* Reads a version text of `text_length` bytes.
+/* A comparator of a rewritten range. */
+typedef struct {
+    /* The number of the range that it belongs to: ranges are counted from 0, in the order of the text. */
+    size_t range;
+    /* How it compares: SEMVER_PARSER_LESS, _LESS_EQUAL, _GREATER, _GREATER_EQUAL or _EQUAL. */
+    int32_t op;
+    /* The three numbers that it compares with. */
+    uint64_t major;
+    uint64_t minor;
+    uint64_t patch;
+    /* Where the printed set has the identifiers of the pre-release, joined by dots, without the `-` in front of them. */
+    semver_parser_part pre;
+} semver_parser_comparator;
+
+/* A text in an array of texts. */
+typedef struct {
+    const uint8_t *bytes;
+    size_t length;
+} semver_parser_text;
+
+/* The version of the library that is linked or loaded, as SEMVER_PARSER_VERSION writes it. Never null; it ends with a zero byte. */
+const char *semver_parser_library_version(void);
+
+/* What an answer says, in English without a capital and a full stop, as "the version ends too early"; another sentence for SEMVER_PARSER_OK, and another
+ * for a number that no call answers. Never null; it ends with a zero byte. */
+const char *semver_parser_fault_text(int32_t answer);
+
+/* Reads a version text of `text_length` bytes into `out`, which is never null.
  *
  * `1.2.3-rc.1+b5` gives 1, 2 and 3, the pre-release at offset 6 with length 4, and the build at offset 11 with length 2. Spaces, tabs, line feeds
  * and carriage returns may stand before the version and behind it; the offsets count from the start of the text all the same.
@@ -106,10 +177,13 @@ typedef struct {
  *   without pre-release and build is always answered.
  *
  * After any answer but SEMVER_PARSER_OK `out` is as it was.
+ *
+ * Memory: none but for the identifiers, of which those of one byte took most, 17 bytes for each byte of the text; or, where a version is followed by
+ * something else, for the tokens behind it that tell SEMVER_PARSER_MORE_INPUT, 24 for each byte.
  */
-int32_t semver_parser_version(const uint8_t *text, size_t text_length, semver_parser_read_version *out);
+int32_t semver_parser_parse_version(const uint8_t *text, size_t text_length, semver_parser_version *out);
 
-/* Rewrites a range text of `text_length` bytes into plain comparators, and prints them into the `room` bytes at `out`.
+/* Rewrites a range text of `text_length` bytes into plain comparators, and prints them into the `room` bytes at `out`. `length` is never null.
  *
  * The mode is npm's where `npm` holds, and else Cargo's; it decides how a bare version of three numbers is read, and nothing else. Where `exact`
  * holds, the bounds are exact: an upper bound that is raised by one has the lowest pre-release, as `<2.0.0-0`. Else the bounds are those of the Rust
@@ -126,23 +200,83 @@ int32_t semver_parser_version(const uint8_t *text, size_t text_length, semver_pa
  * - SEMVER_PARSER_RANGE_OUT_OF_MEMORY only in place of the first two.
  *
  * After any answer but SEMVER_PARSER_OK `out` is as it was, and after a fault of the text (the last four) `length` is too.
+ *
+ * Memory: 98 bytes for each byte of the text, of `1 1 1 ..`, whose printed set has 8.5 for each; of most texts far less.
  */
 int32_t semver_parser_rewrite(const uint8_t *text, size_t text_length, bool npm, bool exact, uint8_t *out, size_t room, size_t *length);
 
-/* Whether a version text meets a range text. The mode is npm's where `npm` holds, and else Cargo's.
+/* Rewrites a range text as `semver_parser_rewrite` does, and puts the comparators into the `comparator_room` places at `comparators`, in the order in which
+ * the set is printed. `count` is never null.
  *
- * It goes by what the range means by itself (docs/MEANING.md), and not by the comparators that it is rewritten to. Where `pre_releases` is false,
- * a version with a pre-release meets no range. Where it is true, one meets a range by precedence (SemVer 2.0.0, section 11), as any version does:
- * 2.0.0-alpha meets `>=1.0.0`, and neither `^1.0.0` nor `>=2.0.0`. A build never counts.
+ * `^1.2 || 3.x` gives with exact bounds four: of range 0 `>=` 1, 2, 0 and `<` 2, 0, 0 with a pre-release at offset 15 with length 1, and of range 1
+ * `>=` 3, 0, 0 and `<` 4, 0, 0 with one at offset 35. These offsets are those of the printed set, `>=1.2.0 <2.0.0-0 || >=3.0.0 <4.0.0-0`, which
+ * `semver_parser_rewrite` and the next call print.
  *
  * Answers
- * - SEMVER_PARSER_MEETS or SEMVER_PARSER_DOES_NOT_MEET exactly where both texts are read, want of memory aside.
+ * - SEMVER_PARSER_OK: the comparators stand at the front of `comparators`, and `count` is how many they are. What is behind them is as it was.
+ * - SEMVER_PARSER_NO_ROOM: they are more than `comparator_room`. `count` is how many, and `comparators` is as it was. So a call with a room of 0 asks for
+ *   the count.
+ * - A fault of the text, as those of `semver_parser_rewrite`: SEMVER_PARSER_RANGE_NOT_UTF8, _NOT_A_RANGE, _NUMBER_TOO_LARGE or _RANGE_OUT_OF_MEMORY.
+ *
+ * After any answer but SEMVER_PARSER_OK `comparators` is as it was, and after a fault of the text `count` is too.
+ *
+ * Memory: 256 bytes for each byte of the text, of `1 1 1 ..`, which has a comparator for each byte; of most texts far less.
+ */
+int32_t semver_parser_comparators(const uint8_t *text, size_t text_length, bool npm, bool exact, semver_parser_comparator *comparators, size_t comparator_room,
+                                  size_t *count);
+
+/* Both at once: the comparators, and the printed set that has the bytes of their pre-releases. Neither `count` nor `length` is null.
+ *
+ * Answers
+ * - SEMVER_PARSER_OK: the comparators stand at the front of `comparators` and the printed set at the front of `out`; `count` and `length` are how many
+ *   comparators and bytes there are. What is behind them is as it was.
+ * - SEMVER_PARSER_NO_ROOM: one of the rooms is too small. `count` and `length` are what is needed, and both rooms are as they were.
+ * - A fault of the text, as those of `semver_parser_rewrite`: SEMVER_PARSER_RANGE_NOT_UTF8, _NOT_A_RANGE, _NUMBER_TOO_LARGE or _RANGE_OUT_OF_MEMORY. Both
+ *   rooms are as they were, and so are `count` and `length`.
+ *
+ * Memory: as the call above.
+ */
+int32_t semver_parser_rewrite_with_comparators(const uint8_t *text, size_t text_length, bool npm, bool exact, semver_parser_comparator *comparators,
+                                               size_t comparator_room, size_t *count, uint8_t *out, size_t room, size_t *length);
+
+/* Whether a version text meets a range text. The mode is npm's where `npm` holds, and else Cargo's. `pre_releases` is the number of a rule for
+ * pre-releases. `meets` is never null.
+ *
+ * It goes by what the range means by itself (docs/MEANING.md), and not by the comparators that it is rewritten to. A build never counts.
+ *
+ * Answers
+ * - SEMVER_PARSER_OK exactly where both texts are read, want of memory aside. Then `meets` is whether the version meets the range by that rule.
+ * - SEMVER_PARSER_NO_SUCH_RULE exactly where `pre_releases` is the number of no rule, whatever the texts are.
  * - A fault of the range, as those of `semver_parser_rewrite`, whatever the version is: SEMVER_PARSER_RANGE_NOT_UTF8, _NOT_A_RANGE, _NUMBER_TOO_LARGE
  *   or _RANGE_OUT_OF_MEMORY. The range is read first.
- * - Where the range has none, a fault of the version, as those of `semver_parser_version`: SEMVER_PARSER_VERSION_NOT_UTF8, _UNEXPECTED_END,
+ * - Where the range has none, a fault of the version, as those of `semver_parser_parse_version`: SEMVER_PARSER_VERSION_NOT_UTF8, _UNEXPECTED_END,
  *   _UNEXPECTED_TOKEN, _UNEXPECTED_CHAR, _MORE_INPUT or _VERSION_OUT_OF_MEMORY.
+ *
+ * After any answer but SEMVER_PARSER_OK `meets` is as it was.
+ *
+ * Memory: 74 bytes for each byte of the range, of `1 1 1 ..`, and while it is held that of reading the version.
  */
-int32_t semver_parser_meets(const uint8_t *range, size_t range_length, bool npm, bool pre_releases, const uint8_t *version, size_t version_length);
+int32_t semver_parser_meets(const uint8_t *range, size_t range_length, bool npm, int32_t pre_releases, const uint8_t *version, size_t version_length,
+                            bool *meets);
+
+/* Whether each of `count` version texts meets a range text, as `semver_parser_meets` says; the range is read once. `versions` and `answers` have `count`
+ * items. The texts don't overlap with `answers`.
+ *
+ * Answers
+ * - SEMVER_PARSER_OK exactly where the range is read, want of memory aside. Then each byte of `answers` is what there is to say of the text at the same
+ *   place of `versions`: SEMVER_PARSER_MEETS, SEMVER_PARSER_DOES_NOT_MEET, or its fault: SEMVER_PARSER_VERSION_NOT_UTF8, _UNEXPECTED_END,
+ *   _UNEXPECTED_TOKEN, _UNEXPECTED_CHAR, _MORE_INPUT or _VERSION_OUT_OF_MEMORY. One text's want of memory leaves the others' answers as they are.
+ * - SEMVER_PARSER_NO_SUCH_RULE, SEMVER_PARSER_RANGE_NOT_UTF8, _NOT_A_RANGE, _NUMBER_TOO_LARGE or _RANGE_OUT_OF_MEMORY, as of `semver_parser_meets`.
+ *
+ * After any answer but SEMVER_PARSER_OK `answers` is as it was.
+ *
+ * A text of `versions` whose pointer is null with a length of 0 is empty, as anywhere. Where there is such a text, the array is copied first; where
+ * memory runs out at that, the answer is SEMVER_PARSER_RANGE_OUT_OF_MEMORY, unless the rule or the range has another fault.
+ *
+ * Memory: as the call above, of one version after the other; and 16 bytes for each text where one of them is at null.
+ */
+int32_t semver_parser_meets_each(const uint8_t *range, size_t range_length, bool npm, int32_t pre_releases, const semver_parser_text *versions, size_t count,
+                                 uint8_t *answers);
 
 #ifdef __cplusplus
 }

@@ -1,3 +1,6 @@
+mod EachPlace
 mod PartBytes
 mod Places
+mod PrintedPlaces
+mod PrintedSets
 mod Steps

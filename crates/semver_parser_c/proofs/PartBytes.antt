@@ -20,7 +20,8 @@ spelled_texts (id ∷ ids) [] all = absurd all
 spelled_texts (id ∷ ids) (t ∷ texts) all = (λ i. spelled_text id t all.0 i ∷ spelled_texts ids texts all.1 i)
 
 module _ (text lead part rest : List ℕ) (mark at : ℕ) (whole : text ≡ lead ++ (part ++ rest)) (place : at ≡ length lead) where
-  marked_bytes : (texts : List (List ℕ)) → part ≡ marked (mark ∷ []) texts → bytes_at (behind_mark at part) text ≡ join_with_byte 46 texts
+  pub marked_bytes : (texts : List (List ℕ)) → part ≡ marked (mark ∷ []) texts
+      → bytes_at (behind_mark at part) text ≡ join_with_byte 46 texts
   marked_bytes [] is = ap (λ (p : List ℕ). bytes_at (behind_mark at p) text) is
   marked_bytes (t ∷ texts) is =
       let joined : List ℕ = join_with_byte 46 (t ∷ texts) in

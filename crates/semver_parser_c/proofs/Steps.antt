@@ -1,6 +1,6 @@
 -- The numbers of what reading a version text or a range text answers.
 use Rattle.std.proofs.Common.{◌≡◌, ◌≢◌, ◌⊎◌, ◌↔◌, ℕ, ℤ, Bool, true, false, List, [], ◌∷◌, Option, Some, None, Result, Ok, Err, refl, sym}
-use Rattle.std.proofs.Common.{ap, ◌∙◌, inl, inr, ⊎_elim, ◌||◌, ◌&&◌, IsUtf8}
+use Rattle.std.proofs.Common.{arith, pos, ◌<◌, ap, ◌∙◌, inl, inr, ⊎_elim, IsUtf8}
 use Rattle.semver_parser.specs.Texts.{Text}
 use Rattle.semver_parser.specs.Tokens.{TokenValue}
 use Rattle.semver_parser.specs.declared.version.Version.{Version}
@@ -18,14 +18,12 @@ use Rattle.semver_parser.specs.ParserViews.{fault_of, answer_of, UnlessOutOfMemo
 use Rattle.semver_parser.specs.VersionViews.{version_value}
 use Rattle.semver_parser.specs.declared.Compat.{Compat}
 use Rattle.semver_parser.specs.RangeTexts.{IsRangeText, IsTooLarge}
-use Rattle.semver_parser.specs.RangeTree.{SetTree}
 use Rattle.semver_parser.specs.RewritingTable.{fits}
-use Rattle.semver_parser.specs.OwnMeaning.{meets_tree}
 use Rattle.semver_parser.proofs.ReadingComplete.{same_tree}
-use Rattle.release_filter.specs.KeptReleases.{is_release}
-use Rattle.semver_parser_c.specs.Numbers.{ok, version_out_of_memory, range_not_utf8, not_a_range, number_too_large}
-use Rattle.semver_parser_c.specs.Faults.{IsOneOf, RangeIsRead, is_met, fault_number, range_fault_number, outcome_number, version_faults}
+use Rattle.semver_parser_c.specs.Numbers.{ok, version_out_of_memory, range_not_utf8, not_a_range, number_too_large, no_such_rule}
+use Rattle.semver_parser_c.specs.Faults.{IsOneOf, RangeIsRead, fault_number, range_fault_number, outcome_number, version_faults}
 use Rattle.semver_parser_c.specs.Faults.{range_faults}
+use Rattle.semver_parser_c.specs.Rules.{IsMeeting, IsRule}
 
 -- ---- the faults that a version text has
 
@@ -145,9 +143,29 @@ isnt_read mode text z n same one not_utf8 no_range large read = ⊎_elim
     clash : false ≡ true → ⊥
     clash h = cc
 
--- what was met by the set is met by the text's own meaning
-pub met_is : (pre_releases : Bool) (mode : Compat) (tree : SetTree) (read v : VersionValue) (met by_set : Bool) → read ≡ v
-    → by_set ≡ meets_tree mode tree read.plain
-    → met ≡ ((pre_releases || is_release read) && by_set) → met ≡ is_met pre_releases mode tree v
-met_is pre_releases mode tree read v met by_set same meaning is = is ∙ ap (λ (b : Bool). (pre_releases || is_release read) && b) meaning
-    ∙ ap (is_met pre_releases mode tree) same
+-- and one that was refused for the rule or the range isn't
+pub isnt_read_by : (rule : ℤ) (mode : Compat) (text : Text) (z n : ℤ) → z ≡ n → IsOneOf (no_such_rule ∷ range_faults) n
+    → IsRule rule → ((n ≡ no_such_rule) ↔ ¬ (IsRule rule))
+    → (IsRule rule → (n ≡ range_not_utf8) ↔ ¬ (IsUtf8 text))
+    → (IsRule rule → IsUtf8 text → (n ≡ not_a_range) ↔ ¬ (IsRangeText text))
+    → (IsRule rule → IsUtf8 text → (n ≡ number_too_large) ↔ IsTooLarge mode text)
+    → RangeIsRead mode text z → ⊥
+isnt_read_by rule mode text z n same one is no_rule not_utf8 no_range large read = ⊎_elim
+    (λ such. no_rule.0 such is)
+    (λ others. isnt_read mode text z n same others (not_utf8 is) (no_range is) (large is) read)
+    one
+
+apart : (byte n : ℕ) → pos byte ≡ pos n → 1 < n → IsMeeting byte → ⊥
+apart byte n is above meeting =
+    let same : byte ≡ n = cc in
+    ⊎_elim (λ (h : byte ≡ 0). omega (arith, same, h, above)) (λ (h : byte ≡ 1). omega (arith, same, h, above)) meeting
+
+-- the number of a fault of a version says of no version whether it meets
+pub no_meeting : (byte : ℕ) → IsOneOf version_faults (pos byte) → IsMeeting byte → ⊥
+no_meeting byte one meeting = ⊎_elim (λ is. apart byte 2 is (omega arith) meeting)
+    (⊎_elim (λ is. apart byte 3 is (omega arith) meeting)
+    (⊎_elim (λ is. apart byte 4 is (omega arith) meeting)
+    (⊎_elim (λ is. apart byte 5 is (omega arith) meeting)
+    (⊎_elim (λ is. apart byte 6 is (omega arith) meeting)
+    (⊎_elim (λ is. apart byte 9 is (omega arith) meeting) (λ none. none))))))
+    one

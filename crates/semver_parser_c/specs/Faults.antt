@@ -1,5 +1,5 @@
 -- Which number stands for which fault and answer, and what C says by a bool.
-use Rattle.std.specs.Prelude.{ℤ, Bool, true, false, ◌≡◌, ◌≢◌, ◌⊎◌, ◌||◌, ◌&&◌, IsTrue, IsUtf8, List}
+use Rattle.std.specs.Prelude.{ℤ, Bool, true, false, ◌≡◌, ◌≢◌, ◌⊎◌, IsTrue, IsUtf8, List}
 use Rattle.std.specs.Prelude.{[], ◌∷◌, Result, Ok, Err}
 use Rattle.semver_parser.specs.Texts.{Text}
 use Rattle.semver_parser.specs.Versions.{VersionValue}
@@ -12,8 +12,6 @@ use Rattle.semver_parser.specs.ParserState.{Fault}
 use Rattle.semver_parser.specs.RangeTree.{SetTree, Spells}
 use Rattle.semver_parser.specs.RewritingTable.{fits, rewritten, PlainSet}
 use Rattle.semver_parser.specs.ExactBounds.{rewritten_exactly}
-use Rattle.semver_parser.specs.OwnMeaning.{meets_tree}
-use Rattle.release_filter.specs.KeptReleases.{is_release}
 use Rattle.semver_parser_c.specs.Numbers as number
 use Rattle.semver_parser_c.specs.Numbers.{range_out_of_memory}
 
@@ -77,13 +75,3 @@ pub record RangeIsRead (mode : Compat) (text : Text) (answer : ℤ) : Type 0 whe
   pub spells : Spells tree text
   pub fit : IsTrue (fits mode tree)
   pub memory : answer ≢ range_out_of_memory
-
--- whether a version meets the own meaning of a range; a pre-release does only where they are asked
--- for
-abbrev pub is_met : Bool → Compat → SetTree → VersionValue → Bool
-is_met pre_releases mode tree v = (pre_releases || is_release v) && meets_tree mode tree v.plain
-
--- the answer by a number
-abbrev pub meeting_number : Bool → ℤ
-meeting_number true = number.meets
-meeting_number false = number.does_not_meet

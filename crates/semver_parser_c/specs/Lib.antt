@@ -3,3 +3,5 @@ pub mod Faults
 pub mod Places
 pub mod Scanning
 pub mod Printing
+pub mod Comparators
+pub mod Rules

@@ -1,18 +1,10 @@
 -- The numbers that the calls for C answer; include/semver_parser.h has the same under the same
 -- names.
-use Rattle.std.specs.Prelude.{ℤ, pos}
+use Rattle.std.specs.Prelude.{ℕ, ℤ, pos}
 
--- a version was read, or a range rewritten
+-- what was asked for was done
 abbrev pub ok : ℤ
 ok = pos 0
-
--- the version doesn't meet the range
-abbrev pub does_not_meet : ℤ
-does_not_meet = pos 0
-
--- the version meets the range
-abbrev pub meets : ℤ
-meets = pos 1
 
 -- the bytes of the version aren't UTF-8
 abbrev pub version_not_utf8 : ℤ
@@ -62,6 +54,50 @@ number_too_large = pos 12
 abbrev pub range_out_of_memory : ℤ
 range_out_of_memory = pos 13
 
--- the room is too small for the printed set
+-- a room is too small for what is put there
 abbrev pub no_room : ℤ
 no_room = pos 14
+
+-- no rule for pre-releases has that number
+abbrev pub no_such_rule : ℤ
+no_such_rule = pos 15
+
+-- the rules for pre-releases: none meets
+abbrev pub releases_alone : ℤ
+releases_alone = pos 0
+
+-- one meets where the range states a pre-release of the same three numbers
+abbrev pub stated_pre_releases : ℤ
+stated_pre_releases = pos 1
+
+-- each is compared as any version
+abbrev pub all_pre_releases : ℤ
+all_pre_releases = pos 2
+
+-- the operators: `<`
+abbrev pub less : ℤ
+less = pos 0
+
+-- `<=`
+abbrev pub less_equal : ℤ
+less_equal = pos 1
+
+-- `>`
+abbrev pub greater : ℤ
+greater = pos 2
+
+-- `>=`
+abbrev pub greater_equal : ℤ
+greater_equal = pos 3
+
+-- `=`
+abbrev pub equal : ℤ
+equal = pos 4
+
+-- what is written for a version that doesn't meet the range, where there are many
+abbrev pub does_not_meet : ℕ
+does_not_meet = 0
+
+-- what is written for one that meets it
+abbrev pub meets : ℕ
+meets = 1

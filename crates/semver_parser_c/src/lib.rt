@@ -6,12 +6,15 @@
 //! free.
 #![tactic(auto)]
 
+mod comparators;
+mod meeting;
 mod numbers;
 mod range_text;
 mod version_text;
 
-ghost use Rattle.std.specs.Prelude.{◌≡◌, ◌≢◌, ◌⊎◌, ◌↔◌, [], ◌∷◌, ◌++◌, ◌||◌, ◌&&◌, false, IsTrue};
-ghost use Rattle.std.specs.Prelude.{IsUtf8, Result};
+ghost use Rattle.std.specs.Prelude.{◌≡◌, ◌≢◌, ◌⊎◌, ◌↔◌, ◌<◌, ℕ, [], ◌∷◌, ◌++◌, IsTrue};
+ghost use Rattle.std.specs.Prelude.{IfSome, IsUtf8, Result, drop, length, slice_get};
+ghost use Rattle.std.specs.Prelude.{slice_index, take};
 ghost use Rattle.semver_parser.specs.Versions.{VersionValue};
 ghost use Rattle.semver_parser.specs.VersionGrammar.{IsVersionText, SpellsVersion};
 ghost use Rattle.semver_parser.specs.VersionReading.{IsOutcomeOf, TextMayRunOut};
@@ -20,20 +23,16 @@ ghost use Rattle.semver_parser.specs.RangeTexts.{IsRangeText, HasSet, IsTooLarge
 ghost use Rattle.semver_parser.specs.RangeTree.{SetTree, Spells};
 ghost use Rattle.semver_parser.specs.RewritingTable.{fits};
 ghost use Rattle.semver_parser.specs.PrintedRanges.{set_text};
-ghost use Rattle.semver_parser.specs.Meeting.{meets_set};
-ghost use Rattle.semver_parser.specs.RangeViews.{set_of};
-ghost use Rattle.semver_parser.specs.VersionViews.{version_value};
-ghost use Rattle.release_filter.specs.KeptReleases.{is_release};
+ghost use Rattle.release_filter.specs.KeptReleases.{meant_with};
+ghost use Rattle.release_filter.specs.declared.PreReleases.{PreReleases as Rule};
 ghost use Rattle.semver_parser_c.specs.Numbers as number;
-ghost use Rattle.semver_parser_c.specs.Faults.{IsOneOf, RangeIsRead, is_met, meeting_number};
-ghost use Rattle.semver_parser_c.specs.Faults.{mode_of, outcome_number, range_faults, set_for};
-ghost use Rattle.semver_parser_c.specs.Faults.{version_faults};
+ghost use Rattle.semver_parser_c.specs.Faults.{IsOneOf, RangeIsRead, mode_of, outcome_number};
+ghost use Rattle.semver_parser_c.specs.Faults.{range_faults, set_for, version_faults};
 ghost use Rattle.semver_parser_c.specs.Places.{bytes_at, dotted, told};
-ghost use Rattle.semver_parser_c.specs.Printing.{Puts};
+ghost use Rattle.semver_parser_c.specs.Comparators.{HasPreReleases, told_set};
+ghost use Rattle.semver_parser_c.specs.Printing.{Puts, PutsBoth};
+ghost use Rattle.semver_parser_c.specs.Rules.{IsAnswer, IsRule, rule_number};
 
-use release_filter::{release_meets, version_meets};
-use semver_parser::RangeSet;
-use semver_parser::version::Version;
 use std::alloc::Global;
 
 /// Where a part of a text lies: `length` bytes from `offset` on. Both are 0 where there is no such
@@ -64,6 +63,25 @@ pub struct ReadVersion {
     pub build: Part,
 }
 
+/// A comparator of a printed set: an operator, and the version that it compares with.
+#[repr(C)]
+#[derive(Clone, Copy)]
+pub struct PrintedComparator {
+    /// The number of the range that it belongs to, from 0 on.
+    pub range: usize,
+    /// How it compares: `LESS`, `LESS_EQUAL`, `GREATER`, `GREATER_EQUAL` or `EQUAL`.
+    pub op: i32,
+    /// The first number.
+    pub major: u64,
+    /// The second number.
+    pub minor: u64,
+    /// The third number.
+    pub patch: u64,
+    /// Where the printed set has the identifiers of the pre-release, joined by dots, without the
+    /// `-` in front of them.
+    pub pre: Part,
+}
+
 /// Reads a version text: `OK` with the version in `out`, or the number of a fault with `out` as it
 /// was.
 ///
@@ -77,7 +95,11 @@ pub struct ReadVersion {
 /// `UNEXPECTED_TOKEN`, `UNEXPECTED_CHAR`, `MORE_INPUT`, and `VERSION_OUT_OF_MEMORY`, which never
 /// comes for a version without pre-release and build.
 #[unsafe(no_mangle)]
-pub extern "C" fn semver_parser_version(alloc: Global, text: &[u8], out: &mut ReadVersion) -> i32
+pub extern "C" fn semver_parser_proved_parse_version(
+    alloc: Global,
+    text: &[u8],
+    out: &mut ReadVersion,
+) -> i32
     ensures numbers { IsOneOf (number.ok ∷ version_faults) result }
     // What is read is the version that the text spells, and where it has its parts: there stand the
     // identifiers, joined by dots.
@@ -127,7 +149,7 @@ pub extern "C" fn semver_parser_version(alloc: Global, text: &[u8], out: &mut Re
 /// `RANGE_NOT_UTF8`, those of `RangeSet::parse`, which are `NOT_A_RANGE`, `NUMBER_TOO_LARGE` and
 /// `RANGE_OUT_OF_MEMORY`, and `NO_ROOM`.
 #[unsafe(no_mangle)]
-pub extern "C" fn semver_parser_rewrite(
+pub extern "C" fn semver_parser_proved_rewrite(
     alloc: Global,
     text: &[u8],
     npm: bool,
@@ -157,85 +179,247 @@ pub extern "C" fn semver_parser_rewrite(
         Err(number) => return number,
     };
     match set.to_string(alloc) {
-        Ok(printed) => range_text::put(printed.as_str(), out, length),
+        Ok(printed) => range_text::put(printed.as_bytes(), out, length),
         Err(_) => numbers::RANGE_OUT_OF_MEMORY,
     }
 }
 
-/// Whether a version meets a range: `MEETS`, `DOES_NOT_MEET`, or the number of a fault. The mode is
-/// npm's where `npm` holds, and else Cargo's.
+/// Rewrites a range text into plain comparators, as `semver_parser_proved_rewrite` does, and tells
+/// them as plain data: `OK` with the comparators at the front of `comparators`. Where each has its
+/// pre-release is told of the printed set, which that call prints.
 ///
-/// It goes by what the range text means by itself, and not by comparators. Where `pre_releases`
-/// doesn't hold, no version with a pre-release meets any range. Where it does, one meets the range
-/// by precedence (SemVer 2.0.0, section 11), as any version: `2.0.0-alpha` meets `>=1.0.0`, and
-/// doesn't meet `^1.0.0`.
+/// `count` becomes the number of the comparators, also where `comparators` has no room for them
+/// (`NO_ROOM`). `comparators` is as it was behind them, and all of it after any answer but `OK`.
+/// `count` is as it was after a fault of the text.
 ///
 /// # Faults
 ///
-/// The range is read first: `RANGE_NOT_UTF8`, `NOT_A_RANGE`, `NUMBER_TOO_LARGE` and
-/// `RANGE_OUT_OF_MEMORY`, whatever the version. Then those of `semver_parser_version`.
+/// Those of `semver_parser_proved_rewrite`.
 #[unsafe(no_mangle)]
-pub extern "C" fn semver_parser_meets(
+pub extern "C" fn semver_parser_proved_comparators(
+    alloc: Global,
+    text: &[u8],
+    npm: bool,
+    exact: bool,
+    comparators: &mut [PrintedComparator],
+    count: &mut usize,
+) -> i32
+    ensures numbers { IsOneOf (number.ok ∷ number.no_room ∷ range_faults) result }
+    // What is put into the room is what the text is rewritten to, in order, each with the number of
+    // its range and the place of its pre-release.
+    ensures rewritten { (result ≡ number.ok) ⊎ (result ≡ number.no_room)
+        → (tree : SetTree) × Spells tree text.now × IsTrue (fits (mode_of npm) tree)
+        × Puts (told_set (set_for exact (mode_of npm) tree))
+        comparators.old comparators.new count.new result }
+    ensures pre_releases { result ≡ number.ok → (tree : SetTree) → Spells tree text.now
+        → HasPreReleases (set_text (set_for exact (mode_of npm) tree))
+        (take count.new comparators.new) (set_for exact (mode_of npm) tree) }
+
+    // Faults of the text. The first three are exact, and memory runs out only where there is a set.
+    ensures not_utf8 { (result ≡ number.range_not_utf8) ↔ ¬ (IsUtf8 text.now) }
+    ensures not_a_range { IsUtf8 text.now → (result ≡ number.not_a_range)
+        ↔ ¬ (IsRangeText text.now) }
+    ensures too_large { IsUtf8 text.now → (result ≡ number.number_too_large)
+        ↔ IsTooLarge (mode_of npm) text.now }
+    ensures out_of_memory { result ≡ number.range_out_of_memory → HasSet (mode_of npm) text.now }
+    ensures room_unchanged { result ≢ number.ok → comparators.new ≡ comparators.old }
+    ensures count_unchanged { IsOneOf range_faults result → count.new ≡ count.old }
+{
+    let rewritten = match range_text::read(alloc, text, npm, exact) {
+        Ok(set) => set,
+        Err(number) => return number,
+    };
+    match comparators::print(alloc, &rewritten) {
+        Ok(printed) => range_text::put(&printed.comparators, comparators, count),
+        Err(_) => numbers::RANGE_OUT_OF_MEMORY,
+    }
+}
+
+/// Rewrites a range text, and tells both its printed set, as `semver_parser_proved_rewrite` does,
+/// and its comparators, as `semver_parser_proved_comparators` does: `OK` with both at the front of
+/// their rooms.
+///
+/// `count` and `length` become the number of the comparators and the length of the printed set,
+/// also where one of the rooms is too small (`NO_ROOM`); then both rooms are as they were. They are
+/// so after a fault of the text too, and so are `count` and `length`.
+///
+/// # Faults
+///
+/// Those of `semver_parser_proved_rewrite`.
+#[unsafe(no_mangle)]
+pub extern "C" fn semver_parser_proved_rewrite_with_comparators(
+    alloc: Global,
+    text: &[u8],
+    npm: bool,
+    exact: bool,
+    comparators: &mut [PrintedComparator],
+    count: &mut usize,
+    out: &mut [u8],
+    length: &mut usize,
+) -> i32
+    ensures numbers { IsOneOf (number.ok ∷ number.no_room ∷ range_faults) result }
+    // What is put into the rooms is what the text is rewritten to, by its comparators and printed.
+    ensures rewritten { (result ≡ number.ok) ⊎ (result ≡ number.no_room)
+        → (tree : SetTree) × Spells tree text.now × IsTrue (fits (mode_of npm) tree)
+        × PutsBoth
+        (record {
+          items = told_set (set_for exact (mode_of npm) tree);
+          old = comparators.old;
+          new = comparators.new;
+          told = count.new;
+        })
+        (record {
+          items = set_text (set_for exact (mode_of npm) tree);
+          old = out.old;
+          new = out.new;
+          told = length.new;
+        })
+        result }
+    ensures pre_releases { result ≡ number.ok → (tree : SetTree) → Spells tree text.now
+        → HasPreReleases (take length.new out.new)
+        (take count.new comparators.new) (set_for exact (mode_of npm) tree) }
+
+    // Faults of the text. The first three are exact, and memory runs out only where there is a set.
+    ensures not_utf8 { (result ≡ number.range_not_utf8) ↔ ¬ (IsUtf8 text.now) }
+    ensures not_a_range { IsUtf8 text.now → (result ≡ number.not_a_range)
+        ↔ ¬ (IsRangeText text.now) }
+    ensures too_large { IsUtf8 text.now → (result ≡ number.number_too_large)
+        ↔ IsTooLarge (mode_of npm) text.now }
+    ensures out_of_memory { result ≡ number.range_out_of_memory → HasSet (mode_of npm) text.now }
+    ensures rooms_unchanged { result ≢ number.ok
+        → (comparators.new ≡ comparators.old) × (out.new ≡ out.old) }
+    ensures numbers_unchanged { IsOneOf range_faults result
+        → (count.new ≡ count.old) × (length.new ≡ length.old) }
+{
+    let rewritten_set = match range_text::read(alloc, text, npm, exact) {
+        Ok(set) => set,
+        Err(number) => return number,
+    };
+    match comparators::print(alloc, &rewritten_set) {
+        Ok(printed) => comparators::put_both(&printed, comparators, count, out, length),
+        Err(_) => numbers::RANGE_OUT_OF_MEMORY,
+    }
+}
+
+/// Whether a version meets a range, by the rule for pre-releases that a number names: `OK` with the
+/// answer in `meets`, or the number of a fault with `meets` as it was. The mode is npm's where
+/// `npm` holds, and else Cargo's.
+///
+/// It goes by what the range text means by itself, and not by comparators. By `RELEASES_ALONE` no
+/// version with a pre-release meets any range. By `STATED_PRE_RELEASES` one meets the range where a
+/// term states the same three numbers and a pre-release, and by `ALL_PRE_RELEASES` by precedence
+/// alone (SemVer 2.0.0, section 11), as any version.
+///
+/// # Faults
+///
+/// `NO_SUCH_RULE`, whatever the texts. Then the range is read: `RANGE_NOT_UTF8`, `NOT_A_RANGE`,
+/// `NUMBER_TOO_LARGE` and `RANGE_OUT_OF_MEMORY`, whatever the version. Then those of
+/// `semver_parser_proved_parse_version`.
+#[unsafe(no_mangle)]
+pub extern "C" fn semver_parser_proved_meets(
     alloc: Global,
     range: &[u8],
     npm: bool,
-    pre_releases: bool,
+    pre_releases: i32,
     version: &[u8],
+    meets: &mut bool,
 ) -> i32
-    ensures numbers { IsOneOf (number.does_not_meet ∷ number.meets ∷ range_faults ++ version_faults)
+    ensures numbers { IsOneOf (number.ok ∷ number.no_such_rule ∷ range_faults ++ version_faults)
         result }
-    // An answer is that of the range's own meaning, and comes where both texts are read.
-    ensures meaning { IsOneOf (number.does_not_meet ∷ number.meets ∷ []) result
+    // An answer is that of the range's own meaning by the rule, and comes where both texts are
+    // read.
+    ensures meaning { result ≡ number.ok → (rule : Rule) → pre_releases ≡ rule_number rule
         → (tree : SetTree) (v : VersionValue) → Spells tree range.now → SpellsVersion v version.now
-        → result ≡ meeting_number (is_met pre_releases (mode_of npm) tree v) }
-    ensures both_read { IsOneOf (number.does_not_meet ∷ number.meets ∷ []) result
-        → RangeIsRead (mode_of npm) range.now result × IsVersionText version.now }
-    ensures accepted { RangeIsRead (mode_of npm) range.now result → (v : VersionValue)
-        → IsUtf8 version.now → SpellsVersion v version.now
-        → IsOneOf (number.does_not_meet ∷ number.meets ∷ number.version_out_of_memory ∷ []) result }
+        → meets.new ≡ meant_with rule (mode_of npm) tree v }
+    ensures both_read { result ≡ number.ok → IsRule pre_releases
+        × RangeIsRead (mode_of npm) range.now result × IsVersionText version.now }
+    ensures accepted { IsRule pre_releases → RangeIsRead (mode_of npm) range.now result
+        → (v : VersionValue) → IsUtf8 version.now → SpellsVersion v version.now
+        → IsOneOf (number.ok ∷ number.version_out_of_memory ∷ []) result }
+    ensures unchanged { result ≢ number.ok → meets.new ≡ meets.old }
 
-    // Faults of the range, whatever the version.
-    ensures range_not_utf8 { (result ≡ number.range_not_utf8) ↔ ¬ (IsUtf8 range.now) }
-    ensures not_a_range { IsUtf8 range.now → (result ≡ number.not_a_range)
-        ↔ ¬ (IsRangeText range.now) }
-    ensures too_large { IsUtf8 range.now → (result ≡ number.number_too_large)
-        ↔ IsTooLarge (mode_of npm) range.now }
+    // Faults of the rule, and of the range, whatever the version.
+    ensures no_such_rule { (result ≡ number.no_such_rule) ↔ ¬ (IsRule pre_releases) }
+    ensures range_not_utf8 { IsRule pre_releases
+        → (result ≡ number.range_not_utf8) ↔ ¬ (IsUtf8 range.now) }
+    ensures not_a_range { IsRule pre_releases → IsUtf8 range.now
+        → (result ≡ number.not_a_range) ↔ ¬ (IsRangeText range.now) }
+    ensures too_large { IsRule pre_releases → IsUtf8 range.now
+        → (result ≡ number.number_too_large) ↔ IsTooLarge (mode_of npm) range.now }
     ensures range_out_of_memory { result ≡ number.range_out_of_memory
         → HasSet (mode_of npm) range.now }
 
     // Faults of the version, where the range is read.
-    ensures version_not_utf8 { RangeIsRead (mode_of npm) range.now result
+    ensures version_not_utf8 { IsRule pre_releases → RangeIsRead (mode_of npm) range.now result
         → (result ≡ number.version_not_utf8) ↔ ¬ (IsUtf8 version.now) }
-    ensures version_refused { RangeIsRead (mode_of npm) range.now result → IsUtf8 version.now
-        → ¬ (IsVersionText version.now) → result ≢ number.version_out_of_memory
+    ensures version_refused { IsRule pre_releases → RangeIsRead (mode_of npm) range.now result
+        → IsUtf8 version.now → ¬ (IsVersionText version.now)
+        → result ≢ number.version_out_of_memory
         → (e : Fault) × IsOutcomeOf version.now (Result.Err e)
         × (result ≡ outcome_number (Result.Err e)) }
     ensures version_out_of_memory { result ≡ number.version_out_of_memory
         → TextMayRunOut version.now }
 {
-    let set = match range_text::read(alloc, range, npm, true) {
-        Ok(set) => set,
+    let filter = match meeting::filter_of(alloc, range, npm, pre_releases) {
+        Ok(filter) => filter,
         Err(number) => return number,
     };
-    let version = match version_text::read(alloc, version) {
-        Ok(version) => version,
-        Err(number) => return number,
-    };
-    if is_met(&set, &version, pre_releases) {
-        numbers::MEETS
-    } else {
-        numbers::DOES_NOT_MEET
+    match meeting::judge(alloc, &filter, version) {
+        Ok(met) => {
+            *meets = met;
+            numbers::OK
+        }
+        Err(fault) => fault,
     }
 }
 
-/// Whether a version meets a set; a pre-release does only where they are asked for.
-fn is_met(set: &RangeSet, version: &Version, pre_releases: bool) -> bool
-    ensures { result ≡ ((pre_releases || is_release (version_value version.now))
-        && meets_set (version_value version.now).plain (set_of set.now)) }
+/// Whether each of many versions meets a range, as `semver_parser_proved_meets` says of one: `OK`
+/// with a byte in `answers` for each text of `versions`, or the number of a fault with `answers` as
+/// it was. The range is read once.
+///
+/// A byte is `DOES_NOT_MEET`, `MEETS`, or the number of the version's fault. Where `versions` and
+/// `answers` differ in length, as many are answered as the shorter has.
+///
+/// # Faults
+///
+/// `NO_SUCH_RULE`, whatever the texts, and those of the range: `RANGE_NOT_UTF8`, `NOT_A_RANGE`,
+/// `NUMBER_TOO_LARGE` and `RANGE_OUT_OF_MEMORY`.
+#[unsafe(no_mangle)]
+pub extern "C" fn semver_parser_proved_meets_each(
+    alloc: Global,
+    range: &[u8],
+    npm: bool,
+    pre_releases: i32,
+    versions: &[&[u8]],
+    answers: &mut [u8],
+) -> i32
+    ensures numbers { IsOneOf (number.ok ∷ number.no_such_rule ∷ range_faults) result }
+    // Each byte is what there is to say of the text at its place, by the rule and the range's own
+    // meaning.
+    ensures answers { result ≡ number.ok → (rule : Rule) → pre_releases ≡ rule_number rule
+        → (k : ℕ) → k < length versions.now → k < length answers.old
+        → IfSome (slice_get versions.now k)
+        (λ text. IsAnswer rule (mode_of npm) range.now text.now (slice_index answers.new k)) }
+    ensures behind { drop (length versions.now) answers.new
+        ≡ drop (length versions.now) answers.old }
+    ensures read { result ≡ number.ok → IsRule pre_releases
+        × RangeIsRead (mode_of npm) range.now result }
+    ensures unchanged { result ≢ number.ok → answers.new ≡ answers.old }
+
+    // Faults of the rule, and of the range.
+    ensures no_such_rule { (result ≡ number.no_such_rule) ↔ ¬ (IsRule pre_releases) }
+    ensures not_utf8 { IsRule pre_releases
+        → (result ≡ number.range_not_utf8) ↔ ¬ (IsUtf8 range.now) }
+    ensures not_a_range { IsRule pre_releases → IsUtf8 range.now
+        → (result ≡ number.not_a_range) ↔ ¬ (IsRangeText range.now) }
+    ensures too_large { IsRule pre_releases → IsUtf8 range.now
+        → (result ≡ number.number_too_large) ↔ IsTooLarge (mode_of npm) range.now }
+    ensures out_of_memory { result ≡ number.range_out_of_memory → HasSet (mode_of npm) range.now }
 {
-    if pre_releases {
-        version_meets(set, version)
-    } else {
-        release_meets(set, version)
-    }
+    let filter_of_all = match meeting::filter_of(alloc, range, npm, pre_releases) {
+        Ok(filter) => filter,
+        Err(number) => return number,
+    };
+    meeting::judge_each(alloc, &filter_of_all, versions, answers);
+    numbers::OK
 }

@@ -1,11 +1,7 @@
 //! The numbers that the calls answer, as `include/semver_parser.h` names them.
 
-/// A version was read, or a range rewritten.
+/// What was asked for was done.
 pub const OK: i32 = 0;
-/// The version doesn't meet the range.
-pub const DOES_NOT_MEET: i32 = 0;
-/// The version meets the range.
-pub const MEETS: i32 = 1;
 /// The bytes of the version aren't UTF-8.
 pub const VERSION_NOT_UTF8: i32 = 2;
 /// The version ends where a version can't.
@@ -30,5 +26,30 @@ pub const NOT_A_RANGE: i32 = 11;
 pub const NUMBER_TOO_LARGE: i32 = 12;
 /// Memory ran out at the range.
 pub const RANGE_OUT_OF_MEMORY: i32 = 13;
-/// The room is too small for the printed set.
+/// A room is too small for what is put there.
 pub const NO_ROOM: i32 = 14;
+/// No rule for pre-releases has that number.
+pub const NO_SUCH_RULE: i32 = 15;
+
+/// The rule for pre-releases by which none meets a range.
+pub const RELEASES_ALONE: i32 = 0;
+/// The rule by which one meets where the range states a pre-release of the same three numbers.
+pub const STATED_PRE_RELEASES: i32 = 1;
+/// The rule by which each is compared as any version.
+pub const ALL_PRE_RELEASES: i32 = 2;
+
+/// The operator `<`.
+pub const LESS: i32 = 0;
+/// The operator `<=`.
+pub const LESS_EQUAL: i32 = 1;
+/// The operator `>`.
+pub const GREATER: i32 = 2;
+/// The operator `>=`.
+pub const GREATER_EQUAL: i32 = 3;
+/// The operator `=`.
+pub const EQUAL: i32 = 4;
+
+/// What is written for a version that doesn't meet the range, where there are many.
+pub const DOES_NOT_MEET: u8 = 0;
+/// What is written for a version that meets the range.
+pub const MEETS: u8 = 1;

@@ -49,14 +49,14 @@ pub fn read(alloc: Global, text: &[u8], npm: bool, exact: bool) -> Result<RangeS
 }
 
 /// The mode that C names by a bool.
-fn mode(npm: bool) -> Compat
+pub fn mode(npm: bool) -> Compat
     ensures { result ≡ mode_of npm }
 {
     if npm { Compat::Npm } else { Compat::Cargo }
 }
 
 /// The number of a fault.
-fn fault_number(error: &RangeError) -> i32
+pub fn fault_number(error: &RangeError) -> i32
     ensures { result ≡ range_fault_number error.now }
 {
     match error {
@@ -66,16 +66,15 @@ fn fault_number(error: &RangeError) -> i32
     }
 }
 
-/// Tells the length of a text, and puts it at the front of the room where it fits.
-pub fn put(text: &str, out: &mut [u8], length: &mut usize) -> i32
-    ensures { Puts text.now out.old out.new length.new result }
+/// Tells how many items there are, and puts them at the front of the room where they fit.
+pub fn put<T: Copy>(items: &[T], out: &mut [T], length: &mut usize) -> i32
+    ensures { Puts items.now out.old out.new length.new result }
 {
-    let bytes = text.as_bytes();
-    let len = bytes.len();
+    let len = items.len();
     *length = len;
     if len > out.len() {
         return numbers::NO_ROOM;
     }
-    out[..len].copy_from_slice(bytes);
+    out[..len].copy_from_slice(items);
     numbers::OK
 }

@@ -8,7 +8,7 @@ use Rattle.semver_parser_c.specs.Faults.{IsOneOf, outcome_number, version_faults
 use Rattle.semver_parser_c.specs.Places.{bytes_at, dotted}
 use Rattle.semver_parser.proofs.OneVersion.{one_version}
 use Rattle.semver_parser_c.proofs.PartBytes.{told_bytes}
-use Rattle.semver_parser_c.proofs.semver_parser_version.Goals as goal
+use Rattle.semver_parser_c.proofs.semver_parser_proved_parse_version.Goals as goal
 
 pub returns-in-Ok-clause-version : goal.returns-in-Ok-clause-version
 returns-in-Ok-clause-version c = λ _.

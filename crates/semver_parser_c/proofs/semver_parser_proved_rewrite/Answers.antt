@@ -1,6 +1,6 @@
 use Rattle.std.proofs.Common.{rules, ◌≡◌, ⊎_elim, inl, inr, refl, sym, ◌∙◌, subst, w32, to_z, of_z}
 use Rattle.semver_parser_c.specs.Faults.{IsOneOf, range_faults}
-use Rattle.semver_parser_c.proofs.semver_parser_rewrite.Goals as goal
+use Rattle.semver_parser_c.proofs.semver_parser_proved_rewrite.Goals as goal
 
 pub returns-in-Err-clause-numbers : goal.returns-in-Err-clause-numbers
 returns-in-Err-clause-numbers c =

@@ -1,0 +1,111 @@
+/* The calls of include/semver_parser.h over those that are proved: each puts a pointer to an object in place of a null pointer, which is an empty text or an
+ * empty room, and calls the proved one. Link this file with the library, once. It is trusted: no proof reads it. */
+#include "../include/semver_parser.h"
+#include "heap.h"
+#include "proved.h"
+
+/* What stands in place of null. With a length of 0 nothing of it is read or written. */
+static uint8_t no_byte;
+static semver_parser_comparator no_comparator;
+static const semver_parser_text no_text = {&no_byte, 0};
+
+static const uint8_t *text_at(const uint8_t *text) {
+    return text != NULL ? text : &no_byte;
+}
+
+static uint8_t *room_at(uint8_t *room) {
+    return room != NULL ? room : &no_byte;
+}
+
+static semver_parser_comparator *comparators_at(semver_parser_comparator *comparators) {
+    return comparators != NULL ? comparators : &no_comparator;
+}
+
+int32_t semver_parser_parse_version(const uint8_t *text, size_t text_length, semver_parser_version *out) {
+    return semver_parser_proved_parse_version(text_at(text), text_length, out);
+}
+
+int32_t semver_parser_rewrite(const uint8_t *text, size_t text_length, bool npm, bool exact, uint8_t *out, size_t room, size_t *length) {
+    return semver_parser_proved_rewrite(text_at(text), text_length, npm, exact, room_at(out), room, length);
+}
+
+int32_t semver_parser_comparators(const uint8_t *text, size_t text_length, bool npm, bool exact, semver_parser_comparator *comparators,
+                                  size_t comparator_room, size_t *count) {
+    return semver_parser_proved_comparators(text_at(text), text_length, npm, exact, comparators_at(comparators), comparator_room, count);
+}
+
+int32_t semver_parser_rewrite_with_comparators(const uint8_t *text, size_t text_length, bool npm, bool exact, semver_parser_comparator *comparators,
+                                               size_t comparator_room, size_t *count, uint8_t *out, size_t room, size_t *length) {
+    return semver_parser_proved_rewrite_with_comparators(text_at(text), text_length, npm, exact, comparators_at(comparators), comparator_room, count,
+                                                         room_at(out), room, length);
+}
+
+int32_t semver_parser_meets(const uint8_t *range, size_t range_length, bool npm, int32_t pre_releases, const uint8_t *version, size_t version_length,
+                            bool *meets) {
+    return semver_parser_proved_meets(text_at(range), range_length, npm, pre_releases, text_at(version), version_length, meets);
+}
+
+/* ---- many versions */
+
+static bool has_null(const semver_parser_text *texts, size_t count) {
+    for (size_t at = 0; at < count; at++) {
+        if (texts[at].bytes == NULL) {
+            return true;
+        }
+    }
+    return false;
+}
+
+static void copy_texts(semver_parser_text *copies, const semver_parser_text *texts, size_t count) {
+    for (size_t at = 0; at < count; at++) {
+        copies[at].bytes = text_at(texts[at].bytes);
+        copies[at].length = texts[at].length;
+    }
+}
+
+/* The texts are copied only where one of them is at null. Where that copy is refused, a fault of the range or of the rule goes before it. */
+int32_t semver_parser_meets_each(const uint8_t *range, size_t range_length, bool npm, int32_t pre_releases, const semver_parser_text *versions,
+                                 size_t count, uint8_t *answers) {
+    const uint8_t *range_at = text_at(range);
+    if (!has_null(versions, count)) {
+        const semver_parser_text *texts = versions != NULL ? versions : &no_text;
+        return semver_parser_proved_meets_each(range_at, range_length, npm, pre_releases, texts, count, room_at(answers), count);
+    }
+    rattle_answer copies = rattle_alloc(count * sizeof *versions, 16);
+    if (!copies.found) {
+        int32_t fault = semver_parser_proved_meets_each(range_at, range_length, npm, pre_releases, &no_text, 0, &no_byte, 0);
+        return fault != SEMVER_PARSER_OK ? fault : (int32_t)SEMVER_PARSER_RANGE_OUT_OF_MEMORY;
+    }
+    semver_parser_text *texts = (semver_parser_text *)copies.block;
+    copy_texts(texts, versions, count);
+    int32_t answer = semver_parser_proved_meets_each(range_at, range_length, npm, pre_releases, texts, count, answers, count);
+    rattle_dealloc(copies.block);
+    return answer;
+}
+
+/* ---- what needs no proof */
+
+const char *semver_parser_library_version(void) {
+    return SEMVER_PARSER_VERSION;
+}
+
+const char *semver_parser_fault_text(int32_t answer) {
+    switch (answer) {
+    case SEMVER_PARSER_OK: return "no fault";
+    case SEMVER_PARSER_VERSION_NOT_UTF8: return "the version isn't UTF-8";
+    case SEMVER_PARSER_UNEXPECTED_END: return "the version ends too early";
+    case SEMVER_PARSER_UNEXPECTED_TOKEN: return "the version has an unexpected token";
+    case SEMVER_PARSER_UNEXPECTED_CHAR: return "the version has an unexpected character";
+    case SEMVER_PARSER_MORE_INPUT: return "the version is followed by more";
+    case SEMVER_PARSER_EMPTY_PREDICATE: return "a predicate is empty";
+    case SEMVER_PARSER_EMPTY_RANGE: return "a range is empty";
+    case SEMVER_PARSER_VERSION_OUT_OF_MEMORY: return "out of memory at the version";
+    case SEMVER_PARSER_RANGE_NOT_UTF8: return "the range isn't UTF-8";
+    case SEMVER_PARSER_NOT_A_RANGE: return "not a range";
+    case SEMVER_PARSER_NUMBER_TOO_LARGE: return "the range has a number that is too large";
+    case SEMVER_PARSER_RANGE_OUT_OF_MEMORY: return "out of memory at the range";
+    case SEMVER_PARSER_NO_ROOM: return "the room is too small";
+    case SEMVER_PARSER_NO_SUCH_RULE: return "no rule for pre-releases has this number";
+    default: return "no call answers this number";
+    }
+}

@@ -1,0 +1,33 @@
+/* The calls that are proved, as src/lib.rt has them. No pointer of theirs is null; c/calls.c makes the calls of include/semver_parser.h of them. */
+#ifndef SEMVER_PARSER_PROVED_H
+#define SEMVER_PARSER_PROVED_H
+
+#include "../include/semver_parser.h"
+
+#ifdef __cplusplus
+extern "C" {
+#endif
+
+int32_t semver_parser_proved_parse_version(const uint8_t *text, size_t text_length, semver_parser_version *out);
+
+int32_t semver_parser_proved_rewrite(const uint8_t *text, size_t text_length, bool npm, bool exact, uint8_t *out, size_t room, size_t *length);
+
+int32_t semver_parser_proved_comparators(const uint8_t *text, size_t text_length, bool npm, bool exact, semver_parser_comparator *comparators,
+                                         size_t comparator_room, size_t *count);
+
+int32_t semver_parser_proved_rewrite_with_comparators(const uint8_t *text, size_t text_length, bool npm, bool exact,
+                                                      semver_parser_comparator *comparators, size_t comparator_room, size_t *count, uint8_t *out,
+                                                      size_t room, size_t *length);
+
+int32_t semver_parser_proved_meets(const uint8_t *range, size_t range_length, bool npm, int32_t pre_releases, const uint8_t *version,
+                                   size_t version_length, bool *meets);
+
+/* It answers for as many texts as `count` and `answer_room` both have. */
+int32_t semver_parser_proved_meets_each(const uint8_t *range, size_t range_length, bool npm, int32_t pre_releases,
+                                        const semver_parser_text *versions, size_t count, uint8_t *answers, size_t answer_room);
+
+#ifdef __cplusplus
+}
+#endif
+
+#endif
