@@ -24,13 +24,13 @@ static void *block(size_t length) {
 
 /* The bytes of a text in a block of their own. */
 static uint8_t *alone(const text *of) {
-    uint8_t *bytes = block(of->length);
+    uint8_t *bytes = (uint8_t *)block(of->length);
     memcpy(bytes, of->bytes, of->length);
     return bytes;
 }
 
 static bool is_filled(const void *with, int byte, size_t length) {
-    const unsigned char *bytes = with;
+    const unsigned char *bytes = (const unsigned char *)with;
     for (size_t at = 0; at < length; at++) {
         if (bytes[at] != byte) {
             return false;
@@ -46,11 +46,9 @@ static bool is_part(semver_parser_part part, const text *of) {
     return part.offset > 0 && part.offset <= of->length && part.length <= of->length - part.offset;
 }
 
-int32_t read_version(const text *of, semver_parser_read_version *out) {
-    uint8_t *bytes = alone(of);
+static int32_t read_version_at(const uint8_t *bytes, const text *of, semver_parser_version *out) {
     memset(out, FILL, sizeof *out);
-    int32_t answer = semver_parser_version(bytes, of->length, out);
-    free(bytes);
+    int32_t answer = semver_parser_parse_version(bytes, of->length, out);
     if (answer == SEMVER_PARSER_OK) {
         require(is_part(out->pre, of) && is_part(out->build, of), "a part outside of the text", of);
         require(out->pre.length == 0 || of->bytes[out->pre.offset - 1] == '-', "a pre-release without its hyphen", of);
@@ -61,66 +59,252 @@ int32_t read_version(const text *of, semver_parser_read_version *out) {
     return answer;
 }
 
-/* One rewriting into a room of some bytes. */
-static int32_t rewrite_once(const text *of, bool npm, bool exact, size_t room, size_t *length, const text *wanted) {
+int32_t read_version(const text *of, semver_parser_version *out) {
     uint8_t *bytes = alone(of);
-    uint8_t *out = block(room + 1);
-    memset(out, FILL, room);
-    out[room] = GUARD;
-    *length = UNTOLD;
-    int32_t answer = semver_parser_rewrite(bytes, of->length, npm, exact, out, room, length);
-    require(out[room] == GUARD, "a byte behind the room", of);
-    if (answer == SEMVER_PARSER_OK) {
-        require(*length <= room, "a set longer than its room", of);
-        require(is_filled(out + *length, FILL, room - *length), "a byte behind the set", of);
-        require(wanted == NULL || (*length == wanted->length && memcmp(out, wanted->bytes, *length) == 0), "another set in another room", of);
-    } else {
-        require(is_filled(out, FILL, room), "a room at a fault", of);
-    }
-    require(answer == SEMVER_PARSER_OK || answer == SEMVER_PARSER_NO_ROOM || *length == UNTOLD, "a length at a fault", of);
+    int32_t answer = read_version_at(bytes, of, out);
     free(bytes);
-    free(out);
+    if (of->length == 0) {
+        require(read_version_at(NULL, of, out) == answer, "another answer at null", of);
+    }
     return answer;
 }
 
-static bool is_tried(size_t room, size_t length) {
-    return length <= 300 || room <= 1 || room == length / 2 || room + 1 >= length;
+/* ---- rewriting */
+
+/* A room for bytes and one for comparators, each with a guard behind it; at null where it is empty and that is asked for. */
+typedef struct {
+    uint8_t *out;
+    size_t room;
+    size_t length;
+    semver_parser_comparator *comparators;
+    size_t comparator_room;
+    size_t count;
+} rooms;
+
+static rooms rooms_of(size_t room, size_t comparator_room) {
+    rooms made = {(uint8_t *)block(room + 1), room, UNTOLD, (semver_parser_comparator *)block((comparator_room + 1) * sizeof(semver_parser_comparator)),
+                  comparator_room, UNTOLD};
+    memset(made.out, FILL, room);
+    made.out[room] = GUARD;
+    memset(made.comparators, FILL, comparator_room * sizeof *made.comparators);
+    memset(made.comparators + comparator_room, GUARD, sizeof *made.comparators);
+    return made;
 }
 
-int32_t rewrite(const text *of, bool npm, bool exact, text *printed) {
-    size_t length;
-    int32_t answer = rewrite_once(of, npm, exact, 0, &length, NULL);
-    if (answer != SEMVER_PARSER_NO_ROOM) {
-        require(answer != SEMVER_PARSER_OK, "a set of no bytes", of);
-        return answer;
-    }
+static void free_rooms(rooms *some) {
+    free(some->out);
+    free(some->comparators);
+}
+
+/* Which call is made: one of the two rooms is left alone by the first two. */
+enum { PRINTED = 1, COMPARATORS = 2, BOTH = 3 };
+
+static int32_t call(int which, const text *of, bool npm, bool exact, rooms *to, bool at_null) {
     uint8_t *bytes = alone(of);
-    uint8_t *out = block(length);
-    size_t told = 0;
-    answer = semver_parser_rewrite(bytes, of->length, npm, exact, out, length, &told);
-    require(answer == SEMVER_PARSER_OK && told == length, "no set in a room of its length", of);
-    text set = {0};
-    text_add(&set, (const char *)out, length);
+    const uint8_t *from = at_null && of->length == 0 ? NULL : bytes;
+    uint8_t *out = at_null && to->room == 0 ? NULL : to->out;
+    semver_parser_comparator *comparators = at_null && to->comparator_room == 0 ? NULL : to->comparators;
+    int32_t answer;
+    if (which == PRINTED) {
+        answer = semver_parser_rewrite(from, of->length, npm, exact, out, to->room, &to->length);
+    } else if (which == COMPARATORS) {
+        answer = semver_parser_comparators(from, of->length, npm, exact, comparators, to->comparator_room, &to->count);
+    } else {
+        answer = semver_parser_rewrite_with_comparators(from, of->length, npm, exact, comparators, to->comparator_room, &to->count, out, to->room, &to->length);
+    }
     free(bytes);
-    free(out);
-    for (size_t room = 0; room <= length + 1; room++) {
-        if (is_tried(room, length)) {
-            size_t again;
-            int32_t other = rewrite_once(of, npm, exact, room, &again, &set);
-            require(other == (room < length ? SEMVER_PARSER_NO_ROOM : SEMVER_PARSER_OK), "another answer in another room", of);
-            require(again == length, "another length in another room", of);
+    return answer;
+}
+
+/* Whether what a call left alone is as it was. */
+static void require_kept(int which, int32_t answer, const rooms *to, const text *of) {
+    size_t comparator_size = sizeof *to->comparators;
+    require(to->out[to->room] == GUARD, "a byte behind the room", of);
+    require(is_filled(to->comparators + to->comparator_room, GUARD, comparator_size), "a comparator behind the room", of);
+    bool told = answer == SEMVER_PARSER_OK || answer == SEMVER_PARSER_NO_ROOM;
+    require((told && (which & PRINTED) != 0) == (to->length != UNTOLD), "another length at a fault", of);
+    require((told && (which & COMPARATORS) != 0) == (to->count != UNTOLD), "another count at a fault", of);
+    size_t written = answer == SEMVER_PARSER_OK && (which & PRINTED) != 0 ? to->length : 0;
+    size_t put = answer == SEMVER_PARSER_OK && (which & COMPARATORS) != 0 ? to->count : 0;
+    require(written <= to->room && put <= to->comparator_room, "more than there is room for", of);
+    require(is_filled(to->out + written, FILL, to->room - written), "a byte behind the set, or at a fault", of);
+    require(is_filled(to->comparators + put, FILL, (to->comparator_room - put) * comparator_size), "a comparator behind the set, or at a fault", of);
+}
+
+static bool is_same_comparator(const semver_parser_comparator *one, const semver_parser_comparator *other) {
+    return one->range == other->range && one->op == other->op && one->major == other->major && one->minor == other->minor && one->patch == other->patch
+        && one->pre.offset == other->pre.offset && one->pre.length == other->pre.length;
+}
+
+/* One call in some rooms, which has to answer and to write what is wanted. */
+static void try_rooms(int which, const text *of, bool npm, bool exact, size_t room, size_t comparator_room, const text *set, const comparator_list *list) {
+    bool is_empty = of->length == 0 || ((which & PRINTED) != 0 && room == 0) || ((which & COMPARATORS) != 0 && comparator_room == 0);
+    for (int at_null = 0; at_null < (is_empty ? 2 : 1); at_null++) {
+        rooms to = rooms_of(room, comparator_room);
+        int32_t answer = call(which, of, npm, exact, &to, at_null != 0);
+        bool fits = ((which & PRINTED) == 0 || room >= set->length) && ((which & COMPARATORS) == 0 || comparator_room >= list->count);
+        require(answer == (fits ? (int32_t)SEMVER_PARSER_OK : (int32_t)SEMVER_PARSER_NO_ROOM), "another answer in another room", of);
+        require_kept(which, answer, &to, of);
+        require((which & PRINTED) == 0 || to.length == set->length, "another length in another room", of);
+        require((which & COMPARATORS) == 0 || to.count == list->count, "another count in another room", of);
+        require(!fits || (which & PRINTED) == 0 || memcmp(to.out, set->bytes, set->length) == 0, "another set in another room", of);
+        for (size_t at = 0; fits && (which & COMPARATORS) != 0 && at < list->count; at++) {
+            require(is_same_comparator(&to.comparators[at], &list->items[at]), "another comparator in another room", of);
+        }
+        free_rooms(&to);
+    }
+}
+
+static bool is_tried(size_t room, size_t needed, size_t all) {
+    return needed <= all || room <= 1 || room == needed / 2 || room + 1 >= needed;
+}
+
+/* The room of comparators goes with each room of the printed set that decides: none, one that is a byte too small, and one that fits. */
+static void try_all_rooms(const text *of, bool npm, bool exact, const text *set, const comparator_list *list) {
+    for (size_t room = 0; room <= set->length + 1; room++) {
+        if (is_tried(room, set->length, 300)) {
+            try_rooms(PRINTED, of, npm, exact, room, 0, set, list);
         }
     }
+    for (size_t comparator_room = 0; comparator_room <= list->count + 1; comparator_room++) {
+        if (!is_tried(comparator_room, list->count, 12)) {
+            continue;
+        }
+        try_rooms(COMPARATORS, of, npm, exact, 0, comparator_room, set, list);
+        try_rooms(BOTH, of, npm, exact, 0, comparator_room, set, list);
+        try_rooms(BOTH, of, npm, exact, set->length - 1, comparator_room, set, list);
+        try_rooms(BOTH, of, npm, exact, set->length, comparator_room, set, list);
+    }
+}
+
+const char *operator_text(int32_t op) {
+    switch (op) {
+    case SEMVER_PARSER_LESS: return "<";
+    case SEMVER_PARSER_LESS_EQUAL: return "<=";
+    case SEMVER_PARSER_GREATER: return ">";
+    case SEMVER_PARSER_GREATER_EQUAL: return ">=";
+    case SEMVER_PARSER_EQUAL: return "=";
+    default: return "no operator";
+    }
+}
+
+/* The comparators, printed, are the set. Their parts lie where they stand, so each is looked for behind the one before it. */
+static void require_printed(const text *of, const text *set, const comparator_list *list) {
+    text printed = {NULL, 0, 0};
+    size_t range = 0;
+    for (size_t at = 0; at < list->count; at++) {
+        const semver_parser_comparator *one = &list->items[at];
+        require(one->range == range || (at > 0 && one->range == range + 1), "a range out of turn", of);
+        text_say(&printed, "%s%s%llu.%llu.%llu", at == 0 ? "" : one->range == range ? " " : " || ", operator_text(one->op), (unsigned long long)one->major,
+                 (unsigned long long)one->minor, (unsigned long long)one->patch);
+        range = one->range;
+        if (one->pre.length > 0) {
+            text_say(&printed, "-");
+            require(one->pre.offset == printed.length && one->pre.length <= set->length - printed.length, "a pre-release in another place", of);
+            text_add(&printed, set->bytes + one->pre.offset, one->pre.length);
+        } else {
+            require(one->pre.offset == 0, "a place of no pre-release", of);
+        }
+    }
+    require(printed.length == set->length && memcmp(printed.bytes, set->bytes, set->length) == 0, "comparators of another set", of);
+    text_free(&printed);
+}
+
+/* A fault of a range, which each of the three calls has to answer. */
+static int32_t require_fault(const text *of, bool npm, bool exact, int32_t fault) {
+    for (int which = PRINTED; which <= BOTH; which++) {
+        for (int case_of = 0; case_of < 4; case_of++) {
+            rooms to = rooms_of(case_of % 2 == 0 ? 0 : 64, case_of % 2 == 0 ? 0 : 8);
+            int32_t answer = call(which, of, npm, exact, &to, case_of >= 2);
+            require(answer == fault, "another fault", of);
+            require_kept(which, answer, &to, of);
+            free_rooms(&to);
+        }
+    }
+    return fault;
+}
+
+int32_t rewrite(const text *of, bool npm, bool exact, text *printed, comparator_list *comparators) {
+    rooms none = rooms_of(0, 0);
+    int32_t answer = call(BOTH, of, npm, exact, &none, false);
+    free_rooms(&none);
+    if (answer != SEMVER_PARSER_NO_ROOM) {
+        require(answer != SEMVER_PARSER_OK, "a set of no bytes", of);
+        return require_fault(of, npm, exact, answer);
+    }
+    rooms to = rooms_of(none.length, none.count);
+    answer = call(BOTH, of, npm, exact, &to, false);
+    require(answer == SEMVER_PARSER_OK && to.length == none.length && to.count == none.count, "no set in rooms of its size", of);
+    text set = {NULL, 0, 0};
+    text_add(&set, (const char *)to.out, to.length);
+    comparator_list list = {to.comparators, to.count};
+    require_printed(of, &set, &list);
+    try_all_rooms(of, npm, exact, &set, &list);
     text_add(printed, set.bytes, set.length);
     text_free(&set);
+    free(to.out);
+    if (comparators != NULL) {
+        *comparators = list;
+    } else {
+        free(list.items);
+    }
     return answer;
 }
 
-int32_t meets(const text *range, bool npm, bool pre_releases, const text *version) {
+void free_comparators(comparator_list *comparators) {
+    free(comparators->items);
+}
+
+/* ---- meeting */
+
+/* Asks for one version. */
+static int32_t meets_one(const text *range, bool npm, int32_t pre_releases, const text *version, bool at_null, bool before) {
     uint8_t *range_bytes = alone(range);
     uint8_t *version_bytes = alone(version);
-    int32_t answer = semver_parser_meets(range_bytes, range->length, npm, pre_releases, version_bytes, version->length);
+    bool met = before;
+    int32_t answer = semver_parser_meets(at_null && range->length == 0 ? NULL : range_bytes, range->length, npm, pre_releases,
+                                         at_null && version->length == 0 ? NULL : version_bytes, version->length, &met);
     free(range_bytes);
     free(version_bytes);
+    require(answer == SEMVER_PARSER_OK || met == before, "an answer at a fault", range);
+    return answer != SEMVER_PARSER_OK ? answer : met ? (int32_t)SEMVER_PARSER_MEETS : (int32_t)SEMVER_PARSER_DOES_NOT_MEET;
+}
+
+/* Asks for many: the version, an empty text at null and one elsewhere, 1.2.3 without its dots, and the version again, of which the first `count` are passed. */
+static void require_each(const text *range, bool npm, int32_t pre_releases, const text *version, int32_t wanted, size_t count) {
+    uint8_t *range_bytes = alone(range);
+    uint8_t *version_bytes = alone(version);
+    uint8_t *versions_block = (uint8_t *)block(count * sizeof(semver_parser_text));
+    semver_parser_text *versions = (semver_parser_text *)(void *)versions_block;
+    const semver_parser_text all[5] = {{version->length != 0 ? version_bytes : NULL, version->length}, {NULL, 0}, {range_bytes, 0},
+                                       {(const uint8_t *)"123", 3}, {version_bytes, version->length}};
+    const int32_t bytes[5] = {wanted, SEMVER_PARSER_UNEXPECTED_END, SEMVER_PARSER_UNEXPECTED_END, SEMVER_PARSER_UNEXPECTED_END, wanted};
+    memcpy(versions, all, count * sizeof *versions);
+    uint8_t answers[6];
+    memset(answers, FILL, sizeof answers);
+    int32_t answer = semver_parser_meets_each(range_bytes, range->length, npm, pre_releases, count != 0 ? versions : NULL, count, count != 0 ? answers : NULL);
+    bool read = wanted < 10;
+    require(answer == (read ? (int32_t)SEMVER_PARSER_OK : wanted), "another answer for many", range);
+    for (size_t at = 0; read && at < count; at++) {
+        require(answers[at] == bytes[at], "another byte", version);
+    }
+    size_t written = read ? count : 0;
+    require(is_filled(answers + written, FILL, sizeof answers - written), "a byte behind the answers, or at a fault", range);
+    free(range_bytes);
+    free(version_bytes);
+    free(versions_block);
+}
+
+int32_t meets(const text *range, bool npm, int32_t pre_releases, const text *version) {
+    int32_t answer = meets_one(range, npm, pre_releases, version, false, false);
+    require(meets_one(range, npm, pre_releases, version, false, true) == answer, "an answer by what was there", range);
+    require(meets_one(range, npm, pre_releases, version, true, true) == answer, "another answer at null", range);
+    if (answer < 10) {
+        for (size_t count = 0; count <= 5; count++) {
+            require_each(range, npm, pre_releases, version, answer, count);
+        }
+    } else {
+        require_each(range, npm, pre_releases, version, answer, 5);
+    }
     return answer;
 }

@@ -6,13 +6,24 @@
 #include "../../crates/semver_parser_c/include/semver_parser.h"
 #include "texts.h"
 
-/* Reads a version. */
-int32_t read_version(const text *of, semver_parser_read_version *out);
+/* Reads a version. An empty text is read at null too. */
+int32_t read_version(const text *of, semver_parser_version *out);
 
-/* Rewrites a range, and appends the printed set. It tries a room of each length up to one past the set's (of a set above 300 bytes, of some lengths). */
-int32_t rewrite(const text *of, bool npm, bool exact, text *printed);
+/* Comparators in order. */
+typedef struct {
+    semver_parser_comparator *items;
+    size_t count;
+} comparator_list;
 
-/* Whether a version meets a range. */
-int32_t meets(const text *range, bool npm, bool pre_releases, const text *version);
+/* Rewrites a range, appends the printed set, and gives its comparators unless `comparators` is null. It tries a room of each length up to one past what is
+ * needed (of a set above 300 bytes or 12 comparators, of some lengths), by each of the three calls, and at null where a room or the text is empty. */
+int32_t rewrite(const text *of, bool npm, bool exact, text *printed, comparator_list *comparators);
+void free_comparators(comparator_list *comparators);
+
+/* The operator of a comparator, as it is printed. */
+const char *operator_text(int32_t op);
+
+/* Whether a version text meets a range text: SEMVER_PARSER_MEETS or _DOES_NOT_MEET, or the fault. It asks for one and for many, which have to agree. */
+int32_t meets(const text *range, bool npm, int32_t pre_releases, const text *version);
 
 #endif

@@ -2,40 +2,38 @@
  * was given to write to as it was, and to give back all that it took. With no request refused it has to give back all as well. */
 #include "calls.h"
 
+#include "../../crates/semver_parser_c/c/heap.h"
+
 #include <stdio.h>
 #include <stdlib.h>
 #include <string.h>
 
 /* ---- the heap */
 
-typedef struct {
-    bool found;
-    void *block;
-} answer;
-
 static unsigned char no_block[16];
 static int granted;
 static bool refused;
 static int taken;
 
-answer rattle_alloc(size_t size, size_t align);
-answer rattle_realloc(void *block, size_t kept, size_t size, size_t align);
-void rattle_dealloc(void *block);
+static rattle_answer answer_of(bool found, void *block) {
+    rattle_answer made = {found, block};
+    return made;
+}
 
-answer rattle_alloc(size_t size, size_t align) {
+rattle_answer rattle_alloc(size_t size, size_t align) {
     (void)align;
     if (granted == 0) {
         refused = true;
-        return (answer){false, no_block};
+        return answer_of(false, no_block);
     }
     granted--;
     taken++;
     void *block = malloc(size != 0 ? size : 1);
-    return (answer){block != NULL, block};
+    return answer_of(block != NULL, block);
 }
 
-answer rattle_realloc(void *block, size_t kept, size_t size, size_t align) {
-    answer grown = rattle_alloc(size, align);
+rattle_answer rattle_realloc(void *block, size_t kept, size_t size, size_t align) {
+    rattle_answer grown = rattle_alloc(size, align);
     if (grown.found) {
         memcpy(grown.block, block, kept);
         rattle_dealloc(block);
@@ -66,10 +64,10 @@ static void grant(int requests) {
 
 /* A version that takes this many requests. */
 static void version_takes(const char *bytes, int requests, int32_t wanted) {
-    text of = {0};
+    text of = {NULL, 0, 0};
     text_add(&of, bytes, strlen(bytes));
     for (int request = 0; request <= requests; request++) {
-        semver_parser_read_version read;
+        semver_parser_version read;
         grant(request);
         int32_t answered = read_version(&of, &read);
         check(refused == (request < requests), "another number of requests", bytes, request);
@@ -79,17 +77,31 @@ static void version_takes(const char *bytes, int requests, int32_t wanted) {
     text_free(&of);
 }
 
-/* A range whose rewriting takes requests, or takes none. */
-static void range_takes(const char *bytes, bool npm, bool exact, bool some, int32_t wanted) {
+/* A range whose rewriting takes requests, or takes none, by the call that prints, by that of comparators, or by both. */
+static void range_takes(const char *bytes, bool npm, bool exact, int which, bool some, int32_t wanted) {
     int request = 0;
     do {
         uint8_t out[64];
+        semver_parser_comparator comparators[4];
+        const uint8_t *put = (const uint8_t *)comparators;
         memset(out, 'x', sizeof out);
+        memset(comparators, 'x', sizeof comparators);
         size_t length = 777;
+        size_t count = 777;
+        const uint8_t *from = (const uint8_t *)bytes;
         grant(request);
-        int32_t answered = semver_parser_rewrite((const uint8_t *)bytes, strlen(bytes), npm, exact, out, sizeof out, &length);
-        check(answered == (refused ? SEMVER_PARSER_RANGE_OUT_OF_MEMORY : wanted), "another answer", bytes, request);
-        check(answered == SEMVER_PARSER_OK || (length == 777 && out[0] == 'x' && memcmp(out, out + 1, sizeof out - 1) == 0), "something changed", bytes, request);
+        int32_t answered;
+        if (which == 0) {
+            answered = semver_parser_rewrite(from, strlen(bytes), npm, exact, out, sizeof out, &length);
+        } else if (which == 1) {
+            answered = semver_parser_comparators(from, strlen(bytes), npm, exact, comparators, 4, &count);
+        } else {
+            answered = semver_parser_rewrite_with_comparators(from, strlen(bytes), npm, exact, comparators, 4, &count, out, sizeof out, &length);
+        }
+        check(answered == (refused ? (int32_t)SEMVER_PARSER_RANGE_OUT_OF_MEMORY : wanted), "another answer", bytes, request);
+        bool is_kept = length == 777 && count == 777 && out[0] == 'x' && memcmp(out, out + 1, sizeof out - 1) == 0 && put[0] == 'x'
+            && memcmp(put, put + 1, sizeof comparators - 1) == 0;
+        check(answered == SEMVER_PARSER_OK || answered == SEMVER_PARSER_NO_ROOM || is_kept, "something changed", bytes, request);
         check(taken == 0, "memory is kept", bytes, request);
         request++;
     } while (refused && request < 100);
@@ -97,22 +109,48 @@ static void range_takes(const char *bytes, bool npm, bool exact, bool some, int3
 }
 
 /* A range that takes requests or takes none, and a version that takes so many: those of the range come first. */
-static void both_take(const char *range, bool some, const char *version, int version_requests, int32_t wanted) {
+static void both_take(const char *range, bool some, const char *version, int version_requests, int32_t wanted, bool meets) {
     int request = 0;
     int of_range = 0;
     int of_version = 0;
     do {
+        bool met = !meets;
         grant(request);
-        int32_t answered = semver_parser_meets((const uint8_t *)range, strlen(range), true, true, (const uint8_t *)version, strlen(version));
+        int32_t answered = semver_parser_meets((const uint8_t *)range, strlen(range), true, SEMVER_PARSER_ALL_PRE_RELEASES, (const uint8_t *)version,
+                                               strlen(version), &met);
         bool is_range = answered == SEMVER_PARSER_RANGE_OUT_OF_MEMORY;
         bool is_version = answered == SEMVER_PARSER_VERSION_OUT_OF_MEMORY;
         check(refused ? (is_range && of_version == 0) || is_version : answered == wanted, "another answer", range, request);
+        check(met == (answered == SEMVER_PARSER_OK ? meets : !meets), "another meeting", range, request);
         check(taken == 0, "memory is kept", range, request);
         of_range += is_range;
         of_version += is_version;
         request++;
     } while (refused && request < 100);
     check(!refused && (of_range > 0) == some && of_version == version_requests, "another number of requests", range, request);
+}
+
+/* Many versions, of which the second takes requests, and one is at null where that is asked for: the texts are copied then, before the range is read. */
+static void many_take(const char *range, bool at_null, int32_t wanted) {
+    const semver_parser_text versions[] = {{(const uint8_t *)"1.2.3", 5}, {(const uint8_t *)"1.2.3-rc.1", 10}, {at_null ? NULL : (const uint8_t *)"", 0},
+                                           {(const uint8_t *)"1.2.4", 5}};
+    int request = 0;
+    do {
+        uint8_t answers[4] = {'x', 'x', 'x', 'x'};
+        grant(request);
+        int32_t answered = semver_parser_meets_each((const uint8_t *)range, strlen(range), true, SEMVER_PARSER_ALL_PRE_RELEASES, versions, 4, answers);
+        check(answered == wanted || (refused && answered == SEMVER_PARSER_RANGE_OUT_OF_MEMORY), "another answer of many", range, request);
+        if (answered == SEMVER_PARSER_OK) {
+            check(answers[0] == SEMVER_PARSER_MEETS && answers[2] == SEMVER_PARSER_UNEXPECTED_END, "another version's answer", range, request);
+            check(answers[1] == (refused ? (int)SEMVER_PARSER_VERSION_OUT_OF_MEMORY : (int)SEMVER_PARSER_DOES_NOT_MEET), "the answer of a refusal", range, request);
+            check(answers[3] == SEMVER_PARSER_DOES_NOT_MEET, "the answer behind a refusal", range, request);
+        } else {
+            check(memcmp(answers, "xxxx", 4) == 0, "an answer at a fault", range, request);
+        }
+        check(taken == 0, "memory is kept", range, request);
+        request++;
+    } while (refused && request < 100);
+    check(!refused, "another number of requests", range, request);
 }
 
 int main(void) {
@@ -122,14 +160,25 @@ int main(void) {
     version_takes("1.2.3 a", 1, SEMVER_PARSER_MORE_INPUT);
     version_takes("1.2", 0, SEMVER_PARSER_UNEXPECTED_END);
     for (int modes = 0; modes < 4; modes++) {
-        range_takes("^1.2", modes & 1, modes & 2, true, SEMVER_PARSER_OK);
-        range_takes("v1", modes & 1, modes & 2, false, SEMVER_PARSER_NOT_A_RANGE);
-        range_takes("<=18446744073709551615", modes & 1, modes & 2, false, SEMVER_PARSER_NUMBER_TOO_LARGE);
-        range_takes("\xFF", modes & 1, modes & 2, false, SEMVER_PARSER_RANGE_NOT_UTF8);
+        bool npm = (modes & 1) != 0;
+        bool exact = (modes & 2) != 0;
+        for (int which = 0; which < 3; which++) {
+            range_takes("^1.2", npm, exact, which, true, SEMVER_PARSER_OK);
+            range_takes("1.2.3-rc || 4", npm, exact, which, true, SEMVER_PARSER_OK);
+            range_takes("1 || 2 || 3", npm, exact, which, true, which == 0 ? (int32_t)SEMVER_PARSER_OK : (int32_t)SEMVER_PARSER_NO_ROOM);
+            range_takes("v1", npm, exact, which, false, SEMVER_PARSER_NOT_A_RANGE);
+            range_takes("<=18446744073709551615", npm, exact, which, false, SEMVER_PARSER_NUMBER_TOO_LARGE);
+            range_takes("\xFF", npm, exact, which, false, SEMVER_PARSER_RANGE_NOT_UTF8);
+        }
     }
-    both_take("1.2.3", true, "1.2.3", 0, SEMVER_PARSER_MEETS);
-    both_take("1.2.3", true, "1.2.3-rc", 2, SEMVER_PARSER_DOES_NOT_MEET);
-    both_take("v1", false, "1.2.3-rc", 0, SEMVER_PARSER_NOT_A_RANGE);
+    both_take("1.2.3", true, "1.2.3", 0, SEMVER_PARSER_OK, true);
+    both_take("1.2.3", true, "1.2.3-rc", 2, SEMVER_PARSER_OK, false);
+    both_take("v1", false, "1.2.3-rc", 0, SEMVER_PARSER_NOT_A_RANGE, false);
+    for (int at_null = 0; at_null < 2; at_null++) {
+        many_take("1.2.3", at_null != 0, SEMVER_PARSER_OK);
+        many_take("v1", at_null != 0, SEMVER_PARSER_NOT_A_RANGE);
+        many_take("<=18446744073709551615", at_null != 0, SEMVER_PARSER_NUMBER_TOO_LARGE);
+    }
     printf("refused memory: %s\n", failed == 0 ? "passed" : "failed");
     return failed == 0 ? 0 : 1;
 }

@@ -62,7 +62,7 @@ static bool is_number(const char *bytes, size_t length) {
 static void say_identifiers(text *to, const char *bytes, size_t length) {
     const char *end = bytes + length;
     while (length > 0) {
-        const char *dot = memchr(bytes, '.', (size_t)(end - bytes));
+        const char *dot = (const char *)memchr(bytes, '.', (size_t)(end - bytes));
         const char *stop = dot != NULL ? dot : end;
         text_say(to, is_number(bytes, (size_t)(stop - bytes)) ? "Numeric(" : "AlphaNumeric(");
         text_add(to, bytes, (size_t)(stop - bytes));
@@ -76,7 +76,7 @@ static void say_identifiers(text *to, const char *bytes, size_t length) {
 }
 
 static void say_version(text *to, const text *of) {
-    semver_parser_read_version version;
+    semver_parser_version version;
     int32_t answer = read_version(of, &version);
     if (answer != SEMVER_PARSER_OK) {
         text_say(to, "%s", version_fault(answer));
@@ -91,7 +91,7 @@ static void say_version(text *to, const text *of) {
 
 /* Writes the printed version, and answers whether there is one. */
 static int32_t say_printed_version(text *to, const text *of) {
-    semver_parser_read_version version;
+    semver_parser_version version;
     int32_t answer = read_version(of, &version);
     if (answer != SEMVER_PARSER_OK) {
         return answer;
@@ -108,43 +108,29 @@ static int32_t say_printed_version(text *to, const text *of) {
     return answer;
 }
 
-/* Writes a printed comparator or bars, by fields. */
-static void say_word(text *to, const char *word, size_t length) {
-    const char *hyphen = memchr(word, '-', length);
-    const char *end = hyphen != NULL ? hyphen : word + length;
-    text_say(to, " ");
-    text_add(to, word, (size_t)(end - word));
-    if (length == 2 && word[0] == '|') {
-        return;
-    }
-    text_say(to, "[");
-    if (hyphen != NULL) {
-        say_identifiers(to, hyphen + 1, length - (size_t)(hyphen + 1 - word));
-    }
-    text_say(to, "]");
-}
-
-/* Writes the fields of a set, which its printed text has. */
+/* Writes the fields of a set. */
 static void say_set(text *to, const text *of, bool npm) {
-    text printed = {0};
-    int32_t answer = rewrite(of, npm, false, &printed);
+    text printed = {NULL, 0, 0};
+    comparator_list list = {NULL, 0};
+    int32_t answer = rewrite(of, npm, false, &printed, &list);
     if (answer != SEMVER_PARSER_OK) {
         text_say(to, "%s", range_fault(answer, BY_NAME));
         return;
     }
     text_say(to, npm ? "Npm" : "Cargo");
-    for (size_t at = 0; at < printed.length;) {
-        const char *word = printed.bytes + at;
-        const char *blank = memchr(word, ' ', printed.length - at);
-        size_t length = blank != NULL ? (size_t)(blank - word) : printed.length - at;
-        say_word(to, word, length);
-        at += length + 1;
+    for (size_t at = 0; at < list.count; at++) {
+        const semver_parser_comparator *one = &list.items[at];
+        text_say(to, "%s %s%" PRIu64 ".%" PRIu64 ".%" PRIu64 "[", at > 0 && one->range != list.items[at - 1].range ? " ||" : "", operator_text(one->op),
+                 one->major, one->minor, one->patch);
+        say_identifiers(to, printed.bytes + one->pre.offset, one->pre.length);
+        text_say(to, "]");
     }
     text_free(&printed);
+    free_comparators(&list);
 }
 
 static bool say_printed_set(text *to, const text *of, bool npm, bool exact, int how) {
-    int32_t answer = rewrite(of, npm, exact, to);
+    int32_t answer = rewrite(of, npm, exact, to, NULL);
     if (answer != SEMVER_PARSER_OK) {
         text_say(to, "%s", range_fault(answer, how));
     }
@@ -165,12 +151,12 @@ static void say_report(text *to, const text *of) {
 }
 
 /* Writes the versions of a list that meet a range. */
-static void say_met(text *to, const text *range, bool npm, bool pre_releases, const text *list) {
-    text ignored = {0};
-    int32_t fault = rewrite(range, npm, false, &ignored);
+static void say_met(text *to, const text *range, bool npm, int32_t pre_releases, const text *list) {
+    text ignored = {NULL, 0, 0};
+    int32_t fault = rewrite(range, npm, false, &ignored, NULL);
     text_free(&ignored);
     if (fault != SEMVER_PARSER_OK) {
-        text version = {0};
+        text version = {NULL, 0, 0};
         text_say(&version, "1.2.3");
         bool same = meets(range, npm, pre_releases, &version) == fault;
         text_say(to, "%s", same ? range_fault(fault, BY_SENTENCE) : "another fault");
@@ -179,10 +165,10 @@ static void say_met(text *to, const text *range, bool npm, bool pre_releases, co
     }
     for (size_t at = 0; at < list->length;) {
         const char *item = list->bytes + at;
-        const char *blank = memchr(item, ' ', list->length - at);
+        const char *blank = (const char *)memchr(item, ' ', list->length - at);
         size_t length = blank != NULL ? (size_t)(blank - item) : list->length - at;
         at += length + 1;
-        text version = {0};
+        text version = {NULL, 0, 0};
         text_add(&version, item, length);
         int32_t answer = length > 0 ? meets(range, npm, pre_releases, &version) : SEMVER_PARSER_DOES_NOT_MEET;
         if (answer == SEMVER_PARSER_MEETS) {
@@ -214,11 +200,11 @@ static bool say_answer(text *to, const char *call, const text *of, const text *s
     } else if (strcmp(call, "report") == 0) {
         say_report(to, of);
     } else if (strcmp(call, "filter-cargo") == 0 || strcmp(call, "filter-npm") == 0) {
-        say_met(to, of, strcmp(call, "filter-npm") == 0, false, steps);
+        say_met(to, of, strcmp(call, "filter-npm") == 0, SEMVER_PARSER_RELEASES_ALONE, steps);
     } else if (strcmp(call, "meet-cargo") == 0 || strcmp(call, "meet-npm") == 0) {
-        say_met(to, of, strcmp(call, "meet-npm") == 0, true, steps);
+        say_met(to, of, strcmp(call, "meet-npm") == 0, SEMVER_PARSER_ALL_PRE_RELEASES, steps);
     } else if (strcmp(call, "mean-cargo") == 0 || strcmp(call, "mean-npm") == 0) {
-        say_met(to, of, strcmp(call, "mean-npm") == 0, true, steps);
+        say_met(to, of, strcmp(call, "mean-npm") == 0, SEMVER_PARSER_ALL_PRE_RELEASES, steps);
     } else {
         return false;
     }
@@ -237,13 +223,13 @@ enum outcome { PASSED, FAILED, PASSED_OVER };
 static enum outcome replay(const char *call, const text *of, const text *steps, const char *expected, size_t length) {
     static const char sum[] = "sum-of-";
     bool is_sum = strncmp(call, sum, strlen(sum)) == 0;
-    text answer = {0};
+    text answer = {NULL, 0, 0};
     text_add(&answer, "", 0);
     enum outcome outcome = PASSED_OVER;
     bool has_call = say_answer(&answer, is_sum ? call + strlen(sum) : call, of, steps);
     bool has_tokens = answer.length > 0 && answer.bytes[answer.length - 1] == '(';
     if (has_call && !(is_sum && has_tokens)) {
-        text shown = {0};
+        text shown = {NULL, 0, 0};
         text_add(&shown, "", 0);
         if (is_sum) {
             text_say_sum(&shown, &answer);
@@ -260,7 +246,8 @@ static enum outcome replay(const char *call, const text *of, const text *steps, 
 
 /* Replays the row of a line, whose fields are parted by tabs. */
 static enum outcome replay_line(char *line, const char *expected) {
-    char *fields[4] = {line, "", "", ""};
+    char none[1] = {0};
+    char *fields[4] = {line, none, none, none};
     for (int field = 1; field < 4; field++) {
         char *tab = strchr(fields[field - 1], '\t');
         if (tab == NULL) {
@@ -269,8 +256,8 @@ static enum outcome replay_line(char *line, const char *expected) {
         *tab = 0;
         fields[field] = tab + 1;
     }
-    text of = {0};
-    text steps = {0};
+    text of = {NULL, 0, 0};
+    text steps = {NULL, 0, 0};
     enum outcome outcome = FAILED;
     const char *answer = expected + strlen(line) + 2;
     if (strncmp(expected, line, strlen(line)) != 0 || !text_expand(&of, fields[2], strlen(fields[2])) || !text_expand(&steps, fields[3], strlen(fields[3]))) {

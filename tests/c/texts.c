@@ -13,7 +13,7 @@ static void give_up(const char *why) {
 void text_add(text *to, const char *bytes, size_t length) {
     if (to->room - to->length <= length) {
         to->room = 2 * (to->length + length) + 64;
-        to->bytes = realloc(to->bytes, to->room);
+        to->bytes = (char *)realloc(to->bytes, to->room);
         if (to->bytes == NULL) {
             give_up("no memory");
         }
@@ -37,7 +37,8 @@ void text_say(text *to, const char *format, ...) {
 
 void text_free(text *it) {
     free(it->bytes);
-    *it = (text){0};
+    text none = {NULL, 0, 0};
+    *it = none;
 }
 
 text text_of_file(const char *path) {
@@ -45,7 +46,7 @@ text text_of_file(const char *path) {
     if (file == NULL) {
         give_up(path);
     }
-    text whole = {0};
+    text whole = {NULL, 0, 0};
     text_add(&whole, "", 0);
     char some[4096];
     size_t length;
@@ -84,12 +85,12 @@ static bool add_unescaped(text *to, const char *escaped, size_t length, long pla
 
 /* Appends what `count,unit,joiner` stands for. */
 static bool add_repeated(text *to, const char *repeated, size_t length) {
-    const char *unit = memchr(repeated, ',', length);
+    const char *unit = (const char *)memchr(repeated, ',', length);
     if (unit == NULL) {
         return false;
     }
     unit++;
-    const char *joiner = memchr(unit, ',', length - (size_t)(unit - repeated));
+    const char *joiner = (const char *)memchr(unit, ',', length - (size_t)(unit - repeated));
     if (joiner == NULL) {
         return false;
     }
@@ -125,7 +126,7 @@ bool text_expand(text *to, const char *escaped, size_t length) {
     }
     while (at < end) {
         at += 2;
-        const char *close = memchr(at, ')', (size_t)(end - at));
+        const char *close = (const char *)memchr(at, ')', (size_t)(end - at));
         if (close == NULL || !add_repeated(to, at, (size_t)(close - at))) {
             return false;
         }

@@ -1,0 +1,55 @@
+/* Uses all that the header has, as a program in C or in C++ does: it is compiled by each standard of both, with all warnings as faults. */
+#include "../../crates/semver_parser_c/include/semver_parser.h"
+
+#include <stdio.h>
+#include <string.h>
+
+#if SEMVER_PARSER_VERSION_MAJOR != 0 || SEMVER_PARSER_VERSION_MINOR < 1 || SEMVER_PARSER_VERSION_PATCH < 0
+#error "the version of another library"
+#endif
+
+static const uint8_t *bytes_of(const char *string) {
+    return (const uint8_t *)string;
+}
+
+static int use_rewriting(void) {
+    const char *range = "^1.2 || 3.x";
+    semver_parser_comparator comparators[4];
+    uint8_t out[64];
+    size_t count = 0;
+    size_t length = 0;
+    int32_t answer = semver_parser_rewrite_with_comparators(bytes_of(range), strlen(range), true, true, comparators, 4, &count, out, sizeof out, &length);
+    if (answer != SEMVER_PARSER_OK || comparators[1].op != SEMVER_PARSER_LESS || comparators[1].pre.length != 1) {
+        return 1;
+    }
+    if (semver_parser_rewrite(NULL, 0, false, false, NULL, 0, &length) != SEMVER_PARSER_NO_ROOM) {
+        return 1;
+    }
+    return semver_parser_comparators(NULL, 0, false, false, NULL, 0, &count) == SEMVER_PARSER_NO_ROOM && count == 1 ? 0 : 1;
+}
+
+static int use_meeting(void) {
+    semver_parser_text versions[2];
+    uint8_t answers[2];
+    bool meets = false;
+    versions[0].bytes = bytes_of("1.2.3");
+    versions[0].length = 5;
+    versions[1].bytes = NULL;
+    versions[1].length = 0;
+    if (semver_parser_meets(bytes_of("1"), 1, true, SEMVER_PARSER_STATED_PRE_RELEASES, bytes_of("1.2.3"), 5, &meets) != SEMVER_PARSER_OK || !meets) {
+        return 1;
+    }
+    if (semver_parser_meets_each(bytes_of("1"), 1, true, SEMVER_PARSER_RELEASES_ALONE, versions, 2, answers) != SEMVER_PARSER_OK) {
+        return 1;
+    }
+    return answers[0] == SEMVER_PARSER_MEETS && answers[1] == SEMVER_PARSER_UNEXPECTED_END ? 0 : 1;
+}
+
+int main(void) {
+    semver_parser_version version;
+    int32_t answer = semver_parser_parse_version(bytes_of("1.2"), 3, &version);
+    int failed = strcmp(semver_parser_library_version(), SEMVER_PARSER_VERSION) != 0 || answer != SEMVER_PARSER_UNEXPECTED_END;
+    failed |= use_rewriting() | use_meeting();
+    printf("uses: %s\n", failed ? "failed" : "passed");
+    return failed;
+}
