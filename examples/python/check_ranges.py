@@ -9,27 +9,18 @@ It does as examples/c/check-ranges.c, through ctypes.
 import ctypes
 import sys
 
-DOES_NOT_MEET, MEETS = 0, 1
-FAULTS = {
-    2: "the version isn't UTF-8",
-    3: "the version ends too early",
-    4: "the version has an unexpected token",
-    5: "the version has an unexpected character",
-    6: "the version is followed by more",
-    9: "out of memory",
-    10: "the range isn't UTF-8",
-    11: "not a range",
-    12: "the range has a number that is too large",
-    13: "out of memory",
-}
+OK = 0
+ALL_PRE_RELEASES = 2
 
 
 def load(path):
-    """The library, with what its calls take. `bytes` are passed as they are: a pointer, never null."""
+    """The library, with what its calls take."""
     library = ctypes.CDLL(path)
-    text, size, flag = ctypes.c_char_p, ctypes.c_size_t, ctypes.c_bool
-    library.semver_parser_meets.argtypes = [text, size, flag, flag, text, size]
-    library.semver_parser_meets.restype = ctypes.c_int32
+    text, size, flag, number = ctypes.c_char_p, ctypes.c_size_t, ctypes.c_bool, ctypes.c_int32
+    library.semver_parser_meets.argtypes = [text, size, flag, number, text, size, ctypes.POINTER(flag)]
+    library.semver_parser_meets.restype = number
+    library.semver_parser_fault_text.argtypes = [number]
+    library.semver_parser_fault_text.restype = ctypes.c_char_p
     return library
 
 
@@ -40,14 +31,15 @@ def check(library, line, number, npm):
         print(f"line {number}: no tab", file=sys.stderr)
         return 2
     wanted, version = fields[:2]
-    answer = library.semver_parser_meets(wanted, len(wanted), npm, True, version, len(version))
-    if answer == MEETS:
+    meets = ctypes.c_bool()
+    answer = library.semver_parser_meets(wanted, len(wanted), npm, ALL_PRE_RELEASES, version, len(version), meets)
+    if answer != OK:
+        print(f"line {number}: {library.semver_parser_fault_text(answer).decode()}", file=sys.stderr)
+        return 2
+    if meets.value:
         return 0
-    if answer == DOES_NOT_MEET:
-        sys.stdout.buffer.write(line + b"\n")
-        return 1
-    print(f"line {number}: {FAULTS[answer]}", file=sys.stderr)
-    return 2
+    sys.stdout.buffer.write(line + b"\n")
+    return 1
 
 
 def main(arguments):
