@@ -53,7 +53,7 @@ pub fn kept_versions(alloc: Global) -> Ending {
         Err(_) => return Ending::Wrong,
     };
     let mut versions = Vec::new(alloc);
-    for text in ["2.5.0-1", "0.2.0-1"] {
+    for text in ["2.5.0-1", "0.2.0-b"] {
         match version::parse(alloc, text) {
             Ok(version) => {
                 if versions.push(version).is_err() {
