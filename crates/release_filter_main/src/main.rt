@@ -152,16 +152,21 @@ fn write_text(rt: &HostRuntime, texts: &[&str]) -> ExitCode {
     ExitCode::SUCCESS
 }
 
-/// Says on standard error why the arguments ask for nothing, and gives status 2.
+/// Says on standard error why the arguments ask for nothing, in one line, and gives status 2.
 fn refused(rt: &impl Eprint, refusal: &Refusal) -> ExitCode {
     let _ = match refusal {
-        Refusal::Unreadable => eprintln!(rt; "release-filter: cannot read arguments"),
         Refusal::UnknownOption(option) => eprintln!(rt;
-            "release-filter: unknown option: {option:?}\n{USAGE}"
+            "release-filter: unknown option: {option:?}; see release-filter --help"
         ),
-        Refusal::NoPrefix => eprintln!(rt; "release-filter: --prefix wants a text\n{USAGE}"),
-        Refusal::NoRange => eprintln!(rt; "release-filter: no range\n{USAGE}"),
-        Refusal::ManyRanges => eprintln!(rt; "release-filter: more than one range\n{USAGE}"),
+        Refusal::Unreadable => eprintln!(rt; "release-filter: cannot read arguments"),
+        Refusal::NoPrefix => misused(rt, "--prefix wants a text"),
+        Refusal::NoRange => misused(rt, "no range"),
+        Refusal::ManyRanges => misused(rt, "more than one range"),
     };
     ExitCode::from(2)
+}
+
+/// Says on standard error what is wrong with the arguments.
+fn misused(rt: &impl Eprint, why: &str) -> io::Result<()> {
+    eprintln!(rt; "release-filter: {why}; see release-filter --help")
 }
