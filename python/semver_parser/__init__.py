@@ -1,0 +1,60 @@
+"""Version texts and range texts, read, rewritten and compared by a proved library.
+
+    >>> from semver_parser import Compat, Filter, meets, parse_range, parse_version
+    >>> parse_version("1.2.3-rc.1+b5").pre
+    ('rc', 1)
+    >>> str(parse_range("^1.2 || 3.x", exact=True))
+    '>=1.2.0 <2.0.0-0 || >=3.0.0 <4.0.0-0'
+    >>> meets("1.2.3", "1.9.0"), meets("1.2.3", "1.9.0", Compat.NPM)
+    (True, False)
+    >>> Filter("^1.2").greatest(["1.2.0", "1.9.0", "2.0.0"])
+    '1.9.0'
+
+docs/GRAMMAR.md of the repository says which texts are versions and ranges, and docs/MEANING.md
+what a range means. Texts are `str` or `bytes` in UTF-8. A text that is refused raises
+`VersionError` or `RangeError`, and want of memory `MemoryError`. Everything may be called from
+several threads at once, and nothing from a signal handler or from a forked child of a process
+that has several threads.
+
+The calls are those of the shared library `libsemver_parser.so.0`, which is loaded when the package
+is imported. It is looked for at the path that the environment variable SEMVER_PARSER_LIBRARY has;
+or else beside these modules, and then where the system looks for libraries.
+"""
+
+from .faults import RangeError, Text, VersionError
+from .filtering import AnyVersion, Filter, greatest, meets
+from .reading import parse_range, parse_version
+from .values import (
+    Comparator,
+    Compat,
+    Identifier,
+    Op,
+    PreReleases,
+    Range,
+    RangeSet,
+    Version,
+    precedence,
+)
+
+__version__ = "0.1.0"
+
+__all__ = [
+    "AnyVersion",
+    "Comparator",
+    "Compat",
+    "Filter",
+    "Identifier",
+    "Op",
+    "PreReleases",
+    "Range",
+    "RangeError",
+    "RangeSet",
+    "Text",
+    "Version",
+    "VersionError",
+    "greatest",
+    "meets",
+    "parse_range",
+    "parse_version",
+    "precedence",
+]

@@ -1,0 +1,95 @@
+"""Why a text is refused: the faults of versions and of ranges, as exceptions."""
+
+from typing import ClassVar, Dict, Union
+
+from .library import LIBRARY
+
+Text = Union[str, bytes]
+"""A text of a version or of a range: `bytes` are read as UTF-8."""
+
+OK = 0
+VERSION_OUT_OF_MEMORY = 9
+RANGE_OUT_OF_MEMORY = 13
+NO_ROOM = 14
+
+_LONGEST_SHOWN = 80
+
+
+def encoded(text: Text) -> bytes:
+    """The bytes of a text. What can't be encoded gives bytes that the library refuses."""
+    if isinstance(text, str):
+        return text.encode("utf-8", "surrogatepass")
+    if isinstance(text, bytes):
+        return text
+    raise TypeError(f"a text is a str or bytes, and not {type(text).__name__}")
+
+
+class _TextError(ValueError):
+    """A text that is refused, and the name of its fault."""
+
+    _NUMBERS: ClassVar[Dict[str, int]] = {}
+
+    def __init__(self, name: str, text: Text) -> None:
+        super().__init__(name, text)
+        self.name = name
+        self.text = text
+
+    @property
+    def sentence(self) -> str:
+        """What the fault says, in English, without the text."""
+        sentence: bytes = LIBRARY.semver_parser_fault_text(self._NUMBERS.get(self.name, -1))
+        return sentence.decode("utf-8")
+
+    def __str__(self) -> str:
+        shown = repr(self.text)
+        if len(shown) > _LONGEST_SHOWN:
+            shown = f"{shown[:_LONGEST_SHOWN]}.. (of length {len(self.text)})"
+        return f"{self.sentence}: {shown}"
+
+
+class VersionError(_TextError):
+    """A text that is no version. `text` is that text, and `name` is the name of its fault:
+
+    - `not-utf8`: the bytes aren't UTF-8, or the `str` has a surrogate by itself.
+    - `unexpected-end`: the text ends where a version can't, as `1.2`.
+    - `unexpected-token`: a token comes that can't come there, as in `1.2.3--1`.
+    - `unexpected-char`: a character comes that begins no token, as `/`.
+    - `more-input`: a version is followed by something else, as in `1.2.3 a`.
+    """
+
+    _NUMBERS = {
+        "not-utf8": 2,
+        "unexpected-end": 3,
+        "unexpected-token": 4,
+        "unexpected-char": 5,
+        "more-input": 6,
+    }
+
+
+class RangeError(_TextError):
+    """A text that gives no range. `text` is that text, and `name` is the name of its fault:
+
+    - `not-utf8`: the bytes aren't UTF-8, or the `str` has a surrogate by itself.
+    - `not-a-range`: the text isn't in the grammar of ranges, as `1.2.3 -4`.
+    - `number-too-large`: it is, and a number that it states, or an upper bound that is raised by
+      one, is above 2**64 - 1.
+    """
+
+    _NUMBERS = {"not-utf8": 10, "not-a-range": 11, "number-too-large": 12}
+
+
+_VERSION_FAULTS = {number: name for name, number in VersionError._NUMBERS.items()}
+_RANGE_FAULTS = {number: name for name, number in RangeError._NUMBERS.items()}
+
+
+def raise_fault(answer: int, range: Text = "", version: Text = "") -> None:
+    """Raises what the answer of a call says, unless that is OK."""
+    if answer == OK:
+        return
+    if answer in _VERSION_FAULTS:
+        raise VersionError(_VERSION_FAULTS[answer], version)
+    if answer in _RANGE_FAULTS:
+        raise RangeError(_RANGE_FAULTS[answer], range)
+    if answer in (VERSION_OUT_OF_MEMORY, RANGE_OUT_OF_MEMORY):
+        raise MemoryError
+    raise AssertionError(f"the library answered {answer}")

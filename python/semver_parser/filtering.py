@@ -1,0 +1,151 @@
+"""Which versions meet a range, and which of them is the greatest.
+
+Versions are given as texts or as `Version`s, and what is answered are those that were given. A
+range is given as its text, and judged by what that means by itself, and not by its comparators.
+"""
+
+import ctypes
+from dataclasses import dataclass
+from typing import Iterable, List, Optional, TypeVar, Union
+
+from .faults import Text, encoded, raise_fault
+from .library import LIBRARY, TextItem
+from .reading import is_npm, parse_version
+from .values import Compat, PrecedenceKey, PreReleases, Version, precedence
+
+AnyVersion = Union[str, bytes, Version]
+"""A version, as its text or as it was read."""
+
+_Given = TypeVar("_Given", bound=AnyVersion)
+
+# What is answered for a version, beside its fault.
+_DOES_NOT_MEET = 0
+_MEETS = 1
+
+
+def _text(version: AnyVersion) -> Text:
+    """The text of a version, which is printed where it isn't given."""
+    return str(version) if isinstance(version, Version) else version
+
+
+def _precedence(version: AnyVersion) -> PrecedenceKey:
+    """What stands for a version in the order of precedence."""
+    return precedence(parse_version(_text(version)))
+
+
+def _rule(pre_releases: PreReleases) -> int:
+    """The number of a rule for pre-releases."""
+    if isinstance(pre_releases, PreReleases):
+        return pre_releases.value
+    raise TypeError(f"a rule for pre-releases is a PreReleases, and not {pre_releases!r}")
+
+
+def meets(
+    range: Text,
+    version: AnyVersion,
+    mode: Compat = Compat.CARGO,
+    pre_releases: PreReleases = PreReleases.STATED,
+) -> bool:
+    """Whether a version meets a range. A build never counts.
+
+    Raises `RangeError` where the range is none, and else `VersionError` where the version is none.
+    """
+    text = _text(version)
+    range_bytes, version_bytes = encoded(range), encoded(text)
+    answered = ctypes.c_bool()
+    answer = LIBRARY.semver_parser_meets(
+        range_bytes,
+        len(range_bytes),
+        is_npm(mode),
+        _rule(pre_releases),
+        version_bytes,
+        len(version_bytes),
+        answered,
+    )
+    raise_fault(answer, range, text)
+    return answered.value
+
+
+@dataclass(frozen=True)
+class Filter:
+    """A range, a mode and a rule for pre-releases, to be asked about many versions.
+
+    Raises `RangeError` where the range is none. `kept` and `greatest` read it once for all versions
+    that they are given.
+    """
+
+    range: Text
+    mode: Compat = Compat.CARGO
+    pre_releases: PreReleases = PreReleases.STATED
+
+    def __post_init__(self) -> None:
+        self._answers([])
+
+    def meets(self, version: AnyVersion) -> bool:
+        """Whether a version meets the range. Raises `VersionError` where the version is none."""
+        return meets(self.range, version, self.mode, self.pre_releases)
+
+    def kept(self, versions: Iterable[_Given], pass_over: bool = False) -> List[_Given]:
+        """Those versions that meet the range, in their order and with repeats.
+
+        A text that is no version raises `VersionError`, or counts as one that doesn't meet the
+        range where such are to be passed over.
+        """
+        given = list(versions)
+        texts = [_text(it) for it in given]
+        kept = []
+        for version, text, answer in zip(given, texts, self._answers(texts)):
+            if answer == _MEETS:
+                kept.append(version)
+            elif answer != _DOES_NOT_MEET:
+                _refuse(answer, text, pass_over)
+        return kept
+
+    def greatest(self, versions: Iterable[_Given], pass_over: bool = False) -> Optional[_Given]:
+        """The greatest of the versions that meet the range, or None where none does.
+
+        Precedence decides (SemVer 2.0.0, section 11), so builds don't count, and of versions that
+        are equal in it the first is the greatest. Texts that are no version go as in `kept`.
+        """
+        kept = self.kept(versions, pass_over)
+        return max(kept, key=_precedence) if kept else None
+
+    def _answers(self, texts: List[Text]) -> bytes:
+        """What there is to say of each text, by one call: it meets, it doesn't, or its fault."""
+        range_bytes = encoded(self.range)
+        kept_bytes = [encoded(text) for text in texts]
+        items = (TextItem * len(texts))()
+        for item, its_bytes in zip(items, kept_bytes):
+            item.bytes, item.length = its_bytes, len(its_bytes)
+        answers = ctypes.create_string_buffer(len(texts) + 1)
+        answer = LIBRARY.semver_parser_meets_each(
+            range_bytes,
+            len(range_bytes),
+            is_npm(self.mode),
+            _rule(self.pre_releases),
+            items,
+            len(texts),
+            answers,
+        )
+        raise_fault(answer, range=self.range)
+        return answers.raw[: len(texts)]
+
+
+def _refuse(answer: int, text: Text, pass_over: bool) -> None:
+    """Raises the fault of a version, unless it is passed over. Want of memory never is."""
+    try:
+        raise_fault(answer, version=text)
+    except ValueError:
+        if not pass_over:
+            raise
+
+
+def greatest(
+    range: Text,
+    versions: Iterable[_Given],
+    mode: Compat = Compat.CARGO,
+    pre_releases: PreReleases = PreReleases.STATED,
+    pass_over: bool = False,
+) -> Optional[_Given]:
+    """The greatest of the versions that meet a range: what `Filter.greatest` answers."""
+    return Filter(range, mode, pre_releases).greatest(versions, pass_over)
