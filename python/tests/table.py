@@ -1,0 +1,174 @@
+"""The table of cases of the repository: rows, and how the table writes what a call answers.
+
+`crates/replayed_cases` of the checkout has the rows in its `stdin` and the wanted answers in its
+`stdout`. How texts are escaped is told by its `src/text.rt`.
+"""
+
+import re
+import zlib
+from pathlib import Path
+from typing import Callable, Dict, Iterator, List, NamedTuple, Optional, Tuple
+
+from semver_parser import (
+    Compat,
+    Filter,
+    Identifier,
+    PreReleases,
+    RangeError,
+    RangeSet,
+    Version,
+    VersionError,
+    parse_range,
+    parse_version,
+)
+
+CASES = Path(__file__).resolve().parents[2] / "crates" / "replayed_cases"
+
+_ESCAPES = {"n": "\n", "r": "\r", "t": "\t", "\\": "\\"}
+
+# How the table writes the faults: versions by the front of the name, ranges also as a sentence.
+_VERSION_FAULTS = {
+    "unexpected-end": "UnexpectedEnd",
+    "unexpected-token": "UnexpectedToken(",
+    "unexpected-char": "Lexer(",
+    "more-input": "MoreInput(",
+}
+_RANGE_NAMES = {"not-a-range": "NotARange", "number-too-large": "NumberTooLarge"}
+_RANGE_SENTENCES = {"not-a-range": "not a range", "number-too-large": "number too large"}
+
+# The rules for pre-releases of the calls that tell which versions meet a range.
+_RULES = {
+    "filter": PreReleases.EXCLUDED,
+    "mean": PreReleases.INCLUDED,
+    "meet": PreReleases.INCLUDED,
+}
+
+
+class Row(NamedTuple):
+    """A row of the table, and what is wanted of it."""
+
+    call: str
+    text: str
+    steps: str
+    wanted: str
+
+
+def _unescaped(text: str, place: Optional[int] = None) -> str:
+    """A text without repetitions, which stands at a place of a list or at none."""
+
+    def meant(found: "re.Match[str]") -> str:
+        character = found.group(1)
+        return str(place) if character == "#" else _ESCAPES[character]
+
+    return re.sub(r"(?s)\\(.)", meant, text)
+
+
+def expanded(escaped: str) -> str:
+    """The text that is meant by one of the table."""
+
+    def repeated(found: "re.Match[str]") -> str:
+        count, unit, joiner = found.group(1).split(",", 2)
+        return _unescaped(joiner).join(_unescaped(unit, place) for place in range(int(count)))
+
+    pieces = re.split(r"(\\\([^)]*\))", escaped)
+    return "".join(
+        repeated(found) if (found := re.fullmatch(r"(?s)\\\((.*)\)", piece)) else _unescaped(piece)
+        for piece in pieces
+    )
+
+
+def rows() -> Iterator[Row]:
+    """All rows of the table."""
+    asked = (CASES / "stdin").read_bytes().decode().split("\n")
+    wanted = (CASES / "stdout").read_bytes().decode().split("\n")
+    assert len(asked) == len(wanted) and asked.pop() == wanted.pop() == ""
+    for line, answer in zip(asked, wanted):
+        name, call, text, steps = (line.split("\t") + ["", ""])[:4]
+        assert answer.startswith(name + ": "), line
+        yield Row(call, expanded(text), expanded(steps), answer[len(name) + 2 :])
+
+
+def _kinds(identifiers: Tuple[Identifier, ...]) -> str:
+    kinds = ("Numeric" if isinstance(it, int) else "AlphaNumeric" for it in identifiers)
+    return "[" + " ".join(f"{kind}({it})" for kind, it in zip(kinds, identifiers)) + "]"
+
+
+def _fields_of_version(version: Version) -> str:
+    pre, build = _kinds(version.pre), _kinds(version.build)
+    return f"{version.major} {version.minor} {version.patch} pre{pre} build{build}"
+
+
+def _fields_of_set(answered: RangeSet) -> str:
+    ranges = [
+        " ".join(
+            f"{it.op}{it.major}.{it.minor}.{it.patch}{_kinds(it.pre)}" for it in them.comparator_set
+        )
+        for them in answered.ranges
+    ]
+    assert all(them.compat is answered.compat for them in answered.ranges)
+    return f"{answered.compat.name.title()} " + " || ".join(ranges)
+
+
+def _of_version(text: str, show: Callable[[Version], str], faults: Dict[str, str]) -> str:
+    try:
+        return show(parse_version(text))
+    except VersionError as error:
+        return faults[error.name]
+
+
+def _of_range(
+    text: str, npm: bool, exact: bool, show: Callable[[RangeSet], str], faults: Dict[str, str]
+) -> str:
+    try:
+        return show(parse_range(text, Compat.NPM if npm else Compat.CARGO, exact))
+    except RangeError as error:
+        return faults[error.name]
+
+
+def _report(text: str) -> str:
+    """The lines of the program, whose status is 0 where one of them has a value."""
+    faults = {name: name for name in (*_VERSION_FAULTS, *_RANGE_NAMES)}
+    version = _of_version(text, str, faults)
+    cargo = _of_range(text, False, False, str, faults)
+    npm = _of_range(text, True, False, str, faults)
+    status = int(all(value in faults for value in (version, cargo, npm)))
+    return f"version: {version}; cargo: {cargo}; npm: {npm}; status {status}"
+
+
+def _kept(text: str, npm: bool, pre_releases: PreReleases, steps: str) -> str:
+    listed: List[str] = [item for item in steps.split(" ") if item]
+    try:
+        chosen = Filter(text, Compat.NPM if npm else Compat.CARGO, pre_releases)
+    except RangeError as error:
+        return _RANGE_SENTENCES[error.name]
+    versions = [parse_version(item) for item in listed]
+    return "".join(f"{version} " for version in chosen.kept(versions)) + "end"
+
+
+def answer(call: str, text: str, steps: str) -> Optional[str]:
+    """What the package answers to a call of the table, as that writes it; None where it has none.
+
+    An answer that ends with a bracket is a front: the tokens behind it aren't told.
+    """
+    name, _, last = call.partition("-")
+    npm = "npm" in call
+    if call in ("version", "read"):
+        faults = _VERSION_FAULTS if call == "version" else dict.fromkeys(_VERSION_FAULTS, "none")
+        return _of_version(text, _fields_of_version, faults)
+    if call == "version-text":
+        return _of_version(text, str, _VERSION_FAULTS)
+    if call in ("cargo", "npm"):
+        return _of_range(text, npm, False, _fields_of_set, _RANGE_NAMES)
+    if call in ("cargo-text", "npm-text", "from-str", "cargo-exact", "npm-exact"):
+        return _of_range(text, npm, last == "exact", str, _RANGE_SENTENCES)
+    if call == "report":
+        return _report(text)
+    if name in _RULES and last in ("cargo", "npm"):
+        return _kept(text, npm, _RULES[name], steps)
+    return None
+
+
+def checksum(text: str) -> str:
+    """What the table has in place of a long answer."""
+    answered = text.encode()
+    return f"{len(answered)} bytes, Adler-32 {zlib.adler32(answered):08x}"

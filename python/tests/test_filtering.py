@@ -1,0 +1,185 @@
+"""Which versions meet a range by each rule, in order and with repeats, and the greatest of them."""
+
+import threading
+import unittest
+from typing import List
+
+from semver_parser import (
+    Compat,
+    Filter,
+    PreReleases,
+    RangeError,
+    Version,
+    VersionError,
+    greatest,
+    meets,
+    parse_version,
+    precedence,
+)
+
+# The versions of the standard's section 11, from the lowest to the greatest.
+ORDERED = [
+    "1.0.0-alpha",
+    "1.0.0-alpha.1",
+    "1.0.0-alpha.beta",
+    "1.0.0-beta",
+    "1.0.0-beta.2",
+    "1.0.0-beta.11",
+    "1.0.0-rc.1",
+    "1.0.0",
+    "2.0.0",
+    "2.1.0",
+    "2.1.1",
+]
+
+# Of docs/MEANING.md, "Three rules for pre-releases": range, version, and which rules let it meet.
+THREE_RULES = [
+    ("^1.2.3-beta.4", "1.9.0", (True, True, True)),
+    ("^1.2.3-beta.4", "1.2.3-rc", (False, True, True)),
+    ("^1.2.3-beta.4", "1.3.0-rc", (False, False, True)),
+    (">=1.2.3 <1.2.4-rc", "1.2.4-a", (False, True, True)),
+    ("=2.0.1-a || >=2.0.0", "2.0.1-b", (False, False, True)),
+    ("1.2.3-a - 2", "1.2.3-b", (False, True, True)),
+    ("1.2.3-a - 2", "2.0.0-b", (False, False, True)),
+    ("~1.2.*-a", "1.2.1-b", (False, False, True)),
+    ("<2.0.0", "2.0.0-alpha", (False, False, True)),
+]
+
+
+class Meeting(unittest.TestCase):
+    def test_rules(self) -> None:
+        for text, version, wanted in THREE_RULES:
+            for rule, met in zip(PreReleases, wanted):
+                with self.subTest(range=text, version=version, rule=rule):
+                    self.assertIs(meets(text, version, Compat.NPM, rule), met)
+                    self.assertIs(meets(text, version, Compat.CARGO, rule), met)
+                    chosen = Filter(text, Compat.NPM, rule)
+                    self.assertIs(chosen.meets(parse_version(version)), met)
+                    self.assertEqual(chosen.kept([version]), [version] if met else [])
+
+    def test_defaults(self) -> None:
+        self.assertTrue(meets("1.2.3", "1.9.0"))
+        self.assertFalse(meets("1.2.3", "1.9.0", Compat.NPM))
+        self.assertTrue(meets("^1.2.3-beta", "1.2.3-rc"))
+        self.assertFalse(meets("^1.2.3-beta", "1.3.0-rc"))
+
+    def test_faults(self) -> None:
+        for call in (meets, lambda text, version: Filter(text).meets(version)):
+            with self.assertRaises(RangeError) as of_range:
+                call("v1", "v1")
+            self.assertEqual(of_range.exception.name, "not-a-range")
+            self.assertEqual(of_range.exception.text, "v1")
+            with self.assertRaises(VersionError) as of_version:
+                call("^1", b"1.2.3\xff")
+            self.assertEqual(of_version.exception.name, "not-utf8")
+            self.assertEqual(of_version.exception.text, b"1.2.3\xff")
+
+    def test_versions_made_by_hand(self) -> None:
+        self.assertTrue(meets("=1.2.3-5", Version(1, 2, 3, ("5",))))
+        with self.assertRaises(VersionError) as caught:
+            meets("*", Version(-1, 2, 3))
+        self.assertEqual(caught.exception.text, "-1.2.3")
+
+    def test_other_types(self) -> None:
+        for arguments in (("1", 1), (None, "1.2.3"), ("1", "1.2.3", "npm")):
+            with self.assertRaises(TypeError):
+                meets(*arguments)
+        for rule in (1, True, "stated", None):
+            with self.assertRaises(TypeError):
+                Filter("1", Compat.NPM, rule)
+
+
+class Kept(unittest.TestCase):
+    def test_order_and_repeats(self) -> None:
+        given = ["1.5.0", b"1.2.0", Version(1, 3, 0), "2.0.0", "1.5.0", "1.5.0+b"]
+        kept = Filter("^1.2").kept(given)
+        self.assertEqual(kept, ["1.5.0", b"1.2.0", Version(1, 3, 0), "1.5.0", "1.5.0+b"])
+        self.assertIs(kept[2], given[2])
+        self.assertEqual(Filter("^1.2").kept([]), [])
+        self.assertEqual(Filter("^1.2").kept(iter(given)), kept)
+
+    def test_faults(self) -> None:
+        given = ["1.2.0", "1.2", "\ud800", "1.2.3/", "1.4.0"]
+        with self.assertRaises(VersionError) as caught:
+            Filter("^1.2").kept(given)
+        self.assertEqual((caught.exception.name, caught.exception.text), ("unexpected-end", "1.2"))
+        self.assertEqual(Filter("^1.2").kept(given, pass_over=True), ["1.2.0", "1.4.0"])
+        with self.assertRaises(RangeError):
+            Filter("v1")
+        with self.assertRaises(TypeError):
+            Filter("^1").kept(["1.2.3", None], pass_over=True)
+
+    def test_many(self) -> None:
+        given = [f"1.{minor}.0" for minor in range(100_000)]
+        self.assertEqual(Filter("^1.50000").kept(given), given[50_000:])
+        self.assertEqual(Filter("1.x").greatest(given), given[-1])
+
+    def test_filter_is_a_value(self) -> None:
+        self.assertEqual(Filter("^1"), Filter("^1", Compat.CARGO, PreReleases.STATED))
+        self.assertEqual(len({Filter("^1"), Filter("^1"), Filter("^1", Compat.NPM)}), 2)
+
+
+class Greatest(unittest.TestCase):
+    def test_precedence(self) -> None:
+        versions = list(map(parse_version, ORDERED))
+        self.assertEqual(sorted(reversed(versions), key=precedence), versions)
+        for lower, higher in zip(versions, versions[1:]):
+            self.assertLess(precedence(lower), precedence(higher))
+
+    def test_precedence_is_the_library_s(self) -> None:
+        """The order of the keys is that of the comparators, for identifiers of all kinds."""
+        ends = ["", "-0", "-1", "-10", "-2", "-01", "-a", "-A", "-a-b", "-a.0", "-a.a", "-a.0.0"]
+        ends += ["-18446744073709551615", "-18446744073709551616", "-99999999999999999999", "-a+b"]
+        versions = [f"1.2.3{end}" for end in ends]
+        for one in versions:
+            for other in versions:
+                if "-01" in other or "+" in other:
+                    continue  # a range has it as another identifier, or drops it
+                below = precedence(parse_version(one)) < precedence(parse_version(other))
+                wanted = meets(f"<{other}", one, pre_releases=PreReleases.INCLUDED)
+                self.assertIs(below, wanted, (one, other))
+
+    def test_builds_do_not_count(self) -> None:
+        one, other = parse_version("1.0.0-a+1"), parse_version("1.0.0-a+2")
+        self.assertEqual(precedence(one), precedence(other))
+
+    def test_greatest(self) -> None:
+        self.assertEqual(greatest("*", ORDERED[::-1]), "2.1.1")
+        self.assertEqual(greatest("^1", ORDERED), "1.0.0")
+        self.assertEqual(greatest("<1.0.0-rc.1", ORDERED), "1.0.0-beta.11")
+        self.assertIsNone(greatest("^3", ORDERED))
+        self.assertIsNone(greatest("^3", []))
+        self.assertEqual(greatest("1", ["1.9.0", "1.10.0", "1.2.0"], Compat.NPM), "1.10.0")
+
+    def test_first_among_equals(self) -> None:
+        given: List[object] = ["1.0.0", "1.2.0+a", b"1.2.0+b", Version(1, 2, 0)]
+        self.assertEqual(greatest("^1", given), "1.2.0+a")
+        given.reverse()
+        self.assertEqual(greatest("^1", given), Version(1, 2, 0))
+
+    def test_faults(self) -> None:
+        with self.assertRaises(VersionError):
+            greatest("*", ["1.2.3", "x"])
+        self.assertEqual(greatest("*", ["1.2.3", "x"], pass_over=True), "1.2.3")
+
+
+class Threads(unittest.TestCase):
+    def test_threads(self) -> None:
+        """Calls from several threads answer each its own."""
+        wrong: List[object] = []
+
+        def ask(number: int) -> None:
+            mine = [f"{number}.{minor}.0-rc.{minor}" for minor in range(50)]
+            for _ in range(40):
+                chosen = Filter(f"^{number}.10.0-rc", Compat.NPM, PreReleases.INCLUDED)
+                if chosen.kept(mine) != mine[10:] or chosen.greatest(mine) != mine[-1]:
+                    wrong.append(number)
+                if [str(parse_version(text)) for text in mine] != mine:
+                    wrong.append(number)
+
+        threads = [threading.Thread(target=ask, args=(number,)) for number in range(1, 9)]
+        for thread in threads:
+            thread.start()
+        for thread in threads:
+            thread.join()
+        self.assertEqual(wrong, [])

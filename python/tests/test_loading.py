@@ -1,0 +1,113 @@
+"""Where the shared library is looked for, and what is said where it isn't or doesn't fit.
+
+Each test imports a copy of the package in a process of its own. The library that is tested is the
+one of SEMVER_PARSER_LIBRARY.
+"""
+
+import os
+import shutil
+import subprocess
+import sys
+import tempfile
+import unittest
+from pathlib import Path
+
+PACKAGE = Path(__file__).resolve().parents[1] / "semver_parser"
+VARIABLE = "SEMVER_PARSER_LIBRARY"
+NAME = "libsemver_parser.so.0"
+
+
+@unittest.skipUnless(os.environ.get(VARIABLE), f"{VARIABLE} names no library")
+class Loading(unittest.TestCase):
+    def setUp(self) -> None:
+        folder = tempfile.TemporaryDirectory()
+        self.addCleanup(folder.cleanup)
+        self.folder = Path(folder.name)
+        self.package = self.folder / "semver_parser"
+        self.library = os.environ[VARIABLE]
+        shutil.copytree(PACKAGE, self.package, ignore=shutil.ignore_patterns("*.so*", "__pycache__"))
+
+    def run_python(self, code: str, **variables: str) -> "subprocess.CompletedProcess[str]":
+        kept = {name: value for name, value in os.environ.items() if name != VARIABLE}
+        return subprocess.run(
+            [sys.executable, "-c", code],
+            cwd=self.folder,
+            env={**kept, "LD_LIBRARY_PATH": "", "PYTHONPATH": "", **variables},
+            capture_output=True,
+            text=True,
+        )
+
+    def imports(self, **variables: str) -> None:
+        code = "import semver_parser; print(semver_parser.meets('^1', '1.2.3'))"
+        ended = self.run_python(code, **variables)
+        self.assertEqual((ended.stdout, ended.stderr, ended.returncode), ("True\n", "", 0))
+
+    def refused(self, **variables: str) -> str:
+        code = "try: import semver_parser\nexcept ImportError as error: print(error)"
+        ended = self.run_python(code, **variables)
+        self.assertEqual((ended.stderr, ended.returncode), ("", 0))
+        return ended.stdout
+
+    def make_library(self, name: str, source: str) -> str:
+        compiler = os.environ.get("CC", "cc").split()
+        path = str(self.folder / name)
+        subprocess.run(
+            [*compiler, "-shared", "-fPIC", "-o", path, "-x", "c", "-"],
+            input=source,
+            text=True,
+            check=True,
+        )
+        return path
+
+    def test_variable(self) -> None:
+        self.imports(SEMVER_PARSER_LIBRARY=self.library)
+        shutil.copy(self.library, self.folder / "another name")
+        self.imports(SEMVER_PARSER_LIBRARY="another name")
+
+    def test_beside_the_package(self) -> None:
+        (self.package / NAME).symlink_to(self.library)
+        self.imports()
+        self.imports(SEMVER_PARSER_LIBRARY="")
+
+    def test_where_the_system_looks(self) -> None:
+        (self.folder / "libraries").mkdir()
+        shutil.copy(self.library, self.folder / "libraries" / NAME)
+        self.imports(LD_LIBRARY_PATH=str(self.folder / "libraries"))
+
+    def test_what_cannot_be_loaded_is_passed_over(self) -> None:
+        (self.package / NAME).write_text("no library")
+        (self.folder / "libraries").mkdir()
+        shutil.copy(self.library, self.folder / "libraries" / NAME)
+        self.imports(LD_LIBRARY_PATH=str(self.folder / "libraries"))
+
+    def test_nowhere(self) -> None:
+        said = self.refused()
+        if not said:
+            self.skipTest("the system has a library of that name")
+        self.assertIn("found none that can be loaded", said)
+        self.assertIn(f"{self.package / NAME}, beside the package", said)
+        self.assertIn(f"{NAME}, where the system looks for libraries", said)
+        self.assertIn(VARIABLE, said)
+
+    def test_variable_alone_decides(self) -> None:
+        (self.package / NAME).symlink_to(self.library)
+        said = self.refused(SEMVER_PARSER_LIBRARY="/nowhere/lib.so")
+        self.assertIn(f"/nowhere/lib.so, which {VARIABLE} names", said)
+        self.assertNotIn("beside", said)
+
+    def test_another_version(self) -> None:
+        tells = 'const char *semver_parser_library_version(void) { return "%s"; }'
+        for version in ("0.2.0", "1.1.0", "0.10.0", ""):
+            path = self.make_library(f"lib{version}.so", tells % version)
+            said = self.refused(SEMVER_PARSER_LIBRARY=path)
+            self.assertEqual(
+                said, f"{path} has version {version}, and semver_parser needs version 0.1 of it\n"
+            )
+        path = self.make_library("lacking.so", tells % "0.1.7")
+        said = self.refused(SEMVER_PARSER_LIBRARY=path)
+        self.assertEqual(said, f"{path} lacks the call semver_parser_parse_version\n")
+
+    def test_another_library(self) -> None:
+        path = self.make_library("other.so", "int other;")
+        said = self.refused(SEMVER_PARSER_LIBRARY=path)
+        self.assertTrue(said.startswith(f"{path} doesn't tell its version"), said)

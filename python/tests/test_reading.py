@@ -1,0 +1,174 @@
+"""Versions and ranges as they are read, as plain data, and the faults of texts."""
+
+import copy
+import dataclasses
+import pickle
+import unittest
+
+from semver_parser import (
+    Comparator,
+    Compat,
+    Op,
+    Range,
+    RangeError,
+    RangeSet,
+    Text,
+    Version,
+    VersionError,
+    parse_range,
+    parse_version,
+)
+
+MOST = 2**64 - 1
+
+
+class Versions(unittest.TestCase):
+    def test_fields(self) -> None:
+        self.assertEqual(parse_version("1.2.3"), Version(1, 2, 3, (), ()))
+        self.assertEqual(
+            parse_version("1.2.3-rc.1.07+b5.5"), Version(1, 2, 3, ("rc", 1, "07"), ("b5", 5))
+        )
+        self.assertEqual(parse_version(f"{MOST}.{MOST}.{MOST}"), Version(MOST, MOST, MOST))
+
+    def test_kinds_of_identifiers(self) -> None:
+        read = parse_version(f"0.0.0-0.00.{MOST}.{MOST + 1}.1a.1-2")
+        self.assertEqual(read.pre, (0, "00", MOST, str(MOST + 1), "1a", "1-2"))
+
+    def test_white_space_and_bytes(self) -> None:
+        wanted = Version(1, 2, 3, ("a",), ("b",))
+        for text in (" \t\r\n1.2.3-a+b \n", b"1.2.3-a+b", b"  1.2.3-a+b"):
+            self.assertEqual(parse_version(text), wanted)
+
+    def test_printed(self) -> None:
+        for text in ("1.2.3", "1.2.3-rc.1.07+b5.5", "0.0.0-0", "1.2.3+a-b.0"):
+            self.assertEqual(str(parse_version(f" {text} ")), text)
+
+    def test_plain_data(self) -> None:
+        version = parse_version("1.2.3-rc+b")
+        self.assertEqual(hash(version), hash(Version(1, 2, 3, ("rc",), ("b",))))
+        self.assertNotEqual(version, parse_version("1.2.3-rc+c"))
+        with self.assertRaises(dataclasses.FrozenInstanceError):
+            version.major = 2
+        self.assertEqual(pickle.loads(pickle.dumps(version)), version)
+        self.assertEqual(copy.deepcopy(version), version)
+
+    def test_sizes(self) -> None:
+        many = ".".join(["a", "1"] * 50_000)
+        read = parse_version(f"1.2.3-{many}+{many}")
+        self.assertEqual(read.pre, ("a", 1) * 50_000)
+        self.assertEqual(read.build, read.pre)
+        self.assertEqual(parse_version("1.2.3-" + "9" * 100_000).pre, ("9" * 100_000,))
+
+
+class Ranges(unittest.TestCase):
+    def test_fields(self) -> None:
+        npm = Compat.NPM
+        wanted = RangeSet(
+            (
+                Range((Comparator(Op.GTE, 1, 2, 0), Comparator(Op.LT, 2, 0, 0, (0,))), npm),
+                Range((Comparator(Op.EQ, 1, 2, 3, ("b", 7)),), npm),
+            ),
+            npm,
+        )
+        self.assertEqual(parse_range("^1.2 || 1.2.3-b.007+c", npm, exact=True), wanted)
+        self.assertEqual(str(wanted), ">=1.2.0 <2.0.0-0 || =1.2.3-b.7")
+
+    def test_modes(self) -> None:
+        self.assertEqual(str(parse_range("1.2.3")), ">=1.2.3 <2.0.0")
+        self.assertEqual(str(parse_range("1.2.3", Compat.CARGO)), ">=1.2.3 <2.0.0")
+        self.assertEqual(str(parse_range("1.2.3", Compat.NPM)), "=1.2.3")
+        self.assertIs(parse_range("1.2.3").compat, Compat.CARGO)
+
+    def test_exact_bounds(self) -> None:
+        self.assertEqual(str(parse_range("<=1.2", exact=True)), "<1.3.0-0")
+        self.assertEqual(str(parse_range("<=1.2")), "<1.3.0")
+        self.assertEqual(str(parse_range("<2", exact=True)), "<2.0.0")
+
+    def test_operators(self) -> None:
+        comparators = parse_range("<1.0.0 <=1.0.0 >1.0.0 >=1.0.0 =1.0.0").ranges[0].comparator_set
+        self.assertEqual([it.op for it in comparators], [Op.LT, Op.LTE, Op.GT, Op.GTE, Op.EQ])
+        self.assertEqual([str(it.op) for it in comparators], ["<", "<=", ">", ">=", "="])
+
+    def test_plain_data(self) -> None:
+        answered = parse_range("^1.2.3-rc")
+        self.assertEqual(hash(answered), hash(parse_range(b"^1.2.3-rc ")))
+        for value in (answered, answered.ranges[0], answered.ranges[0].comparator_set[0]):
+            self.assertEqual(pickle.loads(pickle.dumps(value)), value)
+            with self.assertRaises(dataclasses.FrozenInstanceError):
+                value.compat = Compat.NPM
+
+    def test_rooms(self) -> None:
+        """The rooms that are tried first are too small from some count and length on."""
+        for count in (*range(1, 40), 1000):
+            text = "||".join(["^1.2.3-rc.1"] * count)
+            one = Range((Comparator(Op.GTE, 1, 2, 3, ("rc", 1)), Comparator(Op.LT, 2, 0, 0)), NPM)
+            self.assertEqual(parse_range(text, NPM), RangeSet((one,) * count, NPM))
+        for length in range(200, 300):
+            answered = parse_range("=1.2.3-" + "a" * length)
+            self.assertEqual(answered.ranges[0].comparator_set[0].pre, ("a" * length,))
+
+    def test_sizes(self) -> None:
+        self.assertEqual(len(parse_range("||" * 99_999).ranges), 100_000)
+        self.assertEqual(len(parse_range("* " * 100_000).ranges[0].comparator_set), 100_000)
+        many = parse_range("=1.2.3-" + ".".join(["a", "01"] * 50_000))
+        self.assertEqual(many.ranges[0].comparator_set[0].pre, ("a", 1) * 50_000)
+
+
+NPM = Compat.NPM
+
+
+class Faults(unittest.TestCase):
+    def refuses_version(self, text: Text, name: str) -> None:
+        with self.assertRaises(VersionError) as caught:
+            parse_version(text)
+        self.assertEqual((caught.exception.name, caught.exception.text), (name, text))
+
+    def refuses_range(self, text: Text, name: str) -> None:
+        with self.assertRaises(RangeError) as caught:
+            parse_range(text)
+        self.assertEqual((caught.exception.name, caught.exception.text), (name, text))
+
+    def test_versions(self) -> None:
+        for text in ("", "1.2", "1.2.3-", " "):
+            self.refuses_version(text, "unexpected-end")
+        for text in ("1.2.3--1", "01.0.0", "a /", "v1.2.3"):
+            self.refuses_version(text, "unexpected-token")
+        for text in ("/", "a/", "1.2.3\0", "1.2.3é"):
+            self.refuses_version(text, "unexpected-char")
+        for text in ("1.2.3 a.b", "1.2.3 4"):
+            self.refuses_version(text, "more-input")
+
+    def test_ranges(self) -> None:
+        for text in ("1.2.3 -4", ">=1.0.0, <2.0.0", "v1.2.3", "|", "1\n", "*\0"):
+            self.refuses_range(text, "not-a-range")
+        for text in (f"{MOST + 1}", f"<={MOST}"):
+            self.refuses_range(text, "number-too-large")
+
+    def test_not_utf8(self) -> None:
+        for text in (b"1.2.3\xff", b"\x80", "1.2.3\ud800", "\udcff", "\ud83d\ude00"):
+            self.refuses_version(text, "not-utf8")
+            self.refuses_range(text, "not-utf8")
+
+    def test_messages(self) -> None:
+        with self.assertRaisesRegex(ValueError, r"^the version ends too early: '1\.2'$"):
+            parse_version("1.2")
+        with self.assertRaisesRegex(ValueError, r"^not a range: b'v1'$"):
+            parse_range(b"v1")
+        with self.assertRaisesRegex(ValueError, r"^not a range: 'v{79}\.\. \(of length 100000\)$"):
+            parse_range("v" * 100_000)
+
+    def test_errors_are_values(self) -> None:
+        for error in (VersionError("unexpected-end", "1.2"), RangeError("not-utf8", b"\xff")):
+            again = pickle.loads(pickle.dumps(error))
+            self.assertEqual((again.name, again.text), (error.name, error.text))
+            self.assertEqual(str(again), str(error))
+
+    def test_other_types(self) -> None:
+        for value in (None, 1, bytearray(b"1.2.3"), Version(1, 2, 3)):
+            with self.assertRaises(TypeError):
+                parse_version(value)
+            with self.assertRaises(TypeError):
+                parse_range(value)
+        for mode in ("npm", True, None):
+            with self.assertRaises(TypeError):
+                parse_range("1", mode)
