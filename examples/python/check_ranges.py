@@ -1,59 +1,37 @@
-"""Checks lines of a range, a tab and a version, from standard input: prints each whose version doesn't meet its range.
+"""Checks lines of a range, a tab and a version, from standard input, by `semver_parser`.
 
-    make
-    printf '^1.2.0\\t1.4.0\\n^1.2.0\\t2.0.0\\n' | python3 check_ranges.py out/libsemver_parser.so [npm|cargo]
+    printf '^1.2.0\\t1.4.0\\n^1.2.0\\t2.0.0\\n' | python3 check_ranges.py [npm|cargo]
 
-It does as examples/c/check-ranges.c, through ctypes.
+It prints each line whose version doesn't meet its range, and tells on standard error of each line
+that can't be checked. What stands behind another tab is left alone, and is printed with its line.
+The mode is npm's if none is named. A pre-release meets a range by precedence: 1.3.0-rc meets
+`^1.2.0`, and 2.0.0-rc doesn't. The status is the greatest of all lines: 0 for one that holds, 1 for
+one that doesn't, and 2 for one that can't be checked.
 """
 
-import ctypes
 import sys
 
-OK = 0
-ALL_PRE_RELEASES = 2
+from semver_parser import Compat, PreReleases, RangeError, VersionError, meets
 
 
-def load(path):
-    """The library, with what its calls take."""
-    library = ctypes.CDLL(path)
-    text, size, flag, number = ctypes.c_char_p, ctypes.c_size_t, ctypes.c_bool, ctypes.c_int32
-    library.semver_parser_meets.argtypes = [text, size, flag, number, text, size, ctypes.POINTER(flag)]
-    library.semver_parser_meets.restype = number
-    library.semver_parser_fault_text.argtypes = [number]
-    library.semver_parser_fault_text.restype = ctypes.c_char_p
-    return library
-
-
-def check(library, line, number, npm):
-    """0: the line holds; 1: it doesn't, and is printed; 2: it can't be checked, and is told."""
-    fields = line.split(b"\t")
-    if len(fields) < 2:
+def check(line: bytes, number: int, mode: Compat) -> int:
+    """The status of a line."""
+    wanted, tab, behind = line.partition(b"\t")
+    if not tab:
         print(f"line {number}: no tab", file=sys.stderr)
         return 2
-    wanted, version = fields[:2]
-    meets = ctypes.c_bool()
-    answer = library.semver_parser_meets(wanted, len(wanted), npm, ALL_PRE_RELEASES, version, len(version), meets)
-    if answer != OK:
-        print(f"line {number}: {library.semver_parser_fault_text(answer).decode()}", file=sys.stderr)
+    try:
+        if meets(wanted, behind.split(b"\t")[0], mode, PreReleases.INCLUDED):
+            return 0
+    except (RangeError, VersionError) as error:
+        print(f"line {number}: {error.sentence}", file=sys.stderr)
         return 2
-    if meets.value:
-        return 0
     sys.stdout.buffer.write(line + b"\n")
     return 1
 
 
-def main(arguments):
-    """The status: the greatest of all lines."""
-    if len(arguments) not in (2, 3) or arguments[2:] not in ([], ["npm"], ["cargo"]):
-        print("check_ranges.py LIBRARY [npm|cargo] < lines", file=sys.stderr)
-        return 2
-    library = load(arguments[1])
-    npm = arguments[2:] != ["cargo"]
-    status = 0
-    for number, line in enumerate(sys.stdin.buffer, 1):
-        status = max(status, check(library, line.rstrip(b"\n"), number, npm))
-    return status
-
-
-if __name__ == "__main__":
-    sys.exit(main(sys.argv))
+if sys.argv[1:] not in ([], ["npm"], ["cargo"]):
+    sys.exit("usage: check_ranges.py [npm|cargo] < lines")
+mode = Compat(sys.argv[1]) if sys.argv[1:] else Compat.NPM
+lines = enumerate(sys.stdin.buffer, 1)
+sys.exit(max((check(line.rstrip(b"\n"), number, mode) for number, line in lines), default=0))
