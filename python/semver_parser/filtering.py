@@ -91,6 +91,8 @@ class Filter:
         A text that is no version raises `VersionError`, or counts as one that doesn't meet the
         range where such are to be passed over.
         """
+        if isinstance(versions, (str, bytes)):
+            raise TypeError("versions are an iterable of versions, and not one text")
         given = list(versions)
         texts = [_text(it) for it in given]
         kept = []

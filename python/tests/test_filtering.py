@@ -108,6 +108,9 @@ class Kept(unittest.TestCase):
             Filter("v1")
         with self.assertRaises(TypeError):
             Filter("^1").kept(["1.2.3", None], pass_over=True)
+        for one in ("1.2.3", b"1.2.3"):
+            with self.assertRaises(TypeError):
+                Filter("^1").greatest(one)
 
     def test_many(self) -> None:
         given = [f"1.{minor}.0" for minor in range(100_000)]

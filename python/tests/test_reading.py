@@ -18,6 +18,7 @@ from semver_parser import (
     parse_range,
     parse_version,
 )
+from semver_parser.faults import raise_fault
 
 MOST = 2**64 - 1
 
@@ -162,6 +163,12 @@ class Faults(unittest.TestCase):
             again = pickle.loads(pickle.dumps(error))
             self.assertEqual((again.name, again.text), (error.name, error.text))
             self.assertEqual(str(again), str(error))
+
+    def test_want_of_memory(self) -> None:
+        """The answers for it, of which the header has one for each kind of text."""
+        for answer in (9, 13):
+            with self.assertRaises(MemoryError):
+                raise_fault(answer, "1.2.3", "1.2.3")
 
     def test_other_types(self) -> None:
         for value in (None, 1, bytearray(b"1.2.3"), Version(1, 2, 3)):
