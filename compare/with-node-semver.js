@@ -1,19 +1,23 @@
 // Compares what range texts mean here with what they mean by node-semver: `node with-node-semver.js PROGRAM COUNT SEED`, where
-// PROGRAM is the built `replayed_cases`. It makes COUNT pairs of a range text and a version, in npm mode, pre-releases included on both
-// sides. Where node-semver is known to mean something else, its answer is undone: each simple is turned into one that node-semver reads
-// as it is meant here. It counts how often each departure changed an answer, and prints the first other difference. It also lets node-semver
-// read the printed set with exact bounds of each text, which has to give the same comparators.
+// PROGRAM is the built `replayed_cases`. It makes COUNT pairs of a range text and a version, in npm mode, and compares them by two rules:
+// pre-releases included on both sides, and as stated, which is node-semver's rule where nothing else is asked for. Where node-semver is
+// known to mean something else, its answer is undone: each simple is turned into one that node-semver reads as it is meant here; which
+// pre-releases count beside these is left to node-semver. It counts how often each departure changed an answer, and prints the first other
+// difference. It also lets node-semver read the printed set with exact bounds of each text, which has to give the same comparators.
 'use strict'
 
 const semver = require('semver')
 const { spawnSync } = require('child_process')
 
 const INCLUDED = { includePrerelease: true }
+const RULES = [{ call: 'mean-npm', options: INCLUDED }, { call: 'stated-npm', options: {} }]
 const VERSIONS = 8
 
 const LOWER = 'a lower bound with less than three numbers, or of a caret of 0 or a hyphen range, takes its own pre-releases in'
 const GREATER = '`>` with one or two numbers begins with the next ones'
 const LESS = '`<` with one or two numbers leaves out the pre-releases of its bound'
+const DROPPED = '`>=0.0.0` is dropped, so pre-releases of 0.0.0 are let in'
+const REDUCED = 'beside a range that states nothing, all other ranges are dropped, and with them what they state'
 const NOTHING = 'nothing stated takes the pre-releases of 0.0.0 in, or for `<` and `>` leaves them out'
 
 // A small generator of numbers; its whole state is its seed.
@@ -90,28 +94,40 @@ function version (random, ranges) {
   return numbers.join('.') + pre
 }
 
-// What a part means here, by node-semver, and the departure that was undone.
-function meant (part, tested) {
-  const { sign, of } = part
+// The comparators of node-semver that mean what a part means here, and the departure that was undone.
+function meant ({ sign, of, text }, options) {
+  const one = (comparator) => [new semver.Comparator(comparator, options)]
   if (of.stated.length === 0) {
-    return [new semver.Comparator(sign === '<' || sign === '>' ? '<0.0.0' : '>=0.0.0', INCLUDED).test(tested), NOTHING]
+    return [one(sign === '<' || sign === '>' ? '<0.0.0' : '>=0.0.0'), NOTHING]
   }
   if (of.stated.length < 3 && (sign === '<' || sign === '>')) {
-    return [new semver.Comparator(sign + filled(of), INCLUDED).test(tested), sign === '<' ? LESS : GREATER]
+    return [one(sign + filled(of)), sign === '<' ? LESS : GREATER]
   }
   const isOwnLower = ({ operator, semver: { prerelease } }) => operator === '>=' && prerelease.join('.') === '0'
-  const comparators = new semver.Range(part.text, INCLUDED).set[0].filter((comparator) => !isOwnLower(comparator))
-  if (sign !== '<' && sign !== '<=') comparators.push(new semver.Comparator('>=' + filled(of), INCLUDED))
-  return [comparators.every((comparator) => comparator.test(tested)), LOWER]
+  const upper = new semver.Range(text, options).set[0].filter((comparator) => !isOwnLower(comparator))
+  const lower = sign !== '<' && sign !== '<=' ? one('>=' + filled(of)) : []
+  return [upper.concat(lower), options.includePrerelease ? LOWER : filled(of) === '0.0.0' ? DROPPED : undefined]
 }
 
-// Whether each part of some range is met, and which departures were undone where node-semver's own answer is another.
-function expected (text, ranges, tested) {
-  const answers = ranges.map((range) => range.parts.map((part) => meant(part, tested)))
-  const answer = answers.some((parts) => parts.every(([met]) => met))
-  const own = new semver.Range(text, INCLUDED).test(tested)
-  const departures = own === answer ? [] : answers.flat().map(([, departure]) => departure)
-  return { answer, departures: new Set(departures) }
+// Whether the comparators of some range are met, by the rule of the options, as node-semver has it.
+function isMet (sets, tested, options) {
+  const range = new semver.Range('*', options)
+  return sets.some((set) => {
+    range.set = [set]
+    return range.test(tested)
+  })
+}
+
+// Whether a version meets some range by what its parts mean, and the departures by which node-semver's own answer may be another.
+function expected (text, ranges, tested, options) {
+  const parts = ranges.map((range) => range.parts.map((part) => meant(part, options)))
+  const answer = isMet(parts.map((range) => range.flatMap(([comparators]) => comparators)), tested, options)
+  if (new semver.Range(text, options).test(tested) === answer) return { answer, departures: [], isKnown: true }
+  const departures = new Set(parts.flat().map(([, departure]) => departure).filter((departure) => departure))
+  if (!options.includePrerelease && ranges.length > 1 && parts.some((range) => range.every(([, departure]) => departure === NOTHING))) {
+    departures.add(REDUCED)
+  }
+  return { answer, departures, isKnown: departures.size > 0 }
 }
 
 // What the program answers to each line.
@@ -141,23 +157,28 @@ function main ([program, count, seed]) {
     const text = ranges.map((r) => r.text).join(random.of(['||', ' || ']))
     return { ranges, text, versions: Array.from({ length: VERSIONS }, () => version(random, ranges)) }
   })
-  const kept = answers(program, cases.map(({ text, versions }) => `mean-npm\t${text}\t${versions.join(' ')}`)).map((line) => new Set(line.split(' ')))
   const printed = answers(program, cases.map(({ text }) => `npm-exact\t${text}`))
   const unread = printed.find((set) => !readsBack(set))
   if (unread !== undefined) differ(`node-semver reads ${unread} as another set`)
+  for (const rule of RULES) compare(program, cases, rule, seed)
+}
+
+// Compares the cases by a rule.
+function compare (program, cases, { call, options }, seed) {
+  const kept = answers(program, cases.map(({ text, versions }) => `${call}\t${text}\t${versions.join(' ')}`)).map((line) => new Set(line.split(' ')))
   const occurred = new Map()
   let met = 0
   cases.forEach(({ ranges, text, versions }, at) => {
     for (const tested of versions) {
-      const { answer, departures } = expected(text, ranges, new semver.SemVer(tested))
-      if (answer !== kept[at].has(tested)) {
-        differ(`${JSON.stringify(text)} and ${tested}: wanted here ${answer}, answered here ${!answer}`)
-      }
+      const { answer, departures, isKnown } = expected(text, ranges, new semver.SemVer(tested), options)
+      const of = `${call}: ${JSON.stringify(text)} and ${tested}`
+      if (answer !== kept[at].has(tested)) differ(`${of}: wanted here ${answer}, answered here ${!answer}`)
+      if (!isKnown) differ(`${of}: answered here ${answer}, and by node-semver ${!answer} for no known reason`)
       met += answer ? 1 : 0
       for (const departure of departures) occurred.set(departure, (occurred.get(departure) || 0) + 1)
     }
   })
-  console.log(`${cases.length * VERSIONS} pairs compared, seed ${seed}, ${met} met: no difference but the known ones`)
+  console.log(`${call}: ${cases.length * VERSIONS} pairs compared, seed ${seed}, ${met} met: no difference but the known ones`)
   for (const [departure, times] of occurred) console.log(`  ${times} times beside: ${departure}`)
 }
 

@@ -20,8 +20,14 @@ const LINES: usize = 1_000_000;
 const MAKES: [(&str, Make); 2] =
     [("plain versions", Make::Plain), ("versions, plain and with identifiers", Make::Mixed)];
 
-/// The ranges: in Cargo mode here, and as requirements of the crate `semver`, in its grammar.
-const RANGES: [(&str, &str); 2] = [("^1.2", "^1.2"), (">=1.0.0 <3.0.0", ">=1.0.0, <3.0.0")];
+/// The arguments: options, and a range in Cargo mode here and as a requirement of the crate
+/// `semver`, in its grammar.
+const ARGUMENTS: [(&[&str], &str, &str); 4] = [
+    (&[], "^1.2", "^1.2"),
+    (&[], ">=1.0.0 <3.0.0", ">=1.0.0, <3.0.0"),
+    (&["--pre-stated"], "^1.2.3-a", "^1.2.3-a"),
+    (&["--greatest"], "^1.2", "^1.2"),
+];
 
 /// Both programs with an argument that means the same to each.
 struct Sides<'a> {
@@ -29,9 +35,10 @@ struct Sides<'a> {
     semver: Filter<'a>,
 }
 
-/// A program with its argument.
+/// A program with its arguments.
 struct Filter<'a> {
     program: &'a Path,
+    options: &'a [&'a str],
     range: &'a str,
 }
 
@@ -40,9 +47,9 @@ pub fn print_table(seed: u64) -> Result<(), String> {
     let folder = folder()?;
     let (lines, semver) = (folder.join("lines.txt"), folder.join("filter-by-semver"));
     let (here, count) = (Path::new(RELEASE_FILTER), grouped(LINES as u64));
-    let sides = RANGES.map(|range| Sides {
-        here: Filter { program: here, range: range.0 },
-        semver: Filter { program: &semver, range: range.1 },
+    let sides = ARGUMENTS.map(|(options, range, requirement)| Sides {
+        here: Filter { program: here, options, range },
+        semver: Filter { program: &semver, options, range: requirement },
     });
     println!("| ms a run | `release-filter` | over `semver` | ratio | kept of {count} lines |");
     println!("|---|---|---|---|---|");
@@ -82,9 +89,10 @@ fn print_row(title: &str, sides: &Sides, lines: &Path, is_kept: bool) -> Result<
     let best: Vec<f64> =
         best(&[lines], &sides).iter().map(|nanoseconds| nanoseconds / 1e6).collect();
     let kept = grouped(kept.iter().filter(|byte| **byte == b'\n').count() as u64);
-    let (range, here, semver) = (here.range, best[0], best[1]);
+    let arguments = [here.options, &[here.range]].concat().join(" ");
+    let (here, semver) = (best[0], best[1]);
     let ratio = here / semver;
-    println!("| {title}, `{range}` | {here:.1} | {semver:.1} | {ratio:.2} | {kept} |");
+    println!("| {title}, `{arguments}` | {here:.1} | {semver:.1} | {ratio:.2} | {kept} |");
     Ok(())
 }
 
@@ -108,7 +116,7 @@ impl Filter<'_> {
 
     fn command(&self, lines: &Path) -> Command {
         let mut command = Command::new(self.program);
-        command.arg(self.range).stdin(File::open(lines).map_or(Stdio::null(), Stdio::from));
+        command.args(self.options).arg(self.range).stdin(File::open(lines).map_or(Stdio::null(), Stdio::from));
         command
     }
 }

@@ -1,16 +1,27 @@
 //! What `release-filter` is timed beside: the same filter over the crate `semver`.
 //!
-//! `filter-by-semver REQUIREMENT` copies those lines of standard input to standard output, as they
-//! stand, that spell a release which the requirement takes. Its status is 0 where a line was
-//! copied, 1 where none was, and 2 after a fault.
+//! `filter-by-semver [--pre-stated] [--greatest] REQUIREMENT` copies those lines of standard input
+//! to standard output, as they stand, that spell a release which the requirement takes; with
+//! `--pre-stated` pre-releases too, by the rule of the crate; with `--greatest` the one of the
+//! greatest version alone. Its status is 0 where a line was written, 1 where none was, and 2 after
+//! a fault.
 
 use semver::{Version, VersionReq};
+use std::cmp::Ordering;
 use std::error::Error;
 use std::io::{self, BufRead, BufWriter, Write};
 use std::process::ExitCode;
 
+/// What the arguments ask for.
+struct Wanted {
+    requirement: VersionReq,
+    has_pre_releases: bool,
+    is_greatest: bool,
+}
+
 fn main() -> ExitCode {
-    match copy() {
+    match wanted().and_then(|wanted| if wanted.is_greatest { find(&wanted) } else { copy(&wanted) })
+    {
         Ok(true) => ExitCode::SUCCESS,
         Ok(false) => ExitCode::from(1),
         Err(fault) => {
@@ -20,16 +31,25 @@ fn main() -> ExitCode {
     }
 }
 
+fn wanted() -> Result<Wanted, Box<dyn Error>> {
+    let arguments: Vec<String> = std::env::args().skip(1).collect();
+    let has = |option: &str| arguments.iter().any(|argument| argument == option);
+    let requirement = arguments.last().ok_or("usage: filter-by-semver [OPTIONS] REQUIREMENT")?;
+    Ok(Wanted {
+        requirement: VersionReq::parse(requirement)?,
+        has_pre_releases: has("--pre-stated"),
+        is_greatest: has("--greatest"),
+    })
+}
+
 /// Copies the lines, and tells whether there was one. Standard input is buffered as it is.
-fn copy() -> Result<bool, Box<dyn Error>> {
-    let requirement =
-        VersionReq::parse(&std::env::args().nth(1).ok_or("usage: filter-by-semver REQUIREMENT")?)?;
+fn copy(wanted: &Wanted) -> Result<bool, Box<dyn Error>> {
     let mut input = io::stdin().lock();
     let mut output = BufWriter::new(io::stdout().lock());
     let mut line = Vec::new();
     let mut has_copied = false;
     while input.read_until(b'\n', &mut line)? > 0 {
-        if is_kept(&requirement, &line) {
+        if kept(wanted, &line).is_some() {
             output.write_all(&line)?;
             has_copied = true;
         }
@@ -39,10 +59,34 @@ fn copy() -> Result<bool, Box<dyn Error>> {
     Ok(has_copied)
 }
 
-/// Whether a line spells a release that the requirement takes.
-fn is_kept(requirement: &VersionReq, line: &[u8]) -> bool {
+/// Writes the line of the greatest version, the first among equals, and tells whether there was
+/// one.
+fn find(wanted: &Wanted) -> Result<bool, Box<dyn Error>> {
+    let mut input = io::stdin().lock();
+    let mut line = Vec::new();
+    let mut greatest: Option<(Version, Vec<u8>)> = None;
+    while input.read_until(b'\n', &mut line)? > 0 {
+        if let Some(version) = kept(wanted, &line) {
+            let is_above = greatest.as_ref().map_or(true, |(other, _)| {
+                version.cmp_precedence(other) == Ordering::Greater
+            });
+            if is_above {
+                greatest = Some((version, line.clone()));
+            }
+        }
+        line.clear();
+    }
+    match greatest {
+        Some((_, line)) => io::stdout().write_all(&line).map(|()| true).map_err(Into::into),
+        None => Ok(false),
+    }
+}
+
+/// The version that a line spells, if the requirement takes it.
+fn kept(wanted: &Wanted, line: &[u8]) -> Option<Version> {
     let line = line.strip_suffix(b"\n").unwrap_or(line);
     let line = line.strip_suffix(b"\r").unwrap_or(line);
-    let version = std::str::from_utf8(line).ok().and_then(|text| Version::parse(text).ok());
-    version.is_some_and(|version| version.pre.is_empty() && requirement.matches(&version))
+    let version = std::str::from_utf8(line).ok().and_then(|text| Version::parse(text).ok())?;
+    let counts = wanted.has_pre_releases || version.pre.is_empty();
+    (counts && wanted.requirement.matches(&version)).then_some(version)
 }
