@@ -6,8 +6,7 @@
 //! greatest version alone. Its status is 0 where a line was written, 1 where none was, and 2 after
 //! a fault.
 
-use semver::{Version, VersionReq};
-use std::cmp::Ordering;
+use semver::{Prerelease, Version, VersionReq};
 use std::error::Error;
 use std::io::{self, BufRead, BufWriter, Write};
 use std::process::ExitCode;
@@ -67,9 +66,9 @@ fn find(wanted: &Wanted) -> Result<bool, Box<dyn Error>> {
     let mut greatest: Option<(Version, Vec<u8>)> = None;
     while input.read_until(b'\n', &mut line)? > 0 {
         if let Some(version) = kept(wanted, &line) {
-            let is_above = greatest.as_ref().map_or(true, |(other, _)| {
-                version.cmp_precedence(other) == Ordering::Greater
-            });
+            let is_above = greatest
+                .as_ref()
+                .map_or(true, |(other, _)| precedence(&version) > precedence(other));
             if is_above {
                 greatest = Some((version, line.clone()));
             }
@@ -80,6 +79,11 @@ fn find(wanted: &Wanted) -> Result<bool, Box<dyn Error>> {
         Some((_, line)) => io::stdout().write_all(&line).map(|()| true).map_err(Into::into),
         None => Ok(false),
     }
+}
+
+/// What decides precedence: all but the build.
+fn precedence(version: &Version) -> (u64, u64, u64, &Prerelease) {
+    (version.major, version.minor, version.patch, &version.pre)
 }
 
 /// The version that a line spells, if the requirement takes it.
