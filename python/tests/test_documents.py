@@ -13,7 +13,7 @@ class Documents(unittest.TestCase):
     def test_examples(self) -> None:
         failed, tried = doctest.testmod(semver_parser)
         self.assertEqual((failed, tried > 0), (0, True))
-        for document in (TOP / "python" / "README.md",):
+        for document in (TOP / "README.md", TOP / "python" / "README.md"):
             failed, tried = doctest.testfile(str(document), module_relative=False)
             self.assertEqual((failed, tried > 0), (0, True), document)
 
