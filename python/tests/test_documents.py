@@ -22,3 +22,5 @@ class Documents(unittest.TestCase):
         self.assertEqual(semver_parser.__version__, version)
         fitting = ".".join(map(str, semver_parser.library.FITTING))
         self.assertEqual(fitting, version.rpartition(".")[0])
+        major = version.partition(".")[0]
+        self.assertEqual(semver_parser.library.NAME, f"libsemver_parser.so.{major}")
