@@ -31,7 +31,8 @@ def check(line: bytes, number: int, mode: Compat) -> int:
 
 
 if sys.argv[1:] not in ([], ["npm"], ["cargo"]):
-    sys.exit("usage: check_ranges.py [npm|cargo] < lines")
+    print("usage: check_ranges.py [npm|cargo] < lines", file=sys.stderr)
+    sys.exit(2)
 mode = Compat(sys.argv[1]) if sys.argv[1:] else Compat.NPM
 lines = enumerate(sys.stdin.buffer, 1)
 sys.exit(max((check(line.rstrip(b"\n"), number, mode) for number, line in lines), default=0))
