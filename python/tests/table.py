@@ -39,8 +39,17 @@ _RANGE_SENTENCES = {"not-a-range": "not a range", "number-too-large": "number to
 # The rules for pre-releases of the calls that tell which versions meet a range.
 _RULES = {
     "filter": PreReleases.EXCLUDED,
+    "releases": PreReleases.EXCLUDED,
+    "stated": PreReleases.STATED,
     "mean": PreReleases.INCLUDED,
     "meet": PreReleases.INCLUDED,
+}
+
+# Those of the calls that tell the greatest version, in npm's mode.
+_RULES_OF_GREATEST = {
+    "greatest-release": PreReleases.EXCLUDED,
+    "greatest-stated": PreReleases.STATED,
+    "greatest-of-all": PreReleases.INCLUDED,
 }
 
 
@@ -135,14 +144,26 @@ def _report(text: str) -> str:
     return f"version: {version}; cargo: {cargo}; npm: {npm}; status {status}"
 
 
-def _kept(text: str, npm: bool, pre_releases: PreReleases, steps: str) -> str:
-    listed: List[str] = [item for item in steps.split(" ") if item]
+def _of_filter(
+    text: str,
+    npm: bool,
+    pre_releases: PreReleases,
+    steps: str,
+    show: Callable[[Filter, List[Version]], str],
+) -> str:
     try:
         chosen = Filter(text, Compat.NPM if npm else Compat.CARGO, pre_releases)
     except RangeError as error:
         return _RANGE_SENTENCES[error.name]
-    versions = [parse_version(item) for item in listed]
+    return show(chosen, [parse_version(item) for item in steps.split(" ") if item])
+
+
+def _kept(chosen: Filter, versions: List[Version]) -> str:
     return "".join(f"{version} " for version in chosen.kept(versions)) + "end"
+
+
+def _greatest(chosen: Filter, versions: List[Version]) -> str:
+    return str(chosen.greatest(versions) or "none")
 
 
 def answer(call: str, text: str, steps: str) -> Optional[str]:
@@ -164,7 +185,9 @@ def answer(call: str, text: str, steps: str) -> Optional[str]:
     if call == "report":
         return _report(text)
     if name in _RULES and last in ("cargo", "npm"):
-        return _kept(text, npm, _RULES[name], steps)
+        return _of_filter(text, npm, _RULES[name], steps, _kept)
+    if call in _RULES_OF_GREATEST:
+        return _of_filter(text, True, _RULES_OF_GREATEST[call], steps, _greatest)
     return None
 
 

@@ -25,7 +25,8 @@ class Loading(unittest.TestCase):
         self.folder = Path(folder.name)
         self.package = self.folder / "semver_parser"
         self.library = os.environ[VARIABLE]
-        shutil.copytree(PACKAGE, self.package, ignore=shutil.ignore_patterns("*.so*", "__pycache__"))
+        passed_over = shutil.ignore_patterns("*.so*", "__pycache__")
+        shutil.copytree(PACKAGE, self.package, ignore=passed_over)
 
     def run_python(self, code: str, **variables: str) -> "subprocess.CompletedProcess[str]":
         kept = {name: value for name, value in os.environ.items() if name != VARIABLE}
