@@ -146,12 +146,7 @@ fn filter(alloc: Global) -> io::Result<Filter> {
 
 /// Whether the fault of the writer is told, and nothing is written or read after it; or all is
 /// written and read, and it is told that there was a line.
-fn ends_at_a_writer(
-    alloc: Global,
-    left: usize,
-    most: usize,
-    refusal: Refusal,
-) -> io::Result<bool> {
+fn ends_at_a_writer(alloc: Global, left: usize, most: usize, refusal: Refusal) -> io::Result<bool> {
     let mut out = Limited::new(alloc, left, most, refusal);
     let mut input = INPUT.as_bytes();
     let ran = filter(alloc)?.copy_lines(alloc, &mut input, &mut out);
@@ -165,8 +160,10 @@ fn ends_at_a_writer(
         7..=12 => "2.0.0\n1.4.0",
         _ => "",
     };
-    Ok(is_told
-        && input == unread.as_bytes()
-        && out.late_calls == 0
-        && Some(out.taken.as_slice()) == OUTPUT.as_bytes().get(..left))
+    Ok(
+        is_told
+            && input == unread.as_bytes()
+            && out.late_calls == 0
+            && Some(out.taken.as_slice()) == OUTPUT.as_bytes().get(..left),
+    )
 }

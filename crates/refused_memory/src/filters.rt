@@ -47,7 +47,12 @@ pub fn new_filter(alloc: Global) -> Ending {
 /// `>=0.2.0-a <3.0.0` keeps one of two versions, and it is the greatest. Making the filter and the
 /// list is part of the call.
 pub fn kept_versions(alloc: Global) -> Ending {
-    let filter = match Filter::new(alloc, ">=0.2.0-a <3.0.0", Compat::Cargo, PreReleases::Stated) {
+    let filter = match Filter::new(
+        alloc,
+        ">=0.2.0-a <3.0.0",
+        Compat::Cargo,
+        PreReleases::Stated,
+    ) {
         Ok(filter) => filter,
         Err(RangeError::OutOfMemory) => return Ending::Refused,
         Err(_) => return Ending::Wrong,
@@ -117,7 +122,12 @@ pub fn greatest_line(alloc: Global) -> Ending {
 
 /// The filter of the lines.
 fn line_filter(alloc: Global) -> Result<Filter, Ending> {
-    match Filter::new(alloc, ">=1.2.0-rc <1.10.0", Compat::Cargo, PreReleases::Stated) {
+    match Filter::new(
+        alloc,
+        ">=1.2.0-rc <1.10.0",
+        Compat::Cargo,
+        PreReleases::Stated,
+    ) {
         Ok(filter) => Ok(filter),
         Err(RangeError::OutOfMemory) => Err(Ending::Refused),
         Err(_) => Err(Ending::Wrong),

@@ -102,7 +102,8 @@ module _ (Has : List ℕ → VersionValue → Type 0) where
           (one : (x : List ℕ) (v w : VersionValue) → Has x v → Has x w → v ≡ w) (total : IsTotalOrder precedence) where
         -- a line that is kept, and above the greatest, if there is one
         pub at_greater : IsAt a b best found → ReadsLine b c line
-            → IfSome found (λ other. precedence (version_value other).plain (version_value version).plain ≡ Less) → IsAt a c line (Some version)
+            → IfSome found (λ other. precedence (version_value other).plain (version_value version).plain ≡ Less)
+            → IsAt a c line (Some version)
         at_greater h n above = go a h
           where
             known : (read : List (List ℕ)) (found : Option Version) → IsKnown read best found
@@ -127,7 +128,8 @@ module _ (Has : List ℕ → VersionValue → Type 0) where
 
         -- a line that is kept, and isn't
         pub at_lower : IsAt a b best found → ReadsLine b c line
-            → IsSomeAnd found (λ other. ¬ (precedence (version_value other).plain (version_value version).plain ≡ Less)) → IsAt a c best found
+            → IsSomeAnd found (λ other. ¬ (precedence (version_value other).plain (version_value version).plain ≡ Less))
+            → IsAt a c best found
         at_lower h n low = go a h
           where
             known : (read : List (List ℕ)) (found : Option Version) → IsKnown read best found
@@ -136,9 +138,10 @@ module _ (Has : List ℕ → VersionValue → Type 0) where
             known read None none low = absurd low
             known read (Some other) (k, same) low = (
               stays Has read line best k (λ w has.
-              not_above total w.plain k.version.plain (λ e. low
-              (subst (λ p. precedence (version_value other).plain p ≡ Less) (ap (λ (u : VersionValue). u.plain) (one line w v has is) ∙ sym plain)
-              (subst (λ p. precedence p w.plain ≡ Less) (sym same) e)))),
+                  not_above total w.plain k.version.plain (λ e. low
+                  (subst (λ p. precedence (version_value other).plain p ≡ Less)
+                  (ap (λ (u : VersionValue). u.plain) (one line w v has is) ∙ sym plain)
+                  (subst (λ p. precedence p w.plain ≡ Less) (sym same) e)))),
               same,
             )
 

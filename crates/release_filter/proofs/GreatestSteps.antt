@@ -1,5 +1,6 @@
 -- The greatest so far of a list that is gone through: what one more item does.
-use Rattle.std.proofs.Common.{IfSome, rules, MatchOption, Option, Some, None, ◌↔◌, ◌≡◌, ◌≢◌, List, [], ◌∷◌, ◌++◌, refl, sym, ap, subst, ◌∙◌, append_assoc}
+use Rattle.std.proofs.Common.{IfSome, rules, MatchOption, Option, Some, None, ◌↔◌, ◌≡◌, ◌≢◌, List, [], ◌∷◌, ◌++◌, refl, sym, ap, subst}
+use Rattle.std.proofs.Common.{◌∙◌, append_assoc}
 use Rattle.std.specs.List.{AllByRecursion}
 use Rattle.std.specs.Cmp.{IsTotalOrder}
 use Rattle.std.specs.Ordering.{ordering_reverse}
@@ -60,7 +61,8 @@ module _ {X : Type 0} (Has : X → VersionValue → Type 0) where
         after = [];
         stands = refl;
         earlier = subst (AllByRecursion (IsBelow Has v)) (sym h.stands) (all_append (IsBelow Has v) h.before (g ∷ h.after)
-            (all_map (IsBelow Has h.version) (IsBelow Has v) (λ x low w k. total.trans w.plain h.version.plain v.plain (low w k) above) h.before h.earlier) (
+            (all_map (IsBelow Has h.version) (IsBelow Has v)
+            (λ x low w k. total.trans w.plain h.version.plain v.plain (low w k) above) h.before h.earlier) (
               (λ w k. subst (λ u. precedence u.plain v.plain ≡ Less) (one g h.version w h.has k) above),
               all_map (IsNotAbove Has h.version) (IsBelow Has v) (λ x low w k. below w (precedence w.plain h.version.plain) refl (low w k))
                   h.after h.later,

@@ -1,5 +1,6 @@
 -- What stands behind the prefix of a line, and what that says of the line.
-use Rattle.std.proofs.Common.{rules, refl, ◌↔◌, Bor, ◌+◌, Option, Some, None, Result, Ok, Err, IfOk, MatchOption, IsTrue, ◌≡◌, ℕ, ◌++◌, Bool, true, false, List, ap, sym, subst, ◌∙◌, take, drop, length, eqb}
+use Rattle.std.proofs.Common.{rules, refl, ◌↔◌, Bor, ◌+◌, Option, Some, None, Result, Ok, Err, IfOk, MatchOption, IsTrue, ◌≡◌, ℕ, ◌++◌}
+use Rattle.std.proofs.Common.{Bool, true, false, List, ap, sym, subst, ◌∙◌, take, drop, length, eqb}
 use Rattle.std.specs.Option.{is_some}
 use Rattle.std.specs.Str.{IsUtf8}
 use Rattle.std.specs.Cmp.Lexicographic.{pointwise, bytes_decides}
@@ -36,7 +37,8 @@ module _ (test : VersionValue → Bool) (prefix line : List ℕ) where
     pub line_judged : {E : Type 0} (found : Result (Option Version) E)
         → IfOk found (λ found. MatchOption found ((v : VersionValue) → SpellsVersion v text → test v ≡ false)
         (λ x. (v : VersionValue) × SpellsVersion v text × IsTrue (test v) × ((version_value x).plain ≡ v.plain)))
-        → IfOk found (λ found. MatchOption found (¬ (IsKeptLine test prefix line)) (λ x. SpellsPlain test prefix line (version_value x).plain))
+        → IfOk found (λ found. MatchOption found (¬ (IsKeptLine test prefix line))
+        (λ x. SpellsPlain test prefix line (version_value x).plain))
     line_judged (Err e) h = tt
     line_judged (Ok None) none = dropped none
     line_judged (Ok (Some x)) (v, spells, passes, same) = (v, (text, is, spells, passes), same)

@@ -187,9 +187,18 @@ module _ (IsKept : List ℕ → Type 0) where
           go : (a : Option (List ℕ)) → IsAt a b w v some → IfSome a (λ bytes. CopiesLines IsKept bytes c w u (Err (Write e)))
           go None h = tt
           go (Some xs) h =
-              let next = one_line xs b c h.read line h.behind n in
-              (h.read, h.kept, line, h.those, is, (next.rest, next.left, next.lines), p.0, p.1, p.2,
-              Appends-trans w v u (concat h.kept) p.0 h.written p.3)
+              let next = one_line xs b c h.read line h.behind n in (
+                h.read,
+                h.kept,
+                line,
+                h.those,
+                is,
+                (next.rest, next.left, next.lines),
+                p.0,
+                p.1,
+                p.2,
+                Appends-trans w v u (concat h.kept) p.0 h.written p.3,
+              )
 
   -- between two lines
   pub at_limit : (a b w v : Option (List ℕ)) (some : Bool) (e : LineError) → IsNoWriting e → IsAt a b w v some

@@ -1,5 +1,6 @@
 -- What passes a filter meets its comparators, whatever its rule for pre-releases is.
-use Rattle.std.proofs.Common.{◌≡◌, ◌==◌, ◌∷◌, length, ℕ, List, [], Option, Some, None, MatchOption, IsTrue, Bool, true, false, refl, sym, ap, ◌∙◌, rules}
+use Rattle.std.proofs.Common.{◌≡◌, ◌==◌, ◌∷◌, length, ℕ, List, [], Option, Some, None, MatchOption, IsTrue, Bool, true, false, refl, sym}
+use Rattle.std.proofs.Common.{ap, ◌∙◌, rules}
 use Rattle.std.specs.Prelude.{◌&&◌}
 use Rattle.semver_parser.specs.Texts.{Text, is_empty}
 use Rattle.semver_parser.specs.Versions.{PlainVersion, VersionValue}

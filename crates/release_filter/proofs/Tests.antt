@@ -1,5 +1,6 @@
 -- Tests of all or some of a list, and what tests keep of one.
-use Rattle.std.proofs.Common.{rules, suc, inl, inr, ◌≤◌, ◌==◌, ◌⊎◌, arith, nat_cmp, ◌≡◌, ℕ, ◌+◌, ◌<◌, Bool, true, false, List, [], ◌∷◌, ◌++◌, refl, sym, ap, ◌∙◌, map, filter, cond, take, length, get_or}
+use Rattle.std.proofs.Common.{rules, suc, inl, inr, ◌≤◌, ◌==◌, ◌⊎◌, arith, nat_cmp, ◌≡◌, ℕ, ◌+◌, ◌<◌, Bool, true, false, List, [], ◌∷◌}
+use Rattle.std.proofs.Common.{◌++◌, refl, sym, ap, ◌∙◌, map, filter, cond, take, length, get_or}
 use Rattle.std.specs.Prelude.{◌||◌, ◌&&◌}
 use Rattle.std.specs.List.{list_all, list_any}
 use Rattle.std.specs.Ordering.{ord_max}

@@ -53,8 +53,8 @@ StandsBehind bytes lines left =
 -- one, of which it may have read all or nothing
 abbrev pub StandsIn : List ℕ → List (List ℕ) → Option (List ℕ) → Type 0
 StandsIn bytes lines left =
-    (begun rest : List ℕ) × (left ≡ Some rest) × (lines_of bytes ≡ lines ++ lines_of (begun ++ rest))
-    × StopsAt begun 10
+    (begun rest : List ℕ) × (left ≡ Some rest)
+    × (lines_of bytes ≡ lines ++ lines_of (begun ++ rest)) × StopsAt begun 10
 
 -- what a copy of the kept lines of these bytes wrote, and what it left of them. With an answer it
 -- has read every line, and it tells whether some line was kept. Where writing failed, it has read

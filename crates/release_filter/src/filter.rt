@@ -139,8 +139,8 @@ impl Filter {
     /// Those of the versions that pass, in their order and with repeats. Of 0.2.0, 0.3.0, 2.0.0-rc,
     /// 2.5.0 and 2.5.0 again, a filter of `^0.2 || 2.x` keeps 0.2.0, 2.5.0 and 2.5.0.
     ///
-    /// Each version is judged once. Memory is asked for as the answer grows, and not at all where no
-    /// version passes. `Err` is want of it.
+    /// Each version is judged once. Memory is asked for as the answer grows, and not at all where
+    /// no version passes. `Err` is want of it.
     pub fn kept<'v>(
         &self,
         alloc: Global,
@@ -189,8 +189,14 @@ impl Filter {
 /// The release of an outline, without its build.
 fn release(alloc: Global, outline: &Outline<'_>) -> Version
     ensures { version_value result ≡ record {
-        plain = record { major = outline.now.major; minor = outline.now.minor;
-        patch = outline.now.patch; pre = [] }; build = [] } }
+      plain = record {
+        major = outline.now.major;
+        minor = outline.now.minor;
+        patch = outline.now.patch;
+        pre = [];
+      };
+      build = [];
+    } }
 {
     Version {
         major: outline.major,

@@ -100,7 +100,12 @@ pub fn write_copied<W: Write>(
         Ok(some) => write!(out, "{some} ")?,
         Err(error) => write!(out, "{error} ")?,
     }
-    write!(out, "{:?}, {} left", str::from_utf8(copied.as_slice()).ok(), input.len())
+    write!(
+        out,
+        "{:?}, {} left",
+        str::from_utf8(copied.as_slice()).ok(),
+        input.len()
+    )
 }
 
 /// The versions of a list, if each item is one.

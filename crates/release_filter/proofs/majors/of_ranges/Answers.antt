@@ -18,7 +18,8 @@ loop-range-preserved c = λ v small meets.
           )
       | inr item ↦
           let here = c.of_comparators-majors.ensures v small
-          (ap (list_all (λ comparator. meets_comparator v (comparator_of comparator))) c.deref.ensures.value ∙ ap met c.range-item.is ∙ item) in (
+          (ap (list_all (λ comparator. meets_comparator v (comparator_of comparator))) c.deref.ensures.value
+          ∙ ap met c.range-item.is ∙ item) in (
             omega (arith, here.0, least),
             subst (λ n. v.major ≤ n) (sym c.max-highest.ensures) (le_max _ _ v.major (inr here.1)),
           )

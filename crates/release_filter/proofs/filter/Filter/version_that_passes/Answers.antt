@@ -20,11 +20,11 @@ returns-then-is_empty c =
     let told = (c.in-Some.ensures.outlined (outline_value o)).0 refl in
     judged c.args.self.now c.args.text.now c.release.result told.0 told.1
     (λ w spells.
-      let same : outline_value o ≡ outline_of w = some_is ((c.in-Some.ensures.outlined (outline_of w)).1 (w, spells, refl)) in
-      let none = (c.in-Some.ensures.pre_release w spells).0 (no_length o.pre.now (sym c.is_empty.ensures ∙ c.if-is_empty.true)) in
-      ap (λ (v : VersionValue). v.plain) c.release.ensures
-      ∙ release_is o.major o.minor o.patch w.plain (ap (λ (x : OutlineValue). x.major) same) (ap (λ (x : OutlineValue). x.minor) same)
-      (ap (λ (x : OutlineValue). x.patch) same) none)
+    let same : outline_value o ≡ outline_of w = some_is ((c.in-Some.ensures.outlined (outline_of w)).1 (w, spells, refl)) in
+    let none = (c.in-Some.ensures.pre_release w spells).0 (no_length o.pre.now (sym c.is_empty.ensures ∙ c.if-is_empty.true)) in
+    ap (λ (v : VersionValue). v.plain) c.release.ensures
+    ∙ release_is o.major o.minor o.patch w.plain (ap (λ (x : OutlineValue). x.major) same) (ap (λ (x : OutlineValue). x.minor) same)
+    (ap (λ (x : OutlineValue). x.patch) same) none)
     c.if_it_passes.result c.if_it_passes.ensures
 
 pub returns-in-Some-2 : goal.returns-in-Some-2
