@@ -88,6 +88,7 @@ impl Filter {
 
     /// The version that a text spells, without its build, if it passes. Memory is taken only where
     /// the first number can pass, and the text has a pre-release that can.
+    #[inline(always)]
     pub(crate) fn version_that_passes(
         &self,
         alloc: Global,
@@ -114,6 +115,7 @@ impl Filter {
     }
 
     /// The version, if it passes.
+    #[inline(always)]
     fn if_it_passes(&self, version: Version) -> Option<Version>
         ensures { MatchOption result (passes self.now (version_value version) ≡ false)
             (λ v. (v ≡ version) × IsTrue (passes self.now (version_value version))) }
@@ -187,6 +189,7 @@ impl Filter {
 }
 
 /// The release of an outline, without its build.
+#[inline(always)]
 fn release(alloc: Global, outline: &Outline<'_>) -> Version
     ensures { version_value result ≡ record {
       plain = record {

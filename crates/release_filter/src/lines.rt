@@ -176,6 +176,7 @@ impl Filter {
     }
 
     /// Whether a line is kept.
+    #[inline(always)]
     fn keeps_line(&self, alloc: Global, prefix: &str, line: &[u8]) -> Result<bool, AllocError>
         ensures { IfOk result (λ is_kept. (is_kept ≡ true)
             ↔ IsKeptLine (passes self.now) prefix.now line.now) }
@@ -185,6 +186,7 @@ impl Filter {
     }
 
     /// The version that a line spells behind the prefix, without its build, if it passes.
+    #[inline(always)]
     fn kept_version(
         &self,
         alloc: Global,
@@ -206,6 +208,7 @@ impl Filter {
 }
 
 /// What stands behind the prefix in the text of a line, if the text begins with it.
+#[inline(always)]
 fn text_behind<'l>(prefix: &str, line: &'l [u8]) -> Option<&'l [u8]>
     ensures { MatchOption result
         ((text : Text) → ¬ (line_text line.now ≡ prefix.now ++ text))
@@ -226,6 +229,7 @@ fn is_greatest(version: &Version, greatest: &Option<Version>) -> bool
 }
 
 /// Reads the next line in place of another, with its end: whether there was one.
+#[inline(always)]
 fn read_line<R: BufRead>(input: &mut R, line: &mut Vec<u8>) -> Result<bool, LineError>
     ensures part { ReadsPart (R.remaining input.old) (R.remaining input.new) line.new.items }
     ensures whole { result ≡ Ok true →
@@ -250,6 +254,7 @@ fn too_many_lines() -> LineError
 
 /// The text of a line: without the line feed at its end, and then without one carriage return at
 /// its end.
+#[inline(always)]
 fn text_of(line: &[u8]) -> &[u8]
     ensures { result.now ≡ line_text line.now }
 {
@@ -257,6 +262,7 @@ fn text_of(line: &[u8]) -> &[u8]
 }
 
 /// The bytes without this one at their end, if they have it there.
+#[inline(always)]
 fn without_last(bytes: &[u8], byte: u8) -> &[u8]
     ensures { result.now ≡ strip_last byte bytes.now }
 {
