@@ -214,7 +214,11 @@ fn text_behind<'l>(prefix: &str, line: &'l [u8]) -> Option<&'l [u8]>
         ((text : Text) → ¬ (line_text line.now ≡ prefix.now ++ text))
         (λ text. line_text line.now ≡ prefix.now ++ text.now) }
 {
-    text_of(line).strip_prefix(prefix.as_bytes())
+    let text = text_of(line);
+    if prefix.is_empty() {
+        return Some(text);
+    }
+    text.strip_prefix(prefix.as_bytes())
 }
 
 /// Whether a version is above another, if there is one.
