@@ -205,6 +205,10 @@ static bool say_answer(text *to, const char *call, const text *of, const text *s
         say_met(to, of, strcmp(call, "meet-npm") == 0, SEMVER_PARSER_ALL_PRE_RELEASES, steps);
     } else if (strcmp(call, "mean-cargo") == 0 || strcmp(call, "mean-npm") == 0) {
         say_met(to, of, strcmp(call, "mean-npm") == 0, SEMVER_PARSER_ALL_PRE_RELEASES, steps);
+    } else if (strcmp(call, "stated-cargo") == 0 || strcmp(call, "stated-npm") == 0) {
+        say_met(to, of, strcmp(call, "stated-npm") == 0, SEMVER_PARSER_STATED_PRE_RELEASES, steps);
+    } else if (strcmp(call, "releases-cargo") == 0 || strcmp(call, "releases-npm") == 0) {
+        say_met(to, of, strcmp(call, "releases-npm") == 0, SEMVER_PARSER_RELEASES_ALONE, steps);
     } else {
         return false;
     }
