@@ -3,6 +3,7 @@
 //! beside this crate: it comes from the written rules and from the declarations of the Rust crate.
 #![tactic(auto)]
 
+mod bytes;
 mod lines;
 mod made;
 mod orders;
@@ -14,6 +15,7 @@ mod writes;
 use std::io;
 
 fn main(rt: HostRuntime) -> io::Result<()> {
+    bytes::write_bytes(&rt, rt.alloc())?;
     orders::write_enums(&rt, rt.alloc())?;
     orders::write_structs(&rt, rt.alloc())?;
     made::write_versions(&rt, rt.alloc())?;

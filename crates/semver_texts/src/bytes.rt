@@ -52,5 +52,11 @@ pub fn part_len(bytes: &[u8]) -> usize
 pub fn count_dots(bytes: &[u8]) -> usize
     ensures { result ≡ count_by is_dot bytes.now }
 {
-    bytes.iter().filter(|&&byte| byte == b'.').count()
+    let mut count = 0;
+    for at in 0..bytes.len() {
+        if bytes[at] == b'.' {
+            count += 1;
+        }
+    }
+    count
 }

@@ -18,7 +18,7 @@ use Rattle.semver_tokens.specs.Tokens.{Numeric, AlphaNumeric, token_text, IsToke
 use Rattle.semver_tokens.specs.Means.Scanning.{first_token}
 use Rattle.semver_tokens.proofs.FirstToken.{all_of_prefix, IsFound, first_token-found, run_ascii, space_ascii}
 
-ascii_from : (p : ℕ → Bool) → ((b : ℕ) → p b ≡ true → b < 128) → (bs : List ℕ) → AllByRecursion (λ b. IsTrue (p b)) bs → IsAscii bs
+pub ascii_from : (p : ℕ → Bool) → ((b : ℕ) → p b ≡ true → b < 128) → (bs : List ℕ) → AllByRecursion (λ b. IsTrue (p b)) bs → IsAscii bs
 ascii_from p small [] all = IsAscii-nil
 ascii_from p small (b ∷ bs) all = IsAscii-cons b bs (small b all.0) (ascii_from p small bs all.1)
 

@@ -340,10 +340,6 @@ no_part text mark other [] rest w = (refl, w.split)
 no_part text mark other (b ∷ inner) rest w =
     absurd (other ((b ∷ inner) ++ rest) (w.split ∙ ap (λ (t : Text). t ++ rest) (marked_cut mark (b ∷ inner) (omega arith))))
 
--- an inner byte is ASCII
-pub inner_ascii : (b : ℕ) → is_inner_byte b ≡ true → b < 128
-inner_ascii b h = grind (arith, nat_tests)
-
 -- ---- identifiers one after the other
 
 pub all_at : {X : Type 0} (P : X → Type 0) (xs : List X) (n : ℕ) (d : X) → AllByRecursion P xs → n < length xs → P (get_or xs n d)

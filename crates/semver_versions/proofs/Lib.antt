@@ -1,4 +1,5 @@
 pub mod CutIdentifiers
+pub mod IdentifierBytes
 pub mod OneVersion
 pub mod OutlinedTexts
 pub mod ParseFacts

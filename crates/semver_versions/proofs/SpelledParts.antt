@@ -1,12 +1,7 @@
 -- A text of three numbers, and of identifiers behind their marks, spells a version, and any other text spells none.
 use Rattle.std.proofs.Common.{◌≡◌, ℕ, ◌<◌, true, false, List, [], ◌∷◌, ◌++◌, length, take, drop, map, sym, refl, ap, ◌∙◌, subst, inl, inr}
-use Rattle.std.proofs.Common.{⊎_elim, ◌⊎◌, arith, append_assoc, codes, decimal, ◌-◌, IsUtf8, length-append, zero-add}
-use Rattle.std.specs.Prelude.{◌==◌, slice_index, IfOk, IfErr, IsCharBoundary, Result, Ok, Err, Option, Some, None, option_map, ◌↔◌}
-use Rattle.std.specs.Str.{IsAscii}
-use Rattle.std.proofs.lemmas.Str.{IsAscii-append}
-use Rattle.std.proofs.lemmas.Str.Ascii.{IsAscii-cons}
-use Rattle.std.proofs.lemmas.Fmt.{IsAscii-decimal}
-use Rattle.semver_tokens.proofs.Cuts.{cut_after_ascii}
+use Rattle.std.proofs.Common.{⊎_elim, ◌⊎◌, arith, append_assoc, codes, decimal}
+use Rattle.std.specs.Prelude.{◌==◌, slice_index, IfOk, IfErr, Result, Ok, Err, Option, Some, None, option_map, ◌↔◌}
 use Rattle.std.specs.Char.{is_ascii_alphanumeric, is_ascii_digit}
 use Rattle.std.specs.List.{AllByRecursion, AllZip, join_with_byte, prefix_len}
 use Rattle.std.proofs.lemmas.List.{drop_at, take-append-drop}
@@ -249,32 +244,6 @@ no_parts text rest major minor patch n none v =
         ∙ run_is_no_space (slice_index (decimal major ++ (46 ∷ (decimal minor ++ (46 ∷ (decimal patch ++ rest))))) 0)
         (run_begins (decimal major) (46 ∷ (decimal minor ++ (46 ∷ (decimal patch ++ rest)))) (decimal_is_run major n.major_fits))
 
--- ---- where the rest begins
-
-module _ (text rest : Text) (major minor patch : ℕ) (n : BeginsWithNumbers text major minor patch rest) where
-  abbrev three : Text
-  three = join_with_byte 46 (map decimal (major ∷ minor ∷ patch ∷ []))
-
-  place : length text - length rest ≡ length three
-  place = omega (arith, ap length n.split, length-append three rest)
-
-  pub cut_at_rest : IsUtf8 text → IsCharBoundary text (length text - length rest)
-  cut_at_rest utf8 = subst (IsCharBoundary text) (zero-add (length three) ∙ sym place)
-      (cut_after_ascii text 0 three rest utf8 n.split some ascii)
-    where
-      some : 0 < length three
-      some = omega (arith, length-append (decimal major) (46 ∷ (decimal minor ++ (46 ∷ decimal patch))))
-
-      ascii : IsAscii three
-      ascii =
-          IsAscii-append (decimal major) (46 ∷ (decimal minor ++ (46 ∷ decimal patch))) (IsAscii-decimal major n.major_fits)
-          (IsAscii-cons 46 (decimal minor ++ (46 ∷ decimal patch)) (omega arith)
-          (IsAscii-append (decimal minor) (46 ∷ decimal patch) (IsAscii-decimal minor n.minor_fits)
-          (IsAscii-cons 46 (decimal patch) (omega arith) (IsAscii-decimal patch n.patch_fits))))
-
-  pub rest_is : (left : Text) → left ≡ drop (length text - length rest) text → left ≡ rest
-  rest_is left is = is ∙ (λ i. drop (place i) (n.split i)) ∙ drop_at three rest (length three) refl
-
 pub if_err : {A E : Type 0} {P : Type 0} (r : Result A E) → P → IfErr r (λ _. P)
 if_err (Ok x) p = tt
 if_err (Err e) p = p
@@ -337,10 +306,6 @@ identifiers_spaced text h = (h.0, spaced h.0 text h.1, h.2)
 pub if_ok_more : {A E : Type 0} {P Q : A → Type 0} (r : Result A E) → ((x : A) → P x → Q x) → IfOk r P → IfOk r Q
 if_ok_more (Ok x) more p = more x p
 if_ok_more (Err e) more p = tt
-
-pub if_err_more : {A E P Q : Type 0} (r : Result A E) → (P → Q) → IfErr r (λ _. P) → IfErr r (λ _. Q)
-if_err_more (Ok x) more p = tt
-if_err_more (Err e) more p = more p
 
 pub exactly : (text : Text) (found : Option Version) → IsFound text found → (v : VersionValue)
     → (option_map version_value found ≡ Some v) ↔ SpellsVersion v text

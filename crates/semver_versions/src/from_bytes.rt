@@ -1,5 +1,6 @@
 //! A version read from the bytes of its text: three numbers, and the pre-release and the build as
-//! slices, which are cut at dots once the whole text is known to be a version.
+//! slices, which are cut at dots once the whole text is known to be a version. Each byte that is
+//! read as a part of a version is ASCII, so the bytes need no check for UTF-8.
 ghost use Rattle.std.specs.Prelude.{◌≡◌, ◌==◌, ◌||◌, ◌<◌, ◌++◌, [], ◌∷◌, true, false, length, map};
 ghost use Rattle.std.specs.Prelude.{drop, IfOk, IfErr, IfSome, MatchOption};
 ghost use Rattle.std.specs.List.{AllByRecursion, AllZip, prefix_len, slice_split};
@@ -51,33 +52,31 @@ fn identifiers_len(bytes: &[u8]) -> Option<usize>
     in_run.then_some(bytes.len())
 }
 
-/// What follows the mark, where the text begins with it.
+/// What follows the mark, where the bytes begin with it.
 #[inline(always)]
-fn behind_mark(text: &str, mark: u8) -> Option<&str>
-    requires { mark < 128 }
-    ensures { MatchOption result ((behind : Text) → ¬ (text.now ≡ mark ∷ behind))
-        (λ behind. text.now ≡ mark ∷ behind.now) }
+fn behind_mark(bytes: &[u8], mark: u8) -> Option<&[u8]>
+    ensures { MatchOption result ((behind : Text) → ¬ (bytes.now ≡ mark ∷ behind))
+        (λ behind. bytes.now ≡ mark ∷ behind.now) }
 {
-    match text.as_bytes() {
-        [first, ..] if *first == mark => Some(&text[1..]),
+    match bytes {
+        [first, behind @ ..] if *first == mark => Some(behind),
         _ => None,
     }
 }
 
-/// The identifiers behind the mark, and what follows them; where the text doesn't begin with the
-/// mark, nothing and all of it.
+/// The identifiers behind the mark, and what follows them; where the bytes don't begin with the
+/// mark, nothing and all of them.
 #[inline(always)]
-fn part(text: &str, mark: u8) -> Option<(&str, &str)>
-    requires { mark < 128 }
+fn part(bytes: &[u8], mark: u8) -> Option<(&[u8], &[u8])>
     ensures found { IfSome result (λ r. AreIdentifiers r.0.now
-        × (text.now ≡ marked (mark ∷ []) (cut_at_dots r.0.now) ++ r.1.now)) }
-    ensures only { (inner rest : Text) → IsPart mark text.now inner rest →
+        × (bytes.now ≡ marked (mark ∷ []) (cut_at_dots r.0.now) ++ r.1.now)) }
+    ensures only { (inner rest : Text) → IsPart mark bytes.now inner rest →
         MatchOption result ⊥ (λ r. (r.0.now ≡ inner) × (r.1.now ≡ rest)) }
 {
-    let Some(behind) = behind_mark(text, mark) else {
-        return Some(("", text));
+    let Some(behind) = behind_mark(bytes, mark) else {
+        return Some((&[], bytes));
     };
-    let len = identifiers_len(behind.as_bytes())?;
+    let len = identifiers_len(behind)?;
     Some(behind.split_at(len))
 }
 
@@ -90,20 +89,29 @@ fn are_spaces(bytes: &[u8]) -> bool
     space_len(bytes) == bytes.len()
 }
 
-/// The identifiers of the pre-release and those of the build that the text is, each with its mark,
-/// and white space behind them; nothing where there are none.
+/// The identifiers of the pre-release and those of the build that the bytes are, each with its
+/// mark, and white space behind them; nothing where there are none.
 #[inline(always)]
-fn parts(text: &str) -> Option<(&str, &str)>
-    ensures { MatchOption result ((pre build : Text) → ¬ (AreParts text.now pre build))
-        (λ r. AreParts text.now r.0.now r.1.now) }
+fn parts(bytes: &[u8]) -> Option<(&[u8], &[u8])>
+    ensures { MatchOption result ((pre build : Text) → ¬ (AreParts bytes.now pre build))
+        (λ r. AreParts bytes.now r.0.now r.1.now) }
 {
-    let (pre, rest) = part(text, b'-')?;
+    let (pre, rest) = part(bytes, b'-')?;
     let (build, rest) = part(rest, b'+')?;
-    if are_spaces(rest.as_bytes()) {
+    if are_spaces(rest) {
         Some((pre, build))
     } else {
         None
     }
+}
+
+/// The text of identifiers, which are ASCII.
+#[inline(always)]
+fn text_of_identifiers(bytes: &[u8]) -> &str
+    requires { AreIdentifiers bytes.now }
+    ensures { result.now ≡ bytes.now }
+{
+    unsafe { str::from_utf8_unchecked(bytes) }
 }
 
 /// The identifier that the text spells.
@@ -146,26 +154,25 @@ fn identifiers(alloc: Global, text: &str) -> Result<Vec<Identifier>, AllocError>
     cut_identifiers(alloc, text)
 }
 
-/// The version that the text spells, of which these numbers and this rest are known.
+/// The version whose numbers are known, and what stands behind them.
 #[inline(never)]
 fn with_parts(
     alloc: Global,
-    text: &str,
     major: u64,
     minor: u64,
     patch: u64,
     rest: &[u8],
 ) -> Result<Option<Version>, AllocError>
-    requires { BeginsWithNumbers text.now major minor patch rest.now }
-    ensures found { IfOk result (λ found. IsFound text.now found) }
-    ensures memory { IfErr result (λ _. HasIdentifiers text.now) }
+    ensures found { (text : Text) → BeginsWithNumbers text major minor patch rest.now
+        → IfOk result (λ found. IsFound text found) }
+    ensures memory { (text : Text) → BeginsWithNumbers text major minor patch rest.now
+        → IfErr result (λ _. HasIdentifiers text) }
 {
-    let rest = &text[text.len() - rest.len()..];
     let Some((pre, build)) = parts(rest) else {
         return Ok(None);
     };
-    let pre = identifiers(alloc, pre)?;
-    let build = identifiers(alloc, build)?;
+    let pre = identifiers(alloc, text_of_identifiers(pre))?;
+    let build = identifiers(alloc, text_of_identifiers(build))?;
     Ok(Some(Version {
         major,
         minor,
@@ -175,28 +182,43 @@ fn with_parts(
     }))
 }
 
-/// What follows the white space at the front. For speed, a digit there is told first.
-#[inline(always)]
-fn behind_spaces(text: &str) -> &str
-    ensures { result.now ≡ drop (prefix_len is_space text.now) text.now }
+/// The outline whose numbers are known, and what stands behind them.
+#[inline(never)]
+fn outline_with_parts(major: u64, minor: u64, patch: u64, rest: &[u8]) -> Option<Outline<'_>>
+    ensures { (text : Text) → BeginsWithNumbers text major minor patch rest.now
+        → IsOutlined text result }
 {
-    if begins_with_digit(text.as_bytes()) {
-        return text;
-    }
-    &text[space_len(text.as_bytes())..]
+    let (pre, build) = parts(rest)?;
+    Some(Outline {
+        major,
+        minor,
+        patch,
+        pre: text_of_identifiers(pre),
+        build: text_of_identifiers(build),
+    })
 }
 
-/// The version that the text spells, if it spells one; an error is want of memory for its
+/// What follows the white space at the front. For speed, a digit there is told first.
+#[inline(always)]
+fn behind_spaces(bytes: &[u8]) -> &[u8]
+    ensures { result.now ≡ drop (prefix_len is_space bytes.now) bytes.now }
+{
+    if begins_with_digit(bytes) {
+        return bytes;
+    }
+    &bytes[space_len(bytes)..]
+}
+
+/// The version that the bytes spell, if they spell one; an error is want of memory for its
 /// identifiers.
 ///
-/// No memory is asked for before the whole text is known to be a version.
+/// No memory is asked for before the bytes are known to be a version.
 #[inline(always)]
-pub(crate) fn version(alloc: Global, input: &str) -> Result<Option<Version>, AllocError>
+pub(crate) fn version(alloc: Global, input: &[u8]) -> Result<Option<Version>, AllocError>
     ensures found { IfOk result (λ found. IsFound input.now found) }
     ensures memory { IfErr result (λ _. HasIdentifiers input.now) }
 {
-    let text = behind_spaces(input);
-    let Some((major, minor, patch, rest)) = numbers(text.as_bytes()) else {
+    let Some((major, minor, patch, rest)) = numbers(behind_spaces(input)) else {
         return Ok(None);
     };
     if are_spaces(rest) {
@@ -208,38 +230,15 @@ pub(crate) fn version(alloc: Global, input: &str) -> Result<Option<Version>, All
             build: Vec::new(alloc),
         }));
     }
-    with_parts(alloc, text, major, minor, patch, rest)
+    Ok(with_parts(alloc, major, minor, patch, rest)?)
 }
 
-/// The outline of the version that the text spells, of which these numbers and this rest are known.
-#[inline(never)]
-fn outline_with_parts<'t>(
-    text: &'t str,
-    major: u64,
-    minor: u64,
-    patch: u64,
-    rest: &[u8],
-) -> Option<Outline<'t>>
-    requires { BeginsWithNumbers text.now major minor patch rest.now }
-    ensures { IsOutlined text.now result }
-{
-    let (pre, build) = parts(&text[text.len() - rest.len()..])?;
-    Some(Outline {
-        major,
-        minor,
-        patch,
-        pre,
-        build,
-    })
-}
-
-/// The outline of the version that the text spells, if it spells one.
+/// The outline of the version that the bytes spell, if they spell one.
 #[inline(always)]
-pub(crate) fn outline(input: &str) -> Option<Outline<'_>>
+pub(crate) fn outline(input: &[u8]) -> Option<Outline<'_>>
     ensures { IsOutlined input.now result }
 {
-    let text = behind_spaces(input);
-    let (major, minor, patch, rest) = numbers(text.as_bytes())?;
+    let (major, minor, patch, rest) = numbers(behind_spaces(input))?;
     if are_spaces(rest) {
         return Some(Outline {
             major,
@@ -249,5 +248,5 @@ pub(crate) fn outline(input: &str) -> Option<Outline<'_>>
             build: "",
         });
     }
-    outline_with_parts(text, major, minor, patch, rest)
+    outline_with_parts(major, minor, patch, rest)
 }

@@ -42,6 +42,23 @@ pub fn read(alloc: Global, input: &str) -> Result<Option<Version>, AllocError>
     ensures out_of_memory { IfErr result (λ _. (v : VersionValue) × SpellsVersion v input.now
         × ((0 < length v.plain.pre) ⊎ (0 < length v.build))) }
 {
+    read_bytes(alloc, input.as_bytes())
+}
+
+/// What [`read`] answers of a text, of bytes that needn't be UTF-8: those that aren't spell no
+/// version. They aren't checked for it, so this is quicker than a check and [`read`] for lines of
+/// a file, of which most spell none.
+#[inline(always)]
+pub fn read_bytes(alloc: Global, input: &[u8]) -> Result<Option<Version>, AllocError>
+    // Unless memory ran out, a version is answered exactly where the bytes spell it.
+    ensures exact { (v : VersionValue) → IfOk result (λ found.
+        (option_map version_value found ≡ Some v) ↔ SpellsVersion v input.now) }
+    // Unless memory ran out, no version is answered exactly where the bytes spell none.
+    ensures none { IfOk result (λ found. (found ≡ None) ↔ ¬ (IsVersionText input.now)) }
+    // Memory runs out only where the bytes spell a version with a pre-release or a build.
+    ensures out_of_memory { IfErr result (λ _. (v : VersionValue) × SpellsVersion v input.now
+        × ((0 < length v.plain.pre) ⊎ (0 < length v.build))) }
+{
     from_bytes::version(alloc, input)
 }
 
@@ -56,6 +73,25 @@ pub fn outline(input: &str) -> Option<Outline<'_>>
     ensures outlined { (o : OutlineValue) →
         (option_map outline_value result ≡ Some o) ↔ IsOutlineOf input.now o }
     // None is answered exactly where the text spells no version.
+    ensures none { (result ≡ None) ↔ ¬ (IsVersionText input.now) }
+    // The text of the pre-release is empty exactly where the version has none.
+    ensures pre_release { (v : VersionValue) → SpellsVersion v input.now →
+        IfSome result (λ o. (o.pre.now ≡ []) ↔ (v.plain.pre ≡ [])) }
+    // So with the build.
+    ensures build { (v : VersionValue) → SpellsVersion v input.now →
+        IfSome result (λ o. (o.build.now ≡ []) ↔ (v.build ≡ [])) }
+{
+    outline_bytes(input.as_bytes())
+}
+
+/// What [`outline`] answers of a text, of bytes that needn't be UTF-8: those that aren't spell no
+/// version. They aren't checked for it.
+#[inline(always)]
+pub fn outline_bytes(input: &[u8]) -> Option<Outline<'_>>
+    // An outline is answered exactly where it is that of a version that the bytes spell.
+    ensures outlined { (o : OutlineValue) →
+        (option_map outline_value result ≡ Some o) ↔ IsOutlineOf input.now o }
+    // None is answered exactly where the bytes spell no version.
     ensures none { (result ≡ None) ↔ ¬ (IsVersionText input.now) }
     // The text of the pre-release is empty exactly where the version has none.
     ensures pre_release { (v : VersionValue) → SpellsVersion v input.now →
@@ -86,6 +122,7 @@ pub fn outline(input: &str) -> Option<Outline<'_>>
 ///   version without pre-release and build is always answered.
 ///
 /// What [`read`] finds is the answer. Where it finds none, the tokens tell the fault.
+#[inline(always)]
 pub fn parse(alloc: Global, input: &str) -> Result<Version, parser::Error<'_>>
     // Unless memory ran out, the answer is a version exactly where the text spells it.
     ensures exact { (v : VersionValue) →
@@ -110,13 +147,13 @@ pub fn parse(alloc: Global, input: &str) -> Result<Version, parser::Error<'_>>
 {
     match read(alloc, input) {
         Ok(Some(version)) => Ok(version),
-        Ok(None) => by_tokens(alloc, input),
+        Ok(None) => Ok(by_tokens(alloc, input)?),
         Err(_) => Err(parser::Error::OutOfMemory),
     }
 }
 
 /// What `parse` answers, token by token.
-#[inline(always)]
+#[inline(never)]
 fn by_tokens(alloc: Global, input: &str) -> Result<Version, parser::Error<'_>>
     ensures outcome { UnlessOutOfMemory result
         (IsOutcomeOf input.now (answer_of version_value result)) }

@@ -1,27 +1,33 @@
-use Rattle.std.proofs.Common.{ℕ, subst, ◌∙◌, refl, None}
+use Rattle.std.proofs.Common.{ℕ, subst, refl, None, drop}
+use Rattle.std.specs.List.{prefix_len}
 use Rattle.semver_texts.specs.Texts.{Text, is_space, BeginsWithNumbers}
-use Rattle.semver_versions.specs.Means.Cutting.{IsOutlined}
 use Rattle.semver_versions.proofs.CutIdentifiers.{ends_front}
 use Rattle.semver_versions.proofs.SpelledParts.{no_numbers}
 use Rattle.semver_versions.proofs.OutlinedTexts.{has_plain_outline, outline_spaced, outlined_spaced}
 use Rattle.semver_versions.proofs.from_bytes.outline.Goals as goal
+use Rattle.semver_versions.proofs.from_bytes.outline.Goals.{In_ok-major}
+
+-- the numbers stand behind the white space
+begins : (c : In_ok-major) → BeginsWithNumbers (drop (prefix_len is_space c.args.input.now) c.args.input.now) c.in_ok-major.major c.in_ok-major.minor
+    c.in_ok-major.patch c.in_ok-major.rest.now
+begins c =
+    subst (λ (t : Text). BeginsWithNumbers t c.in_ok-major.major c.in_ok-major.minor c.in_ok-major.patch c.in_ok-major.rest.now)
+    c.behind_spaces.ensures c.in_ok-major.ensures
 
 pub returns-in_err-major : goal.returns-in_err-major
 returns-in_err-major c = rw c.from_residual.ensures
     (outlined_spaced c.args.input.now None
     (no_numbers _ (ends_front is_space refl c.args.input.now)
     (subst (λ (t : Text). (major minor patch : ℕ) (rest : Text) → ¬ (BeginsWithNumbers t major minor patch rest))
-    (c.as_bytes.ensures.value ∙ c.behind_spaces-text.ensures) c.in_err-major.ensures)))
+    c.behind_spaces.ensures c.in_err-major.ensures)))
 
 pub returns-then-are_spaces : goal.returns-then-are_spaces
 returns-then-are_spaces c =
     outline_spaced c.args.input.now _
     (has_plain_outline _ c.in_ok-major.rest.now c.in_ok-major.major c.in_ok-major.minor c.in_ok-major.patch
-    (subst (λ (t : Text). BeginsWithNumbers t c.in_ok-major.major c.in_ok-major.minor c.in_ok-major.patch c.in_ok-major.rest.now)
-    (c.as_bytes.ensures.value ∙ c.behind_spaces-text.ensures) c.in_ok-major.ensures)
-    (c.are_spaces.ensures.yes c.if-are_spaces.true))
+    (begins (goal.at.returns-then-are_spaces c).In_ok-major) (c.are_spaces.ensures.yes c.if-are_spaces.true))
 
 pub returns : goal.returns
 returns c =
     outlined_spaced c.args.input.now c.outline_with_parts.result
-    (subst (λ (t : Text). IsOutlined t c.outline_with_parts.result) c.behind_spaces-text.ensures c.outline_with_parts.ensures)
+    (c.outline_with_parts.ensures _ (begins (goal.at.returns c).In_ok-major))

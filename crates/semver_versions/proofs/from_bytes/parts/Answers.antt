@@ -1,19 +1,16 @@
-use Rattle.std.proofs.Common.{subst}
-use Rattle.semver_texts.specs.Texts.{Text}
-use Rattle.semver_versions.specs.Means.Cutting.{AreSpaces}
 use Rattle.semver_versions.proofs.SpelledParts.{no_pre, no_build, no_end}
 use Rattle.semver_versions.proofs.from_bytes.parts.Goals as goal
 
 pub returns-in_err-pre : goal.returns-in_err-pre
-returns-in_err-pre c = rw c.from_residual.ensures (no_pre c.args.text.now c.in_err-pre.ensures.only)
+returns-in_err-pre c = rw c.from_residual.ensures (no_pre c.args.bytes.now c.in_err-pre.ensures.only)
 
 pub returns-in_err-build : goal.returns-in_err-build
 returns-in_err-build c =
-    rw c.from_residual-in_err-build.ensures (no_build c.args.text.now c.in_ok-pre.pre.now c.in_ok-pre.rest.now c.in_ok-pre.ensures.only
+    rw c.from_residual-in_err-build.ensures (no_build c.args.bytes.now c.in_ok-pre.pre.now c.in_ok-pre.rest.now c.in_ok-pre.ensures.only
     c.in_err-build.ensures.only)
 
 pub returns-else-are_spaces : goal.returns-else-are_spaces
 returns-else-are_spaces c =
-    no_end c.args.text.now c.in_ok-pre.pre.now c.in_ok-pre.rest.now c.in_ok-pre.ensures.only
+    no_end c.args.bytes.now c.in_ok-pre.pre.now c.in_ok-pre.rest.now c.in_ok-pre.ensures.only
     c.in_ok-build.build.now c.in_ok-build.rest.now c.in_ok-build.ensures.only
-    (subst (λ (t : Text). ¬ (AreSpaces t)) c.as_bytes.ensures.value (c.are_spaces.ensures.no c.if-are_spaces.false))
+    (c.are_spaces.ensures.no c.if-are_spaces.false)

@@ -1,9 +1,7 @@
-use Rattle.semver_versions.proofs.SpelledParts.{exactly, exactly_none, if_ok_more}
 use Rattle.semver_versions.proofs.version.read.Goals as goal
 
 pub returns-clause-exact : goal.returns-clause-exact
-returns-clause-exact c = λ v.
-    if_ok_more c.version.result (λ found is. exactly c.args.input.now found is v) c.version.ensures.found
+returns-clause-exact c = rw c.as_bytes.ensures.value at c.read_bytes.ensures.exact
 
 pub returns-clause-none : goal.returns-clause-none
-returns-clause-none c = if_ok_more c.version.result (λ found is. exactly_none c.args.input.now found is) c.version.ensures.found
+returns-clause-none c = rw c.as_bytes.ensures.value at c.read_bytes.ensures.none
