@@ -1,4 +1,3 @@
-mod VersionBytes
 mod GreatestSteps
 mod Tests
 mod Passing

@@ -2,7 +2,6 @@
 use Rattle.std.proofs.Common.{rules, refl, ◌↔◌, Bor, ◌+◌, Option, Some, None, Result, Ok, Err, IfOk, MatchOption, IsTrue, ◌≡◌, ℕ, ◌++◌}
 use Rattle.std.proofs.Common.{Bool, true, false, List, ap, sym, subst, ◌∙◌, take, drop, length, eqb}
 use Rattle.std.specs.Option.{is_some}
-use Rattle.std.specs.Str.{IsUtf8}
 use Rattle.std.specs.Cmp.Lexicographic.{pointwise, bytes_decides}
 use Rattle.std.proofs.Math.Seq.{take-append_seam}
 use Rattle.std.proofs.lemmas.List.{append_cancel_left, take-append-drop}
@@ -13,7 +12,6 @@ use Rattle.semver_parser.specs.declared.version.Version.{Version}
 use Rattle.release_filter.specs.Means.Reading.{SpellsPlain}
 use Rattle.release_filter.specs.KeptLines.{line_text, IsKeptLine, SpellsOneThat}
 use Rattle.release_filter.proofs.Passing.{not_both}
-use Rattle.release_filter.proofs.VersionBytes.{version_is_text}
 
 module _ (test : VersionValue → Bool) (prefix line : List ℕ) where
   -- the line doesn't begin with the prefix
@@ -24,10 +22,6 @@ module _ (test : VersionValue → Bool) (prefix line : List ℕ) where
     -- what stands behind the prefix is this text
     same_text : (t : List ℕ) → line_text line ≡ prefix ++ t → t ≡ text
     same_text t e = append_cancel_left prefix t text (sym e ∙ is)
-
-    -- it is no UTF-8
-    pub no_text : ¬ (IsUtf8 text) → ¬ (IsKeptLine test prefix line)
-    no_text not_utf8 = λ (v, (t, at, spells, passes)). not_utf8 (subst IsUtf8 (same_text t at) (version_is_text v t spells))
 
     -- no version that it spells passes
     dropped : ((v : VersionValue) → SpellsVersion v text → test v ≡ false) → ¬ (IsKeptLine test prefix line)

@@ -3,7 +3,7 @@ use Rattle.std.proofs.Common.{◌≡◌, ◌==◌, ◌∷◌, length, ℕ, List,
 use Rattle.std.proofs.Common.{ap, ◌∙◌, rules}
 use Rattle.std.specs.Prelude.{◌&&◌}
 use Rattle.semver_parser.specs.Texts.{Text, is_empty}
-use Rattle.semver_parser.specs.Versions.{PlainVersion, VersionValue}
+use Rattle.semver_parser.specs.Versions.{IdentifierValue, PlainVersion, VersionValue}
 use Rattle.semver_parser.specs.VersionGrammar.{SpellsVersion}
 use Rattle.semver_parser.specs.VersionViews.{version_value}
 use Rattle.semver_parser.specs.declared.version.Version.{Version}
@@ -33,6 +33,15 @@ nothing_passes filter rule set v is never = at (meets_with rule set v) refl
     at : (b : Bool) → meets_with rule set v ≡ b → false ≡ passes filter v
     at true e = absurd (never (meets_too rule set v e))
     at false e = sym (ap (λ f. passes f v) is ∙ e)
+
+-- where no pre-release counts, none passes
+pub excluded_fails : (filter : FilterValue) (v : VersionValue) → filter.pre_releases ≡ Excluded → ¬ (v.plain.pre ≡ [])
+    → passes filter v ≡ false
+excluded_fails filter v is some = ap (λ rule. meets_with rule filter.set v) is ∙ at v.plain.pre some
+  where
+    at : (pre : List IdentifierValue) → ¬ (pre ≡ []) → (is_empty pre && meets_set v.plain filter.set) ≡ false
+    at [] some = absurd (some refl)
+    at (id ∷ pre) some = refl
 
 pub not_both : {b : Bool} → b ≡ true → b ≡ false → ⊥
 not_both met never = absurd (search rules)

@@ -86,20 +86,20 @@ impl Filter {
         self.majors.has(version.major) && self.is_met_by(version)
     }
 
-    /// The version that a text spells, without its build, if it passes. Memory is taken only where
-    /// the first number can pass, and the text has a pre-release that can.
+    /// The version that the bytes spell, without its build, if it passes. Memory is taken only where
+    /// the first number can pass, and there is a pre-release that can.
     #[inline(always)]
     pub(crate) fn version_that_passes(
         &self,
         alloc: Global,
-        text: &str,
+        text: &[u8],
     ) -> Result<Option<Version>, AllocError>
         ensures { IfOk result (λ found. MatchOption found
             ((v : VersionValue) → SpellsVersion v text.now → passes self.now v ≡ false)
             (λ version. (v : VersionValue) × SpellsVersion v text.now
             × IsTrue (passes self.now v) × ((version_value version).plain ≡ v.plain))) }
     {
-        let Some(outline) = version::outline(text) else {
+        let Some(outline) = version::outline_bytes(text) else {
             return Ok(None);
         };
         if !self.majors.has(outline.major) {
@@ -108,7 +108,10 @@ impl Filter {
         if outline.pre.is_empty() {
             return Ok(self.if_it_passes(release(alloc, &outline)));
         }
-        match version::read(alloc, text)? {
+        if self.pre_releases == PreReleases::Excluded {
+            return Ok(None);
+        }
+        match version::read_bytes(alloc, text)? {
             Some(version) => Ok(self.if_it_passes(version)),
             None => Ok(None),
         }

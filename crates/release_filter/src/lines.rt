@@ -197,12 +197,9 @@ impl Filter {
             (¬ (IsKeptLine (passes self.now) prefix.now line.now))
             (λ v. SpellsPlain (passes self.now) prefix.now line.now (version_value v).plain)) }
     {
-        let Some(text) = text_behind(prefix, line) else {
-            return Ok(None);
-        };
-        match str::from_utf8(text) {
-            Ok(text) => self.version_that_passes(alloc, text),
-            Err(_) => Ok(None),
+        match text_behind(prefix, line) {
+            Some(text) => self.version_that_passes(alloc, text),
+            None => Ok(None),
         }
     }
 }

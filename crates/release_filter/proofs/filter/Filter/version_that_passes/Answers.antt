@@ -1,9 +1,10 @@
-use Rattle.std.proofs.Common.{◌≡◌, ◌<◌, ◌^◌, sym, subst, ap, ◌∙◌, refl, rules}
+use Rattle.std.proofs.Common.{◌≡◌, ◌<◌, ◌^◌, sym, subst, ap, ◌∙◌, refl, rules, length, ◌==◌}
 use Rattle.semver_parser.specs.Versions.{VersionValue}
 use Rattle.semver_parser.specs.VersionViews.{version_value}
 use Rattle.semver_parser.specs.Outlines.{OutlineValue, outline_value, outline_of}
+use Rattle.release_filter.specs.Filters.{FilterValue}
 use Rattle.release_filter.specs.Means.Majors.{IsWithin}
-use Rattle.release_filter.proofs.Passing.{nothing_passes, not_both, judged, some_is, release_is, no_length}
+use Rattle.release_filter.proofs.Passing.{nothing_passes, excluded_fails, not_both, judged, some_is, release_is, no_length}
 use Rattle.release_filter.proofs.filter.Filter.version_that_passes.Goals as goal
 
 pub returns-then-not-has : goal.returns-then-not-has
@@ -26,6 +27,11 @@ returns-then-is_empty c =
     ∙ release_is o.major o.minor o.patch w.plain (ap (λ (x : OutlineValue). x.major) same) (ap (λ (x : OutlineValue). x.minor) same)
     (ap (λ (x : OutlineValue). x.patch) same) none)
     c.if_it_passes.result c.if_it_passes.ensures
+
+pub returns-then-eq : goal.returns-then-eq
+returns-then-eq c = λ v spells.
+    excluded_fails c.args.self.now v (ap (λ (f : FilterValue). f.pre_releases) (sym c.self.view_is) ∙ search rules)
+    (λ none. not_both (c.is_empty.ensures ∙ ap (λ xs. length xs == 0) ((c.in-Some.ensures.pre_release v spells).1 none)) c.if-is_empty.false)
 
 pub returns-in-Some-2 : goal.returns-in-Some-2
 returns-in-Some-2 c =
