@@ -1,18 +1,20 @@
 -- Where a search for the greatest line stands in the bytes of its reader, line after line.
 use Rattle.std.proofs.Common.{IsSomeAnd, MatchOption, ◌≡◌, ℕ, List, [], ◌∷◌, ◌++◌, Option, None, Some, IfSome, Ok, Err, Vec, ◌↔◌}
-use Rattle.std.proofs.Common.{sym, subst, ◌∙◌, ap, true, false, Bool}
+use Rattle.std.proofs.Common.{rules, refl, sym, subst, ◌∙◌, ap, true, false, Bool}
+use Rattle.std.proofs.lemmas.Option.{IfSome_then}
 use Rattle.std.specs.Cmp.{IsTotalOrder}
+use Rattle.std.specs.Option.{is_some}
 use Rattle.std.specs.declared.cmp.Ordering.TheVariants.{Less}
 use Rattle.semver_parser.specs.Precedence.{precedence}
 use Rattle.semver_parser.specs.Versions.{VersionValue}
 use Rattle.semver_parser.specs.VersionViews.{version_value}
 use Rattle.semver_parser.specs.declared.version.Version.{Version}
 use Rattle.release_filter.specs.declared.lines.LineError.{LineError}
-use Rattle.release_filter.specs.Greatest.{IsGreatest, HasNone}
-use Rattle.release_filter.specs.KeptLines.{FindsGreatest}
-use Rattle.release_filter.specs.Means.Reading.{ReadsPart, ReadsLine, FindsEnd}
-use Rattle.release_filter.proofs.GreatestSteps.{none_more, begins, stays, replaces, not_above}
-use Rattle.release_filter.proofs.LineSteps.{Behind, at_first, one_line, in_line, at_last, between}
+use Rattle.release_filter.specs.Greatest.{IsGreatest, HasNone, IsNotAbove}
+use Rattle.release_filter.specs.KeptLines.{FindsGreatest, StandsBehind}
+use Rattle.release_filter.specs.Means.Reading.{ReadsLine, FindsEnd, StopsInLine, PassesOver}
+use Rattle.release_filter.proofs.GreatestSteps.{all_append, all_map, begins, stays, stays_over, replaces, not_above}
+use Rattle.release_filter.proofs.LineSteps.{one_line, more_lines, in_line, at_last}
 use Rattle.release_filter.proofs.Passing.{not_both}
 
 -- whether a version is above the greatest, if there is one, as it is told
@@ -41,7 +43,7 @@ module _ (Has : List ℕ → VersionValue → Type 0) where
 
   pub record Stands (bytes : List ℕ) (b : Option (List ℕ)) (line : List ℕ) (found : Option Version) : Type 0 where
     pub read : List (List ℕ)
-    pub behind : Behind bytes b read
+    pub behind : StandsBehind bytes read b
     pub known : IsKnown read line found
 
   abbrev pub IsAt : Option (List ℕ) → Option (List ℕ) → List ℕ → Option Version → Type 0
@@ -49,62 +51,60 @@ module _ (Has : List ℕ → VersionValue → Type 0) where
 
   pub at_start : (a : Option (List ℕ)) (line : List ℕ) → IsAt a a line None
   at_start None line = tt
-  at_start (Some xs) line = record { read = []; behind = at_first xs; known = tt }
+  at_start (Some xs) line = record { read = []; behind = (xs, refl, refl); known = tt }
 
-  module _ (a b c : Option (List ℕ)) (best : List ℕ) (found : Option Version) where
+  module _ (a b c : Option (List ℕ)) where
     -- nothing is left
-    pub at_none : (Z : Type 0) → IsAt a b best None → FindsEnd b c → IfSome a (λ bytes. FindsGreatest {Z = Z} Has bytes c (Ok None))
-    at_none Z h n = go a h
-      where
-        go : (a : Option (List ℕ)) → IsAt a b best None → IfSome a (λ bytes. FindsGreatest {Z = Z} Has bytes c (Ok None))
-        go None h = tt
-        go (Some xs) h =
-            let last = at_last xs b c h.read [] h.behind n in
-            (subst (HasNone Has) (sym last.0) h.known, last.1)
+    pub at_one : {Z : Type 0} (line : Vec ℕ Z) (found : Option Version) → true ≡ is_some found → IsAt a b line.items found
+        → FindsEnd b c → IfSome a (λ bytes. FindsGreatest Has bytes c (Ok (Some line)))
+    at_one line None some h n = absurd (search rules)
+    at_one line (Some version) some h n =
+        IfSome_then a h (λ xs at.
+        let last = at_last xs b c at.read at.behind n in
+        (subst (λ lines. IsGreatest Has lines line.items) (sym last.0) at.known.0, last.1))
 
-    pub at_one : {Z : Type 0} (line : Vec ℕ Z) (version : Version) → IsAt a b line.items (Some version) → FindsEnd b c
-        → IfSome a (λ bytes. FindsGreatest Has bytes c (Ok (Some line)))
-    at_one line version h n = go a h
-      where
-        go : (a : Option (List ℕ)) → IsAt a b line.items (Some version) → IfSome a (λ bytes. FindsGreatest Has bytes c (Ok (Some line)))
-        go None h = tt
-        go (Some xs) h =
-            let last = at_last xs b c h.read [] h.behind n in
-            (subst (λ lines. IsGreatest Has lines line.items) (sym last.0) h.known.0, last.1)
+    pub at_none : (Z : Type 0) (best : List ℕ) (found : Option Version) → false ≡ is_some found → IsAt a b best found
+        → FindsEnd b c → IfSome a (λ bytes. FindsGreatest {Z = Z} Has bytes c (Ok None))
+    at_none Z best None none h n =
+        IfSome_then a h (λ xs at.
+        let last = at_last xs b c at.read at.behind n in
+        (subst (HasNone Has) (sym last.0) at.known, last.1))
+    at_none Z best (Some version) none h n = absurd (search rules)
 
-    module _ (line : List ℕ) where
-      pub at_fault : (Z : Type 0) (e : LineError) → IsAt a b best found → ReadsPart b c line
+    module _ (best : List ℕ) (found : Option Version) where
+      pub at_fault : (Z : Type 0) (e : LineError) → IsAt a b best found → StopsInLine b c
           → IfSome a (λ bytes. FindsGreatest {Z = Z} Has bytes c (Err e))
-      at_fault Z e h n = go a h
+      at_fault Z e h n = IfSome_then a h (λ xs at. (at.read, in_line xs b c at.read at.behind n))
+
+      -- lines that aren't kept
+      pub at_passed : IsAt a b best found → PassesOver Has b c → IsAt a c best found
+      at_passed h n =
+          IfSome_then a h (λ xs at.
+          let next = more_lines xs b c at.read Has at.behind n in
+          record { read = at.read ++ next.0; behind = next.2; known = known at.read next.0 next.1 found at.known })
         where
-          go : (a : Option (List ℕ)) → IsAt a b best found → IfSome a (λ bytes. FindsGreatest {Z = Z} Has bytes c (Err e))
-          go None h = tt
-          go (Some xs) h = (h.read, in_line xs b c h.read line h.behind n)
+          known : (read more : List (List ℕ)) → HasNone Has more → (found : Option Version) → IsKnown read best found
+              → IsKnown (read ++ more) best found
+          known read more none None k = all_append (λ x. (w : VersionValue) → ¬ (Has x w)) read more k none
+          known read more none (Some version) (k, same) = (
+            stays_over Has read more best k (all_map (λ x. (w : VersionValue) → ¬ (Has x w)) (IsNotAbove Has k.version)
+                (λ x is_not w is. absurd (is_not w is)) more none),
+            same,
+          )
 
-      -- a line that isn't kept
-      pub at_dropped : IsAt a b best found → ReadsLine b c line → ((w : VersionValue) → ¬ (Has line w)) → IsAt a c best found
-      at_dropped h n none = go a h
-        where
-          known : (read : List (List ℕ)) (found : Option Version) → IsKnown read best found → IsKnown (read ++ line ∷ []) best found
-          known read None k = none_more Has read line k none
-          known read (Some version) (k, same) = (stays Has read line best k (λ w is. absurd (none w is)), same)
-
-          go : (a : Option (List ℕ)) → IsAt a b best found → IsAt a c best found
-          go None h = tt
-          go (Some xs) h =
-              record {
-                read = h.read ++ line ∷ [];
-                behind = one_line xs b c h.read line h.behind n;
-                known = known h.read found h.known;
-              }
-
-      module _ (version : Version) (v : VersionValue) (is : Has line v) (plain : (version_value version).plain ≡ v.plain)
+      module _ (line : List ℕ) (version : Version) (v : VersionValue) (is : Has line v) (plain : (version_value version).plain ≡ v.plain)
           (one : (x : List ℕ) (v w : VersionValue) → Has x v → Has x w → v ≡ w) (total : IsTotalOrder precedence) where
         -- a line that is kept, and above the greatest, if there is one
         pub at_greater : IsAt a b best found → ReadsLine b c line
             → IfSome found (λ other. precedence (version_value other).plain (version_value version).plain ≡ Less)
             → IsAt a c line (Some version)
-        at_greater h n above = go a h
+        at_greater h n above =
+            IfSome_then a h (λ xs at.
+            record {
+              read = at.read ++ line ∷ [];
+              behind = one_line xs b c at.read line at.behind n;
+              known = known at.read found at.known above;
+            })
           where
             known : (read : List (List ℕ)) (found : Option Version) → IsKnown read best found
                 → IfSome found (λ other. precedence (version_value other).plain (version_value version).plain ≡ Less)
@@ -117,20 +117,17 @@ module _ (Has : List ℕ → VersionValue → Type 0) where
               plain,
             )
 
-            go : (a : Option (List ℕ)) → IsAt a b best found → IsAt a c line (Some version)
-            go None h = tt
-            go (Some xs) h =
-                record {
-                  read = h.read ++ line ∷ [];
-                  behind = one_line xs b c h.read line h.behind n;
-                  known = known h.read found h.known above;
-                }
-
         -- a line that is kept, and isn't
         pub at_lower : IsAt a b best found → ReadsLine b c line
             → IsSomeAnd found (λ other. ¬ (precedence (version_value other).plain (version_value version).plain ≡ Less))
             → IsAt a c best found
-        at_lower h n low = go a h
+        at_lower h n low =
+            IfSome_then a h (λ xs at.
+            record {
+              read = at.read ++ line ∷ [];
+              behind = one_line xs b c at.read line at.behind n;
+              known = known at.read found at.known low;
+            })
           where
             known : (read : List (List ℕ)) (found : Option Version) → IsKnown read best found
                 → IsSomeAnd found (λ other. ¬ (precedence (version_value other).plain (version_value version).plain ≡ Less))
@@ -144,18 +141,3 @@ module _ (Has : List ℕ → VersionValue → Type 0) where
                   (subst (λ p. precedence p w.plain ≡ Less) (sym same) e)))),
               same,
             )
-
-            go : (a : Option (List ℕ)) → IsAt a b best found → IsAt a c best found
-            go None h = tt
-            go (Some xs) h =
-                record {
-                  read = h.read ++ line ∷ [];
-                  behind = one_line xs b c h.read line h.behind n;
-                  known = known h.read found h.known low;
-                }
-
-  -- between two lines
-  pub at_limit : (Z : Type 0) (a b : Option (List ℕ)) (best : List ℕ) (found : Option Version) (e : LineError) → IsAt a b best found
-      → IfSome a (λ bytes. FindsGreatest {Z = Z} Has bytes b (Err e))
-  at_limit Z None b best found e h = tt
-  at_limit Z (Some xs) b best found e h = (h.read, between xs b h.read h.behind)

@@ -36,18 +36,22 @@ module _ {X : Type 0} (Has : X → VersionValue → Type 0) where
         later = tt;
       }
 
-  -- an item that isn't above
-  abbrev pub stays : (xs : List X) (x g : X) (h : IsGreatest Has xs g) → IsNotAbove Has h.version x → IsGreatest Has (xs ++ x ∷ []) g
-  stays xs x g h low =
+  -- items that aren't above
+  abbrev pub stays_over : (xs ys : List X) (g : X) (h : IsGreatest Has xs g) → AllByRecursion (IsNotAbove Has h.version) ys
+      → IsGreatest Has (xs ++ ys) g
+  stays_over xs ys g h low =
       record {
         version = h.version;
         has = h.has;
         before = h.before;
-        after = h.after ++ x ∷ [];
-        stands = ap (λ l. l ++ x ∷ []) h.stands ∙ append_assoc h.before (g ∷ h.after) (x ∷ []);
+        after = h.after ++ ys;
+        stands = ap (λ l. l ++ ys) h.stands ∙ append_assoc h.before (g ∷ h.after) ys;
         earlier = h.earlier;
-        later = all_append (IsNotAbove Has h.version) h.after (x ∷ []) h.later (low, tt);
+        later = all_append (IsNotAbove Has h.version) h.after ys h.later low;
       }
+
+  abbrev pub stays : (xs : List X) (x g : X) (h : IsGreatest Has xs g) → IsNotAbove Has h.version x → IsGreatest Has (xs ++ x ∷ []) g
+  stays xs x g h low = stays_over xs (x ∷ []) g h (low, tt)
 
   -- an item that is above
   abbrev pub replaces : IsTotalOrder precedence → ((x : X) (v w : VersionValue) → Has x v → Has x w → v ≡ w)

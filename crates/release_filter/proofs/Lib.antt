@@ -4,5 +4,6 @@ mod Passing
 mod DerivedOrder
 mod StoredRanges
 mod LineReading
+mod ShownLines
 mod LineSteps
 mod GreatestLines

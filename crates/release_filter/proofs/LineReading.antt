@@ -5,7 +5,7 @@ use Rattle.std.specs.Option.{is_some}
 use Rattle.std.specs.Cmp.Lexicographic.{pointwise, bytes_decides}
 use Rattle.std.proofs.Math.Seq.{take-append_seam}
 use Rattle.std.proofs.lemmas.List.{append_cancel_left, take-append-drop}
-use Rattle.semver_parser.specs.Versions.{PlainVersion, VersionValue}
+use Rattle.semver_parser.specs.Versions.{VersionValue}
 use Rattle.semver_parser.specs.VersionGrammar.{SpellsVersion}
 use Rattle.semver_parser.specs.VersionViews.{version_value}
 use Rattle.semver_parser.specs.declared.version.Version.{Version}
@@ -60,23 +60,6 @@ pub some_passes : (test : VersionValue → Bool) (prefix line : List ℕ) (found
     → (is_some found ≡ true) ↔ IsKeptLine test prefix line
 some_passes test prefix line None none = ((λ e. absurd (search rules)), (λ kept. absurd (none kept)))
 some_passes test prefix line (Some x) (v, spelled, same) = ((λ e. (v, spelled)), (λ kept. refl))
-
--- what is told of the bytes of a line is told of the line
-pub is_one : (test : VersionValue → Bool) (prefix bytes line : List ℕ) (kept : Bool) → bytes ≡ line
-    → (kept ≡ true) ↔ IsKeptLine test prefix bytes → kept ≡ true → IsKeptLine test prefix line
-is_one test prefix bytes line kept same tells e = subst (IsKeptLine test prefix) same (tells.0 e)
-
-pub is_none : (test : VersionValue → Bool) (prefix bytes line : List ℕ) (kept : Bool) → bytes ≡ line
-    → (kept ≡ true) ↔ IsKeptLine test prefix bytes → kept ≡ false → ¬ (IsKeptLine test prefix line)
-is_none test prefix bytes line kept same tells e = λ h. not_both (tells.1 (subst (IsKeptLine test prefix) (sym same) h)) e
-
-pub spelled_line : (test : VersionValue → Bool) (prefix bytes line : List ℕ) (plain : PlainVersion) → bytes ≡ line
-    → SpellsPlain test prefix bytes plain → SpellsPlain test prefix line plain
-spelled_line test prefix bytes line plain same h = subst (λ l. SpellsPlain test prefix l plain) same h
-
-pub no_line : (test : VersionValue → Bool) (prefix bytes line : List ℕ) → bytes ≡ line → ¬ (IsKeptLine test prefix bytes)
-    → (w : VersionValue) → ¬ (SpellsOneThat test prefix line w)
-no_line test prefix bytes line same none w = λ h. none (w, subst (λ l. SpellsOneThat test prefix l w) (sym same) h)
 
 -- no text of a line has two versions
 pub one_of_line : ((v w : VersionValue) (text : List ℕ) → SpellsVersion v text → SpellsVersion w text → v ≡ w)

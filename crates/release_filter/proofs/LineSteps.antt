@@ -3,6 +3,7 @@ use Rattle.std.proofs.Common.{◌≡◌, ℕ, ◌<◌, inl, inr, eqb, Bool, true
 use Rattle.std.proofs.Common.{Ok, Err, refl, sym, ap, subst, ◌∙◌, arith, append_assoc, cond}
 use Rattle.std.proofs.lemmas.List.{append-nil}
 use Rattle.std.proofs.lemmas.List.Elements.{All-nil}
+use Rattle.std.proofs.lemmas.Option.{IfSome_then}
 use Rattle.std.specs.List.{concat}
 use Rattle.std.specs.Io.{StopsAt}
 use Rattle.std.specs.Io.KnownBytes.{Appends}
@@ -10,12 +11,15 @@ use Rattle.std.specs.Io.BufRead.{take_through, drop_through}
 use Rattle.std.specs.declared.io.Error.{Error}
 use Rattle.std.proofs.KnownBytes.{Appends-nil, Appends-trans}
 use Rattle.std.proofs.BufReadLemmas.{take_through_nonempty}
-use Rattle.semver_parser.specs.Texts.{is_empty}
+use Rattle.semver_parser.specs.Texts.{Text, is_empty}
+use Rattle.semver_parser.specs.Versions.{VersionValue}
 use Rattle.semver_parser.specs.Writing.{AppendsBeginning}
 use Rattle.release_filter.specs.declared.lines.LineError.{LineError}
 use Rattle.release_filter.specs.declared.lines.LineError.TheVariants.{OutOfMemory, Read, Write}
-use Rattle.release_filter.specs.KeptLines.{onto_first, lines_of, AreThose, CopiesLines, StandsIn}
-use Rattle.release_filter.specs.Means.Reading.{ReadsPart, ReadsLine, FindsEnd, IsNoWriting}
+use Rattle.release_filter.specs.Greatest.{HasNone}
+use Rattle.release_filter.specs.KeptLines.{onto_first, lines_of, AreThose, CopiesLines, StandsBehind, StandsIn, IsKeptLine, SpellsOneThat}
+use Rattle.release_filter.specs.Means.Reading.{ReadsPart, ReadsLine, FindsEnd, IsNoWriting, StopsInLine, PassesOver}
+use Rattle.release_filter.proofs.GreatestSteps.{none_more}
 
 -- the first line, and the lines behind it
 lines_from : (x : ℕ) (xs : List ℕ) → lines_of (x ∷ xs) ≡ take_through 10 (x ∷ xs) ∷ lines_of (drop_through 10 (x ∷ xs))
@@ -36,21 +40,13 @@ first_line : (xs : List ℕ) → 0 < length xs → lines_of xs ≡ take_through 
 first_line [] some = absurd (omega arith)
 first_line (x ∷ xs) some = lines_from x xs
 
--- one more line behind the others, kept or not
-kept_behind : (IsKept : List ℕ → Type 0) (lines kept : List (List ℕ)) (line : List ℕ) → AreThose IsKept lines kept → IsKept line
-    → AreThose IsKept (lines ++ line ∷ []) (kept ++ line ∷ [])
-kept_behind IsKept [] kept line none is = inl ([], is, ap (λ l. l ++ line ∷ []) none, refl)
-kept_behind IsKept (first ∷ lines) kept line (inl (rest, first_is, whole, those)) is =
-    inl (rest ++ line ∷ [], first_is, ap (λ l. l ++ line ∷ []) whole, kept_behind IsKept lines rest line those is)
-kept_behind IsKept (first ∷ lines) kept line (inr (not_first, those)) is = inr (not_first, kept_behind IsKept lines kept line those is)
-
-dropped_behind : (IsKept : List ℕ → Type 0) (lines kept : List (List ℕ)) (line : List ℕ) → AreThose IsKept lines kept → ¬ (IsKept line)
-    → AreThose IsKept (lines ++ line ∷ []) kept
-dropped_behind IsKept [] kept line none is_not = inr (is_not, none)
-dropped_behind IsKept (first ∷ lines) kept line (inl (rest, first_is, whole, those)) is_not =
-    inl (rest, first_is, whole, dropped_behind IsKept lines rest line those is_not)
-dropped_behind IsKept (first ∷ lines) kept line (inr (not_first, those)) is_not =
-    inr (not_first, dropped_behind IsKept lines kept line those is_not)
+-- what one list of lines keeps and then another
+those_append : (IsKept : List ℕ → Type 0) (xs ys kept more : List (List ℕ)) → AreThose IsKept xs kept → AreThose IsKept ys more
+    → AreThose IsKept (xs ++ ys) (kept ++ more)
+those_append IsKept [] ys kept more none those = subst (λ l. AreThose IsKept ys (l ++ more)) (sym none) those
+those_append IsKept (x ∷ xs) ys kept more (inl (rest, is, whole, those)) later =
+    inl (rest ++ more, is, ap (λ l. l ++ more) whole, those_append IsKept xs ys rest more those later)
+those_append IsKept (x ∷ xs) ys kept more (inr (is_not, those)) later = inr (is_not, those_append IsKept xs ys kept more those later)
 
 concat_behind : (lines : List (List ℕ)) (line : List ℕ) → concat (lines ++ line ∷ []) ≡ concat lines ++ line
 concat_behind [] line = append-nil line
@@ -60,53 +56,77 @@ some_behind : (lines : List (List ℕ)) (line : List ℕ) → not (is_empty (lin
 some_behind [] line = refl
 some_behind (first ∷ lines) line = refl
 
--- where a reader stands among the lines of its bytes: behind these
-pub record Behind (bytes : List ℕ) (b : Option (List ℕ)) (read : List (List ℕ)) : Type 0 where
-  pub rest : List ℕ
-  pub left : b ≡ Some rest
-  pub lines : lines_of bytes ≡ read ++ lines_of rest
-
-pub at_first : (bytes : List ℕ) → Behind bytes (Some bytes) []
-at_first bytes = record { rest = bytes; left = refl; lines = refl }
-
-module _ (bytes : List ℕ) (b c : Option (List ℕ)) (read : List (List ℕ)) (line : List ℕ) (h : Behind bytes b read) where
+-- a reader that stands behind some lines of its bytes, and reads on
+module _ (bytes : List ℕ) (b c : Option (List ℕ)) (read : List (List ℕ)) where
   -- the next line was read
-  pub one_line : ReadsLine b c line → Behind bytes c (read ++ line ∷ [])
-  one_line n =
-      let next : (line ≡ take_through 10 h.rest) × (0 < length line) × (c ≡ Some (drop_through 10 h.rest)) =
-      subst (λ o. ReadsLine o c line) h.left n in
-      let long = take_through_nonempty 10 h.rest (subst (λ l. 0 < length l) next.0 next.1) in
-      record {
-        rest = drop_through 10 h.rest;
-        left = next.2;
-        lines = h.lines ∙ ap (λ l. read ++ l) (first_line h.rest long)
-            ∙ ap (λ l. read ++ l ∷ lines_of (drop_through 10 h.rest)) (sym next.0)
-            ∙ sym (append_assoc read (line ∷ []) (lines_of (drop_through 10 h.rest)));
-      }
+  pub one_line : (line : List ℕ) → StandsBehind bytes read b → ReadsLine b c line → StandsBehind bytes (read ++ line ∷ []) c
+  one_line line (rest, left, lines) n =
+      let behind = drop_through 10 rest in
+      let next : (line ≡ take_through 10 rest) × (0 < length line) × (c ≡ Some behind) = subst (λ o. ReadsLine o c line) left n in
+      let long = take_through_nonempty 10 rest (subst (λ l. 0 < length l) next.0 next.1) in (
+        behind,
+        next.2,
+        lines ∙ ap (λ l. read ++ l) (first_line rest long) ∙ ap (λ l. read ++ l ∷ lines_of behind) (sym next.0)
+            ∙ sym (append_assoc read (line ∷ []) (lines_of behind)),
+      )
 
-  -- it, or a beginning of it, was read, and there it ends
-  pub in_line : ReadsPart b c line → StandsIn bytes read c
-  in_line n =
-      let next : (rest : List ℕ) × (c ≡ Some rest) × (h.rest ≡ line ++ rest) × StopsAt line 10 =
-      subst (λ o. ReadsPart o c line) h.left n in
-      (line, next.0, next.1, h.lines ∙ ap (λ l. read ++ lines_of l) next.2, next.3)
+  -- some more lines were passed over
+  pub more_lines : (Has : List ℕ → VersionValue → Type 0) → StandsBehind bytes read b → PassesOver Has b c
+      → (more : List (List ℕ)) × HasNone Has more × StandsBehind bytes (read ++ more) c
+  more_lines Has (rest, left, lines) n =
+      let over : (more : List (List ℕ)) × HasNone Has more × StandsBehind rest more c = subst (λ o. PassesOver Has o c) left n in
+      let (more, none, (later, at, those)) = over in
+      (more, none, (later, at, lines ∙ ap (λ l. read ++ l) those ∙ sym (append_assoc read more (lines_of later))))
+
+  -- the next line, or a beginning of it, was read, and there it ends
+  pub in_line : StandsBehind bytes read b → StopsInLine b c → StandsIn bytes read c
+  in_line (rest, left, lines) (line, n) =
+      let next : (later : List ℕ) × (c ≡ Some later) × (rest ≡ line ++ later) × StopsAt line 10 = subst (λ o. ReadsPart o c line) left n in
+      (line, next.0, next.1, lines ∙ ap (λ l. read ++ lines_of l) next.2, next.3)
 
   -- nothing was left
-  pub at_last : FindsEnd b c → (lines_of bytes ≡ read) × (c ≡ Some [])
-  at_last n =
-      let end : (h.rest ≡ []) × (c ≡ Some []) = subst (λ o. FindsEnd o c) h.left n in
-      (h.lines ∙ ap (λ l. read ++ lines_of l) end.0 ∙ append-nil read, end.1)
+  pub at_last : StandsBehind bytes read b → FindsEnd b c → (lines_of bytes ≡ read) × (c ≡ Some [])
+  at_last (rest, left, lines) n =
+      let end : (rest ≡ []) × (c ≡ Some []) = subst (λ o. FindsEnd o c) left n in
+      (lines ∙ ap (λ l. read ++ lines_of l) end.0 ∙ append-nil read, end.1)
 
--- between two lines, and reading no more
-pub between : (bytes : List ℕ) (b : Option (List ℕ)) (read : List (List ℕ)) → Behind bytes b read → StandsIn bytes read b
-between bytes b read h = ([], h.rest, h.left, h.lines, All-nil _)
+-- nothing was read
+pub stops_before : (b : Option (List ℕ)) → StopsInLine b b
+stops_before None = ([], tt)
+stops_before (Some xs) = ([], (xs, refl, refl, All-nil _))
 
-module _ (IsKept : List ℕ → Type 0) where
+module _ (Has : List ℕ → VersionValue → Type 0) where
+  -- no line was passed over, and one more
+  pub none_passed : (a : Option (List ℕ)) → PassesOver Has a a
+  none_passed None = tt
+  none_passed (Some xs) = ([], tt, (xs, refl, refl))
+
+  pub one_passed : (a b c : Option (List ℕ)) (line : List ℕ) → PassesOver Has a b → ReadsLine b c line
+      → ((w : VersionValue) → ¬ (Has line w)) → PassesOver Has a c
+  one_passed a b c line h n is_not =
+      IfSome_then a h (λ bytes over. (
+        over.0 ++ line ∷ [],
+        none_more Has over.0 line over.1 is_not,
+        one_line bytes b c over.0 line over.2 n,
+      ))
+
+module _ (test : VersionValue → Bool) (prefix : Text) where
+  abbrev IsKept : List ℕ → Type 0
+  IsKept line = IsKeptLine test prefix line
+
+  abbrev Has : List ℕ → VersionValue → Type 0
+  Has line v = SpellsOneThat test prefix line v
+
+  -- of lines that were passed over none is kept
+  none_those : (lines : List (List ℕ)) → HasNone Has lines → AreThose IsKept lines []
+  none_those [] none = refl
+  none_those (line ∷ lines) none = inr ((λ is. none.0 is.0 is.1), none_those lines none.1)
+
   -- from the writer's bytes w, a filter has come to v behind whole lines, and has kept one or not
   pub record Stands (bytes : List ℕ) (b w v : Option (List ℕ)) (some : Bool) : Type 0 where
     pub read : List (List ℕ)
     pub kept : List (List ℕ)
-    pub behind : Behind bytes b read
+    pub behind : StandsBehind bytes read b
     pub those : AreThose IsKept read kept
     pub written : Appends w v (concat kept)
     pub tells : some ≡ not (is_empty kept)
@@ -117,91 +137,70 @@ module _ (IsKept : List ℕ → Type 0) where
   pub at_start : (a w : Option (List ℕ)) → IsAt a a w w false
   at_start None w = tt
   at_start (Some xs) w =
-      record { read = []; kept = []; behind = at_first xs; those = refl; written = Appends-nil w; tells = refl }
+      record { read = []; kept = []; behind = (xs, refl, refl); those = refl; written = Appends-nil w; tells = refl }
 
   module _ (a b c w v : Option (List ℕ)) (some : Bool) where
+    -- lines that aren't kept
+    pub at_passed : IsAt a b w v some → PassesOver Has b c → IsAt a c w v some
+    at_passed h n =
+        IfSome_then a h (λ xs at.
+        let next = more_lines xs b c at.read Has at.behind n in
+        record {
+          read = at.read ++ next.0;
+          kept = at.kept;
+          behind = next.2;
+          those = subst (AreThose IsKept (at.read ++ next.0)) (append-nil at.kept)
+              (those_append IsKept at.read next.0 at.kept [] at.those (none_those next.0 next.1));
+          written = at.written;
+          tells = at.tells;
+        })
+
     -- nothing is left
     pub at_end : IsAt a b w v some → FindsEnd b c → IfSome a (λ bytes. CopiesLines IsKept bytes c w v (Ok some))
-    at_end h n = go a h
+    at_end h n =
+        IfSome_then a h (λ xs at.
+        let last = at_last xs b c at.read at.behind n in
+        (at.kept, subst (λ l. AreThose IsKept l at.kept) (sym last.0) at.those, last.1, at.written, at.tells))
+
+    -- a fault that isn't one of writing
+    pub at_fault : (e : LineError) → IsNoWriting e → IsAt a b w v some → StopsInLine b c
+        → IfSome a (λ bytes. CopiesLines IsKept bytes c w v (Err e))
+    at_fault e reading h n = IfSome_then a h (λ xs at. told e reading at (in_line xs b c at.read at.behind n))
       where
-        go : (a : Option (List ℕ)) → IsAt a b w v some → IfSome a (λ bytes. CopiesLines IsKept bytes c w v (Ok some))
-        go None h = tt
-        go (Some xs) h =
-            let last = at_last xs b c h.read [] h.behind n in
-            (h.kept, subst (λ l. AreThose IsKept l h.kept) (sym last.0) h.those, last.1, h.written, h.tells)
+        told : {xs : List ℕ} (e : LineError) → IsNoWriting e → (at : Stands xs b w v some) → StandsIn xs at.read c
+            → CopiesLines IsKept xs c w v (Err e)
+        told OutOfMemory reading at n = (at.read, at.kept, at.those, n, at.written)
+        told (Read error) reading at n = (at.read, at.kept, at.those, n, at.written)
+        told (Write error) reading at n = absurd reading
 
-    -- a fault that isn't one of writing, in a line or between two
-    fault : (bytes : List ℕ) (e : LineError) → IsNoWriting e → (h : Stands bytes b w v some) → StandsIn bytes h.read c
-        → CopiesLines IsKept bytes c w v (Err e)
-    fault bytes OutOfMemory reading h n = (h.read, h.kept, h.those, n, h.written)
-    fault bytes (Read error) reading h n = (h.read, h.kept, h.those, n, h.written)
-    fault bytes (Write error) reading h n = absurd reading
-
-    module _ (line : List ℕ) where
-      pub at_fault : (e : LineError) → IsNoWriting e → IsAt a b w v some → ReadsPart b c line
-          → IfSome a (λ bytes. CopiesLines IsKept bytes c w v (Err e))
-      at_fault e reading h n = go a h
-        where
-          go : (a : Option (List ℕ)) → IsAt a b w v some → IfSome a (λ bytes. CopiesLines IsKept bytes c w v (Err e))
-          go None h = tt
-          go (Some xs) h = fault xs e reading h (in_line xs b c h.read line h.behind n)
-
-      -- a line that isn't kept
-      pub at_dropped : IsAt a b w v some → ReadsLine b c line → ¬ (IsKept line) → IsAt a c w v some
-      at_dropped h n is_not = go a h
-        where
-          go : (a : Option (List ℕ)) → IsAt a b w v some → IsAt a c w v some
-          go None h = tt
-          go (Some xs) h =
-              record {
-                read = h.read ++ line ∷ [];
-                kept = h.kept;
-                behind = one_line xs b c h.read line h.behind n;
-                those = dropped_behind IsKept h.read h.kept line h.those is_not;
-                written = h.written;
-                tells = h.tells;
-              }
-
-      -- one that is kept, and was written
-      pub at_kept : (u : Option (List ℕ)) → IsAt a b w v some → ReadsLine b c line → IsKept line → Appends v u line → IsAt a c w u true
-      at_kept u h n is p = go a h
-        where
-          go : (a : Option (List ℕ)) → IsAt a b w v some → IsAt a c w u true
-          go None h = tt
-          go (Some xs) h =
-              record {
-                read = h.read ++ line ∷ [];
-                kept = h.kept ++ line ∷ [];
-                behind = one_line xs b c h.read line h.behind n;
-                those = kept_behind IsKept h.read h.kept line h.those is;
-                written = subst (λ l. Appends w u l) (sym (concat_behind h.kept line))
-                    (Appends-trans w v u (concat h.kept) line h.written p);
-                tells = sym (some_behind h.kept line);
-              }
+    module _ (u : Option (List ℕ)) (line : List ℕ) where
+      -- a line that is kept, and was written
+      pub at_kept : IsAt a b w v some → ReadsLine b c line → IsKept line → Appends v u line → IsAt a c w u true
+      at_kept h n is p =
+          IfSome_then a h (λ xs at.
+          record {
+            read = at.read ++ line ∷ [];
+            kept = at.kept ++ line ∷ [];
+            behind = one_line xs b c at.read line at.behind n;
+            those = those_append IsKept at.read (line ∷ []) at.kept (line ∷ []) at.those (inl ([], is, refl, refl));
+            written = subst (λ l. Appends w u l) (sym (concat_behind at.kept line))
+                (Appends-trans w v u (concat at.kept) line at.written p);
+            tells = sym (some_behind at.kept line);
+          })
 
       -- one that is kept, and of which a beginning was written
-      pub at_broken : (u : Option (List ℕ)) (e : Error) → IsAt a b w v some → ReadsLine b c line → IsKept line
-          → AppendsBeginning v u line → IfSome a (λ bytes. CopiesLines IsKept bytes c w u (Err (Write e)))
-      at_broken u e h n is p = go a h
-        where
-          go : (a : Option (List ℕ)) → IsAt a b w v some → IfSome a (λ bytes. CopiesLines IsKept bytes c w u (Err (Write e)))
-          go None h = tt
-          go (Some xs) h =
-              let next = one_line xs b c h.read line h.behind n in (
-                h.read,
-                h.kept,
-                line,
-                h.those,
-                is,
-                (next.rest, next.left, next.lines),
-                p.0,
-                p.1,
-                p.2,
-                Appends-trans w v u (concat h.kept) p.0 h.written p.3,
-              )
-
-  -- between two lines
-  pub at_limit : (a b w v : Option (List ℕ)) (some : Bool) (e : LineError) → IsNoWriting e → IsAt a b w v some
-      → IfSome a (λ bytes. CopiesLines IsKept bytes b w v (Err e))
-  at_limit None b w v some e reading h = tt
-  at_limit (Some xs) b w v some e reading h = fault (Some xs) b b w v some xs e reading h (between xs b h.read h.behind)
+      pub at_broken : (e : Error) → IsAt a b w v some → ReadsLine b c line → IsKept line → AppendsBeginning v u line
+          → IfSome a (λ bytes. CopiesLines IsKept bytes c w u (Err (Write e)))
+      at_broken e h n is p =
+          IfSome_then a h (λ xs at. (
+            at.read,
+            at.kept,
+            line,
+            at.those,
+            is,
+            one_line xs b c at.read line at.behind n,
+            p.0,
+            p.1,
+            p.2,
+            Appends-trans w v u (concat at.kept) p.0 at.written p.3,
+          ))

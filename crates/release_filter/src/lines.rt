@@ -1,7 +1,9 @@
 //! A filter over the lines of a stream.
 
-ghost use Rattle.std.specs.Prelude.{◌≡◌, ◌↔◌, ◌++◌, [], true, false, IfOk, IfErr, IfSome};
-ghost use Rattle.std.specs.Prelude.{MatchOption};
+ghost use Rattle.std.specs.Prelude.{◌≡◌, ◌≢◌, ◌↔◌, ◌++◌, [], true, false, IfOk, IfErr, IfSome};
+ghost use Rattle.std.specs.Prelude.{MatchOption, Option, None, List, ℕ, All};
+ghost use Rattle.std.specs.Io.{StartsWith};
+ghost use Rattle.std.specs.Io.KnownBytes.{Keeps};
 ghost use Rattle.std.specs.Io.BufRead.{strip_last};
 ghost use Rattle.std.specs.declared.cmp.Ordering.TheVariants.{Less};
 ghost use Rattle.semver_parser.specs.Precedence.{precedence};
@@ -10,7 +12,8 @@ ghost use Rattle.release_filter.specs.Filters.{passes};
 ghost use Rattle.release_filter.specs.KeptLines.{line_text, SpellsOneThat, IsKeptLine};
 ghost use Rattle.release_filter.specs.KeptLines.{CopiesLines, FindsGreatest};
 ghost use Rattle.release_filter.specs.Means.Reading.{ReadsPart, ReadsLine, FindsEnd, IsNoWriting};
-ghost use Rattle.release_filter.specs.Means.Reading.{SpellsPlain};
+ghost use Rattle.release_filter.specs.Means.Reading.{SpellsPlain, IsWholeLine, Judges};
+ghost use Rattle.release_filter.specs.Means.Reading.{JudgesNext, PassesOver, FindsNext};
 ghost use Rattle.semver_parser.specs.Texts.{Text};
 
 use crate::filter::Filter;
@@ -93,20 +96,15 @@ impl Filter {
         let mut line = Vec::new(alloc);
         let mut has_kept = false;
         'lines: for _ in 0..u64::MAX {
-            match read_line(input, &mut line) {
-                Ok(true) => {}
-                Ok(false) => return Ok(has_kept),
+            match self.next_kept(alloc, prefix, input, &mut line) {
+                Ok(Some(_)) => {}
+                Ok(None) => return Ok(has_kept),
                 Err(error) => return Err(error),
             }
-            let Ok(is_kept) = self.keeps_line(alloc, prefix, line.as_slice()) else {
-                return Err(LineError::OutOfMemory);
-            };
-            if is_kept {
-                if let Err(error) = write_whole(out, line.as_slice()) {
-                    return Err(LineError::Write(error));
-                }
-                has_kept = true;
+            if let Err(error) = write_whole(out, line.as_slice()) {
+                return Err(LineError::Write(error));
             }
+            has_kept = true;
         }
         Err(too_many_lines())
     }
@@ -155,17 +153,11 @@ impl Filter {
         let mut greatest_line = Vec::new(alloc);
         let mut greatest = None;
         'lines: for _ in 0..u64::MAX {
-            match read_line(input, &mut line) {
-                Ok(true) => {}
-                Ok(false) if greatest.is_some() => return Ok(Some(greatest_line)),
-                Ok(false) => return Ok(None),
+            let version = match self.next_kept(alloc, prefix, input, &mut line) {
+                Ok(Some(version)) => version,
+                Ok(None) if greatest.is_some() => return Ok(Some(greatest_line)),
+                Ok(None) => return Ok(None),
                 Err(error) => return Err(error),
-            }
-            let Ok(version) = self.kept_version(alloc, prefix, line.as_slice()) else {
-                return Err(LineError::OutOfMemory);
-            };
-            let Some(version) = version else {
-                continue 'lines;
             };
             if is_greatest(&version, &greatest) {
                 mem::swap(&mut line, &mut greatest_line);
@@ -173,6 +165,130 @@ impl Filter {
             }
         }
         Err(too_many_lines())
+    }
+
+    /// The version that the next kept line spells, with that line in `line`; `None` where no kept
+    /// line is left. What stands before it is passed over.
+    fn next_kept<R: BufRead>(
+        &self,
+        alloc: Global,
+        prefix: &str,
+        input: &mut R,
+        line: &mut Vec<u8>,
+    ) -> Result<Option<Version>, LineError>
+        ensures finds { (here : Option (List ℕ))
+            × PassesOver (SpellsOneThat (passes self.now) prefix.now) (R.remaining input.old) here
+            × FindsNext (passes self.now) prefix.now here (R.remaining input.new)
+            line.new.items result }
+        ensures no_writing { IfErr result IsNoWriting }
+    {
+        'lines: for _ in 0..u64::MAX {
+            let Some(found) = self.judge_next(alloc, prefix, input, line)? else {
+                return Ok(None);
+            };
+            if let Some(version) = found {
+                return Ok(Some(version));
+            }
+        }
+        Err(too_many_lines())
+    }
+
+    /// Takes the next line, and answers the version of it if it is kept, with the line in `line`;
+    /// `None` where no line is left.
+    #[inline(always)]
+    fn judge_next<R: BufRead>(
+        &self,
+        alloc: Global,
+        prefix: &str,
+        input: &mut R,
+        line: &mut Vec<u8>,
+    ) -> Result<Option<Option<Version>>, LineError>
+        ensures judges { JudgesNext (FindsEnd (R.remaining input.old) (R.remaining input.new))
+            (passes self.now) prefix.now (R.remaining input.old) (R.remaining input.new)
+            line.new.items result }
+        ensures no_writing { IfErr result IsNoWriting }
+    {
+        match self.judge_shown(alloc, prefix, input, line) {
+            Ok(None) => self.judge_read(alloc, prefix, input, line),
+            judged => judged,
+        }
+    }
+
+    /// What `judge_next` does where the reader shows the next line whole, without reading it;
+    /// `None`, and nothing is done, where it doesn't.
+    #[inline(always)]
+    fn judge_shown<R: BufRead>(
+        &self,
+        alloc: Global,
+        prefix: &str,
+        input: &mut R,
+        line: &mut Vec<u8>,
+    ) -> Result<Option<Option<Version>>, LineError>
+        ensures judges { JudgesNext (Keeps (R.remaining input.old) (R.remaining input.new))
+            (passes self.now) prefix.now (R.remaining input.old) (R.remaining input.new)
+            line.new.items result }
+        ensures no_writing { IfErr result IsNoWriting }
+    {
+        let shown = match input.fill_buf() {
+            Ok(shown) => shown,
+            Err(error) if error.kind() == ErrorKind::Interrupted => return Ok(None),
+            Err(error) => return Err(reading_fault(error)),
+        };
+        let Some(first) = whole_line(shown) else {
+            return Ok(None);
+        };
+        let judged = self.copy_kept(alloc, prefix, first, line);
+        let count = first.len();
+        input.consume(count);
+        match judged {
+            Ok(version) => Ok(Some(version)),
+            Err(_) => Err(LineError::OutOfMemory),
+        }
+    }
+
+    /// What `judge_next` does of a line that is read into `line`.
+    #[inline(always)]
+    fn judge_read<R: BufRead>(
+        &self,
+        alloc: Global,
+        prefix: &str,
+        input: &mut R,
+        line: &mut Vec<u8>,
+    ) -> Result<Option<Option<Version>>, LineError>
+        ensures judges { JudgesNext (FindsEnd (R.remaining input.old) (R.remaining input.new))
+            (passes self.now) prefix.now (R.remaining input.old) (R.remaining input.new)
+            line.new.items result }
+        ensures no_writing { IfErr result IsNoWriting }
+    {
+        match read_line(input, line) {
+            Ok(true) => {}
+            Ok(false) => return Ok(None),
+            Err(error) => return Err(error),
+        }
+        match self.kept_version(alloc, prefix, line.as_slice()) {
+            Ok(version) => Ok(Some(version)),
+            Err(_) => Err(LineError::OutOfMemory),
+        }
+    }
+
+    /// The version that a line spells behind the prefix, if it passes; then `copy` is that line.
+    #[inline(always)]
+    fn copy_kept(
+        &self,
+        alloc: Global,
+        prefix: &str,
+        line: &[u8],
+        copy: &mut Vec<u8>,
+    ) -> Result<Option<Version>, AllocError>
+        ensures { IfOk result
+            (Judges (passes self.now) prefix.now line.now copy.new.items) }
+    {
+        let version = self.kept_version(alloc, prefix, line)?;
+        if version.is_some() {
+            copy.clear();
+            copy.extend_from_slice(line)?;
+        }
+        Ok(version)
     }
 
     /// Whether a line is kept.
@@ -229,6 +345,19 @@ fn is_greatest(version: &Version, greatest: &Option<Version>) -> bool
     }
 }
 
+/// The first line with its end, if some line has one.
+#[inline(always)]
+fn whole_line(bytes: &[u8]) -> Option<&[u8]>
+    ensures none { result ≡ None → All (λ x. x ≢ 10) bytes.now }
+    ensures front { IfSome result (λ line. StartsWith bytes.now line.now) }
+    ensures whole { IfSome result (λ line. IsWholeLine line.now) }
+{
+    match bytes.iter().position(|byte| *byte == b'\n') {
+        Some(place) => Some(&bytes[..place + 1]),
+        None => None,
+    }
+}
+
 /// Reads the next line in place of another, with its end: whether there was one.
 #[inline(always)]
 fn read_line<R: BufRead>(input: &mut R, line: &mut Vec<u8>) -> Result<bool, LineError>
@@ -241,9 +370,18 @@ fn read_line<R: BufRead>(input: &mut R, line: &mut Vec<u8>) -> Result<bool, Line
     line.clear();
     match input.read_until(b'\n', line) {
         Ok(count) => Ok(count > 0),
-        Err(error) if error.kind() == ErrorKind::OutOfMemory => Err(LineError::OutOfMemory),
-        Err(error) => Err(LineError::Read(error)),
+        Err(error) => Err(reading_fault(error)),
     }
+}
+
+/// The fault of a reader that failed.
+fn reading_fault(error: io::Error) -> LineError
+    ensures { IsNoWriting result }
+{
+    if error.kind() == ErrorKind::OutOfMemory {
+        return LineError::OutOfMemory;
+    }
+    LineError::Read(error)
 }
 
 /// The fault of an input without end.

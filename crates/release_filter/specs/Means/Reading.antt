@@ -1,10 +1,14 @@
 -- What reading a line did to the bytes that a reader tells: a means of proof.
-use Rattle.std.specs.Prelude.{◌≡◌, Bool, ℕ, ◌<◌, List, [], ◌++◌, length, ⊤, Option, Some, IfSome}
-use Rattle.std.specs.Io.{StopsAt}
+use Rattle.std.specs.Prelude.{◌≡◌, Bool, ℕ, ◌<◌, List, [], ◌++◌, length, ⊤, Option, Some, None, IfSome}
+use Rattle.std.specs.Prelude.{MatchOption, Result, Ok, Err}
+use Rattle.std.specs.Io.{StopsAt, IsEmptyOrEndsWith}
 use Rattle.std.specs.Io.BufRead.{take_through, drop_through}
 use Rattle.semver_parser.specs.Texts.{Text}
 use Rattle.semver_parser.specs.Versions.{PlainVersion, VersionValue}
-use Rattle.release_filter.specs.KeptLines.{SpellsOneThat}
+use Rattle.semver_parser.specs.VersionViews.{version_value}
+use Rattle.semver_parser.specs.declared.version.Version.{Version}
+use Rattle.release_filter.specs.Greatest.{HasNone}
+use Rattle.release_filter.specs.KeptLines.{SpellsOneThat, IsKeptLine, StandsBehind}
 use Rattle.release_filter.specs.declared.lines.LineError.{LineError}
 use Rattle.release_filter.specs.declared.lines.LineError.TheVariants.{OutOfMemory, Read, Write}
 
@@ -34,3 +38,39 @@ IsNoWriting (Write error) = ⊥
 abbrev pub SpellsPlain : (VersionValue → Bool) → Text → List ℕ → PlainVersion → Type 0
 SpellsPlain test prefix line plain =
     (v : VersionValue) × SpellsOneThat test prefix line v × (plain ≡ v.plain)
+
+-- a line that ends with a line feed
+abbrev pub IsWholeLine : List ℕ → Type 0
+IsWholeLine line = (0 < length line) × StopsAt line 10 × IsEmptyOrEndsWith line 10
+
+-- reading came to somewhere in the first line
+abbrev pub StopsInLine : Option (List ℕ) → Option (List ℕ) → Type 0
+StopsInLine old new = (begun : List ℕ) × ReadsPart old new begun
+
+-- the line isn't kept; or it is, and spells this version, and a copy of it was made
+abbrev pub Judges : (VersionValue → Bool) → Text → List ℕ → List ℕ → Option Version → Type 0
+Judges test prefix line copy found =
+    MatchOption found (¬ (IsKeptLine test prefix line))
+    (λ v. (copy ≡ line) × SpellsPlain test prefix line (version_value v).plain)
+
+-- the first line was taken and judged, or there was nothing to take, which says this
+abbrev pub JudgesNext : Type 0 → (VersionValue → Bool) → Text → Option (List ℕ)
+    → Option (List ℕ) → List ℕ → Result (Option (Option Version)) LineError → Type 0
+JudgesNext Nothing test prefix old new copy (Ok None) = Nothing
+JudgesNext Nothing test prefix old new copy (Ok (Some found)) =
+    (line : List ℕ) × ReadsLine old new line × Judges test prefix line copy found
+JudgesNext Nothing test prefix old new copy (Err error) = StopsInLine old new
+
+-- some lines were read, of which none has a version that passes
+abbrev pub PassesOver : (List ℕ → VersionValue → Type 0) → Option (List ℕ) → Option (List ℕ)
+    → Type 0
+PassesOver Has old new =
+    IfSome old (λ bytes. (lines : List (List ℕ)) × HasNone Has lines × StandsBehind bytes lines new)
+
+-- the first line was read, which is kept, and spells this version; or there was none
+abbrev pub FindsNext : (VersionValue → Bool) → Text → Option (List ℕ) → Option (List ℕ)
+    → List ℕ → Result (Option Version) LineError → Type 0
+FindsNext test prefix old new line (Ok None) = FindsEnd old new
+FindsNext test prefix old new line (Ok (Some v)) =
+    ReadsLine old new line × SpellsPlain test prefix line (version_value v).plain
+FindsNext test prefix old new line (Err error) = StopsInLine old new
