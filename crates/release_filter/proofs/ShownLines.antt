@@ -1,10 +1,17 @@
--- A line that a reader shows whole, and what is left of the bytes once it is let go.
-use Rattle.std.proofs.Common.{◌≡◌, ℕ, ◌≤◌, length, List, [], Option, Some, None, IfSome, ap, sym, subst, ◌∙◌, arith, length-take, refl}
+-- What a line is judged to be that a reader shows whole and lets go, or that was read.
+use Rattle.std.proofs.Common.{◌≡◌, ℕ, ◌≤◌, length, List, [], Bool, Option, Some, None, IfSome, Result, Ok, Err, IfOk, MatchOption, MatchResult, ap, sym, subst, ◌∙◌, arith, length-take, refl}
 use Rattle.std.specs.Io.{StartsWith, StopsAt}
 use Rattle.std.specs.Io.KnownBytes.{Keeps, Consumes}
 use Rattle.std.specs.Io.BufRead.{DropsConsumable, take_through, drop_through}
 use Rattle.std.proofs.BufReadLemmas.{Consumes_shown, through_part}
-use Rattle.release_filter.specs.Means.Reading.{ReadsPart, ReadsLine, IsWholeLine}
+use Rattle.semver_parser.specs.Texts.{Text}
+use Rattle.semver_parser.specs.Versions.{VersionValue}
+use Rattle.semver_parser.specs.VersionViews.{version_value}
+use Rattle.semver_parser.specs.declared.version.Version.{Version}
+use Rattle.release_filter.specs.declared.lines.LineError.{LineError}
+use Rattle.release_filter.specs.declared.lines.LineError.TheVariants.{OutOfMemory}
+use Rattle.release_filter.specs.KeptLines.{IsKeptLine}
+use Rattle.release_filter.specs.Means.Reading.{ReadsPart, ReadsLine, IsWholeLine, SpellsPlain, Judges, JudgesNext}
 
 -- the bytes that `consume` takes are the front of what was shown
 pub let_go : (a b c : Option (List ℕ)) (buffered : Option ℕ) (shown line : List ℕ) → StartsWith shown line
@@ -26,3 +33,20 @@ pub part_read : (a c : Option (List ℕ)) (line : List ℕ) → Consumes a c lin
 part_read None c line p stops = tt
 part_read (Some x) None line p stops = absurd p
 part_read (Some x) (Some y) line p stops = (y, refl, p, stops)
+
+module _ {E : Type 0} (test : VersionValue → Bool) (prefix : Text) (line : List ℕ) where
+  -- a line that stands in the place of the copy
+  pub in_place : (found : Result (Option Version) E) → IfOk found (λ found. MatchOption found (¬ (IsKeptLine test prefix line))
+      (λ v. SpellsPlain test prefix line (version_value v).plain)) → IfOk found (Judges test prefix line line)
+  in_place (Ok None) h = h
+  in_place (Ok (Some version)) h = (refl, h)
+  in_place (Err e) h = tt
+
+  -- what was found of a line is what it is judged to be
+  pub is_judged : (Nothing : Type 0) (a c : Option (List ℕ)) (copy : List ℕ) (found : Result (Option Version) E)
+      (result : Result (Option (Option Version)) LineError)
+      → MatchResult found (λ version. result ≡ Ok (Some version)) (λ e. result ≡ Err OutOfMemory)
+      → IfOk found (Judges test prefix line copy) → ReadsLine a c line → ReadsPart a c line
+      → JudgesNext Nothing test prefix a c copy result
+  is_judged Nothing a c copy (Ok version) result is judges whole part = rw is (line, whole, judges)
+  is_judged Nothing a c copy (Err e) result is judges whole part = rw is (line, part)

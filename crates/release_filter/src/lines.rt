@@ -1,7 +1,7 @@
 //! A filter over the lines of a stream.
 
 ghost use Rattle.std.specs.Prelude.{◌≡◌, ◌≢◌, ◌↔◌, ◌++◌, [], true, false, IfOk, IfErr, IfSome};
-ghost use Rattle.std.specs.Prelude.{MatchOption, Option, None, List, ℕ, All};
+ghost use Rattle.std.specs.Prelude.{MatchOption, MatchResult, Option, None, List, ℕ, All};
 ghost use Rattle.std.specs.Io.{StartsWith};
 ghost use Rattle.std.specs.Io.KnownBytes.{Keeps};
 ghost use Rattle.std.specs.Io.BufRead.{strip_last};
@@ -183,11 +183,11 @@ impl Filter {
         ensures no_writing { IfErr result IsNoWriting }
     {
         'lines: for _ in 0..u64::MAX {
-            let Some(found) = self.judge_next(alloc, prefix, input, line)? else {
-                return Ok(None);
-            };
-            if let Some(version) = found {
-                return Ok(Some(version));
+            match self.judge_next(alloc, prefix, input, line) {
+                Ok(Some(None)) => {}
+                Ok(Some(Some(version))) => return Ok(Some(version)),
+                Ok(None) => return Ok(None),
+                Err(error) => return Err(error),
             }
         }
         Err(too_many_lines())
@@ -237,13 +237,10 @@ impl Filter {
         let Some(first) = whole_line(shown) else {
             return Ok(None);
         };
-        let judged = self.copy_kept(alloc, prefix, first, line);
+        let found = self.copy_kept(alloc, prefix, first, line);
         let count = first.len();
         input.consume(count);
-        match judged {
-            Ok(version) => Ok(Some(version)),
-            Err(_) => Err(LineError::OutOfMemory),
-        }
+        judged(found)
     }
 
     /// What `judge_next` does of a line that is read into `line`.
@@ -265,10 +262,7 @@ impl Filter {
             Ok(false) => return Ok(None),
             Err(error) => return Err(error),
         }
-        match self.kept_version(alloc, prefix, line.as_slice()) {
-            Ok(version) => Ok(Some(version)),
-            Err(_) => Err(LineError::OutOfMemory),
-        }
+        judged(self.kept_version(alloc, prefix, line.as_slice()))
     }
 
     /// The version that a line spells behind the prefix, if it passes; then `copy` is that line.
@@ -283,12 +277,12 @@ impl Filter {
         ensures { IfOk result
             (Judges (passes self.now) prefix.now line.now copy.new.items) }
     {
-        let version = self.kept_version(alloc, prefix, line)?;
-        if version.is_some() {
-            copy.clear();
-            copy.extend_from_slice(line)?;
-        }
-        Ok(version)
+        let Some(version) = self.kept_version(alloc, prefix, line)? else {
+            return Ok(None);
+        };
+        copy.clear();
+        copy.extend_from_slice(line)?;
+        Ok(Some(version))
     }
 
     /// Whether a line is kept.
@@ -342,6 +336,22 @@ fn is_greatest(version: &Version, greatest: &Option<Version>) -> bool
     match greatest {
         Some(other) => precedence::is_above(version, other),
         None => true,
+    }
+}
+
+/// What was found of a line that was taken, as `judge_next` answers it.
+#[inline(always)]
+fn judged(
+    found: Result<Option<Version>, AllocError>,
+) -> Result<Option<Option<Version>>, LineError>
+    ensures { MatchResult found (λ version. result ≡ Ok (Some version))
+        (λ _. result ≡ Err LineError.OutOfMemory) }
+{
+    match found {
+        // Apart, since nothing is moved here.
+        Ok(None) => Ok(Some(None)),
+        Ok(version) => Ok(Some(version)),
+        Err(_) => Err(LineError::OutOfMemory),
     }
 }
 

@@ -1,20 +1,13 @@
 use Rattle.std.proofs.Common.{subst}
 use Rattle.std.specs.Io.BufRead.{FillKeeps}
-use Rattle.release_filter.proofs.ShownLines.{let_go, one_read, part_read}
+use Rattle.release_filter.proofs.ShownLines.{let_go, one_read, part_read, is_judged}
 use Rattle.release_filter.proofs.filter.Filter.judge_shown.Goals as goal
 
-pub returns-in-Ok-judged-clause-judges : goal.returns-in-Ok-judged-clause-judges
-returns-in-Ok-judged-clause-judges g c =
+pub returns-clause-judges : goal.returns-clause-judges
+returns-clause-judges g c =
     let line = c.in-Some.first.now in
+    let whole = c.in-Some.ensures.whole in
     let rested = c.fill_buf.follows.lender-at-none in
     let filled = subst (FillKeeps _ (g.R.Read.remaining rested) (g.R.BufRead.consumable_len rested)) c.in-Ok.is c.fill_buf.follows.holds-at-none in
     let gone = let_go _ _ _ _ c.in-Ok.shown.now line c.in-Some.ensures.front c.in-Ok.ensures.front c.in-Ok.ensures.end filled.0 filled.1 c.consume.ensures.bytes in
-    (line, one_read _ _ line gone c.in-Some.ensures.whole, c.in-Ok-judged.ensures)
-
-pub returns-in-Err-judged-clause-judges : goal.returns-in-Err-judged-clause-judges
-returns-in-Err-judged-clause-judges g c =
-    let line = c.in-Some.first.now in
-    let rested = c.fill_buf.follows.lender-at-none in
-    let filled = subst (FillKeeps _ (g.R.Read.remaining rested) (g.R.BufRead.consumable_len rested)) c.in-Ok.is c.fill_buf.follows.holds-at-none in
-    let gone = let_go _ _ _ _ c.in-Ok.shown.now line c.in-Some.ensures.front c.in-Ok.ensures.front c.in-Ok.ensures.end filled.0 filled.1 c.consume.ensures.bytes in
-    (line, part_read _ _ line gone c.in-Some.ensures.whole.1)
+    is_judged _ _ line _ _ _ _ _ _ c.judged.ensures c.copy_kept-found.ensures (one_read _ _ line gone whole) (part_read _ _ line gone whole.1)
