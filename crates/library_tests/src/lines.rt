@@ -16,6 +16,10 @@ const OUTPUT: &str = "1.2.0\r\n1.9.0\n1.4.0";
 /// version, less, and a word.
 const FAULTY_LINES: [&[u8]; 6] = [b"", b"1.2.\xff", b"1.2.0/", b"1.2.0 a", b"1.2.0-", b"a"];
 
+/// How many bytes a reader shows at a time. Lines go over the end of what is shown, but for the
+/// last number, by which all is shown at once.
+const SHOWN: [usize; 5] = [1, 2, 3, 7, 64];
+
 /// Gives its bytes, so many at a call, and then fails.
 #[derive(Drop)]
 struct Broken<'b> {
@@ -35,6 +39,31 @@ impl Read for Broken<'_> {
     }
 }
 
+/// Gives its bytes, and fails once on the way, where so many are left.
+#[derive(Drop)]
+struct Halting<'b> {
+    bytes: &'b [u8],
+    left: usize,
+    kind: ErrorKind,
+    has_failed: bool,
+}
+
+impl Read for Halting<'_> {
+    fn read(&mut self, buf: &mut [u8]) -> io::Result<usize> {
+        let mut count = buf.len().min(self.bytes.len());
+        if !self.has_failed {
+            count = count.min(self.bytes.len().saturating_sub(self.left));
+            if count == 0 {
+                self.has_failed = true;
+                return Err(io::Error::from(self.kind));
+            }
+        }
+        buf[..count].copy_from_slice(&self.bytes[..count]);
+        self.bytes = &self.bytes[count..];
+        Ok(count)
+    }
+}
+
 /// Writes at which faults the filter doesn't end as it has to, and how many there were.
 pub fn write_lines(rt: &impl Print, alloc: Global) -> io::Result<()> {
     let mut faults = 0u32;
@@ -45,6 +74,24 @@ pub fn write_lines(rt: &impl Print, alloc: Global) -> io::Result<()> {
         }
     }
     println!(rt; "lines: {faults} readers and writers")
+}
+
+/// Writes at which halts of a reader the filter doesn't go on or end as it has to, and how many
+/// halts there were.
+pub fn write_halts(rt: &impl Print, alloc: Global) -> io::Result<()> {
+    let mut halts = 0u32;
+    for shown in SHOWN {
+        for place in 0..=INPUT.len() {
+            if !goes_on(alloc, place, shown)? {
+                println!(rt; "lines: wrong where {place} bytes, by {shown}, are interrupted")?;
+            }
+            if !ends_at_a_halt(alloc, place, shown)? {
+                println!(rt; "lines: wrong where {place} bytes, by {shown}, end with a fault")?;
+            }
+            halts = halts.saturating_add(2);
+        }
+    }
+    println!(rt; "lines: {halts} halts")
 }
 
 /// Writes at which faults of a reader that gives so many bytes at a call the filter doesn't end as
@@ -69,11 +116,13 @@ fn write_wrong_writers(
     refusal: Refusal,
 ) -> io::Result<u32> {
     let mut faults = 0u32;
-    for left in 0..=OUTPUT.len() {
-        if !ends_at_a_writer(alloc, left, most, refusal)? {
-            println!(rt; "lines: wrong where writing fails after {left} bytes")?;
+    for shown in SHOWN {
+        for left in 0..=OUTPUT.len() {
+            if !ends_at_a_writer(alloc, left, most, refusal, shown)? {
+                println!(rt; "lines: wrong where writing fails after {left} bytes, by {shown}")?;
+            }
+            faults = faults.saturating_add(1);
         }
-        faults = faults.saturating_add(1);
     }
     Ok(faults)
 }
@@ -115,25 +164,89 @@ fn ends_at_a_reader(alloc: Global, place: usize, most: usize) -> io::Result<bool
     let mut input = BufReader::with_capacity(alloc, 4, Broken { bytes, most })?;
     let mut out = Vec::new(alloc);
     let ran = filter(alloc)?.copy_lines(alloc, &mut input, &mut out);
-    let written = match place {
+    let is_told = ran.is_err_and(|error| is_reset(&error));
+    let written = written_before(place);
+    Ok(is_told && out.as_slice() == written.as_bytes() && search_ends(alloc, bytes, most)?)
+}
+
+/// What is written of the lines that end in the first so many bytes of the input.
+fn written_before(place: usize) -> &'static str {
+    match place {
         0..=6 => "",
         7..=23 => "1.2.0\r\n",
         _ => "1.2.0\r\n1.9.0\n",
-    };
-    let is_told = match ran {
-        Err(LineError::Read(error)) => error.kind() == ErrorKind::ConnectionReset,
+    }
+}
+
+/// Whether it is told that the connection of a reader was reset.
+fn is_reset(error: &LineError) -> bool {
+    match error {
+        LineError::Read(error) => error.kind() == ErrorKind::ConnectionReset,
         _ => false,
-    };
-    Ok(is_told && out.as_slice() == written.as_bytes() && search_ends(alloc, bytes, most)?)
+    }
 }
 
 /// Whether a search for the greatest line tells the fault of the reader, too.
 fn search_ends(alloc: Global, bytes: &[u8], most: usize) -> io::Result<bool> {
     let mut input = BufReader::with_capacity(alloc, 4, Broken { bytes, most })?;
-    match filter(alloc)?.greatest_line(alloc, &mut input) {
-        Err(LineError::Read(error)) => Ok(error.kind() == ErrorKind::ConnectionReset),
-        _ => Ok(false),
-    }
+    let ran = filter(alloc)?.greatest_line(alloc, &mut input);
+    Ok(ran.is_err_and(|error| is_reset(&error)))
+}
+
+/// A reader of the input that shows so many bytes at a time, and fails once behind so many.
+fn halting_reader(
+    alloc: Global,
+    place: usize,
+    shown: usize,
+    kind: ErrorKind,
+) -> io::Result<BufReader<Halting<'static>>> {
+    let bytes = INPUT.as_bytes();
+    let left = bytes.len().saturating_sub(place);
+    let reader = Halting {
+        bytes,
+        left,
+        kind,
+        has_failed: false,
+    };
+    Ok(BufReader::with_capacity(alloc, shown, reader)?)
+}
+
+/// Whether exactly what stands behind so many bytes of the input is left of it.
+fn is_left<R: Read + Drop>(alloc: Global, mut input: R, place: usize) -> io::Result<bool> {
+    let mut left = Vec::new(alloc);
+    input.read_to_end(&mut left)?;
+    Ok(Some(left.as_slice()) == INPUT.as_bytes().get(place..))
+}
+
+/// Whether all lines are read and judged, though a signal interrupts the reader behind so many
+/// bytes.
+fn goes_on(alloc: Global, place: usize, shown: usize) -> io::Result<bool> {
+    let mut out = Vec::new(alloc);
+    let mut input = halting_reader(alloc, place, shown, ErrorKind::Interrupted)?;
+    let ran = filter(alloc)?.copy_lines(alloc, &mut input, &mut out);
+    let is_copied = ran.is_ok_and(|some| some) && out.as_slice() == OUTPUT.as_bytes();
+    let mut searched = halting_reader(alloc, place, shown, ErrorKind::Interrupted)?;
+    let is_found = match filter(alloc)?.greatest_line(alloc, &mut searched) {
+        Ok(Some(line)) => line.as_slice() == "1.9.0\n".as_bytes(),
+        _ => false,
+    };
+    let end = INPUT.len();
+    Ok(is_copied && is_found && is_left(alloc, input, end)? && is_left(alloc, searched, end)?)
+}
+
+/// Whether a fault behind so many bytes is told, nothing of the input is lost by it, and of the
+/// lines that ended before it exactly the kept ones were written.
+fn ends_at_a_halt(alloc: Global, place: usize, shown: usize) -> io::Result<bool> {
+    let mut out = Vec::new(alloc);
+    let mut input = halting_reader(alloc, place, shown, ErrorKind::ConnectionReset)?;
+    let ran = filter(alloc)?.copy_lines(alloc, &mut input, &mut out);
+    let is_told = ran.is_err_and(|error| is_reset(&error));
+    let is_written = out.as_slice() == written_before(place).as_bytes();
+    let mut searched = halting_reader(alloc, place, shown, ErrorKind::ConnectionReset)?;
+    let found = filter(alloc)?.greatest_line(alloc, &mut searched);
+    let has_ended = found.is_err_and(|error| is_reset(&error));
+    let is_whole = is_left(alloc, input, place)? && is_left(alloc, searched, place)?;
+    Ok(is_told && is_written && has_ended && is_whole)
 }
 
 /// The filter of `^1.2` in Cargo mode, releases alone.
@@ -144,25 +257,31 @@ fn filter(alloc: Global) -> io::Result<Filter> {
     }
 }
 
-/// Whether the fault of the writer is told, and nothing is written or read after it; or all is
-/// written and read, and it is told that there was a line.
-fn ends_at_a_writer(alloc: Global, left: usize, most: usize, refusal: Refusal) -> io::Result<bool> {
+/// Whether the fault of the writer is told, and nothing is written or read after it, where a reader
+/// shows so many bytes at a time; or all is written and read, and it is told that there was a line.
+fn ends_at_a_writer(
+    alloc: Global,
+    left: usize,
+    most: usize,
+    refusal: Refusal,
+    shown: usize,
+) -> io::Result<bool> {
     let mut out = Limited::new(alloc, left, most, refusal);
-    let mut input = INPUT.as_bytes();
+    let mut input = BufReader::with_capacity(alloc, shown, INPUT.as_bytes())?;
     let ran = filter(alloc)?.copy_lines(alloc, &mut input, &mut out);
     let is_told = match ran {
         Ok(some) => some && left == OUTPUT.len(),
         Err(LineError::Write(_)) => left < OUTPUT.len(),
         Err(_) => false,
     };
-    let unread = match left {
-        0..=6 => "x\n1.3.0-rc\n1.9.0\n2.0.0\n1.4.0",
-        7..=12 => "2.0.0\n1.4.0",
-        _ => "",
+    let read = match left {
+        0..=6 => 7,
+        7..=12 => 24,
+        _ => INPUT.len(),
     };
     Ok(
         is_told
-            && input == unread.as_bytes()
+            && is_left(alloc, input, read)?
             && out.late_calls == 0
             && Some(out.taken.as_slice()) == OUTPUT.as_bytes().get(..left),
     )

@@ -26,5 +26,6 @@ fn main(rt: HostRuntime) -> io::Result<()> {
     writes::write_writes(&rt, rt.alloc())?;
     reports::write_report(&rt, rt.alloc())?;
     lines::write_lines(&rt, rt.alloc())?;
+    lines::write_halts(&rt, rt.alloc())?;
     lines::write_faulty_lines(&rt, rt.alloc())
 }

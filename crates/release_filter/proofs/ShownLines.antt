@@ -1,5 +1,6 @@
 -- What a line is judged to be that a reader shows whole and lets go, or that was read.
-use Rattle.std.proofs.Common.{◌≡◌, ℕ, ◌≤◌, length, List, [], Bool, Option, Some, None, IfSome, Result, Ok, Err, IfOk, MatchOption, MatchResult, ap, sym, subst, ◌∙◌, arith, length-take, refl}
+use Rattle.std.proofs.Common.{◌≡◌, ℕ, ◌≤◌, length, List, [], Bool, Option, Some, None, IfSome, Result, Ok, Err, IfOk}
+use Rattle.std.proofs.Common.{MatchOption, MatchResult, ap, sym, subst, ◌∙◌, arith, length-take, refl}
 use Rattle.std.specs.Io.{StartsWith, StopsAt}
 use Rattle.std.specs.Io.KnownBytes.{Keeps, Consumes}
 use Rattle.std.specs.Io.BufRead.{DropsConsumable, take_through, drop_through}

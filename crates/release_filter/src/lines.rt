@@ -53,8 +53,8 @@ impl Filter {
     /// writes of the input `"1.2.0\r\nx\n1.3.0-rc\n2.0.0\n1.9.0"` the output `"1.2.0\r\n1.9.0"`,
     /// and answers true.
     ///
-    /// It holds one line at a time, and where the line spells a version the identifiers of that.
-    /// `out` isn't flushed.
+    /// A line that `input` shows whole isn't copied unless it is kept. One copy is held at a time,
+    /// and where the line spells a version the identifiers of that. `out` isn't flushed.
     ///
     /// # Errors
     ///
@@ -62,7 +62,8 @@ impl Filter {
     /// writing failed, `input` stands behind the kept line that was being written, and `out` got a
     /// beginning of that. Else `out` has the kept ones of the lines that were read whole, and
     /// `input` stands behind these, or in the next line. No line is passed over for want of memory.
-    /// `Read` also ends the copy of an input of 2^64 - 1 lines or more.
+    /// `Read` also ends the copy of an input with 2^64 - 1 kept lines, or as many in a row that
+    /// aren't kept.
     pub fn copy_lines<R: BufRead, W: Write>(
         &self,
         alloc: Global,
@@ -120,7 +121,7 @@ impl Filter {
     ///
     /// `Read` and `OutOfMemory` end the search, and nothing is read after them: `input` stands
     /// behind the lines that were read, or in the next one. `Read` also ends the search of an input
-    /// of 2^64 - 1 lines or more. `Write` never comes.
+    /// with 2^64 - 1 kept lines, or as many in a row that aren't kept. `Write` never comes.
     pub fn greatest_line<R: BufRead>(
         &self,
         alloc: Global,
@@ -167,8 +168,8 @@ impl Filter {
         Err(too_many_lines())
     }
 
-    /// The version that the next kept line spells, with that line in `line`; `None` where no kept
-    /// line is left. What stands before it is passed over.
+    /// The version of the next kept line, and that line in `line`; `None` where none is left. The
+    /// lines before it are passed over.
     fn next_kept<R: BufRead>(
         &self,
         alloc: Global,
@@ -193,8 +194,8 @@ impl Filter {
         Err(too_many_lines())
     }
 
-    /// Takes the next line, and answers the version of it if it is kept, with the line in `line`;
-    /// `None` where no line is left.
+    /// Takes the next line, and answers its version if it is kept, and the line in `line`; `None`
+    /// where no line is left.
     #[inline(always)]
     fn judge_next<R: BufRead>(
         &self,
@@ -214,8 +215,9 @@ impl Filter {
         }
     }
 
-    /// What `judge_next` does where the reader shows the next line whole, without reading it;
-    /// `None`, and nothing is done, where it doesn't.
+    /// What `judge_next` does with a line that the reader shows whole: it is judged where it
+    /// stands, and let go. `None`, and nothing is taken, where the reader shows no whole line, or
+    /// was interrupted.
     #[inline(always)]
     fn judge_shown<R: BufRead>(
         &self,
@@ -243,7 +245,7 @@ impl Filter {
         judged(found)
     }
 
-    /// What `judge_next` does of a line that is read into `line`.
+    /// What `judge_next` does with any other line: it is read into `line`, and judged there.
     #[inline(always)]
     fn judge_read<R: BufRead>(
         &self,
@@ -265,7 +267,7 @@ impl Filter {
         judged(self.kept_version(alloc, prefix, line.as_slice()))
     }
 
-    /// The version that a line spells behind the prefix, if it passes; then `copy` is that line.
+    /// The version that a line spells behind the prefix, if it passes, and then the line in `copy`.
     #[inline(always)]
     fn copy_kept(
         &self,
@@ -339,16 +341,14 @@ fn is_greatest(version: &Version, greatest: &Option<Version>) -> bool
     }
 }
 
-/// What was found of a line that was taken, as `judge_next` answers it.
+/// What `judge_next` answers of a line for which this was found.
 #[inline(always)]
-fn judged(
-    found: Result<Option<Version>, AllocError>,
-) -> Result<Option<Option<Version>>, LineError>
+fn judged(found: Result<Option<Version>, AllocError>) -> Result<Option<Option<Version>>, LineError>
     ensures { MatchResult found (λ version. result ≡ Ok (Some version))
         (λ _. result ≡ Err LineError.OutOfMemory) }
 {
     match found {
-        // Apart, since nothing is moved here.
+        // By itself, so that no version is moved where there is none.
         Ok(None) => Ok(Some(None)),
         Ok(version) => Ok(Some(version)),
         Err(_) => Err(LineError::OutOfMemory),
@@ -384,7 +384,7 @@ fn read_line<R: BufRead>(input: &mut R, line: &mut Vec<u8>) -> Result<bool, Line
     }
 }
 
-/// The fault of a reader that failed.
+/// The fault of an input that cannot be read.
 fn reading_fault(error: io::Error) -> LineError
     ensures { IsNoWriting result }
 {

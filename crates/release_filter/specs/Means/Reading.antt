@@ -1,6 +1,6 @@
 -- What reading a line did to the bytes that a reader tells: a means of proof.
-use Rattle.std.specs.Prelude.{◌≡◌, Bool, ℕ, ◌<◌, List, [], ◌++◌, length, ⊤, Option, Some, None, IfSome}
-use Rattle.std.specs.Prelude.{MatchOption, Result, Ok, Err}
+use Rattle.std.specs.Prelude.{◌≡◌, Bool, ℕ, ◌<◌, List, [], ◌++◌, length, ⊤, Option, Some, None}
+use Rattle.std.specs.Prelude.{IfSome, MatchOption, Result, Ok, Err}
 use Rattle.std.specs.Io.{StopsAt, IsEmptyOrEndsWith}
 use Rattle.std.specs.Io.BufRead.{take_through, drop_through}
 use Rattle.semver_parser.specs.Texts.{Text}

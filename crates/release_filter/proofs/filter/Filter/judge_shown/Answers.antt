@@ -8,6 +8,9 @@ returns-clause-judges g c =
     let line = c.in-Some.first.now in
     let whole = c.in-Some.ensures.whole in
     let rested = c.fill_buf.follows.lender-at-none in
-    let filled = subst (FillKeeps _ (g.R.Read.remaining rested) (g.R.BufRead.consumable_len rested)) c.in-Ok.is c.fill_buf.follows.holds-at-none in
-    let gone = let_go _ _ _ _ c.in-Ok.shown.now line c.in-Some.ensures.front c.in-Ok.ensures.front c.in-Ok.ensures.end filled.0 filled.1 c.consume.ensures.bytes in
-    is_judged _ _ line _ _ _ _ _ _ c.judged.ensures c.copy_kept-found.ensures (one_read _ _ line gone whole) (part_read _ _ line gone whole.1)
+    let filled = subst (FillKeeps _ (g.R.Read.remaining rested) (g.R.BufRead.consumable_len rested)) c.in-Ok.is
+    c.fill_buf.follows.holds-at-none in
+    let gone = let_go _ _ _ _ c.in-Ok.shown.now line c.in-Some.ensures.front c.in-Ok.ensures.front c.in-Ok.ensures.end
+    filled.0 filled.1 c.consume.ensures.bytes in
+    is_judged _ _ line _ _ _ _ _ _ c.judged.ensures c.copy_kept-found.ensures (one_read _ _ line gone whole)
+    (part_read _ _ line gone whole.1)
