@@ -1,7 +1,6 @@
 -- What stands behind the prefix of a line, and what that says of the line.
-use Rattle.std.proofs.Common.{rules, refl, ◌↔◌, Bor, ◌+◌, Option, Some, None, Result, Ok, Err, IfOk, MatchOption, IsTrue, ◌≡◌, ℕ, ◌++◌}
+use Rattle.std.proofs.Common.{Bor, ◌+◌, Option, Some, None, Result, Ok, Err, IfOk, MatchOption, IsTrue, ◌≡◌, ℕ, ◌++◌}
 use Rattle.std.proofs.Common.{Bool, true, false, List, ap, sym, subst, ◌∙◌, take, drop, length, eqb}
-use Rattle.std.specs.Option.{is_some}
 use Rattle.std.specs.Cmp.Lexicographic.{pointwise, bytes_decides}
 use Rattle.std.proofs.Math.Seq.{take-append_seam}
 use Rattle.std.proofs.lemmas.List.{append_cancel_left, take-append-drop}
@@ -53,13 +52,6 @@ behind prefix bytes (Some x) (same, rest, len) =
     sym (take-append-drop (length prefix) bytes)
     ∙ ap (λ l. l ++ drop (length prefix) bytes) ((bytes_decides (take (length prefix) bytes) prefix).0 same)
     ∙ ap (λ l. prefix ++ l) (sym rest)
-
--- some version of the line passes exactly where the line is kept
-pub some_passes : (test : VersionValue → Bool) (prefix line : List ℕ) (found : Option Version)
-    → MatchOption found (¬ (IsKeptLine test prefix line)) (λ x. SpellsPlain test prefix line (version_value x).plain)
-    → (is_some found ≡ true) ↔ IsKeptLine test prefix line
-some_passes test prefix line None none = ((λ e. absurd (search rules)), (λ kept. absurd (none kept)))
-some_passes test prefix line (Some x) (v, spelled, same) = ((λ e. (v, spelled)), (λ kept. refl))
 
 -- no text of a line has two versions
 pub one_of_line : ((v w : VersionValue) (text : List ℕ) → SpellsVersion v text → SpellsVersion w text → v ≡ w)

@@ -6,6 +6,7 @@ mod filter;
 mod lines;
 mod majors;
 mod meeting;
+mod next_line;
 mod precedence;
 mod rules;
 

@@ -2,7 +2,7 @@ use Rattle.std.proofs.Common.{◌∙◌, ap, ◌++◌, sym, subst}
 use Rattle.release_filter.specs.KeptLines.{line_text}
 use Rattle.release_filter.proofs.Passing.{no_length}
 use Rattle.release_filter.proofs.LineReading.{Strips, behind}
-use Rattle.release_filter.proofs.lines.text_behind.Goals as goal
+use Rattle.release_filter.proofs.next_line.text_behind.Goals as goal
 
 pub returns : goal.returns
 returns c =

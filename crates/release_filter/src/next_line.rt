@@ -1,0 +1,253 @@
+//! The next line of a stream that a filter keeps, behind those that it passes over.
+
+ghost use Rattle.std.specs.Prelude.{◌≡◌, ◌≢◌, ◌++◌, true, false, IfOk, IfErr, IfSome, MatchOption};
+ghost use Rattle.std.specs.Prelude.{MatchResult, Option, None, List, ℕ, All};
+ghost use Rattle.std.specs.Io.{StartsWith};
+ghost use Rattle.std.specs.Io.KnownBytes.{Keeps};
+ghost use Rattle.std.specs.Io.BufRead.{strip_last};
+ghost use Rattle.semver_parser.specs.VersionViews.{version_value};
+ghost use Rattle.release_filter.specs.Filters.{passes};
+ghost use Rattle.release_filter.specs.KeptLines.{line_text, SpellsOneThat, IsKeptLine};
+ghost use Rattle.release_filter.specs.Means.Reading.{ReadsPart, ReadsLine, FindsEnd, IsNoWriting};
+ghost use Rattle.release_filter.specs.Means.Reading.{SpellsPlain, IsWholeLine, Judges, JudgesNext};
+ghost use Rattle.release_filter.specs.Means.Reading.{PassesOver, FindsNext};
+ghost use Rattle.semver_parser.specs.Texts.{Text};
+
+use crate::filter::Filter;
+use crate::lines::LineError;
+use semver_parser::version::Version;
+use std::alloc::{AllocError, Global};
+use std::io::{self, BufRead, ErrorKind};
+
+impl Filter {
+    /// The version of the next kept line, and that line in `line`; `None` where none is left. The
+    /// lines before it are passed over.
+    pub(crate) fn next_kept<R: BufRead>(
+        &self,
+        alloc: Global,
+        prefix: &str,
+        input: &mut R,
+        line: &mut Vec<u8>,
+    ) -> Result<Option<Version>, LineError>
+        ensures finds { (here : Option (List ℕ))
+            × PassesOver (SpellsOneThat (passes self.now) prefix.now) (R.remaining input.old) here
+            × FindsNext (passes self.now) prefix.now here (R.remaining input.new)
+            line.new.items result }
+        ensures no_writing { IfErr result IsNoWriting }
+    {
+        'lines: for _ in 0..u64::MAX {
+            match self.judge_next(alloc, prefix, input, line) {
+                Ok(Some(None)) => {}
+                Ok(Some(Some(version))) => return Ok(Some(version)),
+                Ok(None) => return Ok(None),
+                Err(error) => return Err(error),
+            }
+        }
+        Err(too_many_lines())
+    }
+
+    /// Takes the next line, and answers its version if it is kept, and the line in `line`; `None`
+    /// where no line is left.
+    #[inline(always)]
+    fn judge_next<R: BufRead>(
+        &self,
+        alloc: Global,
+        prefix: &str,
+        input: &mut R,
+        line: &mut Vec<u8>,
+    ) -> Result<Option<Option<Version>>, LineError>
+        ensures judges { JudgesNext (FindsEnd (R.remaining input.old) (R.remaining input.new))
+            (passes self.now) prefix.now (R.remaining input.old) (R.remaining input.new)
+            line.new.items result }
+        ensures no_writing { IfErr result IsNoWriting }
+    {
+        match self.judge_shown(alloc, prefix, input, line) {
+            Ok(None) => self.judge_read(alloc, prefix, input, line),
+            judged => judged,
+        }
+    }
+
+    /// What `judge_next` does with a line that the reader shows whole: it is judged where it
+    /// stands, and let go. `None`, and nothing is taken, where the reader shows no whole line, or
+    /// was interrupted.
+    #[inline(always)]
+    fn judge_shown<R: BufRead>(
+        &self,
+        alloc: Global,
+        prefix: &str,
+        input: &mut R,
+        line: &mut Vec<u8>,
+    ) -> Result<Option<Option<Version>>, LineError>
+        ensures judges { JudgesNext (Keeps (R.remaining input.old) (R.remaining input.new))
+            (passes self.now) prefix.now (R.remaining input.old) (R.remaining input.new)
+            line.new.items result }
+        ensures no_writing { IfErr result IsNoWriting }
+    {
+        let shown = match input.fill_buf() {
+            Ok(shown) => shown,
+            Err(error) if error.kind() == ErrorKind::Interrupted => return Ok(None),
+            Err(error) => return Err(reading_fault(error)),
+        };
+        let Some(first) = whole_line(shown) else {
+            return Ok(None);
+        };
+        let found = self.copy_kept(alloc, prefix, first, line);
+        let count = first.len();
+        input.consume(count);
+        judged(found)
+    }
+
+    /// What `judge_next` does with any other line: it is read into `line`, and judged there.
+    #[inline(always)]
+    fn judge_read<R: BufRead>(
+        &self,
+        alloc: Global,
+        prefix: &str,
+        input: &mut R,
+        line: &mut Vec<u8>,
+    ) -> Result<Option<Option<Version>>, LineError>
+        ensures judges { JudgesNext (FindsEnd (R.remaining input.old) (R.remaining input.new))
+            (passes self.now) prefix.now (R.remaining input.old) (R.remaining input.new)
+            line.new.items result }
+        ensures no_writing { IfErr result IsNoWriting }
+    {
+        match read_line(input, line) {
+            Ok(true) => {}
+            Ok(false) => return Ok(None),
+            Err(error) => return Err(error),
+        }
+        judged(self.kept_version(alloc, prefix, line.as_slice()))
+    }
+
+    /// The version that a line spells behind the prefix, if it passes, and then the line in `copy`.
+    #[inline(always)]
+    fn copy_kept(
+        &self,
+        alloc: Global,
+        prefix: &str,
+        line: &[u8],
+        copy: &mut Vec<u8>,
+    ) -> Result<Option<Version>, AllocError>
+        ensures { IfOk result
+            (Judges (passes self.now) prefix.now line.now copy.new.items) }
+    {
+        let Some(version) = self.kept_version(alloc, prefix, line)? else {
+            return Ok(None);
+        };
+        copy.clear();
+        copy.extend_from_slice(line)?;
+        Ok(Some(version))
+    }
+
+    /// The version that a line spells behind the prefix, without its build, if it passes.
+    #[inline(always)]
+    fn kept_version(
+        &self,
+        alloc: Global,
+        prefix: &str,
+        line: &[u8],
+    ) -> Result<Option<Version>, AllocError>
+        ensures { IfOk result (λ found. MatchOption found
+            (¬ (IsKeptLine (passes self.now) prefix.now line.now))
+            (λ v. SpellsPlain (passes self.now) prefix.now line.now (version_value v).plain)) }
+    {
+        match text_behind(prefix, line) {
+            Some(text) => self.version_that_passes(alloc, text),
+            None => Ok(None),
+        }
+    }
+}
+
+/// What stands behind the prefix in the text of a line, if the text begins with it.
+#[inline(always)]
+fn text_behind<'l>(prefix: &str, line: &'l [u8]) -> Option<&'l [u8]>
+    ensures { MatchOption result
+        ((text : Text) → ¬ (line_text line.now ≡ prefix.now ++ text))
+        (λ text. line_text line.now ≡ prefix.now ++ text.now) }
+{
+    let text = text_of(line);
+    if prefix.is_empty() {
+        return Some(text);
+    }
+    text.strip_prefix(prefix.as_bytes())
+}
+
+/// What `judge_next` answers of a line for which this was found.
+#[inline(always)]
+fn judged(found: Result<Option<Version>, AllocError>) -> Result<Option<Option<Version>>, LineError>
+    ensures { MatchResult found (λ version. result ≡ Ok (Some version))
+        (λ _. result ≡ Err LineError.OutOfMemory) }
+{
+    match found {
+        // By itself, so that no version is moved where there is none.
+        Ok(None) => Ok(Some(None)),
+        Ok(version) => Ok(Some(version)),
+        Err(_) => Err(LineError::OutOfMemory),
+    }
+}
+
+/// The first line with its end, if some line has one.
+#[inline(always)]
+fn whole_line(bytes: &[u8]) -> Option<&[u8]>
+    ensures none { result ≡ None → All (λ x. x ≢ 10) bytes.now }
+    ensures front { IfSome result (λ line. StartsWith bytes.now line.now) }
+    ensures whole { IfSome result (λ line. IsWholeLine line.now) }
+{
+    match bytes.iter().position(|byte| *byte == b'\n') {
+        Some(place) => Some(&bytes[..place + 1]),
+        None => None,
+    }
+}
+
+/// Reads the next line in place of another, with its end: whether there was one.
+#[inline(always)]
+fn read_line<R: BufRead>(input: &mut R, line: &mut Vec<u8>) -> Result<bool, LineError>
+    ensures part { ReadsPart (R.remaining input.old) (R.remaining input.new) line.new.items }
+    ensures whole { result ≡ Ok true →
+        ReadsLine (R.remaining input.old) (R.remaining input.new) line.new.items }
+    ensures end { result ≡ Ok false → FindsEnd (R.remaining input.old) (R.remaining input.new) }
+    ensures no_writing { IfErr result IsNoWriting }
+{
+    line.clear();
+    match input.read_until(b'\n', line) {
+        Ok(count) => Ok(count > 0),
+        Err(error) => Err(reading_fault(error)),
+    }
+}
+
+/// The fault of an input that cannot be read.
+fn reading_fault(error: io::Error) -> LineError
+    ensures { IsNoWriting result }
+{
+    if error.kind() == ErrorKind::OutOfMemory {
+        return LineError::OutOfMemory;
+    }
+    LineError::Read(error)
+}
+
+/// The fault of an input without end.
+pub(crate) fn too_many_lines() -> LineError
+    ensures { IsNoWriting result }
+{
+    LineError::Read(io::Error::from(ErrorKind::Other))
+}
+
+/// The text of a line: without the line feed at its end, and then without one carriage return at
+/// its end.
+#[inline(always)]
+fn text_of(line: &[u8]) -> &[u8]
+    ensures { result.now ≡ line_text line.now }
+{
+    without_last(without_last(line, b'\n'), b'\r')
+}
+
+/// The bytes without this one at their end, if they have it there.
+#[inline(always)]
+fn without_last(bytes: &[u8], byte: u8) -> &[u8]
+    ensures { result.now ≡ strip_last byte bytes.now }
+{
+    match bytes.split_last() {
+        Some((last, rest)) if *last == byte => rest,
+        _ => bytes,
+    }
+}
