@@ -191,6 +191,10 @@ pub cut_texts : (texts : List Text) → 0 < length texts → AllByRecursion IsId
     → cut_at_dots (join_with_byte 46 texts) ≡ texts
 cut_texts texts some each = some_cut (join_with_byte 46 texts) (some_joined texts some each) ∙ cut_joined texts some each
 
+-- one of them alone
+pub is_identifiers : (text : Text) → IsIdentifierText text → AreIdentifiers text
+is_identifiers text is = subst (AllByRecursion IsIdentifierText) (sym (cut_texts (text ∷ []) (omega arith) (is, tt))) (is, tt)
+
 pub stand_found : (bytes : Text) → stands false bytes ≡ true → BeginsWithIdentifiers bytes
 stand_found bytes e =
     let w = (begun bytes).0 e in (

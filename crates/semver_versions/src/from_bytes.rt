@@ -114,12 +114,13 @@ fn text_of_identifiers(bytes: &[u8]) -> &str
     unsafe { str::from_utf8_unchecked(bytes) }
 }
 
-/// The identifier that the text spells.
+/// The identifier that the bytes spell.
 #[inline(always)]
-fn identifier(alloc: Global, text: &str) -> Result<Identifier, AllocError>
-    requires { IsIdentifierText text.now }
-    ensures { IfOk result (λ id. SpellsIdentifier (identifier_value id) text.now) }
+fn identifier(alloc: Global, bytes: &[u8]) -> Result<Identifier, AllocError>
+    requires { IsIdentifierText bytes.now }
+    ensures { IfOk result (λ id. SpellsIdentifier (identifier_value id) bytes.now) }
 {
+    let text = text_of_identifiers(bytes);
     match whole_number(text) {
         Some(number) => Ok(Identifier::Numeric(number)),
         None => Ok(Identifier::AlphaNumeric(String::from_str(alloc, text)?)),
@@ -127,31 +128,31 @@ fn identifier(alloc: Global, text: &str) -> Result<Identifier, AllocError>
 }
 
 /// The identifiers between the dots. Their list is asked for once, at its size.
-fn cut_identifiers(alloc: Global, text: &str) -> Result<Vec<Identifier>, AllocError>
-    requires { AllByRecursion IsIdentifierText (slice_split is_dot text.now) }
+fn cut_identifiers(alloc: Global, bytes: &[u8]) -> Result<Vec<Identifier>, AllocError>
+    requires { AllByRecursion IsIdentifierText (slice_split is_dot bytes.now) }
     ensures { IfOk result (λ ids. AllZip SpellsIdentifier (map identifier_value ids.items)
-        (slice_split is_dot text.now)) }
+        (slice_split is_dot bytes.now)) }
 {
-    let mut identifiers = Vec::with_capacity(alloc, count_dots(text.as_bytes()).saturating_add(1))?;
-    for part in text.split('.') {
+    let mut identifiers = Vec::with_capacity(alloc, count_dots(bytes).saturating_add(1))?;
+    for part in bytes.split(|byte| *byte == b'.') {
         identifiers.push(identifier(alloc, part)?)?;
     }
     Ok(identifiers)
 }
 
-/// The identifiers that the text spells between its dots; none where it is empty, which takes no
-/// memory.
+/// The identifiers that the bytes spell between their dots; none where there are no bytes, which
+/// takes no memory.
 #[inline(always)]
-fn identifiers(alloc: Global, text: &str) -> Result<Vec<Identifier>, AllocError>
-    requires { AreIdentifiers text.now }
+fn identifiers(alloc: Global, bytes: &[u8]) -> Result<Vec<Identifier>, AllocError>
+    requires { AreIdentifiers bytes.now }
     ensures spelled { IfOk result (λ ids. AllZip SpellsIdentifier (map identifier_value ids.items)
-        (cut_at_dots text.now)) }
-    ensures some { IfErr result (λ _. 0 < length text.now) }
+        (cut_at_dots bytes.now)) }
+    ensures some { IfErr result (λ _. 0 < length bytes.now) }
 {
-    if text.is_empty() {
+    if bytes.is_empty() {
         return Ok(Vec::new(alloc));
     }
-    cut_identifiers(alloc, text)
+    cut_identifiers(alloc, bytes)
 }
 
 /// The version whose numbers are known, and what stands behind them.
@@ -171,8 +172,8 @@ fn with_parts(
     let Some((pre, build)) = parts(rest) else {
         return Ok(None);
     };
-    let pre = identifiers(alloc, text_of_identifiers(pre))?;
-    let build = identifiers(alloc, text_of_identifiers(build))?;
+    let pre = identifiers(alloc, pre)?;
+    let build = identifiers(alloc, build)?;
     Ok(Some(Version {
         major,
         minor,

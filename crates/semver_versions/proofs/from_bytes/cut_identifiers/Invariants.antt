@@ -7,4 +7,4 @@ use Rattle.semver_versions.proofs.from_bytes.cut_identifiers.Given as goal
 
 abbrev pub invariant-loop-part : goal.invariant-loop-part
 invariant-loop-part l =
-    AllZip SpellsIdentifier (map identifier_value l.identifiers.items) (take (length l.yielded) (slice_split is_dot l.fn.text))
+    AllZip SpellsIdentifier (map identifier_value l.identifiers.items) (take (length l.yielded) (slice_split is_dot l.fn.bytes))
