@@ -105,7 +105,7 @@ fn parts(bytes: &[u8]) -> Option<(&[u8], &[u8])>
     }
 }
 
-/// The text of identifiers, which are ASCII.
+/// The text of identifiers. Their bytes are ASCII, which is proved, and so isn't checked.
 #[inline(always)]
 fn text_of_identifiers(bytes: &[u8]) -> &str
     requires { AreIdentifiers bytes.now }

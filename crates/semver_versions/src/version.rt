@@ -45,9 +45,11 @@ pub fn read(alloc: Global, input: &str) -> Result<Option<Version>, AllocError>
     read_bytes(alloc, input.as_bytes())
 }
 
-/// What [`read`] answers of a text, of bytes that needn't be UTF-8: those that aren't spell no
-/// version. They aren't checked for it, so this is quicker than a check and [`read`] for lines of
-/// a file, of which most spell none.
+/// What [`read`] answers of a text, of bytes that needn't be UTF-8: `1.2.3-rc.4` gives that version,
+/// and `1.2.3` with a byte 255 behind it gives `None`, as all bytes that are no UTF-8.
+///
+/// The bytes aren't checked for UTF-8, since each byte of a version is ASCII. So for lines of a file
+/// this is quicker than such a check and [`read`].
 #[inline(always)]
 pub fn read_bytes(alloc: Global, input: &[u8]) -> Result<Option<Version>, AllocError>
     // Unless memory ran out, a version is answered exactly where the bytes spell it.
@@ -84,8 +86,9 @@ pub fn outline(input: &str) -> Option<Outline<'_>>
     outline_bytes(input.as_bytes())
 }
 
-/// What [`outline`] answers of a text, of bytes that needn't be UTF-8: those that aren't spell no
-/// version. They aren't checked for it.
+/// What [`outline`] answers of a text, of bytes that needn't be UTF-8: `1.2.3-rc.4` gives the
+/// numbers 1, 2 and 3 and the pre-release `rc.4`, and `1.2.3` with a byte 255 behind it gives
+/// `None`, as all bytes that are no UTF-8. They aren't checked for it. It takes no memory.
 #[inline(always)]
 pub fn outline_bytes(input: &[u8]) -> Option<Outline<'_>>
     // An outline is answered exactly where it is that of a version that the bytes spell.
