@@ -18,12 +18,14 @@ pub struct Majors {
 }
 
 impl Majors {
-    /// Whether a version with this first number can meet.
+    /// Whether a version with this first number may meet. It is answered of each that can.
+    ///
+    /// For speed, by one comparison: what is below `lowest` wraps round, and is above the rest.
     #[inline(always)]
     pub fn has(&self, major: u64) -> bool
-        ensures { (result ≡ true) ↔ IsWithin self.now major }
+        ensures { IsWithin self.now major → result ≡ true }
     {
-        (self.lowest <= major) & (major <= self.highest)
+        major.wrapping_sub(self.lowest) <= self.highest.wrapping_sub(self.lowest)
     }
 }
 
