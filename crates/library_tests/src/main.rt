@@ -8,6 +8,7 @@ mod lines;
 mod made;
 mod orders;
 mod printing;
+mod reading;
 mod reports;
 mod writers;
 mod writes;
@@ -16,6 +17,7 @@ use std::io;
 
 fn main(rt: HostRuntime) -> io::Result<()> {
     bytes::write_bytes(&rt, rt.alloc())?;
+    reading::write_reading(&rt, rt.alloc())?;
     orders::write_enums(&rt, rt.alloc())?;
     orders::write_structs(&rt, rt.alloc())?;
     made::write_versions(&rt, rt.alloc())?;

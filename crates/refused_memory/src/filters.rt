@@ -78,6 +78,40 @@ pub fn kept_versions(alloc: Global) -> Ending {
     }
 }
 
+/// The filter of the lines below reads a text with a pre-release and a build. Making it is part of
+/// the call.
+pub fn read_version(alloc: Global) -> Ending {
+    let filter = match line_filter(alloc) {
+        Ok(filter) => filter,
+        Err(ending) => return ending,
+    };
+    match filter.read(alloc, "1.2.0-rc.b+5.c") {
+        Ok(Some(version)) => Ending::full_if(version.pre.len() == 2 && version.build.len() == 2),
+        Ok(None) => Ending::Wrong,
+        Err(_) => Ending::Refused,
+    }
+}
+
+/// Texts that a filter of releases alone doesn't read, and one that it does: without a request but
+/// for the filter's own.
+pub fn read_without_requests(alloc: Global) -> Ending {
+    let made = Filter::new(alloc, "^1.2", Compat::Cargo, PreReleases::Excluded);
+    let filter = match made {
+        Ok(filter) => filter,
+        Err(RangeError::OutOfMemory) => return Ending::Refused,
+        Err(_) => return Ending::Wrong,
+    };
+    for text in ["1.3.0-rc.a+b", "2.0.0", "1.2", "v1.2.3"] {
+        if !matches!(filter.read(alloc, text), Ok(None)) {
+            return Ending::Wrong;
+        }
+    }
+    match filter.read(alloc, "1.9.0") {
+        Ok(Some(version)) => Ending::full_if(version.minor == 9),
+        _ => Ending::Wrong,
+    }
+}
+
 /// What `>=1.2.0-rc <1.10.0` keeps of the lines that are filtered below, as stated.
 const KEPT_LINES: &[u8] = b"1.2.0-rc.b\n1.9.0+build";
 

@@ -100,7 +100,7 @@ fn of_versions(alloc: Global) -> [(&'static str, Ending); 15] {
 }
 
 /// How each call on ranges and above them ends.
-fn of_ranges(alloc: Global) -> [(&'static str, Ending); 19] {
+fn of_ranges(alloc: Global) -> [(&'static str, Ending); 21] {
     [
         (
             "one_simple",
@@ -157,6 +157,11 @@ fn of_ranges(alloc: Global) -> [(&'static str, Ending); 19] {
         ("filter", filters::filter(alloc)),
         ("new_filter", filters::new_filter(alloc)),
         ("kept_versions", filters::kept_versions(alloc)),
+        ("read_version", filters::read_version(alloc)),
+        (
+            "read_without_requests",
+            filters::read_without_requests(alloc),
+        ),
         ("copied_lines", filters::copied_lines(alloc)),
         ("greatest_line", filters::greatest_line(alloc)),
         ("refused_filter_texts", filters::refused_texts(alloc)),

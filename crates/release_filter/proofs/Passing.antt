@@ -1,5 +1,5 @@
 -- What passes a filter meets its comparators, whatever its rule for pre-releases is.
-use Rattle.std.proofs.Common.{◌≡◌, ◌==◌, ◌∷◌, length, ℕ, List, [], Option, Some, None, MatchOption, IsTrue, Bool, true, false, refl, sym}
+use Rattle.std.proofs.Common.{◌≡◌, ◌==◌, ◌∷◌, length, ℕ, List, [], Option, Some, None, MatchOption, IfSome, IfOk, Result, Ok, Err, ◌↔◌, subst, option_map, IsTrue, Bool, true, false, refl, sym}
 use Rattle.std.proofs.Common.{ap, ◌∙◌, rules}
 use Rattle.std.specs.Prelude.{◌&&◌}
 use Rattle.semver_parser.specs.Texts.{Text, is_empty}
@@ -10,6 +10,7 @@ use Rattle.semver_parser.specs.declared.version.Version.{Version}
 use Rattle.semver_parser.specs.RewritingTable.{PlainSet}
 use Rattle.semver_parser.specs.Meeting.{meets_range, meets_set}
 use Rattle.semver_parser.specs.StatedPreReleases.{counts_beside, meets_set_as_stated}
+use Rattle.std.specs.declared.alloc.AllocError.{AllocError}
 use Rattle.release_filter.specs.Filters.{meets_with, FilterValue, passes}
 use Rattle.release_filter.specs.KeptReleases.{is_release}
 use Rattle.release_filter.specs.declared.rules.PreReleases.{PreReleases}
@@ -70,6 +71,12 @@ module _ (filter : FilterValue) (text : Text) (made : Version) (v : VersionValue
     ap (λ (y : Version). (version_value y).plain) is ∙ same v spells,
   )
 
+-- a version that was made is answered as it is, if at all
+pub made_is : (A B : Type 0) (made : Version) (v : VersionValue) → version_value made ≡ v → (found : Option Version)
+    → MatchOption found A (λ x. (x ≡ made) × B) → IfSome found (λ x. version_value x ≡ v)
+made_is A B made v is None _ = tt
+made_is A B made v is (Some x) found = ap version_value found.0 ∙ is
+
 -- what some outline or version is
 pub some_is : {X : Type 0} {x y : X} → Some x ≡ Some y → x ≡ y
 some_is e = cc
@@ -82,3 +89,25 @@ release_is m n k p major minor patch none =
 pub no_length : (xs : List ℕ) → (length xs == 0) ≡ true → xs ≡ []
 no_length [] e = refl
 no_length (x ∷ xs) e = absurd (search rules)
+
+-- where what is found is the version that the text spells, the version that passes is found, and no other
+module _ (filter : FilterValue) (text : Text) where
+  exact_of : (found : Option Version)
+      → MatchOption found ((v : VersionValue) → SpellsVersion v text → passes filter v ≡ false)
+      (λ x. (v : VersionValue) × SpellsVersion v text × IsTrue (passes filter v) × ((version_value x).plain ≡ v.plain))
+      → ((v : VersionValue) → SpellsVersion v text → IfSome found (λ x. version_value x ≡ v))
+      → (v : VersionValue) → (option_map version_value found ≡ Some v) ↔ (SpellsVersion v text × IsTrue (passes filter v))
+  exact_of None fails whole v = (λ e. absurd (search rules), λ both. absurd (not_both both.1 (fails v both.0)))
+  exact_of (Some x) (w, spells, passed, _) whole v = (
+    λ e. let same : w ≡ v = sym (whole w spells) ∙ some_is e in
+        (subst (λ u. SpellsVersion u text) same spells, subst (λ u. passes filter u ≡ true) same passed),
+    λ both. ap Some (whole v both.0),
+  )
+
+  pub exactly : (result : Result (Option Version) AllocError)
+      → IfOk result (λ found. MatchOption found ((v : VersionValue) → SpellsVersion v text → passes filter v ≡ false)
+      (λ x. (v : VersionValue) × SpellsVersion v text × IsTrue (passes filter v) × ((version_value x).plain ≡ v.plain)))
+      → ((v : VersionValue) → SpellsVersion v text → IfOk result (λ found. IfSome found (λ x. version_value x ≡ v)))
+      → (v : VersionValue) → IfOk result (λ found. (option_map version_value found ≡ Some v) ↔ (SpellsVersion v text × IsTrue (passes filter v)))
+  exactly (Ok found) told whole v = exact_of found told whole v
+  exactly (Err error) told whole v = tt

@@ -1,7 +1,7 @@
 //! A range text read once, as a test on many versions.
 
-ghost use Rattle.std.specs.Prelude.{◌≡◌, ◌↔◌, ◌<◌, ◌^◌, map, filter, false, [], IfOk, IfSome};
-ghost use Rattle.std.specs.Prelude.{IsTrue, MatchOption, None};
+ghost use Rattle.std.specs.Prelude.{◌≡◌, ◌↔◌, ◌<◌, ◌^◌, ◌⊎◌, map, filter, length, option_map, true};
+ghost use Rattle.std.specs.Prelude.{false, [], IfOk, IfErr, IfSome, IsTrue, MatchOption, Some, None};
 ghost use Rattle.semver_parser.specs.RangeTexts.{IsRangeText, HasSet, IsTooLarge};
 ghost use Rattle.semver_parser.specs.RangeTree.{SetTree, Spells};
 ghost use Rattle.semver_parser.specs.Versions.{PlainVersion, VersionValue};
@@ -86,18 +86,51 @@ impl Filter {
         self.majors.has(version.major) && self.is_met_by(version)
     }
 
-    /// The version that the bytes spell, without its build, if it passes. Memory is taken only where
-    /// the first number can pass, and there is a pre-release that can.
+    /// The version that a text spells, if it spells one that passes: with a filter of `^1.2`,
+    /// releases alone, `1.9.0+b5` gives that version, and `2.0.0`, `1.3.0-rc` and `1.2` give `None`.
+    ///
+    /// The text is read as by `version::read`, but only as far as is needed. Memory is taken only
+    /// where it spells a version with a pre-release or a build, and where releases alone pass for no
+    /// pre-release. `Err` is want of it.
+    pub fn read(&self, alloc: Global, text: &str) -> Result<Option<Version>, AllocError>
+        // Unless memory ran out, a version is answered exactly where the text spells it, and it
+        // passes.
+        ensures exact { (v : VersionValue) → IfOk result (λ found.
+            (option_map version_value found ≡ Some v)
+            ↔ (SpellsVersion v text.now × IsTrue (passes self.now v))) }
+        // Unless memory ran out, no version is answered exactly where the text spells none that
+        // passes.
+        ensures none { IfOk result (λ found. (found ≡ None)
+            ↔ ((v : VersionValue) → SpellsVersion v text.now → passes self.now v ≡ false)) }
+        // Memory runs out only where the text spells a version with a pre-release or a build.
+        ensures out_of_memory { IfErr result (λ _. (v : VersionValue) × SpellsVersion v text.now
+            × ((0 < length v.plain.pre) ⊎ (0 < length v.build))) }
+        // A pre-release takes no memory where releases alone pass.
+        ensures releases { (v : VersionValue) → SpellsVersion v text.now → ¬ (v.plain.pre ≡ [])
+            → self.now.pre_releases ≡ PreReleases.Excluded → result ≡ Ok None }
+    {
+        self.version_that_passes(alloc, text.as_bytes(), true)
+    }
+
+    /// The version that the bytes spell, if it passes: with its build where that is asked for, else
+    /// without. What can't pass by its first number or its pre-release isn't read further.
     #[inline(always)]
     pub(crate) fn version_that_passes(
         &self,
         alloc: Global,
         text: &[u8],
+        with_build: bool,
     ) -> Result<Option<Version>, AllocError>
-        ensures { IfOk result (λ found. MatchOption found
+        ensures found { IfOk result (λ found. MatchOption found
             ((v : VersionValue) → SpellsVersion v text.now → passes self.now v ≡ false)
             (λ version. (v : VersionValue) × SpellsVersion v text.now
             × IsTrue (passes self.now v) × ((version_value version).plain ≡ v.plain))) }
+        ensures whole { with_build ≡ true → (v : VersionValue) → SpellsVersion v text.now
+            → IfOk result (λ found. IfSome found (λ version. version_value version ≡ v)) }
+        ensures memory { IfErr result (λ _. (v : VersionValue) × SpellsVersion v text.now
+            × ((0 < length v.plain.pre) ⊎ (0 < length v.build))) }
+        ensures releases { (v : VersionValue) → SpellsVersion v text.now → ¬ (v.plain.pre ≡ [])
+            → self.now.pre_releases ≡ PreReleases.Excluded → result ≡ Ok None }
     {
         let Some(outline) = version::outline_bytes(text) else {
             return Ok(None);
@@ -106,9 +139,10 @@ impl Filter {
             return Ok(None);
         }
         if outline.pre.is_empty() {
-            return Ok(self.if_it_passes(release(alloc, &outline)));
-        }
-        if self.pre_releases == PreReleases::Excluded {
+            if !with_build || outline.build.is_empty() {
+                return Ok(self.if_it_passes(release(alloc, &outline)));
+            }
+        } else if self.pre_releases == PreReleases::Excluded {
             return Ok(None);
         }
         match version::read_bytes(alloc, text)? {

@@ -152,7 +152,7 @@ impl Filter {
             (λ v. SpellsPlain (passes self.now) prefix.now line.now (version_value v).plain)) }
     {
         match text_behind(prefix, line) {
-            Some(text) => self.version_that_passes(alloc, text),
+            Some(text) => self.version_that_passes(alloc, text, false),
             None => Ok(None),
         }
     }

@@ -22,6 +22,7 @@ pub fn write_kept<W: Write>(
 }
 
 /// Writes the versions of a list, parted by blanks, that pass a filter, or the fault of the text.
+/// Where the filter reads other ones of the texts itself, that is told behind them.
 pub fn write_passed<W: Write>(
     alloc: Global,
     text: &str,
@@ -34,9 +35,31 @@ pub fn write_passed<W: Write>(
         return write!(out, "not all are versions");
     };
     match Filter::new(alloc, text, compat, pre_releases) {
-        Ok(filter) => write_answer(&Ok(filter.kept(alloc, &versions)?), out),
+        Ok(filter) => {
+            let kept = filter.kept(alloc, &versions)?;
+            let are_read = are_read(alloc, &filter, list, &kept)?;
+            write_answer(&Ok(kept), out)?;
+            if are_read {
+                Ok(())
+            } else {
+                write!(out, ", and others are read")
+            }
+        }
         Err(error) => write_answer(&Err(error), out),
     }
+}
+
+/// Whether a filter reads these versions of a list, and no other ones.
+fn are_read(alloc: Global, filter: &Filter, list: &str, kept: &[&Version]) -> io::Result<bool> {
+    let mut left = kept.iter();
+    for item in list.split(' ').filter(|item| !item.is_empty()) {
+        if let Some(version) = filter.read(alloc, item)? {
+            if !left.next().is_some_and(|next| **next == version) {
+                return Ok(false);
+            }
+        }
+    }
+    Ok(left.next().is_none())
 }
 
 /// Writes the greatest of those, if there is one.

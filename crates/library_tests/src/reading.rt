@@ -1,0 +1,84 @@
+//! Versions that a filter reads from their texts.
+use release_filter::{Filter, PreReleases};
+use semver_parser::Compat;
+use std::alloc::Global;
+use std::io::{self, ErrorKind};
+
+/// A range in Cargo mode, a rule, a text, and the printed version that is read; none where the text
+/// spells none that passes.
+const TEXTS: [(&str, PreReleases, &str, Option<&str>); 21] = [
+    ("^1.2", PreReleases::Excluded, "1.9.0", Some("1.9.0")),
+    (
+        "^1.2",
+        PreReleases::Excluded,
+        "1.9.0+b5.7",
+        Some("1.9.0+b5.7"),
+    ),
+    ("^1.2", PreReleases::Excluded, " 1.2.0\t", Some("1.2.0")),
+    ("^1.2", PreReleases::Excluded, "1.1.9", None),
+    ("^1.2", PreReleases::Excluded, "1.1.9+b5", None),
+    ("^1.2", PreReleases::Excluded, "2.0.0", None),
+    ("^1.2", PreReleases::Excluded, "0.9.9", None),
+    ("^1.2", PreReleases::Excluded, "1.3.0-rc.1", None),
+    ("^1.2", PreReleases::Excluded, "1.3.0-rc.1+b5", None),
+    ("^1.2", PreReleases::Excluded, "1.2", None),
+    ("^1.2", PreReleases::Excluded, "v1.2.3", None),
+    ("^1.2", PreReleases::Excluded, "", None),
+    (
+        "*",
+        PreReleases::Excluded,
+        "18446744073709551615.0.0",
+        Some("18446744073709551615.0.0"),
+    ),
+    ("*", PreReleases::Excluded, "18446744073709551616.0.0", None),
+    (
+        "^1.2.3-b",
+        PreReleases::Stated,
+        "1.2.3-rc+b5",
+        Some("1.2.3-rc+b5"),
+    ),
+    ("^1.2.3-b", PreReleases::Stated, "1.2.3-a", None),
+    ("^1.2.3-b", PreReleases::Stated, "1.3.0-rc", None),
+    (
+        "^1.2.3-b",
+        PreReleases::Included,
+        "1.3.0-rc.4",
+        Some("1.3.0-rc.4"),
+    ),
+    ("^1.2.3-b", PreReleases::Included, "2.0.0-0", None),
+    (
+        "<0.1 || >=2",
+        PreReleases::Included,
+        "0.0.9-x",
+        Some("0.0.9-x"),
+    ),
+    ("<0.1 || >=2", PreReleases::Included, "1.0.0", None),
+];
+
+/// Writes the places of the texts that are read as something else, and how many there were.
+pub fn write_reading(rt: &impl Print, alloc: Global) -> io::Result<()> {
+    for (place, (range, rule, text, wanted)) in TEXTS.iter().enumerate() {
+        if !is_read_as(alloc, range, *rule, text, *wanted)? {
+            println!(rt; "reading: wrong at {place}")?;
+        }
+    }
+    println!(rt; "reading: {} texts", TEXTS.len())
+}
+
+/// Whether a filter reads the text as the version that prints so, or as none.
+fn is_read_as(
+    alloc: Global,
+    range: &str,
+    rule: PreReleases,
+    text: &str,
+    wanted: Option<&str>,
+) -> io::Result<bool> {
+    let Ok(filter) = Filter::new(alloc, range, Compat::Cargo, rule) else {
+        return Err(io::Error::from(ErrorKind::InvalidInput));
+    };
+    match (filter.read(alloc, text)?, wanted) {
+        (Some(version), Some(wanted)) => Ok(version.to_string(alloc)?.as_str() == wanted),
+        (None, None) => Ok(true),
+        _ => Ok(false),
+    }
+}
