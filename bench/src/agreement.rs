@@ -1,7 +1,9 @@
 //! What has to hold before anything is timed: each side reads the same texts, and its calls answer
 //! the same numbers.
 
-use crate::calls::{here_filter, semver_filter, Call, REFUSED};
+use crate::calls::{
+    here_filter, here_read_kept, semver_filter, semver_read_kept, Call, REFUSED,
+};
 use crate::rows::Row;
 
 /// Fails unless here and the crate `semver-parser` answer alike on each text of a row, and read
@@ -18,13 +20,17 @@ pub fn check_row(row: &Row, texts: &[&str]) -> Result<(), String> {
     Ok(())
 }
 
-/// Fails unless each range alone keeps as many of the versions here as by the crate `semver`.
+/// Fails unless each range alone keeps as many of the versions here as by the crate `semver`, of
+/// those that are read and of those that are read as far as is needed.
 pub fn check_filter(ranges: &str, versions: &str) -> Result<(), String> {
     for range in ranges.lines() {
-        let (here, semver) = (here_filter(range, versions), semver_filter(range, versions));
-        if here != semver || here == REFUSED {
-            let (here, semver) = (answer(here), answer(semver));
-            return Err(format!("filters: {range:?}: {here} here, {semver} by semver"));
+        let semver = semver_filter(range, versions);
+        let others = [here_filter, here_read_kept, semver_read_kept];
+        for kept in others.map(|filter| filter(range, versions)) {
+            if kept != semver || kept == REFUSED {
+                let (kept, semver) = (answer(kept), answer(semver));
+                return Err(format!("filters: {range:?}: {kept} are kept, and {semver} by semver"));
+            }
         }
     }
     Ok(())

@@ -20,6 +20,12 @@ extern "C" {
         versions: *const u8,
         versions_len: usize,
     ) -> u64;
+    fn speed_read_kept(
+        range: *const u8,
+        range_len: usize,
+        versions: *const u8,
+        versions_len: usize,
+    ) -> u64;
 }
 
 /// A version here: the sum of its numbers and of the counts of its identifiers.
@@ -97,6 +103,21 @@ fn read_and_filter(ranges: &str, versions: &str) -> Result<u64, semver::Error> {
         kept += releases.len() as u64;
     }
     Ok(kept)
+}
+
+/// Versions, a line each, of which only those are read whole that a range means here: how many
+/// these are.
+pub fn here_read_kept(range: &str, versions: &str) -> u64 {
+    unsafe { speed_read_kept(range.as_ptr(), range.len(), versions.as_ptr(), versions.len()) }
+}
+
+/// The same work by the crate `semver`: each version is let go at once that the range doesn't mean.
+pub fn semver_read_kept(range: &str, versions: &str) -> u64 {
+    VersionReq::parse(range).map_or(REFUSED, |requirement| {
+        let read = versions.lines().filter_map(|line| Version::parse(line).ok());
+        let kept: Vec<Version> = read.filter(|version| requirement.matches(version)).collect();
+        kept.len() as u64
+    })
 }
 
 fn is_version(is_read: bool) -> u64 {

@@ -1,7 +1,7 @@
 //! The table of times.
 
 use crate::agreement::{check_filter, check_row, count_read};
-use crate::calls::{here_filter, semver_filter, Call};
+use crate::calls::{here_filter, here_read_kept, semver_filter, semver_read_kept, Call};
 use crate::cells::grouped;
 use crate::generation::Make;
 use crate::rows::{Row, ROWS};
@@ -13,6 +13,9 @@ const STRETCH: usize = 1_000;
 
 /// How many versions are filtered at once.
 const FILTERED: usize = 10_000;
+
+/// By how many ranges versions are filtered as they are read.
+const READ_BY: usize = 10;
 
 /// Nanoseconds for a text.
 struct Times {
@@ -37,6 +40,7 @@ pub fn print_table(seed: u64) -> Result<(), String> {
     for (row, texts) in ROWS.iter().zip(&made) {
         print_times(&row_times(row, texts));
     }
+    print_times(&reading_times(&filters, &released));
     for times in filter_times(&filters, &released) {
         print_times(&times);
     }
@@ -63,6 +67,18 @@ fn side<'a>(call: Call) -> Side<'a, &'a [&'a str]> {
     Box::new(move |texts| texts.iter().fold(0, |sum: u64, text| sum.wrapping_add(call(text))))
 }
 
+/// The times of a filter of texts, which reads each as far as it has to: the mean of some ranges.
+fn reading_times(filters: &str, released: &str) -> Times {
+    let ranges: Vec<&str> = filters.lines().take(READ_BY).collect();
+    let by_each = |filter: fn(&str, &str) -> u64| -> Side<'_, String> {
+        let ranges = ranges.clone();
+        Box::new(move |versions| ranges.iter().map(|range| filter(range, versions)).sum())
+    };
+    let best = best(&stretches(released), &[here_read_kept, semver_read_kept].map(by_each));
+    let count = ranges.len() as f64;
+    filtering("reading and filtering at once,", best[0] / count, best[1] / count, released)
+}
+
 /// The times of the filter: versions read and filtered by the first range, and a filter alone,
 /// which is the mean of what each further range takes more. The crate `semver-parser` has no
 /// filter.
@@ -76,20 +92,24 @@ fn filter_times(filters: &str, released: &str) -> [Times; 2] {
         Box::new(|versions| semver_filter(filters, versions)),
     ];
     let best = best(&stretches, &sides);
-    let versions = released.lines().count();
     let further = (filters.lines().count() - 1) as f64;
-    let times = |title: &str, here: f64, semver: f64| Times {
+    let (here, semver) = ((best[2] - best[0]) / further, (best[3] - best[1]) / further);
+    [
+        filtering("reading all, and then filtering,", best[0], best[1], released),
+        filtering("filtering alone,", here, semver, released),
+    ]
+}
+
+/// A row of filters, of the nanoseconds for all versions.
+fn filtering(title: &str, here: f64, semver: f64, released: &str) -> Times {
+    let versions = released.lines().count();
+    Times {
         title: format!("{title} {} versions", grouped(FILTERED as u64)),
         here: here / versions as f64,
         parser: None,
         semver: semver / versions as f64,
         semver_reads: format!("all of {}", grouped(versions as u64)),
-    };
-    let (here, semver) = ((best[2] - best[0]) / further, (best[3] - best[1]) / further);
-    [
-        times("reading, and then filtering,", best[0], best[1]),
-        times("filtering alone,", here, semver),
-    ]
+    }
 }
 
 /// The lines, so many in a text.

@@ -8,7 +8,7 @@
 
 ghost use Rattle.std.specs.Prelude.{IsUtf8};
 
-use release_filter::filter_text;
+use release_filter::{Filter, PreReleases, filter_text};
 use semver_parser::version::Version;
 use semver_parser::{Compat, RangeSet, version};
 use std::alloc::Global;
@@ -80,6 +80,33 @@ pub extern "C" fn speed_filter(alloc: Global, ranges: &[u8], versions: &[u8]) ->
         }
     }
     kept
+}
+
+/// Reads those versions that the range means in Cargo mode, releases alone: how many there are.
+/// Each version is a line. `u64::MAX` where the range isn't read, or memory ran out.
+#[unsafe(no_mangle)]
+pub extern "C" fn speed_read_kept(alloc: Global, range: &[u8], versions: &[u8]) -> u64
+    requires range_is_text { IsUtf8 range.now }
+    requires versions_are_text { IsUtf8 versions.now }
+{
+    let range = unsafe { std::str::from_utf8_unchecked(range) };
+    let versions = unsafe { std::str::from_utf8_unchecked(versions) };
+    match read_kept(alloc, range, versions) {
+        Some(kept) => kept.len() as u64,
+        None => u64::MAX,
+    }
+}
+
+/// The versions of the lines that the range means.
+fn read_kept(alloc: Global, range: &str, lines: &str) -> Option<Vec<Version>> {
+    let filter = Filter::new(alloc, range, Compat::Cargo, PreReleases::Excluded).ok()?;
+    let mut kept = Vec::new(alloc);
+    for line in lines.lines() {
+        if let Some(version) = filter.read(alloc, line).ok()? {
+            kept.push(version).ok()?;
+        }
+    }
+    Some(kept)
 }
 
 /// The versions of the lines, if each line is one.
