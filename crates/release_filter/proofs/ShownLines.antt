@@ -14,6 +14,12 @@ use Rattle.release_filter.specs.declared.lines.LineError.TheVariants.{OutOfMemor
 use Rattle.release_filter.specs.KeptLines.{IsKeptLine}
 use Rattle.release_filter.specs.Means.Reading.{ReadsPart, ReadsLine, IsWholeLine, SpellsPlain, Judges, JudgesNext}
 
+-- what is so of what was left is so of what was there, where nothing was taken
+pub behind_kept : (IsSo : List ℕ → Type 0) (a b : Option (List ℕ)) → Keeps a b → IfSome b IsSo → IfSome a IsSo
+behind_kept IsSo None b kept is = tt
+behind_kept IsSo (Some x) None kept is = absurd kept
+behind_kept IsSo (Some x) (Some y) kept is = subst IsSo kept is
+
 -- the bytes that `consume` takes are the front of what was shown
 pub let_go : (a b c : Option (List ℕ)) (buffered : Option ℕ) (shown line : List ℕ) → StartsWith shown line
     → IfSome a (λ xs. StartsWith xs shown) → IfSome a (λ xs. length shown ≡ 0 → xs ≡ []) → Keeps a b

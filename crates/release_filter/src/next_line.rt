@@ -47,7 +47,8 @@ impl Filter {
     }
 
     /// Takes the next line, and answers its version if it is kept, and the line in `line`; `None`
-    /// where no line is left.
+    /// where no line is left. A line that the reader doesn't show whole is read into `line`, and
+    /// judged there.
     #[inline(always)]
     fn judge_next<R: BufRead>(
         &self,
@@ -62,8 +63,13 @@ impl Filter {
         ensures no_writing { IfErr result IsNoWriting }
     {
         match self.judge_shown(alloc, prefix, input, line) {
-            Ok(None) => self.judge_read(alloc, prefix, input, line),
-            judged => judged,
+            Ok(None) => {}
+            judged => return judged,
+        }
+        match read_line(input, line) {
+            Ok(true) => judged(self.kept_version(alloc, prefix, line.as_slice())),
+            Ok(false) => Ok(None),
+            Err(error) => Err(error),
         }
     }
 
@@ -95,28 +101,6 @@ impl Filter {
         let count = first.len();
         input.consume(count);
         judged(found)
-    }
-
-    /// What `judge_next` does with any other line: it is read into `line`, and judged there.
-    #[inline(always)]
-    fn judge_read<R: BufRead>(
-        &self,
-        alloc: Global,
-        prefix: &str,
-        input: &mut R,
-        line: &mut Vec<u8>,
-    ) -> Result<Option<Option<Version>>, LineError>
-        ensures judges { JudgesNext (FindsEnd (R.remaining input.old) (R.remaining input.new))
-            (passes self.now) prefix.now (R.remaining input.old) (R.remaining input.new)
-            line.new.items result }
-        ensures no_writing { IfErr result IsNoWriting }
-    {
-        match read_line(input, line) {
-            Ok(true) => {}
-            Ok(false) => return Ok(None),
-            Err(error) => return Err(error),
-        }
-        judged(self.kept_version(alloc, prefix, line.as_slice()))
     }
 
     /// The version that a line spells behind the prefix, if it passes, and then the line in `copy`.
