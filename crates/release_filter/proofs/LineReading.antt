@@ -1,5 +1,5 @@
 -- What stands behind the prefix of a line, and what that says of the line.
-use Rattle.std.proofs.Common.{Bor, ◌+◌, Option, Some, None, Result, Ok, Err, IfOk, MatchOption, IsTrue, ◌≡◌, ℕ, ◌++◌}
+use Rattle.std.proofs.Common.{Bor, ◌+◌, Option, Some, None, Result, Ok, Err, IfOk, MatchOption, ◌≡◌, ℕ, ◌++◌}
 use Rattle.std.proofs.Common.{Bool, true, false, List, ap, sym, subst, ◌∙◌, take, drop, length, eqb}
 use Rattle.std.specs.Cmp.Lexicographic.{pointwise, bytes_decides}
 use Rattle.std.proofs.Math.Seq.{take-append_seam}
@@ -8,7 +8,7 @@ use Rattle.semver_parser.specs.Versions.{VersionValue}
 use Rattle.semver_parser.specs.VersionGrammar.{SpellsVersion}
 use Rattle.semver_parser.specs.VersionViews.{version_value}
 use Rattle.semver_parser.specs.declared.version.Version.{Version}
-use Rattle.release_filter.specs.Means.Reading.{SpellsPlain}
+use Rattle.release_filter.specs.Means.Reading.{SpellsPlain, FindsPlain}
 use Rattle.release_filter.specs.KeptLines.{line_text, IsKeptLine, SpellsOneThat}
 use Rattle.release_filter.proofs.Passing.{not_both}
 
@@ -28,8 +28,7 @@ module _ (test : VersionValue → Bool) (prefix line : List ℕ) where
 
     -- what a version of the text is to a filter, it is to the line
     pub line_judged : {E : Type 0} (found : Result (Option Version) E)
-        → IfOk found (λ found. MatchOption found ((v : VersionValue) → SpellsVersion v text → test v ≡ false)
-        (λ x. (v : VersionValue) × SpellsVersion v text × IsTrue (test v) × ((version_value x).plain ≡ v.plain)))
+        → IfOk found (FindsPlain test text)
         → IfOk found (λ found. MatchOption found (¬ (IsKeptLine test prefix line))
         (λ x. SpellsPlain test prefix line (version_value x).plain))
     line_judged (Err e) h = tt

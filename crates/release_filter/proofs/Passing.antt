@@ -13,6 +13,7 @@ use Rattle.semver_parser.specs.StatedPreReleases.{counts_beside, meets_set_as_st
 use Rattle.std.specs.declared.alloc.AllocError.{AllocError}
 use Rattle.release_filter.specs.Filters.{meets_with, FilterValue, passes}
 use Rattle.release_filter.specs.KeptReleases.{is_release}
+use Rattle.release_filter.specs.Means.Reading.{FindsPlain}
 use Rattle.release_filter.specs.declared.rules.PreReleases.{PreReleases}
 use Rattle.release_filter.specs.declared.rules.PreReleases.TheVariants.{Excluded, Stated, Included}
 use Rattle.release_filter.proofs.Tests.{first_of_both}
@@ -61,8 +62,7 @@ module _ (filter : FilterValue) (text : Text) (made : Version) (v : VersionValue
     (same : (w : VersionValue) → SpellsVersion w text → (version_value made).plain ≡ w.plain) where
   pub judged : (found : Option Version)
       → MatchOption found (passes filter (version_value made) ≡ false) (λ x. (x ≡ made) × IsTrue (passes filter (version_value made)))
-      → MatchOption found ((w : VersionValue) → SpellsVersion w text → passes filter w ≡ false)
-      (λ x. (w : VersionValue) × SpellsVersion w text × IsTrue (passes filter w) × ((version_value x).plain ≡ w.plain))
+      → FindsPlain (passes filter) text found
   judged None fails = λ w is. sym (same_plain filter (version_value made) w (same w is)) ∙ fails
   judged (Some x) (is, passed) = (
     v,
@@ -93,8 +93,7 @@ no_length (x ∷ xs) e = absurd (search rules)
 -- where what is found is the version that the text spells, the version that passes is found, and no other
 module _ (filter : FilterValue) (text : Text) where
   exact_of : (found : Option Version)
-      → MatchOption found ((v : VersionValue) → SpellsVersion v text → passes filter v ≡ false)
-      (λ x. (v : VersionValue) × SpellsVersion v text × IsTrue (passes filter v) × ((version_value x).plain ≡ v.plain))
+      → FindsPlain (passes filter) text found
       → ((v : VersionValue) → SpellsVersion v text → IfSome found (λ x. version_value x ≡ v))
       → (v : VersionValue) → (option_map version_value found ≡ Some v) ↔ (SpellsVersion v text × IsTrue (passes filter v))
   exact_of None fails whole v = (λ e. absurd (search rules), λ both. absurd (not_both both.1 (fails v both.0)))
@@ -105,8 +104,7 @@ module _ (filter : FilterValue) (text : Text) where
   )
 
   pub exactly : (result : Result (Option Version) AllocError)
-      → IfOk result (λ found. MatchOption found ((v : VersionValue) → SpellsVersion v text → passes filter v ≡ false)
-      (λ x. (v : VersionValue) × SpellsVersion v text × IsTrue (passes filter v) × ((version_value x).plain ≡ v.plain)))
+      → IfOk result (FindsPlain (passes filter) text)
       → ((v : VersionValue) → SpellsVersion v text → IfOk result (λ found. IfSome found (λ x. version_value x ≡ v)))
       → (v : VersionValue) → IfOk result (λ found. (option_map version_value found ≡ Some v) ↔ (SpellsVersion v text × IsTrue (passes filter v)))
   exactly (Ok found) told whole v = exact_of found told whole v

@@ -13,6 +13,7 @@ ghost use Rattle.release_filter.specs.KeptReleases.{kept_releases, meant_with};
 ghost use Rattle.release_filter.specs.Filters.{FilterValue, meets_with, passes};
 ghost use Rattle.release_filter.specs.Greatest.{HasNone, IsGreatest, IsOneThat};
 ghost use Rattle.release_filter.specs.Means.Majors.{IsWithin};
+ghost use Rattle.release_filter.specs.Means.Reading.{FindsPlain, SpellsIdentifiers};
 
 use crate::majors::{self, Majors};
 use crate::meeting::{release_meets, version_meets, version_meets_as_stated};
@@ -121,14 +122,10 @@ impl Filter {
         text: &[u8],
         with_build: bool,
     ) -> Result<Option<Version>, AllocError>
-        ensures found { IfOk result (λ found. MatchOption found
-            ((v : VersionValue) → SpellsVersion v text.now → passes self.now v ≡ false)
-            (λ version. (v : VersionValue) × SpellsVersion v text.now
-            × IsTrue (passes self.now v) × ((version_value version).plain ≡ v.plain))) }
+        ensures found { IfOk result (FindsPlain (passes self.now) text.now) }
         ensures whole { with_build ≡ true → (v : VersionValue) → SpellsVersion v text.now
             → IfOk result (λ found. IfSome found (λ version. version_value version ≡ v)) }
-        ensures memory { IfErr result (λ _. (v : VersionValue) × SpellsVersion v text.now
-            × ((0 < length v.plain.pre) ⊎ (0 < length v.build))) }
+        ensures memory { IfErr result (λ _. SpellsIdentifiers text.now) }
         ensures releases { (v : VersionValue) → SpellsVersion v text.now → ¬ (v.plain.pre ≡ [])
             → self.now.pre_releases ≡ PreReleases.Excluded → result ≡ Ok None }
     {
@@ -145,6 +142,21 @@ impl Filter {
         } else if self.pre_releases == PreReleases::Excluded {
             return Ok(None);
         }
+        self.whole_version_that_passes(alloc, text)
+    }
+
+    /// The version that the bytes spell, if it passes. All of it is read.
+    #[inline(always)]
+    fn whole_version_that_passes(
+        &self,
+        alloc: Global,
+        text: &[u8],
+    ) -> Result<Option<Version>, AllocError>
+        ensures found { IfOk result (FindsPlain (passes self.now) text.now) }
+        ensures whole { (v : VersionValue) → SpellsVersion v text.now
+            → IfOk result (λ found. IfSome found (λ version. version_value version ≡ v)) }
+        ensures memory { IfErr result (λ _. SpellsIdentifiers text.now) }
+    {
         match version::read_bytes(alloc, text)? {
             Some(version) => Ok(self.if_it_passes(version)),
             None => Ok(None),

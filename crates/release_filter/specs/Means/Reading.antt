@@ -1,10 +1,11 @@
 -- What reading a line did to the bytes that a reader tells: a means of proof.
 use Rattle.std.specs.Prelude.{◌≡◌, Bool, ℕ, ◌<◌, List, [], ◌++◌, length, ⊤, Option, Some, None}
-use Rattle.std.specs.Prelude.{IfSome, MatchOption, Result, Ok, Err}
+use Rattle.std.specs.Prelude.{IfSome, MatchOption, Result, Ok, Err, ◌⊎◌, IsTrue, false}
 use Rattle.std.specs.Io.{StopsAt, IsEmptyOrEndsWith}
 use Rattle.std.specs.Io.BufRead.{take_through, drop_through}
 use Rattle.semver_parser.specs.Texts.{Text}
 use Rattle.semver_parser.specs.Versions.{PlainVersion, VersionValue}
+use Rattle.semver_parser.specs.VersionGrammar.{SpellsVersion}
 use Rattle.semver_parser.specs.VersionViews.{version_value}
 use Rattle.semver_parser.specs.declared.version.Version.{Version}
 use Rattle.release_filter.specs.Greatest.{HasNone}
@@ -38,6 +39,18 @@ IsNoWriting (Write error) = ⊥
 abbrev pub SpellsPlain : (VersionValue → Bool) → Text → List ℕ → PlainVersion → Type 0
 SpellsPlain test prefix line plain =
     (v : VersionValue) × SpellsOneThat test prefix line v × (plain ≡ v.plain)
+
+-- the version that a text spells and that passes, but for its build; none where there is none
+abbrev pub FindsPlain : (VersionValue → Bool) → Text → Option Version → Type 0
+FindsPlain test text found =
+    MatchOption found ((v : VersionValue) → SpellsVersion v text → test v ≡ false)
+    (λ version. (v : VersionValue) × SpellsVersion v text × IsTrue (test v)
+    × ((version_value version).plain ≡ v.plain))
+
+-- a text that spells a version with a pre-release or a build
+abbrev pub SpellsIdentifiers : Text → Type 0
+SpellsIdentifiers text = (v : VersionValue) × SpellsVersion v text
+    × ((0 < length v.plain.pre) ⊎ (0 < length v.build))
 
 -- a line that ends with a line feed
 abbrev pub IsWholeLine : List ℕ → Type 0

@@ -1,6 +1,5 @@
 use Rattle.std.proofs.Common.{◌≡◌, ◌<◌, ◌^◌, sym, subst, ap, ◌∙◌, refl, rules, length, ◌==◌}
 use Rattle.semver_parser.specs.Versions.{VersionValue}
-use Rattle.semver_parser.specs.VersionViews.{version_value}
 use Rattle.semver_parser.specs.Outlines.{OutlineValue, outline_value, outline_of}
 use Rattle.release_filter.specs.Filters.{FilterValue}
 use Rattle.release_filter.specs.Means.Majors.{IsWithin}
@@ -54,30 +53,8 @@ returns-then-eq-clause-found c = λ v spells.
     excluded_fails c.args.self.now v (ap (λ (f : FilterValue). f.pre_releases) (sym c.self.view_is) ∙ search rules)
     (λ none. not_both (c.is_empty.ensures ∙ ap (λ xs. length xs == 0) ((c.in-Some.ensures.pre_release v spells).1 none)) c.if-is_empty.false)
 
-pub returns-in-Some-2-clause-found : goal.returns-in-Some-2-clause-found
-returns-in-Some-2-clause-found c =
-    let exact : (v : VersionValue) → _ = rw c.in-Some-2.is at c.in_ok-version.ensures.exact in
-    let version = c.in-Some-2.version in
-    judged c.args.self.now c.args.text.now version (version_value version) ((exact (version_value version)).0 refl)
-    (λ w spells. ap (λ (v : VersionValue). v.plain) (some_is ((exact w).1 spells)))
-    c.if_it_passes-in-Some-2.result c.if_it_passes-in-Some-2.ensures
-
-pub returns-in-Some-2-clause-whole : goal.returns-in-Some-2-clause-whole
-returns-in-Some-2-clause-whole c = λ wanted v spells.
-    let exact : (v : VersionValue) → _ = rw c.in-Some-2.is at c.in_ok-version.ensures.exact in
-    made_is _ _ c.in-Some-2.version v (some_is ((exact v).1 spells)) c.if_it_passes-in-Some-2.result c.if_it_passes-in-Some-2.ensures
-
-pub returns-in-Some-2-clause-releases : goal.returns-in-Some-2-clause-releases
-returns-in-Some-2-clause-releases c = λ v spells some only. elim c.if-is_empty.branch [
-  | then-is_empty+else-not-with_build+else-is_empty-2 w ↦
-      absurd (some ((c.in-Some.ensures.pre_release v spells).0 (no_length c.in-Some.outline.pre.now (sym c.is_empty.ensures ∙ w.if-is_empty.true))))
-  | else-is_empty+else-eq w ↦
-      let rule = ap (λ (f : FilterValue). f.pre_releases) c.self.view_is ∙ only in
-      absurd (search rules)
-]
-
-pub returns-in_err-version-clause-releases : goal.returns-in_err-version-clause-releases
-returns-in_err-version-clause-releases c = λ v spells some only. elim c.if-is_empty.branch [
+pub returns-clause-releases : goal.returns-clause-releases
+returns-clause-releases c = λ v spells some only. elim c.if-is_empty.branch [
   | then-is_empty+else-not-with_build+else-is_empty-2 w ↦
       absurd (some ((c.in-Some.ensures.pre_release v spells).0 (no_length c.in-Some.outline.pre.now (sym c.is_empty.ensures ∙ w.if-is_empty.true))))
   | else-is_empty+else-eq w ↦
