@@ -1,7 +1,8 @@
 //! A range text read once, as a test on many versions.
 
 ghost use Rattle.std.specs.Prelude.{◌≡◌, ◌↔◌, ◌<◌, ◌^◌, ◌⊎◌, map, filter, length, option_map, true};
-ghost use Rattle.std.specs.Prelude.{false, [], IfOk, IfErr, IfSome, IsTrue, MatchOption, Some, None};
+ghost use Rattle.std.specs.Prelude.{false, [], IfOk, IfErr, IfSome, IsTrue, MatchOption};
+ghost use Rattle.std.specs.Prelude.{Some, None};
 ghost use Rattle.semver_parser.specs.RangeTexts.{IsRangeText, HasSet, IsTooLarge};
 ghost use Rattle.semver_parser.specs.RangeTree.{SetTree, Spells};
 ghost use Rattle.semver_parser.specs.Versions.{PlainVersion, VersionValue};
@@ -88,11 +89,12 @@ impl Filter {
     }
 
     /// The version that a text spells, if it spells one that passes: with a filter of `^1.2`,
-    /// releases alone, `1.9.0+b5` gives that version, and `2.0.0`, `1.3.0-rc` and `1.2` give `None`.
+    /// releases alone, `1.9.0+b5` gives that version, and `2.0.0`, `1.3.0-rc` and `1.2` give
+    /// `None`.
     ///
     /// The text is read as by `version::read`, but only as far as is needed. Memory is taken only
-    /// where it spells a version with a pre-release or a build, and where releases alone pass for no
-    /// pre-release. `Err` is want of it.
+    /// where it spells a version with a pre-release or a build, and where releases alone pass for
+    /// no pre-release. `Err` is want of it.
     pub fn read(&self, alloc: Global, text: &str) -> Result<Option<Version>, AllocError>
         // Unless memory ran out, a version is answered exactly where the text spells it, and it
         // passes.
