@@ -18,14 +18,15 @@ pub struct Majors {
 }
 
 impl Majors {
-    /// Whether a version with this first number may meet. It is answered of each that can.
+    /// Whether a version with this first number can meet.
     ///
-    /// For speed, by one comparison: what is below `lowest` wraps round, and is above the rest.
+    /// For speed, by one comparison that hangs on the number: what is below `lowest` wraps round,
+    /// and is above the rest.
     #[inline(always)]
     pub fn has(&self, major: u64) -> bool
-        ensures { IsWithin self.now major → result ≡ true }
+        ensures { (result ≡ true) ↔ IsWithin self.now major }
     {
-        major.wrapping_sub(self.lowest) <= self.highest.wrapping_sub(self.lowest)
+        self.lowest <= self.highest && major.wrapping_sub(self.lowest) <= self.highest - self.lowest
     }
 }
 

@@ -8,5 +8,5 @@ returns-else-has c =
     let v = version_value c.args.version.now in
     record {
       meets = c.if-has.false ∙ nothing_passes c.args.self.now _ _ v (sym c.self.view_is)
-          (λ meets. not_both (c.has.ensures (c.self.invariant v.plain (search rules) meets)) c.if-has.false);
+          (λ meets. not_both (c.has.ensures.1 (c.self.invariant v.plain (search rules) meets)) c.if-has.false);
     }

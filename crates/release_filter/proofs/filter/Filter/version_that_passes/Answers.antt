@@ -14,7 +14,7 @@ returns-then-not-has-clause-found c = λ v spells.
     let same : outline_value c.in-Some.outline ≡ outline_of v = some_is ((c.in-Some.ensures.outlined (outline_of v)).1 (v, spells, refl)) in
     let major : c.in-Some.outline.major ≡ v.plain.major = ap (λ (o : OutlineValue). o.major) same in
     let small : v.plain.major < 2 ^ 64 = subst (λ n. n < 2 ^ 64) major (search rules) in
-    sym (nothing_passes c.args.self.now _ _ v (sym c.self.view_is) (λ meets. not_both (c.has.ensures
+    sym (nothing_passes c.args.self.now _ _ v (sym c.self.view_is) (λ meets. not_both (c.has.ensures.1
     (subst (IsWithin c.self.inside.majors) (sym major) (c.self.invariant v.plain small meets))) c.if-not-has.true))
 
 pub returns-then-not-with_build-clause-found : goal.returns-then-not-with_build-clause-found
