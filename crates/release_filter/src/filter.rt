@@ -1,9 +1,9 @@
 //! A range text read once, as a test on many versions.
 
 ghost use Rattle.std.specs.Prelude.{◌≡◌, ◌↔◌, ◌<◌, ◌^◌, ◌⊎◌, map, filter, length, option_map, true};
-ghost use Rattle.std.specs.Prelude.{false, [], IfOk, IfErr, IfSome, IsTrue, MatchOption};
+ghost use Rattle.std.specs.Prelude.{false, [], Any, IfOk, IfErr, IfSome, IsTrue, MatchOption};
 ghost use Rattle.std.specs.Prelude.{Some, None};
-ghost use Rattle.semver_parser.specs.RangeTexts.{IsRangeText, HasSet, IsTooLarge};
+ghost use Rattle.semver_parser.specs.RangeTexts.{RefusesExactly};
 ghost use Rattle.semver_parser.specs.RangeTree.{SetTree, Spells};
 ghost use Rattle.semver_parser.specs.Versions.{PlainVersion, VersionValue};
 ghost use Rattle.semver_parser.specs.VersionGrammar.{SpellsVersion};
@@ -62,15 +62,11 @@ impl Filter {
         compat: Compat,
         pre_releases: PreReleases,
     ) -> Result<Filter, RangeError>
-        // Some tree spells the text and fits, and what passes is what each tree of the text means.
-        ensures accepted { IfOk result (λ filter. HasSet compat range.now) }
+        ensures refusals { RefusesExactly compat range.now result }
+        // What passes is what each tree of the text means by the rule, which is the filter's.
         ensures meaning { IfOk result (λ filter. (tree : SetTree) (v : VersionValue)
             → Spells tree range.now → passes filter v ≡ meant_with pre_releases compat tree v) }
-
-        // Refusals, exactly; memory may run out in place of a filter alone.
-        ensures not_a_range { (result ≡ Err RangeError.NotARange) ↔ ¬ (IsRangeText range.now) }
-        ensures too_large { (result ≡ Err RangeError.NumberTooLarge) ↔ IsTooLarge compat range.now }
-        ensures out_of_memory { result ≡ Err RangeError.OutOfMemory → HasSet compat range.now }
+        ensures rule { IfOk result (λ filter. filter.pre_releases ≡ pre_releases) }
     {
         let set = read_set(alloc, range, compat, pre_releases)?;
         let majors = majors::of_ranges(&set.ranges);
@@ -201,6 +197,9 @@ impl Filter {
     ) -> Result<Vec<&'v Version>, AllocError>
         ensures kept { IfOk result (λ kept. map (λ v. v.now) kept.items
             ≡ filter (λ v. passes self.now (version_value v)) versions.now) }
+        // Memory runs out only where some version passes.
+        ensures out_of_memory { IfErr result (λ _.
+            Any (λ v. IsTrue (passes self.now (version_value v))) versions.now) }
     {
         let mut kept = Vec::new(alloc);
         for version in versions {
@@ -269,13 +268,10 @@ fn read_set(
     compat: Compat,
     pre_releases: PreReleases,
 ) -> Result<RangeSet, RangeError>
-    ensures accepted { IfOk result (λ set. HasSet compat range.now) }
+    ensures refusals { RefusesExactly compat range.now result }
     ensures meaning { IfOk result (λ set. (tree : SetTree) (v : VersionValue)
         → Spells tree range.now →
         meets_with pre_releases (set_of set) v ≡ meant_with pre_releases compat tree v) }
-    ensures not_a_range { (result ≡ Err RangeError.NotARange) ↔ ¬ (IsRangeText range.now) }
-    ensures too_large { (result ≡ Err RangeError.NumberTooLarge) ↔ IsTooLarge compat range.now }
-    ensures out_of_memory { result ≡ Err RangeError.OutOfMemory → HasSet compat range.now }
 {
     laws::stated_pre_releases_mean_the_text();
     match pre_releases {
@@ -302,15 +298,10 @@ pub fn filter_text<'v>(
     compat: Compat,
     versions: &'v [Version],
 ) -> Result<Vec<&'v Version>, RangeError>
-    // Some tree spells the text and fits, and what is answered is what each tree of the text keeps.
-    ensures accepted { IfOk result (λ kept. HasSet compat text.now) }
+    ensures refusals { RefusesExactly compat text.now result }
+    // What is answered is what each tree of the text keeps.
     ensures kept { IfOk result (λ kept. (tree : SetTree) → Spells tree text.now
         → map (λ v. v.now) kept.items ≡ kept_releases compat tree versions.now) }
-
-    // Refusals, exactly; memory may run out in place of an answer alone.
-    ensures not_a_range { (result ≡ Err RangeError.NotARange) ↔ ¬ (IsRangeText text.now) }
-    ensures too_large { (result ≡ Err RangeError.NumberTooLarge) ↔ IsTooLarge compat text.now }
-    ensures out_of_memory { result ≡ Err RangeError.OutOfMemory → HasSet compat text.now }
 {
     let filter = Filter::new(alloc, text, compat, PreReleases::Excluded)?;
     match filter.kept(alloc, versions) {

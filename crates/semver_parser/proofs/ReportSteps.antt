@@ -1,5 +1,5 @@
 -- What the report writes, from what its lines show.
-use Rattle.std.proofs.Common.{◌≡◌, ◌↔◌, Bool, true, false, List, ℕ, Option, Result, Ok, Err, IfOk, IsTrue, codes, refl}
+use Rattle.std.proofs.Common.{◌≡◌, Bool, true, false, List, ℕ, Option, Result, Ok, Err, IfOk, IsTrue, codes, refl}
 use Rattle.std.specs.Prelude.{◌||◌}
 use Rattle.semver_ranges.specs.declared.range.Compat.{Compat}
 use Rattle.semver_ranges.specs.declared.range.Compat.TheVariants.{Cargo, Npm}
@@ -16,7 +16,7 @@ use Rattle.semver_steps.specs.declared.parser.Error.{Error}
 use Rattle.semver_steps.specs.declared.parser.Error.TheVariants as error
 use Rattle.semver_texts.specs.declared.version.Version.{Version}
 use Rattle.semver_ranges.specs.RangeTree.{SetTree, Spells}
-use Rattle.semver_ranges.specs.RangeTexts.{IsRangeText, HasSet, IsTooLarge}
+use Rattle.semver_ranges.specs.RangeTexts.{RefusesExactly}
 use Rattle.semver_ranges.specs.RewritingTable.{PlainSet, fits, rewritten}
 use Rattle.semver_ranges.specs.PrintedRanges.{set_text}
 use Rattle.semver_parser.specs.Writing.{WritesOrBegins}
@@ -55,16 +55,13 @@ shows_set mode text (Fault w) set tree spelled fit is value other =
     rw (other refl) (no_memory mode text tree spelled fit)
 
 -- a refusal shows as its word
-pub shows_refusal : (mode : Compat) (text : Text) (e : RangeError)
-    → (◌≡◌ {A = Result RangeSet RangeError} (Err e) (Err NotARange)) ↔ ¬ (IsRangeText text)
-    → (◌≡◌ {A = Result RangeSet RangeError} (Err e) (Err NumberTooLarge)) ↔ IsTooLarge mode text
-    → (◌≡◌ {A = Result RangeSet RangeError} (Err e) (Err OutOfMemory) → HasSet mode text)
+pub shows_refusal : (mode : Compat) (text : Text) (e : RangeError) → RefusesExactly {A = RangeSet} mode text (Err e)
     → (word : Text) → word ≡ range_fault_word e → RangeLine mode text false word
-shows_refusal mode text NotARange none large memory word is = rw is (not_a_range mode text (none.0 refl))
-shows_refusal mode text NumberTooLarge none large memory word is =
-    let found = large.0 refl in rw is (number_too_large mode text found.0 found.1 found.2)
-shows_refusal mode text OutOfMemory none large memory word is =
-    let found = memory refl in rw is (no_memory mode text found.0 found.1 found.2)
+shows_refusal mode text NotARange refused word is = rw is (not_a_range mode text (refused.not_a_range.0 refl))
+shows_refusal mode text NumberTooLarge refused word is =
+    let found = refused.too_large.0 refl in rw is (number_too_large mode text found.0 found.1 found.2)
+shows_refusal mode text OutOfMemory refused word is =
+    let found = refused.out_of_memory refl in rw is (no_memory mode text found.0 found.1 found.2)
 
 are_lines : (text : Text) (version cargo npm : Shown)
     → VersionLine text (is_value_of version) (shown_text version)

@@ -26,3 +26,4 @@ pub use Rattle.semver_ranges.specs.Meeting
 pub use Rattle.semver_ranges.specs.StatedPreReleases
 pub use Rattle.semver_ranges.specs.PrintedRanges
 pub use Rattle.semver_ranges.specs.RangeViews
+pub use Rattle.semver_ranges.specs.ParsedSets

@@ -14,7 +14,7 @@ use Rattle.semver_parser.proofs.TokenLists.{prefix_is, decimal_is_run}
 use Rattle.semver_parser.proofs.OneVersion.{Passes, passes_more, passes_append, IsPartText, identifiers_bytes}
 use Rattle.semver_parser_c.specs.declared.Part.{Part}
 use Rattle.semver_parser_c.specs.Places.{nowhere, behind_mark, numbers_end}
-use Rattle.semver_parser_c.specs.Scanning.{is_front_byte, is_dotted_byte, found}
+use Rattle.semver_parser_c.specs.Means.Scanning.{is_front_byte, is_dotted_byte, found}
 
 -- ---- the bytes of a part
 

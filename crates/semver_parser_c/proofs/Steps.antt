@@ -1,6 +1,6 @@
 -- The numbers of what reading a version text or a range text answers.
 use Rattle.std.proofs.Common.{◌≡◌, ◌≢◌, ◌⊎◌, ◌↔◌, ℕ, ℤ, Bool, true, false, List, [], ◌∷◌, Option, Some, None, Result, Ok, Err, refl, sym}
-use Rattle.std.proofs.Common.{arith, pos, ◌<◌, ap, ◌∙◌, inl, inr, ⊎_elim, IsUtf8}
+use Rattle.std.proofs.Common.{arith, pos, ◌<◌, ap, ◌∙◌, inl, inr, ⊎_elim, subst, IsUtf8}
 use Rattle.semver_parser.specs.Texts.{Text}
 use Rattle.semver_parser.specs.Tokens.{TokenValue}
 use Rattle.semver_parser.specs.declared.version.Version.{Version}
@@ -17,12 +17,11 @@ use Rattle.semver_parser.specs.ParserState.{ParserState, Fault}
 use Rattle.semver_parser.specs.ParserViews.{fault_of, answer_of, UnlessOutOfMemory}
 use Rattle.semver_parser.specs.VersionViews.{version_value}
 use Rattle.semver_parser.specs.declared.Compat.{Compat}
-use Rattle.semver_parser.specs.RangeTexts.{IsRangeText, IsTooLarge}
 use Rattle.semver_parser.specs.RewritingTable.{fits}
 use Rattle.semver_parser.proofs.ReadingComplete.{same_tree}
-use Rattle.semver_parser_c.specs.Numbers.{ok, version_out_of_memory, range_not_utf8, not_a_range, number_too_large, no_such_rule}
+use Rattle.semver_parser_c.specs.Numbers.{ok, version_out_of_memory, no_such_rule}
 use Rattle.semver_parser_c.specs.Faults.{IsOneOf, RangeIsRead, fault_number, range_fault_number, outcome_number, version_faults}
-use Rattle.semver_parser_c.specs.Faults.{range_faults}
+use Rattle.semver_parser_c.specs.Faults.{range_faults, RefusesRange}
 use Rattle.semver_parser_c.specs.Rules.{IsMeeting, IsRule}
 
 -- ---- the faults that a version text has
@@ -123,18 +122,22 @@ has_outcome text e z is outcome other =
 
 -- ---- whether a version meets a range
 
+-- a refusal by the number that C gets, and by the rule that it gave
+pub refused_alike : (rule rule' : ℤ) (mode : Compat) (text : Text) (z n : ℤ) → rule' ≡ rule → z ≡ n
+    → RefusesRange (IsRule rule') mode text n → RefusesRange (IsRule rule) mode text z
+refused_alike rule rule' mode text z n same told refused =
+    subst (RefusesRange (IsRule rule) mode text) (sym told) (subst (λ r. RefusesRange (IsRule r) mode text n) same refused)
+
 -- a text that was refused with the number of a fault of ranges isn't read
-pub isnt_read : (mode : Compat) (text : Text) (z n : ℤ) → z ≡ n → IsOneOf range_faults n
-    → ((n ≡ range_not_utf8) ↔ ¬ (IsUtf8 text))
-    → (IsUtf8 text → (n ≡ not_a_range) ↔ ¬ (IsRangeText text))
-    → (IsUtf8 text → (n ≡ number_too_large) ↔ IsTooLarge mode text)
-    → RangeIsRead mode text z → ⊥
-isnt_read mode text z n same one not_utf8 no_range large read = ⊎_elim
-    (λ is. not_utf8.0 is read.utf8)
+isnt_read : (Asked : Type 0) (mode : Compat) (text : Text) (z n : ℤ) → z ≡ n → IsOneOf range_faults n
+    → Asked → RefusesRange Asked mode text n → RangeIsRead mode text z → ⊥
+isnt_read Asked mode text z n same one asked refused read = ⊎_elim
+    (λ is. (refused.not_utf8 asked).0 is read.utf8)
     (λ others. ⊎_elim
-    (λ is. (no_range read.utf8).0 is (read.tree, read.spells))
+    (λ is. (refused.not_a_range asked read.utf8).0 is (read.tree, read.spells))
     (λ others. ⊎_elim
-    (λ is. let h = (large read.utf8).0 is in clash (sym h.2 ∙ ap (fits mode) (same_tree h.0 read.tree text h.1 read.spells) ∙ read.fit))
+    (λ is. let h = (refused.too_large asked read.utf8).0 is in
+    clash (sym h.2 ∙ ap (fits mode) (same_tree h.0 read.tree text h.1 read.spells) ∙ read.fit))
     (λ others. ⊎_elim (λ is. read.memory (same ∙ is)) (λ none. none) others)
     others)
     others)
@@ -145,14 +148,11 @@ isnt_read mode text z n same one not_utf8 no_range large read = ⊎_elim
 
 -- and one that was refused for the rule or the range isn't
 pub isnt_read_by : (rule : ℤ) (mode : Compat) (text : Text) (z n : ℤ) → z ≡ n → IsOneOf (no_such_rule ∷ range_faults) n
-    → IsRule rule → ((n ≡ no_such_rule) ↔ ¬ (IsRule rule))
-    → (IsRule rule → (n ≡ range_not_utf8) ↔ ¬ (IsUtf8 text))
-    → (IsRule rule → IsUtf8 text → (n ≡ not_a_range) ↔ ¬ (IsRangeText text))
-    → (IsRule rule → IsUtf8 text → (n ≡ number_too_large) ↔ IsTooLarge mode text)
+    → IsRule rule → ((n ≡ no_such_rule) ↔ ¬ (IsRule rule)) → RefusesRange (IsRule rule) mode text n
     → RangeIsRead mode text z → ⊥
-isnt_read_by rule mode text z n same one is no_rule not_utf8 no_range large read = ⊎_elim
+isnt_read_by rule mode text z n same one is no_rule refused read = ⊎_elim
     (λ such. no_rule.0 such is)
-    (λ others. isnt_read mode text z n same others (not_utf8 is) (no_range is) (large is) read)
+    (λ others. isnt_read (IsRule rule) mode text z n same others is refused read)
     one
 
 apart : (byte n : ℕ) → pos byte ≡ pos n → 1 < n → IsMeeting byte → ⊥

@@ -1,5 +1,5 @@
 -- Which number stands for which fault and answer, and what C says by a bool.
-use Rattle.std.specs.Prelude.{ℤ, Bool, true, false, ◌≡◌, ◌≢◌, ◌⊎◌, IsTrue, IsUtf8, List}
+use Rattle.std.specs.Prelude.{ℤ, Bool, true, false, ◌≡◌, ◌≢◌, ◌⊎◌, ◌↔◌, IsTrue, IsUtf8, List}
 use Rattle.std.specs.Prelude.{[], ◌∷◌, Result, Ok, Err}
 use Rattle.semver_parser.specs.Texts.{Text}
 use Rattle.semver_parser.specs.Versions.{VersionValue}
@@ -10,6 +10,7 @@ use Rattle.semver_parser.specs.declared.RangeError.TheVariants as range_error
 use Rattle.semver_parser.specs.ParserState as fault
 use Rattle.semver_parser.specs.ParserState.{Fault}
 use Rattle.semver_parser.specs.RangeTree.{SetTree, Spells}
+use Rattle.semver_parser.specs.RangeTexts.{IsRangeText, HasSet, IsTooLarge}
 use Rattle.semver_parser.specs.RewritingTable.{fits, rewritten, PlainSet}
 use Rattle.semver_parser.specs.ExactBounds.{rewritten_exactly}
 use Rattle.semver_parser_c.specs.Numbers as number
@@ -67,6 +68,15 @@ mode_of false = Cargo
 abbrev pub set_for : Bool → Compat → SetTree → PlainSet
 set_for true mode tree = rewritten_exactly mode tree
 set_for false mode tree = rewritten mode tree
+
+-- what a call refuses of a range text by the number that it answers, where it is asked for: bytes
+-- that are no UTF-8, texts that are no range, and numbers that are too large, all exactly. Memory
+-- runs out only where the text is a range that fits
+pub record RefusesRange (Asked : Type 0) (mode : Compat) (text : Text) (n : ℤ) : Type 0 where
+  pub not_utf8 : Asked → (n ≡ number.range_not_utf8) ↔ ¬ (IsUtf8 text)
+  pub not_a_range : Asked → IsUtf8 text → (n ≡ number.not_a_range) ↔ ¬ (IsRangeText text)
+  pub too_large : Asked → IsUtf8 text → (n ≡ number.number_too_large) ↔ IsTooLarge mode text
+  pub out_of_memory : n ≡ range_out_of_memory → HasSet mode text
 
 -- the text is a range that fits, and its memory was found
 pub record RangeIsRead (mode : Compat) (text : Text) (answer : ℤ) : Type 0 where

@@ -1,7 +1,7 @@
 pub mod Numbers
 pub mod Faults
 pub mod Places
-pub mod Scanning
+pub mod Means
 pub mod Printing
 pub mod Comparators
 pub mod Rules

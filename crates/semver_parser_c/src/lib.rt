@@ -13,14 +13,13 @@ mod numbers;
 mod range_text;
 mod version_text;
 
-ghost use Rattle.std.specs.Prelude.{◌≡◌, ◌≢◌, ◌⊎◌, ◌↔◌, ◌<◌, ℕ, [], ◌∷◌, ◌++◌, IsTrue};
+ghost use Rattle.std.specs.Prelude.{◌≡◌, ◌≢◌, ◌⊎◌, ◌↔◌, ◌<◌, ⊤, ℕ, [], ◌∷◌, ◌++◌, IsTrue};
 ghost use Rattle.std.specs.Prelude.{IfSome, IsUtf8, Result, drop, length, slice_get};
 ghost use Rattle.std.specs.Prelude.{slice_index, take};
 ghost use Rattle.semver_parser.specs.Versions.{VersionValue};
 ghost use Rattle.semver_parser.specs.VersionGrammar.{IsVersionText, SpellsVersion};
 ghost use Rattle.semver_parser.specs.VersionReading.{IsOutcomeOf, TextMayRunOut};
 ghost use Rattle.semver_parser.specs.ParserState.{Fault};
-ghost use Rattle.semver_parser.specs.RangeTexts.{IsRangeText, HasSet, IsTooLarge};
 ghost use Rattle.semver_parser.specs.RangeTree.{SetTree, Spells};
 ghost use Rattle.semver_parser.specs.RewritingTable.{fits};
 ghost use Rattle.semver_parser.specs.PrintedRanges.{set_text};
@@ -28,7 +27,7 @@ ghost use Rattle.release_filter.specs.KeptReleases.{meant_with};
 ghost use Rattle.release_filter.specs.declared.PreReleases.{PreReleases as Rule};
 ghost use Rattle.semver_parser_c.specs.Numbers as number;
 ghost use Rattle.semver_parser_c.specs.Faults.{IsOneOf, RangeIsRead, mode_of, outcome_number};
-ghost use Rattle.semver_parser_c.specs.Faults.{range_faults, set_for, version_faults};
+ghost use Rattle.semver_parser_c.specs.Faults.{RefusesRange, range_faults, set_for, version_faults};
 ghost use Rattle.semver_parser_c.specs.Places.{bytes_at, dotted, told};
 ghost use Rattle.semver_parser_c.specs.Comparators.{HasPreReleases, told_set};
 ghost use Rattle.semver_parser_c.specs.Printing.{Puts, PutsBoth};
@@ -164,14 +163,8 @@ pub extern "C" fn semver_parser_proved_rewrite(
         → (tree : SetTree) × Spells tree text.now × IsTrue (fits (mode_of npm) tree)
         × Puts (set_text (set_for exact (mode_of npm) tree)) out.old out.new length.new result }
 
-    // Faults of the text. The first three are exact, and memory runs out only where there is a set
-    // to print.
-    ensures not_utf8 { (result ≡ number.range_not_utf8) ↔ ¬ (IsUtf8 text.now) }
-    ensures not_a_range { IsUtf8 text.now → (result ≡ number.not_a_range)
-        ↔ ¬ (IsRangeText text.now) }
-    ensures too_large { IsUtf8 text.now → (result ≡ number.number_too_large)
-        ↔ IsTooLarge (mode_of npm) text.now }
-    ensures out_of_memory { result ≡ number.range_out_of_memory → HasSet (mode_of npm) text.now }
+    // Faults of the text, whatever the room.
+    ensures refusals { RefusesRange ⊤ (mode_of npm) text.now result }
     ensures room_unchanged { result ≢ number.ok → out.new ≡ out.old }
     ensures length_unchanged { IsOneOf range_faults result → length.new ≡ length.old }
 {
@@ -216,13 +209,8 @@ pub extern "C" fn semver_parser_proved_comparators(
         → HasPreReleases (set_text (set_for exact (mode_of npm) tree))
         (take count.new comparators.new) (set_for exact (mode_of npm) tree) }
 
-    // Faults of the text. The first three are exact, and memory runs out only where there is a set.
-    ensures not_utf8 { (result ≡ number.range_not_utf8) ↔ ¬ (IsUtf8 text.now) }
-    ensures not_a_range { IsUtf8 text.now → (result ≡ number.not_a_range)
-        ↔ ¬ (IsRangeText text.now) }
-    ensures too_large { IsUtf8 text.now → (result ≡ number.number_too_large)
-        ↔ IsTooLarge (mode_of npm) text.now }
-    ensures out_of_memory { result ≡ number.range_out_of_memory → HasSet (mode_of npm) text.now }
+    // Faults of the text, whatever the room.
+    ensures refusals { RefusesRange ⊤ (mode_of npm) text.now result }
     ensures room_unchanged { result ≢ number.ok → comparators.new ≡ comparators.old }
     ensures count_unchanged { IsOneOf range_faults result → count.new ≡ count.old }
 {
@@ -280,13 +268,8 @@ pub extern "C" fn semver_parser_proved_rewrite_with_comparators(
         → HasPreReleases (take length.new out.new)
         (take count.new comparators.new) (set_for exact (mode_of npm) tree) }
 
-    // Faults of the text. The first three are exact, and memory runs out only where there is a set.
-    ensures not_utf8 { (result ≡ number.range_not_utf8) ↔ ¬ (IsUtf8 text.now) }
-    ensures not_a_range { IsUtf8 text.now → (result ≡ number.not_a_range)
-        ↔ ¬ (IsRangeText text.now) }
-    ensures too_large { IsUtf8 text.now → (result ≡ number.number_too_large)
-        ↔ IsTooLarge (mode_of npm) text.now }
-    ensures out_of_memory { result ≡ number.range_out_of_memory → HasSet (mode_of npm) text.now }
+    // Faults of the text, whatever the room.
+    ensures refusals { RefusesRange ⊤ (mode_of npm) text.now result }
     ensures rooms_unchanged { result ≢ number.ok
         → (comparators.new ≡ comparators.old) × (out.new ≡ out.old) }
     ensures numbers_unchanged { IsOneOf range_faults result
@@ -341,14 +324,7 @@ pub extern "C" fn semver_parser_proved_meets(
 
     // Faults of the rule, and of the range, whatever the version.
     ensures no_such_rule { (result ≡ number.no_such_rule) ↔ ¬ (IsRule pre_releases) }
-    ensures range_not_utf8 { IsRule pre_releases
-        → (result ≡ number.range_not_utf8) ↔ ¬ (IsUtf8 range.now) }
-    ensures not_a_range { IsRule pre_releases → IsUtf8 range.now
-        → (result ≡ number.not_a_range) ↔ ¬ (IsRangeText range.now) }
-    ensures too_large { IsRule pre_releases → IsUtf8 range.now
-        → (result ≡ number.number_too_large) ↔ IsTooLarge (mode_of npm) range.now }
-    ensures range_out_of_memory { result ≡ number.range_out_of_memory
-        → HasSet (mode_of npm) range.now }
+    ensures refusals { RefusesRange (IsRule pre_releases) (mode_of npm) range.now result }
 
     // Faults of the version, where the range is read.
     ensures version_not_utf8 { IsRule pre_releases → RangeIsRead (mode_of npm) range.now result
@@ -409,13 +385,7 @@ pub extern "C" fn semver_parser_proved_meets_each(
 
     // Faults of the rule, and of the range.
     ensures no_such_rule { (result ≡ number.no_such_rule) ↔ ¬ (IsRule pre_releases) }
-    ensures not_utf8 { IsRule pre_releases
-        → (result ≡ number.range_not_utf8) ↔ ¬ (IsUtf8 range.now) }
-    ensures not_a_range { IsRule pre_releases → IsUtf8 range.now
-        → (result ≡ number.not_a_range) ↔ ¬ (IsRangeText range.now) }
-    ensures too_large { IsRule pre_releases → IsUtf8 range.now
-        → (result ≡ number.number_too_large) ↔ IsTooLarge (mode_of npm) range.now }
-    ensures out_of_memory { result ≡ number.range_out_of_memory → HasSet (mode_of npm) range.now }
+    ensures refusals { RefusesRange (IsRule pre_releases) (mode_of npm) range.now result }
 {
     let filter_of_all = match meeting::filter_of(alloc, range, npm, pre_releases) {
         Ok(filter) => filter,

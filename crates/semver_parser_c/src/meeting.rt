@@ -9,13 +9,13 @@ ghost use Rattle.semver_parser.specs.Versions.{VersionValue};
 ghost use Rattle.semver_parser.specs.VersionGrammar.{IsVersionText, SpellsVersion};
 ghost use Rattle.semver_parser.specs.VersionReading.{IsOutcomeOf, TextMayRunOut};
 ghost use Rattle.semver_parser.specs.ParserState.{Fault};
-ghost use Rattle.semver_parser.specs.RangeTexts.{IsRangeText, HasSet, IsTooLarge};
+ghost use Rattle.semver_parser.specs.RangeTexts.{HasSet};
 ghost use Rattle.semver_parser.specs.declared.Compat.{Compat};
 ghost use Rattle.release_filter.specs.Filters.{passes};
 ghost use Rattle.release_filter.specs.declared.PreReleases.{PreReleases as Rule};
 ghost use Rattle.semver_parser_c.specs.Numbers as number;
 ghost use Rattle.semver_parser_c.specs.Faults.{IsOneOf, fault_number, mode_of, number_of};
-ghost use Rattle.semver_parser_c.specs.Faults.{range_faults, version_faults};
+ghost use Rattle.semver_parser_c.specs.Faults.{RefusesRange, range_faults, version_faults};
 ghost use Rattle.semver_parser_c.specs.Rules.{IsAnswer, IsFilterOf, IsRule, rule_number};
 
 use crate::{numbers, range_text, version_text};
@@ -30,14 +30,8 @@ pub fn filter_of(alloc: Global, range: &[u8], npm: bool, pre_releases: i32) -> R
         → IsFilterOf filter rule (mode_of npm) range.now) }
     ensures numbers { IfErr result (λ n. IsOneOf (number.no_such_rule ∷ range_faults) n) }
     ensures no_such_rule { (number_of result ≡ number.no_such_rule) ↔ ¬ (IsRule pre_releases) }
-    ensures not_utf8 { IsRule pre_releases
-        → (number_of result ≡ number.range_not_utf8) ↔ ¬ (IsUtf8 range.now) }
-    ensures not_a_range { IsRule pre_releases → IsUtf8 range.now
-        → (number_of result ≡ number.not_a_range) ↔ ¬ (IsRangeText range.now) }
-    ensures too_large { IsRule pre_releases → IsUtf8 range.now
-        → (number_of result ≡ number.number_too_large) ↔ IsTooLarge (mode_of npm) range.now }
-    ensures out_of_memory { number_of result ≡ number.range_out_of_memory
-        → HasSet (mode_of npm) range.now }
+    ensures refusals { RefusesRange (IsRule pre_releases) (mode_of npm) range.now
+        (number_of result) }
 {
     let Some(rule) = rule_of(pre_releases) else {
         return Err(numbers::NO_SUCH_RULE);

@@ -1,16 +1,15 @@
 //! Range texts: the set of one, or the number of its fault, and its printed text in the room of a
 //! caller.
 
-ghost use Rattle.std.specs.Prelude.{◌≡◌, ◌↔◌, false, IsTrue, IsUtf8, IfOk, IfErr};
+ghost use Rattle.std.specs.Prelude.{◌≡◌, ⊤, IsTrue, IsUtf8, IfOk, IfErr};
 ghost use Rattle.semver_parser.specs.Versions.{PlainVersion};
-ghost use Rattle.semver_parser.specs.RangeTexts.{IsRangeText, HasSet, IsTooLarge};
+ghost use Rattle.semver_parser.specs.RangeTexts.{HasSet};
 ghost use Rattle.semver_parser.specs.RangeTree.{SetTree, Spells};
 ghost use Rattle.semver_parser.specs.OwnMeaning.{meets_tree};
 ghost use Rattle.semver_parser.specs.Meeting.{meets_set};
 ghost use Rattle.semver_parser.specs.RangeViews.{set_of};
-ghost use Rattle.semver_parser_c.specs.Numbers as number;
 ghost use Rattle.semver_parser_c.specs.Faults.{IsOneOf, mode_of, number_of, range_fault_number};
-ghost use Rattle.semver_parser_c.specs.Faults.{range_faults, set_for};
+ghost use Rattle.semver_parser_c.specs.Faults.{RefusesRange, range_faults, set_for};
 ghost use Rattle.semver_parser_c.specs.Printing.{Puts};
 
 use crate::numbers;
@@ -26,13 +25,7 @@ pub fn read(alloc: Global, text: &[u8], npm: bool, exact: bool) -> Result<RangeS
     ensures meaning { IfOk result (λ set. IsTrue exact → (tree : SetTree) (v : PlainVersion)
         → Spells tree text.now → meets_set v (set_of set) ≡ meets_tree (mode_of npm) tree v) }
     ensures numbers { IfErr result (λ n. IsOneOf range_faults n) }
-    ensures not_utf8 { (number_of result ≡ number.range_not_utf8) ↔ ¬ (IsUtf8 text.now) }
-    ensures not_a_range { IsUtf8 text.now → (number_of result ≡ number.not_a_range)
-        ↔ ¬ (IsRangeText text.now) }
-    ensures too_large { IsUtf8 text.now → (number_of result ≡ number.number_too_large)
-        ↔ IsTooLarge (mode_of npm) text.now }
-    ensures out_of_memory { number_of result ≡ number.range_out_of_memory
-        → HasSet (mode_of npm) text.now }
+    ensures refusals { RefusesRange ⊤ (mode_of npm) text.now (number_of result) }
 {
     let Ok(text) = std::str::from_utf8(text) else {
         return Err(numbers::RANGE_NOT_UTF8);

@@ -14,7 +14,7 @@ ghost use Rattle.semver_parser_c.specs.Numbers as number;
 ghost use Rattle.semver_parser_c.specs.Faults.{IsOneOf, fault_number, number_of, outcome_number};
 ghost use Rattle.semver_parser_c.specs.Faults.{version_faults};
 ghost use Rattle.semver_parser_c.specs.Places.{told};
-ghost use Rattle.semver_parser_c.specs.Scanning.{found, is_dotted_byte, is_front_byte};
+ghost use Rattle.semver_parser_c.specs.Means.Scanning.{found, is_dotted_byte, is_front_byte};
 
 use crate::{Part, numbers};
 use semver_parser::parser::Error;

@@ -9,7 +9,7 @@ use Rattle.semver_ranges.specs.declared.range_set.RangeSet.{RangeSet}
 use Rattle.semver_ranges.specs.declared.range_set.RangeError.{RangeError}
 use Rattle.semver_ranges.specs.declared.range_set.RangeError.TheVariants.{NotARange, NumberTooLarge, OutOfMemory}
 use Rattle.semver_ranges.specs.RangeTree.{SetTree, Spells}
-use Rattle.semver_ranges.specs.RangeTexts.{IsRangeText, HasSet, IsTooLarge}
+use Rattle.semver_ranges.specs.RangeTexts.{IsRangeText, HasSet, IsTooLarge, RefusesExactly}
 use Rattle.semver_texts.specs.Texts.{Text}
 use Rattle.semver_texts.specs.Versions.{IdentifierValue, PlainVersion}
 use Rattle.semver_ranges.specs.OwnMeaning.{meets_tree}
@@ -39,7 +39,7 @@ unfit t mode tree e f (tree', s, large) = both_ways (fits mode tree') large (sym
 
 -- what an answer says, however raised bounds are written
 module _ (bound_pre : List IdentifierValue) (t : Text) (mode : Compat) where
-  pub accepted : (r : Result RangeSet RangeError) → IsAnswer bound_pre t mode r → IfOk r (λ set. HasSet mode t)
+  accepted : (r : Result RangeSet RangeError) → IsAnswer bound_pre t mode r → IfOk r (λ set. HasSet mode t)
   accepted (Ok set) h = (h.0, read_sound t h.0 h.1, h.2)
   accepted (Err e) h = tt
 
@@ -48,21 +48,25 @@ module _ (bound_pre : List IdentifierValue) (t : Text) (mode : Compat) where
   as_rewritten (Ok set) h = λ tree s. h.3 ∙ ap (written_set bound_pre mode) (read_one t h.0 tree h.1 s)
   as_rewritten (Err e) h = tt
 
-  pub not_a_range : (r : Result RangeSet RangeError) → IsAnswer bound_pre t mode r
+  not_a_range : (r : Result RangeSet RangeError) → IsAnswer bound_pre t mode r
       → (r ≡ Err NotARange) ↔ ¬ (IsRangeText t)
   not_a_range (Ok set) h = (λ e. cc, λ no. absurd (no (h.0, read_sound t h.0 h.1)))
   not_a_range (Err NotARange) h = (λ e (tree, s). none_read t tree h s, λ no. refl)
   not_a_range (Err NumberTooLarge) h = (λ e. cc, λ no. absurd (no (h.0, read_sound t h.0 h.1)))
   not_a_range (Err OutOfMemory) h = (λ e. cc, λ no. absurd (no (h.0, read_sound t h.0 h.1)))
 
-  pub too_large : (r : Result RangeSet RangeError) → IsAnswer bound_pre t mode r → (r ≡ Err NumberTooLarge) ↔ IsTooLarge mode t
+  too_large : (r : Result RangeSet RangeError) → IsAnswer bound_pre t mode r → (r ≡ Err NumberTooLarge) ↔ IsTooLarge mode t
   too_large (Ok set) h = (λ e. cc, λ s. absurd (unfit t mode h.0 h.1 h.2 s))
   too_large (Err NotARange) h = (λ e. cc, λ (tree, s, large). absurd (none_read t tree h s))
   too_large (Err NumberTooLarge) h = (λ e. (h.0, read_sound t h.0 h.1, h.2), λ s. refl)
   too_large (Err OutOfMemory) h = (λ e. cc, λ s. absurd (unfit t mode h.0 h.1 h.2 s))
 
-  pub out_of_memory : (r : Result RangeSet RangeError) → IsAnswer bound_pre t mode r → r ≡ Err OutOfMemory → HasSet mode t
+  out_of_memory : (r : Result RangeSet RangeError) → IsAnswer bound_pre t mode r → r ≡ Err OutOfMemory → HasSet mode t
   out_of_memory r h e = let found = subst (IsAnswer bound_pre t mode) e h in (found.0, read_sound t found.0 found.1, found.2)
+
+  pub refusals : (r : Result RangeSet RangeError) → IsAnswer bound_pre t mode r → RefusesExactly mode t r
+  refusals r h =
+      record { accepted = accepted r h; not_a_range = not_a_range r h; too_large = too_large r h; out_of_memory = out_of_memory r h }
 
   pub reads_back : (r : Result RangeSet RangeError) → IsAnswer bound_pre t mode r
       → (s : PlainSet) → IsPrintableSet s → s.compat ≡ mode → t ≡ set_text s → (r ≡ Err OutOfMemory) ⊎ IsOkAnd r (λ set. set_of set ≡ s)

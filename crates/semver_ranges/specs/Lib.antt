@@ -10,6 +10,7 @@ pub mod Meeting
 pub mod StatedPreReleases
 pub mod PrintedRanges
 pub mod RangeViews
+pub mod ParsedSets
 pub mod Means
 pub use Rattle.semver_texts.specs.Texts
 pub use Rattle.semver_texts.specs.Versions

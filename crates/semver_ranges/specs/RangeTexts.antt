@@ -1,7 +1,10 @@
 -- What a text is to a reader of ranges: a range text or none, one that has a set, and one with a
--- number that is too large.
-use Rattle.std.specs.Prelude.{◌≡◌, false, IsTrue}
+-- number that is too large; and what a call refuses of it.
+use Rattle.std.specs.Prelude.{◌≡◌, ◌↔◌, false, IsTrue, Result, Err, IfOk}
 use Rattle.semver_ranges.specs.declared.range.Compat.{Compat}
+use Rattle.semver_ranges.specs.declared.range_set.RangeError.{RangeError}
+use Rattle.semver_ranges.specs.declared.range_set.RangeError.TheVariants.{NotARange, NumberTooLarge}
+use Rattle.semver_ranges.specs.declared.range_set.RangeError.TheVariants.{OutOfMemory}
 use Rattle.semver_ranges.specs.RangeTree.{SetTree, Spells}
 use Rattle.semver_texts.specs.Texts.{Text}
 use Rattle.semver_ranges.specs.RewritingTable.{fits}
@@ -17,3 +20,12 @@ HasSet mode t = (tree : SetTree) × Spells tree t × IsTrue (fits mode tree)
 -- some tree spells it, and a number that is stated, or that of a raised bound, is above 2^64 - 1
 abbrev pub IsTooLarge : Compat → Text → Type 0
 IsTooLarge mode t = (tree : SetTree) × Spells tree t × (fits mode tree ≡ false)
+
+-- what a call that reads a range text refuses: a text that is none, and one whose numbers are too
+-- large, both exactly. Memory runs out only in place of an answer, which a text has that fits
+pub record RefusesExactly {A : Type 0} (mode : Compat) (t : Text) (r : Result A RangeError)
+    : Type 0 where
+  pub accepted : IfOk r (λ _. HasSet mode t)
+  pub not_a_range : (r ≡ Err NotARange) ↔ ¬ (IsRangeText t)
+  pub too_large : (r ≡ Err NumberTooLarge) ↔ IsTooLarge mode t
+  pub out_of_memory : r ≡ Err OutOfMemory → HasSet mode t

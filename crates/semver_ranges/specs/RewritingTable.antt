@@ -82,13 +82,17 @@ raised (suc k) [] = []
 raised (suc zero) (n ∷ rest) = (n + 1) ∷ []
 raised (suc (suc k)) (n ∷ rest) = n ∷ raised (suc k) rest
 
--- up(k) with a pre-release: the raised numbers, filled with zeros
-abbrev pub up_with : List IdentifierValue → ℕ → List ℕ → PlainVersion
-up_with pre k s = filled (raised k s) pre
-
 -- up(k): the raised numbers, filled with zeros, without pre-release
 abbrev pub up : ℕ → List ℕ → PlainVersion
-up k s = up_with [] k s
+up k s = filled (raised k s) []
+
+-- the numbers of a bound, with a pre-release
+abbrev pub with_pre_release : List IdentifierValue → PlainVersion → PlainVersion
+with_pre_release pre bound = record bound { pre = pre }
+
+-- up(k) with a pre-release
+abbrev pub up_with : List IdentifierValue → ℕ → List ℕ → PlainVersion
+up_with pre k s = with_pre_release pre (up k s)
 
 -- a comparator of an operator and a version
 abbrev pub comparator : Op → PlainVersion → PlainComparator
@@ -120,9 +124,6 @@ written_simple bound_pre mode s =
     written_cell bound_pre (cell mode s.form (stated s.partial)) (stated s.partial)
     (zero_filled s.partial)
 
-abbrev pub simple_comparators : Compat → Simple → List PlainComparator
-simple_comparators mode s = written_simple [] mode s
-
 -- the comparators of a range: those of its simples or sides in order; `>=0.0.0` where it is empty
 -- or both sides state nothing
 abbrev pub written_range : List IdentifierValue → Compat → RangeTree → List PlainComparator
@@ -132,9 +133,6 @@ written_range bound_pre mode (hyphen left right) =
     else flat_map (written_simple bound_pre mode) (sides left right)
 written_range bound_pre mode (simples first others) =
     flat_map (written_simple bound_pre mode) (first ∷ others)
-
-abbrev pub range_comparators : Compat → RangeTree → List PlainComparator
-range_comparators mode r = written_range [] mode r
 
 -- the set that a tree is rewritten to: the comparators of its ranges in order, with the mode in the
 -- set and in each range

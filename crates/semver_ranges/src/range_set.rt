@@ -1,6 +1,6 @@
 //! Range sets: the ranges of a text in one of two modes, and their printed text.
 
-ghost use Rattle.std.specs.Prelude.{Some, ◌≡◌, ◌↔◌, ◌⊎◌, ◌∷◌, true, [], List, length, map, IsTrue};
+ghost use Rattle.std.specs.Prelude.{Some, ◌≡◌, ◌⊎◌, ◌∷◌, true, [], List, length, map, IsTrue};
 ghost use Rattle.std.specs.Prelude.{IfOk, IfSome, IsOkAnd, MatchResult};
 ghost use Rattle.std.specs.List.{list_all};
 ghost use Rattle.semver_ranges.specs.RangeTree.{Simple as SimpleTree, SetTree, Spells, simples};
@@ -8,7 +8,8 @@ ghost use Rattle.semver_texts.specs.Texts.{Text};
 ghost use Rattle.semver_texts.specs.Versions.{PlainVersion};
 ghost use Rattle.semver_ranges.specs.OwnMeaning.{meets_tree};
 ghost use Rattle.semver_ranges.specs.RewritingTable.{PlainSet, fits, rewritten};
-ghost use Rattle.semver_ranges.specs.RangeTexts.{IsRangeText, HasSet, IsTooLarge};
+ghost use Rattle.semver_ranges.specs.RangeTexts.{RefusesExactly};
+ghost use Rattle.semver_ranges.specs.ParsedSets.{IsParsed};
 ghost use Rattle.semver_ranges.specs.ExactBounds.{rewritten_exactly};
 ghost use Rattle.semver_ranges.specs.Meeting.{meets_set, meets_tree_or_bounds};
 ghost use Rattle.semver_ranges.specs.PrintedRanges.{IsPrintableSet, set_text};
@@ -88,17 +89,11 @@ impl RangeSet {
     /// - `OutOfMemory` where a growth was refused. The first two answers take no memory, so this
     ///   one stands in place of a set alone.
     pub fn parse(alloc: Global, input: &str, compat: Compat) -> Result<RangeSet, RangeError>
-        // There is a tree of the text that fits, and what is answered is what each tree of the text
-        // is rewritten to, in this mode.
-        ensures accepted { IfOk result (λ set. HasSet compat input.now) }
+        // What isn't in the grammar and what is too large is refused, exactly; all else is read.
+        // What is answered is what each tree of the text is rewritten to, in this mode.
+        ensures refusals { RefusesExactly compat input.now result }
         ensures as_rewritten { IfOk result (λ set. (tree : SetTree) → Spells tree input.now
             → set_of set ≡ rewritten compat tree) }
-
-        // Refusals. The first two are exact, and memory runs out only where there is a set to
-        // answer.
-        ensures not_a_range { (result ≡ Err RangeError.NotARange) ↔ ¬ (IsRangeText input.now) }
-        ensures too_large { (result ≡ Err RangeError.NumberTooLarge) ↔ IsTooLarge compat input.now }
-        ensures out_of_memory { result ≡ Err RangeError.OutOfMemory → HasSet compat input.now }
 
         // A version meets the answer exactly if some range of the text has each term met, or the
         // version is a pre-release of that term's raised bound.
@@ -141,17 +136,11 @@ impl RangeSet {
     /// Those of `RangeSet::parse`, for the same texts. `OutOfMemory` stands in place of a set
     /// alone.
     pub fn parse_exact(alloc: Global, input: &str, compat: Compat) -> Result<RangeSet, RangeError>
-        // There is a tree of the text that fits, and what is answered is what each tree of the text
-        // is rewritten to exactly, in this mode.
-        ensures accepted { IfOk result (λ set. HasSet compat input.now) }
+        // What isn't in the grammar and what is too large is refused, exactly; all else is read.
+        // What is answered is what each tree of the text is rewritten to exactly, in this mode.
+        ensures refusals { RefusesExactly compat input.now result }
         ensures as_rewritten { IfOk result (λ set. (tree : SetTree) → Spells tree input.now
             → set_of set ≡ rewritten_exactly compat tree) }
-
-        // Refusals. The first two are exact, and memory runs out only where there is a set to
-        // answer.
-        ensures not_a_range { (result ≡ Err RangeError.NotARange) ↔ ¬ (IsRangeText input.now) }
-        ensures too_large { (result ≡ Err RangeError.NumberTooLarge) ↔ IsTooLarge compat input.now }
-        ensures out_of_memory { result ≡ Err RangeError.OutOfMemory → HasSet compat input.now }
 
         // A version meets the answer exactly if it meets what the text means by itself.
         ensures meaning { IfOk result (λ set. (tree : SetTree) (v : PlainVersion)
@@ -177,42 +166,9 @@ impl RangeSet {
     ///
     /// `1.2.3` gives `>=1.2.3 <2.0.0`, and `1.2` gives `>=1.2.0 <1.3.0`.
     pub fn from_str(alloc: Global, input: &str) -> Result<RangeSet, RangeError>
-        // There is a tree of the text that fits, and what is answered is what each tree of the text
-        // is rewritten to, in this mode.
-        ensures accepted { IfOk result (λ set. HasSet Compat.Cargo input.now) }
-        ensures as_rewritten { IfOk result (λ set. (tree : SetTree) → Spells tree input.now
-            → set_of set ≡ rewritten Compat.Cargo tree) }
-
-        // Refusals. The first two are exact, and memory runs out only where there is a set to
-        // answer.
-        ensures not_a_range { (result ≡ Err RangeError.NotARange) ↔ ¬ (IsRangeText input.now) }
-        ensures too_large { (result ≡ Err RangeError.NumberTooLarge)
-            ↔ IsTooLarge Compat.Cargo input.now }
-        ensures out_of_memory { result ≡ Err RangeError.OutOfMemory
-            → HasSet Compat.Cargo input.now }
-
-        // A version meets the answer exactly if some range of the text has each term met, or the
-        // version is a pre-release of that term's raised bound.
-        ensures meaning { IfOk result (λ set. (tree : SetTree) (v : PlainVersion)
-            → Spells tree input.now →
-            meets_set v (set_of set) ≡ meets_tree_or_bounds Compat.Cargo tree v) }
-        // So a release meets it exactly if it meets what the text means by itself, and what meets
-        // that always meets the answer.
-        ensures releases { IfOk result (λ set. (tree : SetTree) (v : PlainVersion)
-            → Spells tree input.now → v.pre ≡ [] →
-            meets_set v (set_of set) ≡ meets_tree Compat.Cargo tree v) }
-        ensures implied { IfOk result (λ set. (tree : SetTree) (v : PlainVersion)
-            → Spells tree input.now → IsTrue (meets_tree Compat.Cargo tree v) →
-            IsTrue (meets_set v (set_of set))) }
-
-        // What is answered is printable, and the text of a printable set in this mode gives that
-        // set again.
-        ensures printable { IfOk result (λ set. IsPrintableSet (set_of set)) }
-        ensures reads_back { (s : PlainSet) → IsPrintableSet s → s.compat ≡ Compat.Cargo
-            → input.now ≡ set_text s →
-            (result ≡ Err RangeError.OutOfMemory) ⊎ IsOkAnd result (λ set. set_of set ≡ s) }
+        ensures parsed { IsParsed Compat.Cargo input.now result }
     {
-        parse_with(alloc, input, Compat::Cargo, RaisedBounds::Plain)
+        RangeSet::parse(alloc, input, Compat::Cargo)
     }
 }
 

@@ -4,7 +4,7 @@ use Rattle.semver_parser.specs.ParserState.{Fault}
 use Rattle.semver_parser_c.specs.Numbers as number
 use Rattle.semver_parser_c.specs.Faults.{fault_number, mode_of, RangeIsRead}
 use Rattle.semver_parser_c.specs.Rules.{IsRule}
-use Rattle.semver_parser_c.proofs.Steps.{isnt_read_by}
+use Rattle.semver_parser_c.proofs.Steps.{isnt_read_by, refused_alike}
 use Rattle.semver_parser_c.proofs.semver_parser_proved_meets.Goals as goal
 use Rattle.semver_parser_c.proofs.semver_parser_proved_meets.Goals.{In-Err}
 
@@ -15,7 +15,13 @@ refused c is read =
     let same : to_z w32 (of_z w32 c.in-Err.number) ≡ c.in-Err.number = search rules in
     let rule : to_z w32 (of_z w32 c.args.pre_releases) ≡ c.args.pre_releases = search rules in
     isnt_read_by _ _ _ _ _ same c.in-Err.ensures.numbers (subst IsRule (sym rule) is) c.in-Err.ensures.no_such_rule
-    c.in-Err.ensures.not_utf8 c.in-Err.ensures.not_a_range c.in-Err.ensures.too_large read
+    c.in-Err.ensures.refusals read
+
+pub returns-in-Err-clause-refusals : goal.returns-in-Err-clause-refusals
+returns-in-Err-clause-refusals c =
+    let same : to_z w32 (of_z w32 c.in-Err.number) ≡ c.in-Err.number = search rules in
+    let rule : to_z w32 (of_z w32 c.args.pre_releases) ≡ c.args.pre_releases = search rules in
+    refused_alike _ _ _ _ _ _ rule same c.in-Err.ensures.refusals
 
 pub returns-in-Err-clause-accepted : goal.returns-in-Err-clause-accepted
 returns-in-Err-clause-accepted c = λ is read. absurd (refused (goal.at.returns-in-Err-clause-accepted c).In-Err is read)

@@ -1,6 +1,6 @@
 use Rattle.std.proofs.Common.{arith, ◌+◌, ◌-◌, take, drop, length, length-drop, length-take-le}
 use Rattle.std.proofs.lemmas.List.Sums.{prefix_len-le-length}
-use Rattle.semver_parser_c.specs.Scanning.{is_dotted_byte}
+use Rattle.semver_parser_c.specs.Means.Scanning.{is_dotted_byte}
 use Rattle.semver_parser_c.proofs.version_text.part_at.Goals as goal
 
 pub returns-then-text-place-clause-inside : goal.returns-then-text-place-clause-inside

@@ -1,35 +1,16 @@
-use Rattle.std.proofs.Common.{[], refl}
-use Rattle.semver_ranges.specs.declared.range.Compat.TheVariants.{Cargo}
-use Rattle.semver_ranges.proofs.AnswerLaws.{accepted, as_rewritten, not_a_range, too_large, out_of_memory, meaning, releases, implied}
-use Rattle.semver_ranges.proofs.AnswerLaws.{printable, reads_back}
 use Rattle.semver_ranges.proofs.range_set.RangeSet.from_str.Goals as goal
 
-pub returns-clause-accepted : goal.returns-clause-accepted
-returns-clause-accepted c = accepted [] c.args.input.now Cargo c.parse_with.result c.parse_with.ensures
-
-pub returns-clause-as_rewritten : goal.returns-clause-as_rewritten
-returns-clause-as_rewritten c = as_rewritten [] c.args.input.now Cargo c.parse_with.result c.parse_with.ensures
-
-pub returns-clause-not_a_range : goal.returns-clause-not_a_range
-returns-clause-not_a_range c = not_a_range [] c.args.input.now Cargo c.parse_with.result c.parse_with.ensures
-
-pub returns-clause-too_large : goal.returns-clause-too_large
-returns-clause-too_large c = too_large [] c.args.input.now Cargo c.parse_with.result c.parse_with.ensures
-
-pub returns-clause-out_of_memory : goal.returns-clause-out_of_memory
-returns-clause-out_of_memory c = out_of_memory [] c.args.input.now Cargo c.parse_with.result c.parse_with.ensures
-
-pub returns-clause-meaning : goal.returns-clause-meaning
-returns-clause-meaning c = meaning c.args.input.now Cargo c.parse_with.result c.parse_with.ensures
-
-pub returns-clause-releases : goal.returns-clause-releases
-returns-clause-releases c = releases c.args.input.now Cargo c.parse_with.result c.parse_with.ensures
-
-pub returns-clause-implied : goal.returns-clause-implied
-returns-clause-implied c = implied c.args.input.now Cargo c.parse_with.result c.parse_with.ensures
-
-pub returns-clause-printable : goal.returns-clause-printable
-returns-clause-printable c = printable [] c.args.input.now Cargo refl c.parse_with.result c.parse_with.ensures
-
-pub returns-clause-reads_back : goal.returns-clause-reads_back
-returns-clause-reads_back c = reads_back [] c.args.input.now Cargo c.parse_with.result c.parse_with.ensures
+pub returns : goal.returns
+returns c =
+    let parsed = c.parse.ensures in
+    record {
+      parsed = record {
+        refusals = parsed.refusals;
+        as_rewritten = parsed.as_rewritten;
+        meaning = parsed.meaning;
+        releases = parsed.releases;
+        implied = parsed.implied;
+        printable = parsed.printable;
+        reads_back = parsed.reads_back;
+      };
+    }

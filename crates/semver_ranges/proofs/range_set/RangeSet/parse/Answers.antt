@@ -1,22 +1,13 @@
 use Rattle.std.proofs.Common.{[], refl}
-use Rattle.semver_ranges.proofs.AnswerLaws.{accepted, as_rewritten, not_a_range, too_large, out_of_memory, meaning, releases, implied}
+use Rattle.semver_ranges.proofs.AnswerLaws.{refusals, as_rewritten, meaning, releases, implied}
 use Rattle.semver_ranges.proofs.AnswerLaws.{printable, reads_back}
 use Rattle.semver_ranges.proofs.range_set.RangeSet.parse.Goals as goal
 
-pub returns-clause-accepted : goal.returns-clause-accepted
-returns-clause-accepted c = accepted [] c.args.input.now c.args.compat c.parse_with.result c.parse_with.ensures
+pub returns-clause-refusals : goal.returns-clause-refusals
+returns-clause-refusals c = refusals [] c.args.input.now c.args.compat c.parse_with.result c.parse_with.ensures
 
 pub returns-clause-as_rewritten : goal.returns-clause-as_rewritten
 returns-clause-as_rewritten c = as_rewritten [] c.args.input.now c.args.compat c.parse_with.result c.parse_with.ensures
-
-pub returns-clause-not_a_range : goal.returns-clause-not_a_range
-returns-clause-not_a_range c = not_a_range [] c.args.input.now c.args.compat c.parse_with.result c.parse_with.ensures
-
-pub returns-clause-too_large : goal.returns-clause-too_large
-returns-clause-too_large c = too_large [] c.args.input.now c.args.compat c.parse_with.result c.parse_with.ensures
-
-pub returns-clause-out_of_memory : goal.returns-clause-out_of_memory
-returns-clause-out_of_memory c = out_of_memory [] c.args.input.now c.args.compat c.parse_with.result c.parse_with.ensures
 
 pub returns-clause-meaning : goal.returns-clause-meaning
 returns-clause-meaning c = meaning c.args.input.now c.args.compat c.parse_with.result c.parse_with.ensures

@@ -1,22 +1,13 @@
 use Rattle.semver_ranges.specs.ExactBounds.{lowest_pre_release}
-use Rattle.semver_ranges.proofs.AnswerLaws.{accepted, as_rewritten, not_a_range, too_large, out_of_memory, exact_meaning, exact_printable}
+use Rattle.semver_ranges.proofs.AnswerLaws.{refusals, as_rewritten, exact_meaning, exact_printable}
 use Rattle.semver_ranges.proofs.AnswerLaws.{printed_back, reads_back}
 use Rattle.semver_ranges.proofs.range_set.RangeSet.parse_exact.Goals as goal
 
-pub returns-clause-accepted : goal.returns-clause-accepted
-returns-clause-accepted c = accepted lowest_pre_release c.args.input.now c.args.compat c.parse_with.result c.parse_with.ensures
+pub returns-clause-refusals : goal.returns-clause-refusals
+returns-clause-refusals c = refusals lowest_pre_release c.args.input.now c.args.compat c.parse_with.result c.parse_with.ensures
 
 pub returns-clause-as_rewritten : goal.returns-clause-as_rewritten
 returns-clause-as_rewritten c = as_rewritten lowest_pre_release c.args.input.now c.args.compat c.parse_with.result c.parse_with.ensures
-
-pub returns-clause-not_a_range : goal.returns-clause-not_a_range
-returns-clause-not_a_range c = not_a_range lowest_pre_release c.args.input.now c.args.compat c.parse_with.result c.parse_with.ensures
-
-pub returns-clause-too_large : goal.returns-clause-too_large
-returns-clause-too_large c = too_large lowest_pre_release c.args.input.now c.args.compat c.parse_with.result c.parse_with.ensures
-
-pub returns-clause-out_of_memory : goal.returns-clause-out_of_memory
-returns-clause-out_of_memory c = out_of_memory lowest_pre_release c.args.input.now c.args.compat c.parse_with.result c.parse_with.ensures
 
 pub returns-clause-meaning : goal.returns-clause-meaning
 returns-clause-meaning c = exact_meaning c.args.input.now c.args.compat c.parse_with.result c.parse_with.ensures
