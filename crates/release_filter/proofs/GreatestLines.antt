@@ -1,7 +1,9 @@
 -- Where a search for the greatest line stands in the bytes of its reader, line after line.
-use Rattle.std.proofs.Common.{IsSomeAnd, MatchOption, ◌≡◌, ℕ, List, [], ◌∷◌, ◌++◌, Option, None, Some, IfSome, Ok, Err, Vec, ◌↔◌}
+use Rattle.std.proofs.Common.{IsSomeAnd, MatchOption, ◌≡◌, ℕ, ◌+◌, ◌≤◌, max, length, length-append, arith, List, [], ◌∷◌, ◌++◌, Option}
+use Rattle.std.proofs.Common.{None, Some, IfSome, Ok, Err, Vec, ◌↔◌}
 use Rattle.std.proofs.Common.{rules, refl, sym, subst, ◌∙◌, ap, true, false, Bool}
 use Rattle.std.proofs.lemmas.Option.{IfSome_then}
+use Rattle.std.proofs.lemmas.List.{length_push}
 use Rattle.std.specs.Cmp.{IsTotalOrder}
 use Rattle.std.specs.Option.{is_some}
 use Rattle.std.specs.declared.cmp.Ordering.TheVariants.{Less}
@@ -10,9 +12,11 @@ use Rattle.semver_parser.specs.Versions.{VersionValue}
 use Rattle.semver_parser.specs.VersionViews.{version_value}
 use Rattle.semver_parser.specs.declared.version.Version.{Version}
 use Rattle.release_filter.specs.declared.lines.LineError.{LineError}
+use Rattle.release_filter.specs.declared.lines.LineError.TheVariants.{OutOfMemory, Read, Write, TooManyLines}
+use Rattle.semver_parser.specs.Texts.{Text}
 use Rattle.release_filter.specs.Greatest.{IsGreatest, HasNone, IsNotAbove}
 use Rattle.release_filter.specs.KeptLines.{FindsGreatest, StandsBehind}
-use Rattle.release_filter.specs.Means.Reading.{ReadsLine, FindsEnd, StopsInLine, PassesOver}
+use Rattle.release_filter.specs.Means.Reading.{ReadsLine, FindsEnd, PassesOver, FindsNext}
 use Rattle.release_filter.proofs.GreatestSteps.{all_append, all_map, begins, stays, stays_over, replaces, not_above}
 use Rattle.release_filter.proofs.LineSteps.{one_line, more_lines, in_line, at_last}
 use Rattle.release_filter.proofs.Passing.{not_both}
@@ -41,21 +45,23 @@ module _ (Has : List ℕ → VersionValue → Type 0) where
   IsKnown read line None = HasNone Has read
   IsKnown read line (Some version) = (h : IsGreatest Has read line) × ((version_value version).plain ≡ h.version.plain)
 
-  pub record Stands (bytes : List ℕ) (b : Option (List ℕ)) (line : List ℕ) (found : Option Version) : Type 0 where
+  pub record Stands (bytes : List ℕ) (b : Option (List ℕ)) (line : List ℕ) (found : Option Version) (count : ℕ) : Type 0 where
     pub read : List (List ℕ)
     pub behind : StandsBehind bytes read b
     pub known : IsKnown read line found
+    pub many : count ≤ length read
 
-  abbrev pub IsAt : Option (List ℕ) → Option (List ℕ) → List ℕ → Option Version → Type 0
-  IsAt a b line found = IfSome a (λ bytes. Stands bytes b line found)
+  -- so many lines were read at least
+  abbrev pub IsAt : Option (List ℕ) → Option (List ℕ) → List ℕ → Option Version → ℕ → Type 0
+  IsAt a b line found count = IfSome a (λ bytes. Stands bytes b line found count)
 
-  pub at_start : (a : Option (List ℕ)) (line : List ℕ) → IsAt a a line None
+  pub at_start : (a : Option (List ℕ)) (line : List ℕ) → IsAt a a line None 0
   at_start None line = tt
-  at_start (Some xs) line = record { read = []; behind = (xs, refl, refl); known = tt }
+  at_start (Some xs) line = record { read = []; behind = (xs, refl, refl); known = tt; many = omega arith }
 
-  module _ (a b c : Option (List ℕ)) where
+  module _ (a b c : Option (List ℕ)) (count : ℕ) where
     -- nothing is left
-    pub at_one : {Z : Type 0} (line : Vec ℕ Z) (found : Option Version) → true ≡ is_some found → IsAt a b line.items found
+    pub at_one : {Z : Type 0} (line : Vec ℕ Z) (found : Option Version) → true ≡ is_some found → IsAt a b line.items found count
         → FindsEnd b c → IfSome a (λ bytes. FindsGreatest Has bytes c (Ok (Some line)))
     at_one line None some h n = absurd (search rules)
     at_one line (Some version) some h n =
@@ -63,7 +69,7 @@ module _ (Has : List ℕ → VersionValue → Type 0) where
         let last = at_last xs b c at.read at.behind n in
         (subst (λ lines. IsGreatest Has lines line.items) (sym last.0) at.known.0, last.1))
 
-    pub at_none : (Z : Type 0) (best : List ℕ) (found : Option Version) → false ≡ is_some found → IsAt a b best found
+    pub at_none : (Z : Type 0) (best : List ℕ) (found : Option Version) → false ≡ is_some found → IsAt a b best found count
         → FindsEnd b c → IfSome a (λ bytes. FindsGreatest {Z = Z} Has bytes c (Ok None))
     at_none Z best None none h n =
         IfSome_then a h (λ xs at.
@@ -72,16 +78,28 @@ module _ (Has : List ℕ → VersionValue → Type 0) where
     at_none Z best (Some version) none h n = absurd (search rules)
 
     module _ (best : List ℕ) (found : Option Version) where
-      pub at_fault : (Z : Type 0) (e : LineError) → IsAt a b best found → StopsInLine b c
+      pub at_fault : (Z : Type 0) (test : VersionValue → Bool) (prefix : Text) (e : LineError) (more : ℕ) (line : List ℕ)
+          → IsAt a b best found count → more ≤ count → FindsNext test prefix more b c line (Err e)
           → IfSome a (λ bytes. FindsGreatest {Z = Z} Has bytes c (Err e))
-      at_fault Z e h n = IfSome_then a h (λ xs at. (at.read, in_line xs b c at.read at.behind n))
+      at_fault Z test prefix OutOfMemory more line h many n = IfSome_then a h (λ xs at. (at.read, in_line xs b c at.read at.behind n))
+      at_fault Z test prefix (Read error) more line h many n = IfSome_then a h (λ xs at. (at.read, in_line xs b c at.read at.behind n))
+      at_fault Z test prefix (Write error) more line h many n = IfSome_then a h (λ xs at. (at.read, in_line xs b c at.read at.behind n))
+      at_fault Z test prefix TooManyLines more line h many n =
+          IfSome_then a h
+          (λ xs at. (at.read, subst (StandsBehind xs at.read) (sym n.0) at.behind, omega (arith, at.many, many, n.1)))
 
       -- lines that aren't kept
-      pub at_passed : IsAt a b best found → PassesOver Has b c → IsAt a c best found
-      at_passed h n =
+      pub at_passed : (more total : ℕ) → total ≤ max count more → IsAt a b best found count → PassesOver Has more b c
+          → IsAt a c best found total
+      at_passed more total within h n =
           IfSome_then a h (λ xs at.
-          let next = more_lines xs b c at.read Has at.behind n in
-          record { read = at.read ++ next.0; behind = next.2; known = known at.read next.0 next.1 found at.known })
+          let next = more_lines xs b c at.read Has more at.behind n in
+          record {
+            read = at.read ++ next.0;
+            behind = next.2;
+            known = known at.read next.0 next.1 found at.known;
+            many = omega (arith, within, at.many, next.3, length-append at.read next.0);
+          })
         where
           known : (read more : List (List ℕ)) → HasNone Has more → (found : Option Version) → IsKnown read best found
               → IsKnown (read ++ more) best found
@@ -95,15 +113,16 @@ module _ (Has : List ℕ → VersionValue → Type 0) where
       module _ (line : List ℕ) (version : Version) (v : VersionValue) (is : Has line v) (plain : (version_value version).plain ≡ v.plain)
           (one : (x : List ℕ) (v w : VersionValue) → Has x v → Has x w → v ≡ w) (total : IsTotalOrder precedence) where
         -- a line that is kept, and above the greatest, if there is one
-        pub at_greater : IsAt a b best found → ReadsLine b c line
+        pub at_greater : IsAt a b best found count → ReadsLine b c line
             → IfSome found (λ other. precedence (version_value other).plain (version_value version).plain ≡ Less)
-            → IsAt a c line (Some version)
+            → IsAt a c line (Some version) (count + 1)
         at_greater h n above =
             IfSome_then a h (λ xs at.
             record {
               read = at.read ++ line ∷ [];
               behind = one_line xs b c at.read line at.behind n;
               known = known at.read found at.known above;
+              many = omega (arith, at.many, length_push at.read line);
             })
           where
             known : (read : List (List ℕ)) (found : Option Version) → IsKnown read best found
@@ -118,15 +137,16 @@ module _ (Has : List ℕ → VersionValue → Type 0) where
             )
 
         -- a line that is kept, and isn't
-        pub at_lower : IsAt a b best found → ReadsLine b c line
+        pub at_lower : IsAt a b best found count → ReadsLine b c line
             → IsSomeAnd found (λ other. ¬ (precedence (version_value other).plain (version_value version).plain ≡ Less))
-            → IsAt a c best found
+            → IsAt a c best found (count + 1)
         at_lower h n low =
             IfSome_then a h (λ xs at.
             record {
               read = at.read ++ line ∷ [];
               behind = one_line xs b c at.read line at.behind n;
               known = known at.read found at.known low;
+              many = omega (arith, at.many, length_push at.read line);
             })
           where
             known : (read : List (List ℕ)) (found : Option Version) → IsKnown read best found

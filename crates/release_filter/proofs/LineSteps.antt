@@ -1,7 +1,7 @@
 -- Where a filter stands in the bytes of its reader, line after line.
-use Rattle.std.proofs.Common.{◌≡◌, ℕ, ◌<◌, inl, inr, eqb, Bool, true, false, not, List, [], ◌∷◌, ◌++◌, length, Option, None, Some, IfSome}
-use Rattle.std.proofs.Common.{Ok, Err, refl, sym, ap, subst, ◌∙◌, arith, append_assoc, cond}
-use Rattle.std.proofs.lemmas.List.{append-nil}
+use Rattle.std.proofs.Common.{◌≡◌, ℕ, ◌+◌, ◌<◌, ◌≤◌, max, inl, inr, eqb, Bool, true, false, not, List, [], ◌∷◌, ◌++◌, length, Option}
+use Rattle.std.proofs.Common.{None, Some, IfSome, Ok, Err, refl, sym, ap, subst, ◌∙◌, arith, append_assoc, cond, length-append}
+use Rattle.std.proofs.lemmas.List.{append-nil, length_push}
 use Rattle.std.proofs.lemmas.List.Elements.{All-nil}
 use Rattle.std.proofs.lemmas.Option.{IfSome_then}
 use Rattle.std.specs.List.{concat}
@@ -15,10 +15,11 @@ use Rattle.semver_parser.specs.Texts.{Text, is_empty}
 use Rattle.semver_parser.specs.Versions.{VersionValue}
 use Rattle.semver_parser.specs.Writing.{AppendsBeginning}
 use Rattle.release_filter.specs.declared.lines.LineError.{LineError}
-use Rattle.release_filter.specs.declared.lines.LineError.TheVariants.{OutOfMemory, Read, Write}
+use Rattle.release_filter.specs.declared.lines.LineError.TheVariants.{OutOfMemory, Read, Write, TooManyLines}
 use Rattle.release_filter.specs.Greatest.{HasNone}
-use Rattle.release_filter.specs.KeptLines.{onto_first, lines_of, AreThose, CopiesLines, StandsBehind, StandsIn, IsKeptLine, SpellsOneThat}
-use Rattle.release_filter.specs.Means.Reading.{ReadsPart, ReadsLine, FindsEnd, IsNoWriting, StopsInLine, PassesOver}
+use Rattle.release_filter.specs.KeptLines.{onto_first, lines_of, AreThose, CopiesLines, StandsBehind, StandsIn, IsKeptLine, IsNoWriting}
+use Rattle.release_filter.specs.KeptLines.{SpellsOneThat}
+use Rattle.release_filter.specs.Means.Reading.{ReadsPart, ReadsLine, FindsEnd, StopsInLine, PassesOver, FindsNext, IsOfOneLine}
 use Rattle.release_filter.proofs.GreatestSteps.{none_more}
 
 -- the first line, and the lines behind it
@@ -71,12 +72,17 @@ module _ (bytes : List ℕ) (b c : Option (List ℕ)) (read : List (List ℕ)) w
       )
 
   -- some more lines were passed over
-  pub more_lines : (Has : List ℕ → VersionValue → Type 0) → StandsBehind bytes read b → PassesOver Has b c
-      → (more : List (List ℕ)) × HasNone Has more × StandsBehind bytes (read ++ more) c
-  more_lines Has (rest, left, lines) n =
-      let over : (more : List (List ℕ)) × HasNone Has more × StandsBehind rest more c = subst (λ o. PassesOver Has o c) left n in
-      let (more, none, (later, at, those)) = over in
-      (more, none, (later, at, lines ∙ ap (λ l. read ++ l) those ∙ sym (append_assoc read more (lines_of later))))
+  pub more_lines : (Has : List ℕ → VersionValue → Type 0) (count : ℕ) → StandsBehind bytes read b → PassesOver Has count b c
+      → (more : List (List ℕ)) × HasNone Has more × StandsBehind bytes (read ++ more) c × (count ≤ length (read ++ more))
+  more_lines Has count (rest, left, lines) n =
+      let over : (more : List (List ℕ)) × HasNone Has more × StandsBehind rest more c × (count ≤ length more) =
+      subst (λ o. PassesOver Has count o c) left n in
+      let (more, none, (later, at, those), many) = over in (
+        more,
+        none,
+        (later, at, lines ∙ ap (λ l. read ++ l) those ∙ sym (append_assoc read more (lines_of later))),
+        omega (arith, many, length-append read more),
+      )
 
   -- the next line, or a beginning of it, was read, and there it ends
   pub in_line : StandsBehind bytes read b → StopsInLine b c → StandsIn bytes read c
@@ -95,19 +101,28 @@ pub stops_before : (b : Option (List ℕ)) → StopsInLine b b
 stops_before None = ([], tt)
 stops_before (Some xs) = ([], (xs, refl, refl, All-nil _))
 
+-- a fault of one line ends the search for the next
+pub stops_search : (test : VersionValue → Bool) (prefix : Text) (count : ℕ) (a c : Option (List ℕ)) (line : List ℕ) (e : LineError)
+    → IsOfOneLine e → StopsInLine a c → FindsNext test prefix count a c line (Err e)
+stops_search test prefix count a c line OutOfMemory is n = n
+stops_search test prefix count a c line (Read error) is n = n
+stops_search test prefix count a c line (Write error) is n = absurd is
+stops_search test prefix count a c line TooManyLines is n = absurd is
+
 module _ (Has : List ℕ → VersionValue → Type 0) where
   -- no line was passed over, and one more
-  pub none_passed : (a : Option (List ℕ)) → PassesOver Has a a
+  pub none_passed : (a : Option (List ℕ)) → PassesOver Has 0 a a
   none_passed None = tt
-  none_passed (Some xs) = ([], tt, (xs, refl, refl))
+  none_passed (Some xs) = ([], tt, (xs, refl, refl), omega arith)
 
-  pub one_passed : (a b c : Option (List ℕ)) (line : List ℕ) → PassesOver Has a b → ReadsLine b c line
-      → ((w : VersionValue) → ¬ (Has line w)) → PassesOver Has a c
-  one_passed a b c line h n is_not =
+  pub one_passed : (count : ℕ) (a b c : Option (List ℕ)) (line : List ℕ) → PassesOver Has count a b → ReadsLine b c line
+      → ((w : VersionValue) → ¬ (Has line w)) → PassesOver Has (count + 1) a c
+  one_passed count a b c line h n is_not =
       IfSome_then a h (λ bytes over. (
         over.0 ++ line ∷ [],
         none_more Has over.0 line over.1 is_not,
         one_line bytes b c over.0 line over.2 n,
+        omega (arith, over.3, length_push over.0 line),
       ))
 
 module _ (test : VersionValue → Bool) (prefix : Text) where
@@ -122,29 +137,32 @@ module _ (test : VersionValue → Bool) (prefix : Text) where
   none_those [] none = refl
   none_those (line ∷ lines) none = inr ((λ is. none.0 is.0 is.1), none_those lines none.1)
 
-  -- from the writer's bytes w, a filter has come to v behind whole lines, and has kept one or not
-  pub record Stands (bytes : List ℕ) (b w v : Option (List ℕ)) (some : Bool) : Type 0 where
+  -- from the writer's bytes w, a filter has come to v behind so many whole lines at least, and has
+  -- kept one or not
+  pub record Stands (bytes : List ℕ) (b w v : Option (List ℕ)) (some : Bool) (count : ℕ) : Type 0 where
     pub read : List (List ℕ)
     pub kept : List (List ℕ)
     pub behind : StandsBehind bytes read b
     pub those : AreThose IsKept read kept
     pub written : Appends w v (concat kept)
     pub tells : some ≡ not (is_empty kept)
+    pub many : count ≤ length read
 
-  abbrev pub IsAt : Option (List ℕ) → Option (List ℕ) → Option (List ℕ) → Option (List ℕ) → Bool → Type 0
-  IsAt a b w v some = IfSome a (λ bytes. Stands bytes b w v some)
+  abbrev pub IsAt : Option (List ℕ) → Option (List ℕ) → Option (List ℕ) → Option (List ℕ) → Bool → ℕ → Type 0
+  IsAt a b w v some count = IfSome a (λ bytes. Stands bytes b w v some count)
 
-  pub at_start : (a w : Option (List ℕ)) → IsAt a a w w false
+  pub at_start : (a w : Option (List ℕ)) → IsAt a a w w false 0
   at_start None w = tt
   at_start (Some xs) w =
-      record { read = []; kept = []; behind = (xs, refl, refl); those = refl; written = Appends-nil w; tells = refl }
+      record { read = []; kept = []; behind = (xs, refl, refl); those = refl; written = Appends-nil w; tells = refl; many = omega arith }
 
-  module _ (a b c w v : Option (List ℕ)) (some : Bool) where
+  module _ (a b c w v : Option (List ℕ)) (some : Bool) (count : ℕ) where
     -- lines that aren't kept
-    pub at_passed : IsAt a b w v some → PassesOver Has b c → IsAt a c w v some
-    at_passed h n =
+    pub at_passed : (more total : ℕ) → total ≤ max count more → IsAt a b w v some count → PassesOver Has more b c
+        → IsAt a c w v some total
+    at_passed more total within h n =
         IfSome_then a h (λ xs at.
-        let next = more_lines xs b c at.read Has at.behind n in
+        let next = more_lines xs b c at.read Has more at.behind n in
         record {
           read = at.read ++ next.0;
           kept = at.kept;
@@ -153,29 +171,37 @@ module _ (test : VersionValue → Bool) (prefix : Text) where
               (those_append IsKept at.read next.0 at.kept [] at.those (none_those next.0 next.1));
           written = at.written;
           tells = at.tells;
+          many = omega (arith, within, at.many, next.3, length-append at.read next.0);
         })
 
     -- nothing is left
-    pub at_end : IsAt a b w v some → FindsEnd b c → IfSome a (λ bytes. CopiesLines IsKept bytes c w v (Ok some))
+    pub at_end : IsAt a b w v some count → FindsEnd b c → IfSome a (λ bytes. CopiesLines IsKept bytes c w v (Ok some))
     at_end h n =
         IfSome_then a h (λ xs at.
         let last = at_last xs b c at.read at.behind n in
         (at.kept, subst (λ l. AreThose IsKept l at.kept) (sym last.0) at.those, last.1, at.written, at.tells))
 
-    -- a fault that isn't one of writing
-    pub at_fault : (e : LineError) → IsNoWriting e → IsAt a b w v some → StopsInLine b c
-        → IfSome a (λ bytes. CopiesLines IsKept bytes c w v (Err e))
-    at_fault e reading h n = IfSome_then a h (λ xs at. told e reading at (in_line xs b c at.read at.behind n))
-      where
-        told : {xs : List ℕ} (e : LineError) → IsNoWriting e → (at : Stands xs b w v some) → StandsIn xs at.read c
-            → CopiesLines IsKept xs c w v (Err e)
-        told OutOfMemory reading at n = (at.read, at.kept, at.those, n, at.written)
-        told (Read error) reading at n = (at.read, at.kept, at.those, n, at.written)
-        told (Write error) reading at n = absurd reading
+    -- a fault that isn't one of writing, behind so many lines that aren't kept
+    pub at_fault : (e : LineError) (more : ℕ) (line : List ℕ) → IsNoWriting e → IsAt a b w v some count → more ≤ count
+        → FindsNext test prefix more b c line (Err e) → IfSome a (λ bytes. CopiesLines IsKept bytes c w v (Err e))
+    at_fault OutOfMemory more line reading h many n =
+        IfSome_then a h (λ xs at. (at.read, at.kept, at.those, in_line xs b c at.read at.behind n, at.written))
+    at_fault (Read error) more line reading h many n =
+        IfSome_then a h (λ xs at. (at.read, at.kept, at.those, in_line xs b c at.read at.behind n, at.written))
+    at_fault (Write error) more line reading h many n = absurd reading
+    at_fault TooManyLines more line reading h many n =
+        IfSome_then a h (λ xs at. (
+          at.read,
+          at.kept,
+          at.those,
+          subst (StandsBehind xs at.read) (sym n.0) at.behind,
+          at.written,
+          omega (arith, at.many, many, n.1),
+        ))
 
     module _ (u : Option (List ℕ)) (line : List ℕ) where
       -- a line that is kept, and was written
-      pub at_kept : IsAt a b w v some → ReadsLine b c line → IsKept line → Appends v u line → IsAt a c w u true
+      pub at_kept : IsAt a b w v some count → ReadsLine b c line → IsKept line → Appends v u line → IsAt a c w u true (count + 1)
       at_kept h n is p =
           IfSome_then a h (λ xs at.
           record {
@@ -186,10 +212,11 @@ module _ (test : VersionValue → Bool) (prefix : Text) where
             written = subst (λ l. Appends w u l) (sym (concat_behind at.kept line))
                 (Appends-trans w v u (concat at.kept) line at.written p);
             tells = sym (some_behind at.kept line);
+            many = omega (arith, at.many, length_push at.read line);
           })
 
       -- one that is kept, and of which a beginning was written
-      pub at_broken : (e : Error) → IsAt a b w v some → ReadsLine b c line → IsKept line → AppendsBeginning v u line
+      pub at_broken : (e : Error) → IsAt a b w v some count → ReadsLine b c line → IsKept line → AppendsBeginning v u line
           → IfSome a (λ bytes. CopiesLines IsKept bytes c w u (Err (Write e)))
       at_broken e h n is p =
           IfSome_then a h (λ xs at. (

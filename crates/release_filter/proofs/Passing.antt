@@ -1,6 +1,6 @@
 -- What passes a filter meets its comparators, whatever its rule for pre-releases is.
-use Rattle.std.proofs.Common.{◌≡◌, ◌==◌, ◌∷◌, length, ℕ, List, [], Option, Some, None, MatchOption, IfSome, IfOk, Result, Ok, Err, ◌↔◌, subst, option_map, IsTrue, Bool, true, false, refl, sym}
-use Rattle.std.proofs.Common.{ap, ◌∙◌, rules}
+use Rattle.std.proofs.Common.{◌≡◌, ◌==◌, ◌∷◌, length, ℕ, List, [], Option, Some, None, MatchOption, IfSome, IfOk, IfErr, Result, Ok, Err}
+use Rattle.std.proofs.Common.{◌↔◌, subst, option_map, IsTrue, Bool, true, false, refl, sym, ap, ◌∙◌, rules}
 use Rattle.std.specs.Prelude.{◌&&◌}
 use Rattle.semver_parser.specs.Texts.{Text, is_empty}
 use Rattle.semver_parser.specs.Versions.{IdentifierValue, PlainVersion, VersionValue}
@@ -44,6 +44,11 @@ excluded_fails filter v is some = ap (λ rule. meets_with rule filter.set v) is 
     at : (pre : List IdentifierValue) → ¬ (pre ≡ []) → (is_empty pre && meets_set v.plain filter.set) ≡ false
     at [] some = absurd (some refl)
     at (id ∷ pre) some = refl
+
+-- what is so, is so where an error is answered
+pub on_err : {T E : Type 0} (P : Type 0) (r : Result T E) → P → IfErr r (λ e. P)
+on_err P (Ok x) p = tt
+on_err P (Err e) p = p
 
 pub not_both : {b : Bool} → b ≡ true → b ≡ false → ⊥
 not_both met never = absurd (search rules)

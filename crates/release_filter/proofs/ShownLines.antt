@@ -1,6 +1,7 @@
 -- What a line is judged to be that a reader shows whole and lets go, or that was read.
 use Rattle.std.proofs.Common.{◌≡◌, ℕ, ◌≤◌, length, List, [], Bool, Option, Some, None, IfSome, Result, Ok, Err, IfOk}
-use Rattle.std.proofs.Common.{MatchOption, MatchResult, ap, sym, subst, ◌∙◌, arith, length-take, refl}
+use Rattle.std.proofs.Common.{MatchOption, MatchResult, IfErr, ap, sym, subst, ◌∙◌, arith, length-take, refl, false}
+use Rattle.std.specs.Result.{is_err}
 use Rattle.std.specs.Io.{StartsWith, StopsAt}
 use Rattle.std.specs.Io.KnownBytes.{Keeps, Consumes}
 use Rattle.std.specs.Io.BufRead.{DropsConsumable, take_through, drop_through}
@@ -12,7 +13,10 @@ use Rattle.semver_parser.specs.declared.version.Version.{Version}
 use Rattle.release_filter.specs.declared.lines.LineError.{LineError}
 use Rattle.release_filter.specs.declared.lines.LineError.TheVariants.{OutOfMemory}
 use Rattle.release_filter.specs.KeptLines.{IsKeptLine}
-use Rattle.release_filter.specs.Means.Reading.{ReadsPart, ReadsLine, IsWholeLine, SpellsPlain, Judges, JudgesNext}
+use Rattle.release_filter.specs.Means.Reading.{ReadsPart, ReadsLine, IsWholeLine, SpellsPlain, Judges, JudgesNext, StopsInLine}
+use Rattle.release_filter.specs.Means.Reading.{FindsEnd}
+use Rattle.release_filter.proofs.LineSteps.{stops_before}
+use Rattle.release_filter.proofs.Passing.{not_both}
 
 -- what is so of what was left is so of what was there, where nothing was taken
 pub behind_kept : (IsSo : List ℕ → Type 0) (a b : Option (List ℕ)) → Keeps a b → IfSome b IsSo → IfSome a IsSo
@@ -50,10 +54,39 @@ module _ {E : Type 0} (test : VersionValue → Bool) (prefix : Text) (line : Lis
   in_place (Err e) h = tt
 
   -- what was found of a line is what it is judged to be
-  pub is_judged : (Nothing : Type 0) (a c : Option (List ℕ)) (copy : List ℕ) (found : Result (Option Version) E)
+  pub is_judged : (Nothing Stopped : Type 0) (a c : Option (List ℕ)) (copy : List ℕ) (found : Result (Option Version) E)
       (result : Result (Option (Option Version)) LineError)
       → MatchResult found (λ version. result ≡ Ok (Some version)) (λ e. result ≡ Err OutOfMemory)
-      → IfOk found (Judges test prefix line copy) → ReadsLine a c line → ReadsPart a c line
-      → JudgesNext Nothing test prefix a c copy result
-  is_judged Nothing a c copy (Ok version) result is judges whole part = rw is (line, whole, judges)
-  is_judged Nothing a c copy (Err e) result is judges whole part = rw is (line, part)
+      → IfOk found (Judges test prefix line copy) → ReadsLine a c line → IfErr found (λ e. Stopped)
+      → JudgesNext Nothing Stopped test prefix a c copy result
+  is_judged Nothing Stopped a c copy (Ok version) result is judges whole stops = rw is (line, whole, judges)
+  is_judged Nothing Stopped a c copy (Err e) result is judges whole stops = rw is stops
+
+-- where memory ran out, the line was read
+pub on_err_part : {T E : Type 0} (a c : Option (List ℕ)) (line : List ℕ) (r : Result T E) → ReadsPart a c line
+    → IfErr r (λ e. StopsInLine a c)
+on_err_part a c line (Ok x) part = tt
+on_err_part a c line (Err e) part = (line, part)
+
+-- where it didn't, anything is so of want of it
+pub on_no_err : {T E : Type 0} (P : Type 0) (r : Result T E) → is_err r ≡ false → IfErr r (λ e. P)
+on_no_err P (Ok x) none = tt
+on_no_err P (Err e) none = absurd (not_both refl none)
+
+-- nothing was taken, so reading stands where it stood, in front of the first line
+pub stops_kept : (a c : Option (List ℕ)) → Keeps a c → StopsInLine a c
+stops_kept None c kept = stops_in_none c
+  where
+    stops_in_none : (c : Option (List ℕ)) → StopsInLine None c
+    stops_in_none c = ([], tt)
+stops_kept (Some x) None kept = absurd kept
+stops_kept (Some x) (Some y) kept = subst (λ z. StopsInLine (Some x) (Some z)) (sym kept) (stops_before (Some x))
+
+-- a line that is shown whole is judged as any line is
+pub as_any_line : (test : VersionValue → Bool) (prefix : Text) (a c : Option (List ℕ)) (copy : List ℕ)
+    (result : Result (Option (Option Version)) LineError) → ¬ (result ≡ Ok None)
+    → JudgesNext (Keeps a c) (Keeps a c) test prefix a c copy result
+    → JudgesNext (FindsEnd a c) (StopsInLine a c) test prefix a c copy result
+as_any_line test prefix a c copy (Ok None) some judged = absurd (some refl)
+as_any_line test prefix a c copy (Ok (Some found)) some judged = judged
+as_any_line test prefix a c copy (Err e) some kept = stops_kept a c kept

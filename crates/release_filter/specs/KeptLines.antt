@@ -1,6 +1,7 @@
 -- The lines of a stream, which of them a filter keeps, and what is left of the stream.
-use Rattle.std.specs.Prelude.{◌≡◌, ℕ, ◌==◌, ◌⊎◌, Bool, not, List, [], ◌∷◌, ◌++◌, if◌then◌else◌}
-use Rattle.std.specs.Prelude.{Option, Some, None, Result, Ok, Err, IsTrue, Vec}
+use Rattle.std.specs.Prelude.{◌≡◌, ℕ, ◌==◌, ◌≤◌, ◌-◌, ◌^◌, ◌⊎◌, ⊤, Bool, not, List, [], ◌∷◌, ◌++◌}
+use Rattle.std.specs.Prelude.{if◌then◌else◌, Option, Some, None, Result, Ok, Err, IsTrue, Vec}
+use Rattle.std.specs.Prelude.{length}
 use Rattle.std.specs.List.{concat}
 use Rattle.std.specs.Io.{StopsAt}
 use Rattle.std.specs.Io.KnownBytes.{Appends}
@@ -11,6 +12,7 @@ use Rattle.semver_parser.specs.VersionGrammar.{SpellsVersion}
 use Rattle.release_filter.specs.Greatest.{IsGreatest, HasNone}
 use Rattle.release_filter.specs.declared.lines.LineError.{LineError}
 use Rattle.release_filter.specs.declared.lines.LineError.TheVariants.{OutOfMemory, Read, Write}
+use Rattle.release_filter.specs.declared.lines.LineError.TheVariants.{TooManyLines}
 
 -- a byte at the front of the first line
 abbrev pub onto_first : ℕ → List (List ℕ) → List (List ℕ)
@@ -56,10 +58,22 @@ StandsIn bytes lines left =
     (begun rest : List ℕ) × (left ≡ Some rest)
     × (lines_of bytes ≡ lines ++ lines_of (begun ++ rest)) × StopsAt begun 10
 
+-- a fault that isn't one of writing
+abbrev pub IsNoWriting : LineError → Type 0
+IsNoWriting OutOfMemory = ⊤
+IsNoWriting (Read error) = ⊤
+IsNoWriting (Write error) = ⊥
+IsNoWriting TooManyLines = ⊤
+
+-- so many lines end a run
+abbrev pub AreTooMany : List (List ℕ) → Type 0
+AreTooMany lines = 2 ^ 64 - 1 ≤ length lines
+
 -- what a copy of the kept lines of these bytes wrote, and what it left of them. With an answer it
 -- has read every line, and it tells whether some line was kept. Where writing failed, it has read
 -- to the end of the kept line that it was writing, and wrote a beginning of that. After any other
--- fault it stands behind lines that it is done with, or in the line behind them
+-- fault it stands behind lines that it is done with, or in the line behind them; and behind them
+-- where these are too many
 abbrev pub CopiesLines : (List ℕ → Type 0) → List ℕ → Option (List ℕ) → Option (List ℕ)
     → Option (List ℕ) → Result Bool LineError → Type 0
 CopiesLines IsKept bytes left old new (Ok some) =
@@ -75,6 +89,9 @@ CopiesLines IsKept bytes left old new (Err OutOfMemory) =
 CopiesLines IsKept bytes left old new (Err (Read error)) =
     (lines kept : List (List ℕ)) × AreThose IsKept lines kept × StandsIn bytes lines left
     × Appends old new (concat kept)
+CopiesLines IsKept bytes left old new (Err TooManyLines) =
+    (lines kept : List (List ℕ)) × AreThose IsKept lines kept × StandsBehind bytes lines left
+    × Appends old new (concat kept) × AreTooMany lines
 
 -- what a search for the greatest line of these bytes answers, and what it left of them. With an
 -- answer it has read every line
@@ -83,4 +100,6 @@ abbrev pub FindsGreatest : {Z : Type 0} → (List ℕ → VersionValue → Type 
 FindsGreatest Has bytes left (Ok None) = HasNone Has (lines_of bytes) × (left ≡ Some [])
 FindsGreatest Has bytes left (Ok (Some line)) =
     IsGreatest Has (lines_of bytes) line.items × (left ≡ Some [])
+FindsGreatest Has bytes left (Err TooManyLines) =
+    (lines : List (List ℕ)) × StandsBehind bytes lines left × AreTooMany lines
 FindsGreatest Has bytes left (Err error) = (lines : List (List ℕ)) × StandsIn bytes lines left

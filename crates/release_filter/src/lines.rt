@@ -6,11 +6,9 @@ ghost use Rattle.semver_parser.specs.Precedence.{precedence};
 ghost use Rattle.semver_parser.specs.VersionViews.{version_value};
 ghost use Rattle.release_filter.specs.Filters.{passes};
 ghost use Rattle.release_filter.specs.KeptLines.{SpellsOneThat, IsKeptLine, CopiesLines};
-ghost use Rattle.release_filter.specs.KeptLines.{FindsGreatest};
-ghost use Rattle.release_filter.specs.Means.Reading.{IsNoWriting};
+ghost use Rattle.release_filter.specs.KeptLines.{FindsGreatest, IsNoWriting};
 
 use crate::filter::Filter;
-use crate::next_line::too_many_lines;
 use crate::precedence;
 use semver_parser::laws;
 use semver_parser::version::Version;
@@ -23,7 +21,8 @@ use thiserror::Error;
 /// Why a filter of lines ended before the end of its input.
 #[derive(Debug, Error, Drop)]
 pub enum LineError {
-    /// A growth was refused: for a line, or for the identifiers of its version.
+    /// A growth was refused: for a line, or for the identifiers of its version. Or the reader told
+    /// a fault of this kind.
     #[error("out of memory")]
     OutOfMemory,
     /// Reading failed, for the reason given.
@@ -32,6 +31,9 @@ pub enum LineError {
     /// Writing failed, was interrupted, or took no byte.
     #[error("cannot write output: {0}")]
     Write(io::Error),
+    /// 2^64 - 1 lines were read.
+    #[error("too many lines")]
+    TooManyLines,
 }
 
 impl Filter {
@@ -48,16 +50,20 @@ impl Filter {
     /// and answers true.
     ///
     /// A line that `input` shows whole isn't copied unless it is kept. One copy is held at a time,
-    /// and where the line spells a version the identifiers of that. `out` isn't flushed.
+    /// and where the line spells a version the identifiers of that. Flush `out` where it holds back
+    /// what it is given.
     ///
     /// # Errors
     ///
-    /// `Read`, `Write` and `OutOfMemory` end the copy, and nothing is read after them. Where
-    /// writing failed, `input` stands behind the kept line that was being written, and `out` got a
-    /// beginning of that. Else `out` has the kept ones of the lines that were read whole, and
-    /// `input` stands behind these, or in the next line. No line is passed over for want of memory.
-    /// `Read` also ends the copy of an input with 2^64 - 1 kept lines, or as many in a row that
-    /// aren't kept.
+    /// Each ends the copy, and nothing is read after it. `Read` has the reader's own fault; one of
+    /// `ErrorKind::OutOfMemory` is told as `OutOfMemory`. `TooManyLines` comes behind 2^64 - 1
+    /// lines at least.
+    ///
+    /// Where writing failed, `input` stands behind the kept line that was being written, and `out`
+    /// got a beginning of that. Else `out` has the kept ones of the lines that are done with, and
+    /// `input` stands behind these, or in the next line, of which it may have read all: want of
+    /// memory leaves a line that `input` shows whole, and one that had to be copied to be judged is
+    /// read then.
     pub fn copy_lines<R: BufRead, W: Write>(
         &self,
         alloc: Global,
@@ -90,7 +96,7 @@ impl Filter {
     {
         let mut line = Vec::new(alloc);
         let mut has_kept = false;
-        'lines: for _ in 0..u64::MAX {
+        'lines: for _kept in 0..u64::MAX {
             match self.next_kept(alloc, prefix, input, &mut line) {
                 Ok(Some(_)) => {}
                 Ok(None) => return Ok(has_kept),
@@ -101,7 +107,7 @@ impl Filter {
             }
             has_kept = true;
         }
-        Err(too_many_lines())
+        Err(LineError::TooManyLines)
     }
 
     /// Of the lines that spell a version which passes, the one with the greatest by precedence
@@ -113,9 +119,8 @@ impl Filter {
     ///
     /// # Errors
     ///
-    /// `Read` and `OutOfMemory` end the search, and nothing is read after them: `input` stands
-    /// behind the lines that were read, or in the next one. `Read` also ends the search of an input
-    /// with 2^64 - 1 kept lines, or as many in a row that aren't kept. `Write` never comes.
+    /// `Read`, `OutOfMemory` and `TooManyLines`, as of [`Filter::copy_lines`]; `input` stands
+    /// behind the lines that are done with, or in the next one. `Write` never comes.
     pub fn greatest_line<R: BufRead>(
         &self,
         alloc: Global,
@@ -147,7 +152,7 @@ impl Filter {
         let mut line = Vec::new(alloc);
         let mut greatest_line = Vec::new(alloc);
         let mut greatest = None;
-        'lines: for _ in 0..u64::MAX {
+        'lines: for _kept in 0..u64::MAX {
             let version = match self.next_kept(alloc, prefix, input, &mut line) {
                 Ok(Some(version)) => version,
                 Ok(None) if greatest.is_some() => return Ok(Some(greatest_line)),
@@ -159,7 +164,7 @@ impl Filter {
                 greatest = Some(version);
             }
         }
-        Err(too_many_lines())
+        Err(LineError::TooManyLines)
     }
 }
 

@@ -7,10 +7,11 @@ ghost use Rattle.std.specs.Io.KnownBytes.{Keeps};
 ghost use Rattle.std.specs.Io.BufRead.{strip_last};
 ghost use Rattle.semver_parser.specs.VersionViews.{version_value};
 ghost use Rattle.release_filter.specs.Filters.{passes};
-ghost use Rattle.release_filter.specs.KeptLines.{line_text, SpellsOneThat, IsKeptLine};
-ghost use Rattle.release_filter.specs.Means.Reading.{ReadsPart, ReadsLine, FindsEnd, IsNoWriting};
+ghost use Rattle.release_filter.specs.KeptLines.{line_text, IsKeptLine, IsNoWriting};
+ghost use Rattle.release_filter.specs.KeptLines.{SpellsOneThat};
+ghost use Rattle.release_filter.specs.Means.Reading.{ReadsPart, ReadsLine, FindsEnd, IsOfOneLine};
 ghost use Rattle.release_filter.specs.Means.Reading.{SpellsPlain, IsWholeLine, Judges, JudgesNext};
-ghost use Rattle.release_filter.specs.Means.Reading.{PassesOver, FindsNext};
+ghost use Rattle.release_filter.specs.Means.Reading.{PassesOver, FindsNext, StopsInLine};
 ghost use Rattle.semver_parser.specs.Texts.{Text};
 
 use crate::filter::Filter;
@@ -29,13 +30,14 @@ impl Filter {
         input: &mut R,
         line: &mut Vec<u8>,
     ) -> Result<Option<Version>, LineError>
-        ensures finds { (here : Option (List ℕ))
-            × PassesOver (SpellsOneThat (passes self.now) prefix.now) (R.remaining input.old) here
-            × FindsNext (passes self.now) prefix.now here (R.remaining input.new)
+        ensures finds { (here : Option (List ℕ)) × (count : ℕ)
+            × PassesOver (SpellsOneThat (passes self.now) prefix.now) count
+            (R.remaining input.old) here
+            × FindsNext (passes self.now) prefix.now count here (R.remaining input.new)
             line.new.items result }
         ensures no_writing { IfErr result IsNoWriting }
     {
-        'lines: for _ in 0..u64::MAX {
+        'lines: for _passed in 0..u64::MAX {
             match self.judge_next(alloc, prefix, input, line) {
                 Ok(Some(None)) => {}
                 Ok(Some(Some(version))) => return Ok(Some(version)),
@@ -43,7 +45,7 @@ impl Filter {
                 Err(error) => return Err(error),
             }
         }
-        Err(too_many_lines())
+        Err(LineError::TooManyLines)
     }
 
     /// Takes the next line, and answers its version if it is kept, and the line in `line`; `None`
@@ -58,9 +60,10 @@ impl Filter {
         line: &mut Vec<u8>,
     ) -> Result<Option<Option<Version>>, LineError>
         ensures judges { JudgesNext (FindsEnd (R.remaining input.old) (R.remaining input.new))
+            (StopsInLine (R.remaining input.old) (R.remaining input.new))
             (passes self.now) prefix.now (R.remaining input.old) (R.remaining input.new)
             line.new.items result }
-        ensures no_writing { IfErr result IsNoWriting }
+        ensures of_one_line { IfErr result IsOfOneLine }
     {
         match self.judge_shown(alloc, prefix, input, line) {
             Ok(None) => {}
@@ -74,8 +77,8 @@ impl Filter {
     }
 
     /// What `judge_next` does with a line that the reader shows whole: it is judged where it
-    /// stands, and let go. `None`, and nothing is taken, where the reader shows no whole line, or
-    /// was interrupted.
+    /// stands, and let go. `None` where the reader shows no whole line, or was interrupted. Then
+    /// nothing is taken, and neither is after a fault, want of memory too.
     #[inline(always)]
     fn judge_shown<R: BufRead>(
         &self,
@@ -85,9 +88,10 @@ impl Filter {
         line: &mut Vec<u8>,
     ) -> Result<Option<Option<Version>>, LineError>
         ensures judges { JudgesNext (Keeps (R.remaining input.old) (R.remaining input.new))
+            (Keeps (R.remaining input.old) (R.remaining input.new))
             (passes self.now) prefix.now (R.remaining input.old) (R.remaining input.new)
             line.new.items result }
-        ensures no_writing { IfErr result IsNoWriting }
+        ensures of_one_line { IfErr result IsOfOneLine }
     {
         let shown = match input.fill_buf() {
             Ok(shown) => shown,
@@ -98,6 +102,9 @@ impl Filter {
             return Ok(None);
         };
         let found = self.copy_kept(alloc, prefix, first, line);
+        if found.is_err() {
+            return Err(LineError::OutOfMemory);
+        }
         let count = first.len();
         input.consume(count);
         judged(found)
@@ -190,7 +197,7 @@ fn read_line<R: BufRead>(input: &mut R, line: &mut Vec<u8>) -> Result<bool, Line
     ensures whole { result ≡ Ok true →
         ReadsLine (R.remaining input.old) (R.remaining input.new) line.new.items }
     ensures end { result ≡ Ok false → FindsEnd (R.remaining input.old) (R.remaining input.new) }
-    ensures no_writing { IfErr result IsNoWriting }
+    ensures of_one_line { IfErr result IsOfOneLine }
 {
     line.clear();
     match input.read_until(b'\n', line) {
@@ -201,19 +208,12 @@ fn read_line<R: BufRead>(input: &mut R, line: &mut Vec<u8>) -> Result<bool, Line
 
 /// The fault of an input that cannot be read.
 fn reading_fault(error: io::Error) -> LineError
-    ensures { IsNoWriting result }
+    ensures { IsOfOneLine result }
 {
     if error.kind() == ErrorKind::OutOfMemory {
         return LineError::OutOfMemory;
     }
     LineError::Read(error)
-}
-
-/// The fault of an input without end.
-pub(crate) fn too_many_lines() -> LineError
-    ensures { IsNoWriting result }
-{
-    LineError::Read(io::Error::from(ErrorKind::Other))
 }
 
 /// The text of a line: without the line feed at its end, and then without one carriage return at

@@ -1,6 +1,6 @@
 -- What reading a line did to the bytes that a reader tells: a means of proof.
-use Rattle.std.specs.Prelude.{◌≡◌, Bool, ℕ, ◌<◌, List, [], ◌++◌, length, ⊤, Option, Some, None}
-use Rattle.std.specs.Prelude.{IfSome, MatchOption, Result, Ok, Err, ◌⊎◌, IsTrue, false}
+use Rattle.std.specs.Prelude.{◌≡◌, Bool, ℕ, ◌<◌, ◌≤◌, ◌-◌, ◌^◌, List, [], ◌++◌, length, ⊤, Option}
+use Rattle.std.specs.Prelude.{Some, None, IfSome, MatchOption, Result, Ok, Err, ◌⊎◌, IsTrue, false}
 use Rattle.std.specs.Io.{StopsAt, IsEmptyOrEndsWith}
 use Rattle.std.specs.Io.BufRead.{take_through, drop_through}
 use Rattle.semver_parser.specs.Texts.{Text}
@@ -12,6 +12,7 @@ use Rattle.release_filter.specs.Greatest.{HasNone}
 use Rattle.release_filter.specs.KeptLines.{SpellsOneThat, IsKeptLine, StandsBehind}
 use Rattle.release_filter.specs.declared.lines.LineError.{LineError}
 use Rattle.release_filter.specs.declared.lines.LineError.TheVariants.{OutOfMemory, Read, Write}
+use Rattle.release_filter.specs.declared.lines.LineError.TheVariants.{TooManyLines}
 
 -- the line was read, or a beginning of it
 abbrev pub ReadsPart : Option (List ℕ) → Option (List ℕ) → List ℕ → Type 0
@@ -29,11 +30,12 @@ ReadsLine old new line =
 abbrev pub FindsEnd : Option (List ℕ) → Option (List ℕ) → Type 0
 FindsEnd old new = IfSome old (λ bytes. (bytes ≡ []) × (new ≡ Some []))
 
--- a fault that isn't one of writing
-abbrev pub IsNoWriting : LineError → Type 0
-IsNoWriting OutOfMemory = ⊤
-IsNoWriting (Read error) = ⊤
-IsNoWriting (Write error) = ⊥
+-- a fault that one line can have
+abbrev pub IsOfOneLine : LineError → Type 0
+IsOfOneLine OutOfMemory = ⊤
+IsOfOneLine (Read error) = ⊤
+IsOfOneLine (Write error) = ⊥
+IsOfOneLine TooManyLines = ⊥
 
 -- the line spells a version that passes, and this is that version without its build
 abbrev pub SpellsPlain : (VersionValue → Bool) → Text → List ℕ → PlainVersion → Type 0
@@ -66,24 +68,28 @@ Judges test prefix line copy found =
     MatchOption found (¬ (IsKeptLine test prefix line))
     (λ v. (copy ≡ line) × SpellsPlain test prefix line (version_value v).plain)
 
--- the first line was taken and judged, or there was nothing to take, which says this
-abbrev pub JudgesNext : Type 0 → (VersionValue → Bool) → Text → Option (List ℕ)
+-- the first line was taken and judged; or there was nothing to take, or a fault, which say these
+abbrev pub JudgesNext : Type 0 → Type 0 → (VersionValue → Bool) → Text → Option (List ℕ)
     → Option (List ℕ) → List ℕ → Result (Option (Option Version)) LineError → Type 0
-JudgesNext Nothing test prefix old new copy (Ok None) = Nothing
-JudgesNext Nothing test prefix old new copy (Ok (Some found)) =
+JudgesNext Nothing Stopped test prefix old new copy (Ok None) = Nothing
+JudgesNext Nothing Stopped test prefix old new copy (Ok (Some found)) =
     (line : List ℕ) × ReadsLine old new line × Judges test prefix line copy found
-JudgesNext Nothing test prefix old new copy (Err error) = StopsInLine old new
+JudgesNext Nothing Stopped test prefix old new copy (Err error) = Stopped
 
--- some lines were read, of which none has a version that passes
-abbrev pub PassesOver : (List ℕ → VersionValue → Type 0) → Option (List ℕ) → Option (List ℕ)
-    → Type 0
-PassesOver Has old new =
-    IfSome old (λ bytes. (lines : List (List ℕ)) × HasNone Has lines × StandsBehind bytes lines new)
+-- so many lines were read at least, of which none has a version that passes
+abbrev pub PassesOver : (List ℕ → VersionValue → Type 0) → ℕ → Option (List ℕ)
+    → Option (List ℕ) → Type 0
+PassesOver Has count old new =
+    IfSome old (λ bytes. (lines : List (List ℕ)) × HasNone Has lines × StandsBehind bytes lines new
+    × (count ≤ length lines))
 
--- the first line was read, which is kept, and spells this version; or there was none
-abbrev pub FindsNext : (VersionValue → Bool) → Text → Option (List ℕ) → Option (List ℕ)
+-- behind so many lines the first line was read, which is kept, and spells this version; or there
+-- was none, or they were too many
+abbrev pub FindsNext : (VersionValue → Bool) → Text → ℕ → Option (List ℕ) → Option (List ℕ)
     → List ℕ → Result (Option Version) LineError → Type 0
-FindsNext test prefix old new line (Ok None) = FindsEnd old new
-FindsNext test prefix old new line (Ok (Some v)) =
+FindsNext test prefix count old new line (Ok None) = FindsEnd old new
+FindsNext test prefix count old new line (Ok (Some v)) =
     ReadsLine old new line × SpellsPlain test prefix line (version_value v).plain
-FindsNext test prefix old new line (Err error) = StopsInLine old new
+FindsNext test prefix count old new line (Err TooManyLines) =
+    (new ≡ old) × (2 ^ 64 - 1 ≤ count)
+FindsNext test prefix count old new line (Err error) = StopsInLine old new

@@ -6,4 +6,4 @@ use Rattle.release_filter.proofs.filter.Filter.greatest_line_behind.Given as goa
 
 abbrev pub invariant-lines : goal.invariant-lines
 invariant-lines g l = IsAt (SpellsOneThat (passes l.fn.self) l.fn.prefix)
-    (g.R.Read.remaining l.initial.input) (g.R.Read.remaining l.input) l.greatest_line.items l.greatest
+    (g.R.Read.remaining l.initial.input) (g.R.Read.remaining l.input) l.greatest_line.items l.greatest l._kept

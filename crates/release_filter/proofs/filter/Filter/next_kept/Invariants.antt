@@ -6,4 +6,5 @@ use Rattle.release_filter.proofs.filter.Filter.next_kept.Given as goal
 
 abbrev pub invariant-lines : goal.invariant-lines
 invariant-lines g l =
-    PassesOver (SpellsOneThat (passes l.fn.self) l.fn.prefix) (g.R.Read.remaining l.initial.input) (g.R.Read.remaining l.input)
+    PassesOver (SpellsOneThat (passes l.fn.self) l.fn.prefix) l._passed (g.R.Read.remaining l.initial.input)
+    (g.R.Read.remaining l.input)
