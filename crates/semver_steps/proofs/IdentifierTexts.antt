@@ -1,6 +1,6 @@
 -- The text that an identifier's tokens spell is the longest front of letters, digits and hyphens.
-use Rattle.std.proofs.Common.{◌≡◌, ℕ, ◌+◌, ◌<◌, Bool, true, false, eqb, ◌||◌, List, [], ◌∷◌, ◌++◌, length, Some, Option, Result, Ok, Err}
-use Rattle.std.proofs.Common.{sym, refl, ap, ◌∙◌, ◌⊎◌, inl, inr, arith, append_assoc}
+use Rattle.std.proofs.Common.{◌≡◌, ℕ, ◌+◌, ◌<◌, Bool, true, false, eqb, ◌||◌, List, [], ◌∷◌, ◌++◌, length, None, Some, Option, Result}
+use Rattle.std.proofs.Common.{Ok, Err, sym, refl, ap, subst, ◌∙◌, ◌⊎◌, inl, inr, arith, append_assoc}
 use Rattle.std.specs.Prelude.{IsTrue, slice_index, take_while, not}
 use Rattle.std.specs.List.{AllByRecursion, prefix_len}
 use Rattle.std.specs.Char.{is_ascii_alphanumeric}
@@ -13,13 +13,14 @@ use Rattle.semver_tokens.specs.Tokens.{TokenValue, Hyphen, Whitespace, Numeric, 
 use Rattle.semver_tokens.specs.Tokens.{tokens_text, IsTokenAt, IsBadStart, AreInPlace, NoneMerge, AreTokensFrom}
 use Rattle.semver_tokens.specs.ParserState.{ParserState, IsStateFrom}
 use Rattle.semver_texts.specs.VersionGrammar.{SpellsIdentifier}
-use Rattle.semver_steps.specs.VersionReading.{IsIdentifierShape, inner_text, inner_texts, HoldsRun, MayRunOutInIdentifier}
-use Rattle.semver_steps.specs.Means.Taking.{run, PassesIdentifier, lone_number}
+use Rattle.semver_texts.specs.Versions.{alphanumeric}
+use Rattle.semver_steps.specs.VersionReading.{IsIdentifierShape, inner_text, inner_texts, HoldsRun, MayRunOutInIdentifier, ReadsIdentifier}
+use Rattle.semver_steps.specs.Means.Taking.{run, PassesIdentifier, TakesIdentifier, lone_number}
 use Rattle.semver_steps.specs.ParserViews.{UnlessOutOfMemory, IfOutOfMemory}
 use Rattle.semver_steps.specs.declared.parser.Error.{Error}
 use Rattle.semver_steps.specs.declared.parser.Error.TheVariants as error
 use Rattle.semver_tokens.proofs.TokenLists.{prefix_is, shows_kind, decimal_is_run, opens_nothing}
-use Rattle.semver_steps.proofs.ReadingSteps.{Stops}
+use Rattle.semver_steps.proofs.ReadingSteps.{Stops, reads_other}
 use Rattle.semver_steps.proofs.IdentifierSteps.{id_step, identifier_stops, hyphened, first_run_of, IsWellFormed, kept_as, kept_spells}
 
 -- a token of an identifier
@@ -187,6 +188,15 @@ pub front_has_value : (text : List ℕ) (s t : ParserState) (n : Option ℕ) →
 front_has_value text s t n from w number =
     let c = front_is_cut text s t n from w in
     rw (number, c.cut) (kept_spells w.front w.answer.whole.shape c.well)
+
+-- one that is no number alone is read as the text of that front
+pub reads_text : (text kept : List ℕ) (s t : ParserState) (n : Option ℕ) → IsStateFrom text s → (w : TakesIdentifier s (Ok n) t)
+    → n ≡ None → kept ≡ take_while is_part_byte text → ReadsIdentifier s (Ok (alphanumeric kept)) t
+reads_text text kept s t n from w none is =
+    let value = front_has_value text s t n from w.passes w.number in
+    reads_other SpellsIdentifier s t n (alphanumeric kept) w.passes
+    (subst (λ (x : Option ℕ). SpellsIdentifier (kept_as x kept) (inner_texts w.passes.front)) none
+    (subst (λ (l : List ℕ). SpellsIdentifier (kept_as n l) (inner_texts w.passes.front)) (sym is) value))
 
 -- and it holds a run
 pub front_holds_run : (front : List TokenValue) → IsIdentifierShape front → HoldsRun front

@@ -18,7 +18,8 @@ ghost use Rattle.semver_tokens.specs.ParserState.{IsStateOf};
 ghost use Rattle.semver_steps.specs.ParserSteps as spec;
 ghost use Rattle.semver_tokens.specs.Views.{token_value};
 ghost use Rattle.std.specs.Prelude.{take_while};
-ghost use Rattle.semver_texts.specs.Texts.{is_part_byte};
+ghost use Rattle.semver_texts.specs.Texts.{Text, is_part_byte};
+ghost use Rattle.semver_texts.specs.Versions.{alphanumeric};
 ghost use Rattle.semver_steps.specs.VersionReading.{ReadsIdentifier, ReadsVersion};
 ghost use Rattle.semver_steps.specs.VersionReading.{MayRunOutInIdentifier, MayRunOutInVersion};
 ghost use Rattle.semver_texts.specs.VersionViews.{identifier_value, version_value};
@@ -313,13 +314,15 @@ impl<'input> Parser<'input> {
     /// - `Lexer`: a bad character is pending and at most one token remains. That token stays, since
     ///   it can't be told whether the identifier ends with it.
     /// - `OutOfMemory`: there is no memory for the text, which is taken at once. Its tokens stay
-    ///   taken. A number takes no memory.
+    ///   taken, and no more. A number takes no memory.
     pub fn identifier(&mut self, alloc: Global) -> Result<Identifier, Error<'input>>
         ensures answer { UnlessOutOfMemory result
             (ReadsIdentifier self.old (step_of identifier_value result self.new).0 self.new) }
-        // Without memory an end part of the tokens is left. It is asked for only where a run was
-        // read.
+        // Without memory an end part of the tokens is left, and the longest front holds a run.
         ensures out_of_memory { IfOutOfMemory result (MayRunOutInIdentifier self.old self.new) }
+        // With it a text would be answered, and what is left then is left now.
+        ensures text_taken { IfOutOfMemory result ((text : Text)
+            × ReadsIdentifier self.old (Ok (alphanumeric text)) self.new) }
     {
         let text = self.rest;
         if let Some(number) = self.pass_identifier()? {
@@ -404,8 +407,8 @@ impl<'input> Parser<'input> {
     pub fn version(&mut self, alloc: Global) -> Result<Version, Error<'input>>
         ensures answer { UnlessOutOfMemory result
             (ReadsVersion self.old (step_of version_value result self.new).0 self.new) }
-        // Without memory an end part of the tokens is left. It is asked for only where an
-        // identifier's run was read.
+        // Without memory an end part of the tokens is left, and the longest front holds a run of an
+        // identifier.
         ensures out_of_memory { IfOutOfMemory result (MayRunOutInVersion self.old self.new) }
     {
         let (major, minor, patch) = self.numbers()?;
