@@ -3,7 +3,7 @@ ghost use Rattle.std.specs.Prelude.{[], ◌∷◌, true, false, codes};
 ghost use Rattle.semver_ranges.specs.declared.range.Compat.{Compat};
 ghost use Rattle.semver_ranges.specs.declared.range.Compat.TheVariants.{Cargo, Npm};
 ghost use Rattle.semver_texts.specs.Versions.{VersionValue, numeric, alphanumeric};
-ghost use Rattle.semver_texts.specs.VersionGrammar.{SpellsVersion};
+ghost use Rattle.semver_texts.specs.VersionGrammar.{IsVersionText, SpellsVersion};
 ghost use Rattle.semver_parser.specs.Examples.{IsMet, IsMetAsStated, release, version};
 
 pub use semver_ranges::laws::{
@@ -17,8 +17,9 @@ pub use semver_versions::laws::{one_outcome, one_version};
 pub fn row_facts()
     // A version keeps `01` as a text, and a range as a number: the version read from `1.2.3-01`
     // doesn't meet `=1.2.3-01`.
-    ensures leading_zero { (mode : Compat) (v : VersionValue) → SpellsVersion v (codes "1.2.3-01")
-        → IsMet (codes "=1.2.3-01") mode v.plain false false }
+    ensures leading_zero { IsVersionText (codes "1.2.3-01") × ((mode : Compat) (v : VersionValue)
+        → SpellsVersion v (codes "1.2.3-01")
+        → IsMet (codes "=1.2.3-01") mode v.plain false false) }
     ensures later_pre_release { (mode : Compat)
         → IsMet (codes "^1.2.3-beta.4") mode (version 1 2 3 (alphanumeric (codes "rc") ∷ [])) true
         true }

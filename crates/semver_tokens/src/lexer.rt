@@ -228,7 +228,8 @@ pub fn copy<'input>(lexer: &Lexer<'input>) -> Lexer<'input>
     }
 }
 
-/// The text from the first token that is left on; nothing once the error was given.
+/// What stands from the first token that is left on: a text with the tokens that are left, and with
+/// the bad character behind them. Nothing once the error was given.
 ///
 /// Of `1.2` it is `.2` behind the first token.
 #[inline(always)]

@@ -145,7 +145,8 @@ pub fn parse(alloc: Global, input: &str) -> Result<Version, parser::Error<'_>>
     // Unless memory ran out, the answer is the outcome of the text.
     ensures outcome { UnlessOutOfMemory result
         (IsOutcomeOf input.now (answer_of version_value result)) }
-    // Memory runs out only where an identifier's run was read, or in place of `MoreInput`.
+    // Memory runs out only in place of `MoreInput`, or where the longest front of the tokens that
+    // begins a version holds a run of an identifier.
     ensures out_of_memory { IfOutOfMemory result (TextMayRunOut input.now) }
 {
     match read(alloc, input) {
