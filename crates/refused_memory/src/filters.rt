@@ -112,18 +112,22 @@ pub fn read_without_requests(alloc: Global) -> Ending {
     }
 }
 
-/// What `>=1.2.0-rc <1.10.0` keeps of the lines that are filtered below, as stated.
-const KEPT_LINES: &[u8] = b"1.2.0-rc.b\n1.9.0+build";
-
 /// The lines that are filtered. The pre-release of 1.3.0 has the first number of the range, and so
 /// it is read with its identifiers.
-const LINES: &[u8] = b"1.2.0-rc.b\n1.3.0-rc.a\n2.0.0-rc.a\n1.9.0+build";
+const LINES: &[u8] = b"1.2.0-rc.b\n1.3.0-rc.a\n2.0.0-rc.a\n1.9.0+build\n";
 
-/// The greatest of them.
-const LAST_LINE: &[u8] = b"1.9.0+build";
+/// What `>=1.2.0-rc <1.10.0` keeps of them, as stated.
+const KEPT_LINES: &[u8] = b"1.2.0-rc.b\n1.9.0+build\n";
 
-/// Two of the lines are copied. What was written before a refusal is a beginning of them. Making
-/// the filter is part of the call.
+/// The first line, the lines behind it, and the last.
+const FIRST_LINE: &[u8] = b"1.2.0-rc.b\n";
+
+const LATER_LINES: &[u8] = b"1.3.0-rc.a\n2.0.0-rc.a\n1.9.0+build\n";
+
+const LAST_LINE: &[u8] = b"1.9.0+build\n";
+
+/// Two of the lines are copied. A refusal loses none: what was written before it and what is kept
+/// of the lines that are left is what is kept of all. Making the filter is part of the call.
 pub fn copied_lines(alloc: Global) -> Ending {
     let filter = match line_filter(alloc) {
         Ok(filter) => filter,
@@ -134,13 +138,17 @@ pub fn copied_lines(alloc: Global) -> Ending {
     let ran = filter.copy_lines(alloc, &mut input, &mut out);
     let written = out.as_bytes();
     match ran {
-        Ok(true) => Ending::full_if(written == KEPT_LINES),
-        Err(LineError::OutOfMemory) => Ending::refused_if(KEPT_LINES.starts_with(written)),
+        Ok(true) => Ending::full_if(written == KEPT_LINES && input.is_empty()),
+        Err(LineError::OutOfMemory) if written.is_empty() => Ending::refused_if(input == LINES),
+        Err(LineError::OutOfMemory) => Ending::refused_if(
+            written == FIRST_LINE && (input == LATER_LINES || input == LAST_LINE),
+        ),
         _ => Ending::Wrong,
     }
 }
 
-/// The last of the lines is the greatest. Making the filter is part of the call.
+/// The last of the lines is the greatest. A refusal leaves the line that it met, and all behind it.
+/// Making the filter is part of the call.
 pub fn greatest_line(alloc: Global) -> Ending {
     let filter = match line_filter(alloc) {
         Ok(filter) => filter,
@@ -148,9 +156,57 @@ pub fn greatest_line(alloc: Global) -> Ending {
     };
     let mut input = LINES;
     match filter.greatest_line(alloc, &mut input) {
-        Ok(Some(line)) => Ending::full_if(line.as_slice() == LAST_LINE),
-        Err(LineError::OutOfMemory) => Ending::Refused,
+        Ok(Some(line)) => Ending::full_if(line.as_slice() == LAST_LINE && input.is_empty()),
+        Err(LineError::OutOfMemory) => {
+            Ending::refused_if(input == LINES || input == LATER_LINES || input == LAST_LINE)
+        }
         _ => Ending::Wrong,
+    }
+}
+
+/// A line without an end isn't shown whole, so it is copied to be judged. What was written before
+/// a refusal is nothing. Making the filter is part of the call.
+pub fn line_without_an_end(alloc: Global) -> Ending {
+    let filter = match line_filter(alloc) {
+        Ok(filter) => filter,
+        Err(ending) => return ending,
+    };
+    let line = "1.2.0-rc.b".as_bytes();
+    let mut input = line;
+    let mut out = Fixed::new();
+    match filter.copy_lines(alloc, &mut input, &mut out) {
+        Ok(true) => Ending::full_if(out.as_bytes() == line),
+        Err(LineError::OutOfMemory) => Ending::refused_if(out.as_bytes().is_empty()),
+        _ => Ending::Wrong,
+    }
+}
+
+/// Lines that aren't kept are judged where they stand: without a request but for the filter's own.
+pub fn lines_passed_over(alloc: Global) -> Ending {
+    let filter = match line_filter(alloc) {
+        Ok(filter) => filter,
+        Err(ending) => return ending,
+    };
+    let mut input = "x\n1.2\n2.0.0-a\n1.10.0\n".as_bytes();
+    let mut out = Fixed::new();
+    match filter.copy_lines(alloc, &mut input, &mut out) {
+        Ok(false) => Ending::full_if(input.is_empty()),
+        _ => Ending::Wrong,
+    }
+}
+
+/// No version passes, so none is put on a list: without a request but for the filter's own.
+pub fn no_version_kept(alloc: Global) -> Ending {
+    let filter = match line_filter(alloc) {
+        Ok(filter) => filter,
+        Err(ending) => return ending,
+    };
+    let Ok(Some(version)) = version::read(alloc, "2.0.0") else {
+        return Ending::Wrong;
+    };
+    match filter.kept(alloc, &[version]) {
+        Ok(kept) => Ending::full_if(kept.is_empty()),
+        Err(_) => Ending::Wrong,
     }
 }
 

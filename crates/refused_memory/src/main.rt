@@ -100,7 +100,7 @@ fn of_versions(alloc: Global) -> [(&'static str, Ending); 15] {
 }
 
 /// How each call on ranges and above them ends.
-fn of_ranges(alloc: Global) -> [(&'static str, Ending); 21] {
+fn of_ranges(alloc: Global) -> [(&'static str, Ending); 26] {
     [
         (
             "one_simple",
@@ -135,6 +135,16 @@ fn of_ranges(alloc: Global) -> [(&'static str, Ending); 21] {
         ("range_set_in_npm_mode", ranges::parse(alloc, Compat::Npm)),
         ("range_set_from_str", ranges::from_str(alloc)),
         (
+            "longer_second_range",
+            ranges::parse_text(
+                alloc,
+                "1 || 2 3 4",
+                ">=1.0.0 <2.0.0 || >=2.0.0 <3.0.0 >=3.0.0 <4.0.0 >=4.0.0 <5.0.0",
+                Compat::Npm,
+            ),
+        ),
+        ("ninth_range", ranges::ninth_range(alloc)),
+        (
             "exact_simple",
             ranges::parse_exact_text(
                 alloc,
@@ -162,8 +172,11 @@ fn of_ranges(alloc: Global) -> [(&'static str, Ending); 21] {
             "read_without_requests",
             filters::read_without_requests(alloc),
         ),
+        ("no_version_kept", filters::no_version_kept(alloc)),
         ("copied_lines", filters::copied_lines(alloc)),
         ("greatest_line", filters::greatest_line(alloc)),
+        ("line_without_an_end", filters::line_without_an_end(alloc)),
+        ("lines_passed_over", filters::lines_passed_over(alloc)),
         ("refused_filter_texts", filters::refused_texts(alloc)),
         ("report", reports::report(alloc)),
         ("report_of_faults", reports::report_of_faults(alloc)),

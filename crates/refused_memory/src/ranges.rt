@@ -42,6 +42,17 @@ pub fn from_str(alloc: Global) -> Ending {
     }
 }
 
+/// The sizes of eight ranges are remembered, and that of a ninth is counted ahead.
+pub fn ninth_range(alloc: Global) -> Ending {
+    parse_text(
+        alloc,
+        "<1||<2||<3||<4||<5||<6||<7||<8||1 2 3",
+        "<1.0.0 || <2.0.0 || <3.0.0 || <4.0.0 || <5.0.0 || <6.0.0 || <7.0.0 || <8.0.0 || \
+         >=1.0.0 <2.0.0 >=2.0.0 <3.0.0 >=3.0.0 <4.0.0",
+        Compat::Cargo,
+    )
+}
+
 /// Texts that are refused for their grammar or their numbers are refused without a request.
 pub fn refused_texts(alloc: Global) -> Ending {
     for compat in [Compat::Cargo, Compat::Npm] {
