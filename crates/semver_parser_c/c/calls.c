@@ -1,55 +1,64 @@
-/* The calls of include/semver_parser.h over those that are proved: each puts a pointer to an object in place of a null pointer, which is an empty text or an
- * empty room, and calls the proved one. Link this file with the library, once. It is trusted: no proof reads it. */
+/* The calls of include/semver_parser.h over those that are proved: each puts a pointer to an object in place of a null pointer with a length of 0, which is an
+ * empty text or an empty room, and calls the proved one. Any other pointer is passed on as it is, so a null with a length above 0 crashes where it is used.
+ * Link this file with the library, once. It is trusted: no proof reads it. */
 #include "../include/semver_parser.h"
 #include "heap.h"
 #include "proved.h"
 
-/* What stands in place of null. With a length of 0 nothing of it is read or written. */
+/* What stands in place of null where a length is 0, so that nothing of it is read or written. */
 static uint8_t no_byte;
 static semver_parser_comparator no_comparator;
 static const semver_parser_text no_text = {&no_byte, 0};
 
-static const uint8_t *text_at(const uint8_t *text) {
-    return text != NULL ? text : &no_byte;
+static const uint8_t *text_at(const uint8_t *text, size_t length) {
+    return text == NULL && length == 0 ? &no_byte : text;
 }
 
-static uint8_t *room_at(uint8_t *room) {
-    return room != NULL ? room : &no_byte;
+static uint8_t *room_at(uint8_t *out, size_t room) {
+    return out == NULL && room == 0 ? &no_byte : out;
 }
 
-static semver_parser_comparator *comparators_at(semver_parser_comparator *comparators) {
-    return comparators != NULL ? comparators : &no_comparator;
+static semver_parser_comparator *comparators_at(semver_parser_comparator *comparators, size_t room) {
+    return comparators == NULL && room == 0 ? &no_comparator : comparators;
+}
+
+static const semver_parser_text *texts_at(const semver_parser_text *texts, size_t count) {
+    return texts == NULL && count == 0 ? &no_text : texts;
 }
 
 int32_t semver_parser_parse_version(const uint8_t *text, size_t text_length, semver_parser_version *out) {
-    return semver_parser_proved_parse_version(text_at(text), text_length, out);
+    return semver_parser_proved_parse_version(text_at(text, text_length), text_length, out);
 }
 
 int32_t semver_parser_rewrite(const uint8_t *text, size_t text_length, bool npm, bool exact, uint8_t *out, size_t room, size_t *length) {
-    return semver_parser_proved_rewrite(text_at(text), text_length, npm, exact, room_at(out), room, length);
+    return semver_parser_proved_rewrite(text_at(text, text_length), text_length, npm, exact, room_at(out, room), room, length);
 }
 
 int32_t semver_parser_comparators(const uint8_t *text, size_t text_length, bool npm, bool exact, semver_parser_comparator *comparators,
                                   size_t comparator_room, size_t *count) {
-    return semver_parser_proved_comparators(text_at(text), text_length, npm, exact, comparators_at(comparators), comparator_room, count);
+    return semver_parser_proved_comparators(text_at(text, text_length), text_length, npm, exact, comparators_at(comparators, comparator_room),
+                                            comparator_room, count);
 }
 
 int32_t semver_parser_rewrite_with_comparators(const uint8_t *text, size_t text_length, bool npm, bool exact, semver_parser_comparator *comparators,
                                                size_t comparator_room, size_t *count, uint8_t *out, size_t room, size_t *length) {
-    return semver_parser_proved_rewrite_with_comparators(text_at(text), text_length, npm, exact, comparators_at(comparators), comparator_room, count,
-                                                         room_at(out), room, length);
+    return semver_parser_proved_rewrite_with_comparators(text_at(text, text_length), text_length, npm, exact,
+                                                         comparators_at(comparators, comparator_room), comparator_room, count, room_at(out, room), room,
+                                                         length);
 }
 
 int32_t semver_parser_meets(const uint8_t *range, size_t range_length, bool npm, int32_t pre_releases, const uint8_t *version, size_t version_length,
                             bool *meets) {
-    return semver_parser_proved_meets(text_at(range), range_length, npm, pre_releases, text_at(version), version_length, meets);
+    return semver_parser_proved_meets(text_at(range, range_length), range_length, npm, pre_releases, text_at(version, version_length), version_length,
+                                      meets);
 }
 
 /* ---- many versions */
 
+/* Whether some text is an empty one at null. */
 static bool has_null(const semver_parser_text *texts, size_t count) {
-    for (size_t at = 0; at < count; at++) {
-        if (texts[at].bytes == NULL) {
+    for (size_t at = 0; texts != NULL && at < count; at++) {
+        if (texts[at].bytes == NULL && texts[at].length == 0) {
             return true;
         }
     }
@@ -58,20 +67,25 @@ static bool has_null(const semver_parser_text *texts, size_t count) {
 
 static void copy_texts(semver_parser_text *copies, const semver_parser_text *texts, size_t count) {
     for (size_t at = 0; at < count; at++) {
-        copies[at].bytes = text_at(texts[at].bytes);
+        copies[at].bytes = text_at(texts[at].bytes, texts[at].length);
         copies[at].length = texts[at].length;
     }
 }
 
-/* The texts are copied only where one of them is at null. Where that copy is refused, a fault of the range or of the rule goes before it. */
+/* A block for so many texts. Of more than any block has room for it is refused. */
+static rattle_answer block_of_texts(size_t count) {
+    rattle_answer refused = {false, NULL};
+    return count <= SIZE_MAX / sizeof(semver_parser_text) ? rattle_alloc(count * sizeof(semver_parser_text), 16) : refused;
+}
+
+/* The texts are copied only where an empty one is at null. Where that copy is refused, a fault of the range or of the rule goes before it. */
 int32_t semver_parser_meets_each(const uint8_t *range, size_t range_length, bool npm, int32_t pre_releases, const semver_parser_text *versions,
                                  size_t count, uint8_t *answers) {
-    const uint8_t *range_at = text_at(range);
+    const uint8_t *range_at = text_at(range, range_length);
     if (!has_null(versions, count)) {
-        const semver_parser_text *texts = versions != NULL ? versions : &no_text;
-        return semver_parser_proved_meets_each(range_at, range_length, npm, pre_releases, texts, count, room_at(answers), count);
+        return semver_parser_proved_meets_each(range_at, range_length, npm, pre_releases, texts_at(versions, count), count, room_at(answers, count), count);
     }
-    rattle_answer copies = rattle_alloc(count * sizeof *versions, 16);
+    rattle_answer copies = block_of_texts(count);
     if (!copies.found) {
         int32_t fault = semver_parser_proved_meets_each(range_at, range_length, npm, pre_releases, &no_text, 0, &no_byte, 0);
         return fault != SEMVER_PARSER_OK ? fault : (int32_t)SEMVER_PARSER_RANGE_OUT_OF_MEMORY;

@@ -3,11 +3,12 @@
  *
  * docs/GRAMMAR.md says which texts are versions and ranges, and docs/MEANING.md what a range means. What each comment here promises of an answer and of
  * what is written is a proved clause of that call in src/lib.rt, whose names have `proved_` in them. Trusted are the lines of C between: c/calls.c, which
- * puts a pointer to an object in place of each null pointer and has the two calls without proof, and c/heap.c; so is what is said of memory and time.
+ * puts a pointer to an object in place of null where a length is 0 and has the two calls without proof, and c/heap.c; so is what is said of memory and time.
  *
  * TEXTS AND ROOMS. A text is a pointer to its bytes and their count, in UTF-8; it needs no zero byte at the end. Bytes that are no UTF-8 are a fault of
  * their own, and a zero byte is a byte like any other. All lengths and offsets of texts are counts of bytes. A room is a pointer to what a call may
- * write to, and how many items it has room for. With a length of 0 the pointer of a text or of a room may be null, or point anywhere.
+ * write to, and how many items it has room for. With a length of 0 the pointer of a text, of an array or of a room may be null, or point anywhere. With a
+ * greater one null is passed on as any pointer is: nothing is put in its place.
  *
  * WHAT THE CALLER OWES. No check of a proof or of a compiler sees it:
  * - A text has as many bytes as is said, an array as many items, and a room has room for as many. They don't change while the call runs, but by the call.
@@ -271,9 +272,10 @@ int32_t semver_parser_meets(const uint8_t *range, size_t range_length, bool npm,
  * After any answer but SEMVER_PARSER_OK `answers` is as it was.
  *
  * A text of `versions` whose pointer is null with a length of 0 is empty, as anywhere. Where there is such a text, the array is copied first; where
- * memory runs out at that, the answer is SEMVER_PARSER_RANGE_OUT_OF_MEMORY, unless the rule or the range has another fault.
+ * memory runs out at that, or its size is more than a size_t holds, the answer is SEMVER_PARSER_RANGE_OUT_OF_MEMORY, unless the rule or the range has
+ * another fault.
  *
- * Memory: as the call above, of one version after the other; and 16 bytes for each text where one of them is at null.
+ * Memory: as the call above, of one version after the other; and 16 bytes for each text where an empty one is at null.
  */
 int32_t semver_parser_meets_each(const uint8_t *range, size_t range_length, bool npm, int32_t pre_releases, const semver_parser_text *versions, size_t count,
                                  uint8_t *answers);

@@ -1,6 +1,7 @@
 //! The calls for C, proved: reading a version text, rewriting a range text, and which versions meet
 //! a range. `include/semver_parser.h` says them in C's words, without `proved_` in their names, and
-//! `c/calls.c` makes those of these: there a null pointer is an empty text or an empty room.
+//! `c/calls.c` makes those of these: there null with a length of 0 is an empty text or an empty
+//! room.
 //!
 //! A text is bytes, and bytes that are no UTF-8 are a fault of their own. Each call answers one of
 //! the numbers in `numbers`. Nothing is kept between calls, and nothing is left for the caller to
