@@ -1,5 +1,5 @@
-/* What the calls for C say beyond the table: places of the parts, bytes that are no UTF-8, exact bounds, the own meaning of a range, and which fault goes
- * first. What is wanted follows from docs/GRAMMAR.md and docs/MEANING.md. */
+/* What the calls for C say beyond the table: places of the parts, bytes that are no UTF-8, exact bounds, the own meaning of a range, which fault goes first,
+ * and all of that of long texts too. What is wanted follows from docs/GRAMMAR.md and docs/MEANING.md. */
 #include "calls.h"
 
 #include <stdio.h>
@@ -25,6 +25,24 @@ static text string(const char *bytes) {
     return bytes_of(bytes, strlen(bytes));
 }
 
+/* How many bytes a long text has at least, by units that divide it. */
+enum { LONG = 3000 };
+
+/* Appends a unit again and again. */
+static void add_long(text *to, const char *unit) {
+    for (size_t at = 0; at < LONG; at += strlen(unit)) {
+        text_say(to, "%s", unit);
+    }
+}
+
+/* A front, a unit again and again, and an end. */
+static text long_text(const char *front, const char *unit, const char *end) {
+    text made = string(front);
+    add_long(&made, unit);
+    text_say(&made, "%s", end);
+    return made;
+}
+
 /* ---- versions */
 
 static semver_parser_part part(size_t offset, size_t length) {
@@ -47,6 +65,36 @@ static void version_fault_is(const char *bytes, size_t length, int32_t fault) {
     semver_parser_version read;
     check(read_version(&of, &read) == fault, "another fault of a version", &of);
     text_free(&of);
+}
+
+/* Versions with a long identifier, many identifiers, and long white space, and faults behind a long pre-release. */
+static void long_versions(void) {
+    const semver_parser_part none = {0, 0};
+    text identifier = long_text("1.2.3-", "a", "");
+    text both = string(identifier.bytes);
+    text_say(&both, "+");
+    add_long(&both, "b");
+    version_is(identifier.bytes, 1, 2, 3, part(6, LONG), none);
+    version_is(both.bytes, 1, 2, 3, part(6, LONG), part(7 + LONG, LONG));
+    text identifiers = long_text("1.2.3+", "0.", "z");
+    version_is(identifiers.bytes, 1, 2, 3, none, part(6, LONG + 1));
+    text spaces = long_text("", " ", "1.2.3-rc\n");
+    version_is(spaces.bytes, 1, 2, 3, part(6 + LONG, 2), none);
+
+    static const struct {
+        const char *end;
+        int32_t fault;
+    } faults[] = {{".", SEMVER_PARSER_UNEXPECTED_END}, {"--1", SEMVER_PARSER_UNEXPECTED_TOKEN}, {"/", SEMVER_PARSER_UNEXPECTED_CHAR},
+                  {" b", SEMVER_PARSER_MORE_INPUT}, {"\xFF", SEMVER_PARSER_VERSION_NOT_UTF8}};
+    for (size_t at = 0; at < sizeof faults / sizeof *faults; at++) {
+        text faulty = long_text("1.2.3-", "a", faults[at].end);
+        version_fault_is(faulty.bytes, faulty.length, faults[at].fault);
+        text_free(&faulty);
+    }
+    text_free(&identifier);
+    text_free(&both);
+    text_free(&identifiers);
+    text_free(&spaces);
 }
 
 static void versions(void) {
@@ -100,6 +148,41 @@ static void range_fault_is(const char *bytes, size_t length, int32_t fault) {
     }
     text_free(&printed);
     text_free(&of);
+}
+
+/* Many ranges, whose last number is their place, as a text has them and as they are printed. */
+static void many_ranges_are(bool npm, bool exact, const char *before, const char *behind) {
+    text of = {NULL, 0, 0};
+    text wanted = {NULL, 0, 0};
+    for (int at = 0; at < 300; at++) {
+        const char *between = at == 0 ? "" : " || ";
+        text_say(&of, "%s1.2.%d", between, at);
+        text_say(&wanted, "%s%s1.2.%d%s", between, before, at, behind);
+    }
+    range_is(npm, exact, of.bytes, wanted.bytes);
+    text_free(&of);
+    text_free(&wanted);
+}
+
+/* Many ranges, one with a long identifier, and faults behind many ranges. */
+static void long_ranges(void) {
+    many_ranges_are(false, false, ">=", " <2.0.0");
+    many_ranges_are(false, true, ">=", " <2.0.0-0");
+    many_ranges_are(true, false, "=", "");
+    many_ranges_are(true, true, "=", "");
+    text identifier = long_text("=1.2.3-", "a", "");
+    range_is(false, true, identifier.bytes, identifier.bytes);
+    text_free(&identifier);
+
+    static const struct {
+        const char *end;
+        int32_t fault;
+    } faults[] = {{"v1.2.3", SEMVER_PARSER_NOT_A_RANGE}, {"<=18446744073709551615", SEMVER_PARSER_NUMBER_TOO_LARGE}, {"\xFF", SEMVER_PARSER_RANGE_NOT_UTF8}};
+    for (size_t at = 0; at < sizeof faults / sizeof *faults; at++) {
+        text faulty = long_text("", "=0.0.7 || ", faults[at].end);
+        range_fault_is(faulty.bytes, faulty.length, faults[at].fault);
+        text_free(&faulty);
+    }
 }
 
 static void ranges(void) {
@@ -181,16 +264,52 @@ static void comparators(void) {
 enum { NO = SEMVER_PARSER_DOES_NOT_MEET, YES = SEMVER_PARSER_MEETS };
 
 /* Both modes answer the same: of releases alone, of stated pre-releases, and of all. */
-static void meets_are(const char *range, const char *version, int32_t releases, int32_t stated, int32_t all) {
-    text of = string(range);
-    text with = string(version);
+static void texts_meet(const text *range, const text *version, int32_t releases, int32_t stated, int32_t all) {
     for (int npm = 0; npm < 2; npm++) {
-        check(meets(&of, npm != 0, SEMVER_PARSER_RELEASES_ALONE, &with) == releases, "another answer among releases", &of);
-        check(meets(&of, npm != 0, SEMVER_PARSER_STATED_PRE_RELEASES, &with) == stated, "another answer among stated pre-releases", &of);
-        check(meets(&of, npm != 0, SEMVER_PARSER_ALL_PRE_RELEASES, &with) == all, "another answer among all versions", &of);
+        check(meets(range, npm != 0, SEMVER_PARSER_RELEASES_ALONE, version) == releases, "another answer among releases", range);
+        check(meets(range, npm != 0, SEMVER_PARSER_STATED_PRE_RELEASES, version) == stated, "another answer among stated pre-releases", range);
+        check(meets(range, npm != 0, SEMVER_PARSER_ALL_PRE_RELEASES, version) == all, "another answer among all versions", range);
     }
-    text_free(&of);
-    text_free(&with);
+}
+
+/* So they do where the range stands behind many that mean 0.0.7 alone, and the version behind many spaces. No version here is 0.0.7. */
+static void meets_are(const char *range, const char *version, int32_t releases, int32_t stated, int32_t all) {
+    text short_range = string(range);
+    text short_version = string(version);
+    texts_meet(&short_range, &short_version, releases, stated, all);
+    text long_range = long_text("", "=0.0.7 || ", range);
+    text long_version = long_text("", " ", version);
+    texts_meet(&long_range, &long_version, releases, stated, all);
+    text_free(&short_range);
+    text_free(&short_version);
+    text_free(&long_range);
+    text_free(&long_version);
+}
+
+/* A long identifier of a range and of a version. Of the build nothing counts. */
+static void long_meetings(void) {
+    text range = long_text("^1.2.3-", "b", "");
+    text same = long_text("1.2.3-", "b", "+build");
+    text above = long_text("1.2.3-", "b", "b");
+    text below = long_text("1.2.3-", "a", "");
+    text release = long_text("1.2.3+", "b", "");
+    texts_meet(&range, &same, NO, YES, YES);
+    texts_meet(&range, &above, NO, YES, YES);
+    texts_meet(&range, &below, NO, NO, NO);
+    texts_meet(&range, &release, YES, YES, YES);
+    text_free(&range);
+    text_free(&same);
+    text_free(&above);
+    text_free(&below);
+    text_free(&release);
+}
+
+/* A bare version has a caret in Cargo mode alone. */
+static void modes_differ(const text *range) {
+    text later = string("1.9.0");
+    check(meets(range, false, SEMVER_PARSER_RELEASES_ALONE, &later) == YES, "no caret in Cargo mode", range);
+    check(meets(range, true, SEMVER_PARSER_RELEASES_ALONE, &later) == NO, "a caret in npm mode", range);
+    text_free(&later);
 }
 
 static void meetings(void) {
@@ -221,11 +340,11 @@ static void meetings(void) {
     meets_are("=1.2.3", " 1.2.3+b\n", YES, YES, YES);
 
     text full = string("1.2.3");
-    text later = string("1.9.0");
-    check(meets(&full, false, SEMVER_PARSER_RELEASES_ALONE, &later) == YES, "no caret in Cargo mode", &full);
-    check(meets(&full, true, SEMVER_PARSER_RELEASES_ALONE, &later) == NO, "a caret in npm mode", &full);
+    text many_full = long_text("", "=0.0.7 || ", "1.2.3");
+    modes_differ(&full);
+    modes_differ(&many_full);
     text_free(&full);
-    text_free(&later);
+    text_free(&many_full);
 }
 
 static void fault_is(const char *range, const char *version, int32_t fault) {
@@ -279,6 +398,30 @@ static void many(void) {
     }
 }
 
+/* More versions than stand in the table, of which each has the number of its place. The first may be an empty one at null, so that all are copied. */
+static void very_many(bool at_null) {
+    enum { MANY = 3000 };
+    static char versions[MANY][16];
+    static semver_parser_text texts[MANY];
+    static uint8_t answers[MANY];
+    for (int at = 0; at < MANY; at++) {
+        texts[at].bytes = (const uint8_t *)versions[at];
+        texts[at].length = (size_t)snprintf(versions[at], sizeof versions[at], "1.%d.0", at);
+    }
+    if (at_null) {
+        texts[0].bytes = NULL;
+        texts[0].length = 0;
+    }
+    text range = string("^1.1000");
+    int32_t answer = semver_parser_meets_each((const uint8_t *)range.bytes, range.length, false, SEMVER_PARSER_RELEASES_ALONE, texts, MANY, answers);
+    check(answer == SEMVER_PARSER_OK, "another answer of very many", &range);
+    for (int at = 0; at < MANY; at++) {
+        int wanted = at == 0 && at_null ? (int)SEMVER_PARSER_UNEXPECTED_END : at >= 1000 ? (int)YES : (int)NO;
+        check(answers[at] == wanted, "another answer of one of very many", &range);
+    }
+    text_free(&range);
+}
+
 /* ---- what has no proof */
 
 static void sentences(void) {
@@ -298,11 +441,16 @@ static void sentences(void) {
 
 int main(void) {
     versions();
+    long_versions();
     ranges();
+    long_ranges();
     comparators();
     meetings();
+    long_meetings();
     faults_in_order();
     many();
+    very_many(false);
+    very_many(true);
     sentences();
     printf("rules: %s\n", failed == 0 ? "passed" : "failed");
     return failed == 0 ? 0 : 1;
