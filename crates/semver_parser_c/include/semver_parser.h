@@ -1,6 +1,7 @@
 /* Version texts and range texts, read, rewritten and compared: the C library of semver_parser, for Linux on x86-64-v2 (what x86-64 processors have had
  * since about 2009).
  *
+ * The files that are named here aren't installed: they lie in the library's source, docs/ at its top, and src/ and c/ beside the folder of this header.
  * docs/GRAMMAR.md says which texts are versions and ranges, and docs/MEANING.md what a range means. What each comment here promises of an answer and of
  * what is written is a proved clause of that call in src/lib.rt, whose names have `proved_` in them. Trusted are the lines of C between: c/calls.c, which
  * puts a pointer to an object in place of null where a length is 0 and has the two calls without proof, and c/heap.c; so is what is said of memory and time.
@@ -12,8 +13,8 @@
  *
  * WHAT THE CALLER OWES. No check of a proof or of a compiler sees it:
  * - A text has as many bytes as is said, an array as many items, and a room has room for as many. They don't change while the call runs, but by the call.
- * - What a call writes to (`out`, `length`, `comparators`, `count`, `meets`, `answers`) overlaps with nothing else that it is given, and is aligned as its
- *   type is.
+ * - What a call writes to (`out`, `length`, `comparators`, `count`, `meets`, `answers`) overlaps with nothing else that it is given. It is aligned as its
+ *   type is, and so is the array `versions`.
  * - Where a call writes one object (`out` of a version, `length`, `count`, `meets`), its pointer is never null.
  * - A bool is 0 or 1.
  * - No call is made from a signal handler, nor from the forked child of a process that has several threads: calls take memory from `malloc`.
@@ -23,9 +24,11 @@
  * is said at each call: the most that was measured, on texts of 64 bytes to 2 MB that were made to take much, where a block that grows counts twice while
  * it is moved, and what `malloc` itself needs is left out.
  *
- * TIME. Each call reads its texts anew, in time linear in their lengths. `semver_parser_meets_each` reads its range once for all its versions.
+ * TIME. Each call reads its texts anew, in time linear in their lengths. `semver_parser_meets_each` reads its range once, and compares each version with one
+ * comparator of it after the other: so its time is linear in the length of the range and, for each version, in that of the version and at most once more in
+ * that of the range.
  *
- * Link: cc program.c c/calls.c c/heap.c out/libsemver_parser_c.a
+ * Link: by what `pkg-config --cflags --libs semver_parser` tells where it is installed; else cc program.c c/calls.c c/heap.c out/libsemver_parser_c.a
  */
 #ifndef SEMVER_PARSER_H
 #define SEMVER_PARSER_H
@@ -246,7 +249,8 @@ int32_t semver_parser_rewrite_with_comparators(const uint8_t *text, size_t text_
  * It goes by what the range means by itself (docs/MEANING.md), and not by the comparators that it is rewritten to. A build never counts.
  *
  * Answers
- * - SEMVER_PARSER_OK exactly where both texts are read, want of memory aside. Then `meets` is whether the version meets the range by that rule.
+ * - SEMVER_PARSER_OK exactly where there is a rule of that number and both texts are read, want of memory aside. Then `meets` is whether the version meets
+ *   the range by that rule.
  * - SEMVER_PARSER_NO_SUCH_RULE exactly where `pre_releases` is the number of no rule, whatever the texts are.
  * - A fault of the range, as those of `semver_parser_rewrite`, whatever the version is: SEMVER_PARSER_RANGE_NOT_UTF8, _NOT_A_RANGE, _NUMBER_TOO_LARGE
  *   or _RANGE_OUT_OF_MEMORY. The range is read first.
@@ -264,9 +268,10 @@ int32_t semver_parser_meets(const uint8_t *range, size_t range_length, bool npm,
  * items. The texts don't overlap with `answers`.
  *
  * Answers
- * - SEMVER_PARSER_OK exactly where the range is read, want of memory aside. Then each byte of `answers` is what there is to say of the text at the same
- *   place of `versions`: SEMVER_PARSER_MEETS, SEMVER_PARSER_DOES_NOT_MEET, or its fault: SEMVER_PARSER_VERSION_NOT_UTF8, _UNEXPECTED_END,
- *   _UNEXPECTED_TOKEN, _UNEXPECTED_CHAR, _MORE_INPUT or _VERSION_OUT_OF_MEMORY. One text's want of memory leaves the others' answers as they are.
+ * - SEMVER_PARSER_OK exactly where there is a rule of that number and the range is read, want of memory aside. Then each byte of `answers` is what there is
+ *   to say of the text at the same place of `versions`: SEMVER_PARSER_MEETS, SEMVER_PARSER_DOES_NOT_MEET, or its fault: SEMVER_PARSER_VERSION_NOT_UTF8,
+ *   _UNEXPECTED_END, _UNEXPECTED_TOKEN, _UNEXPECTED_CHAR, _MORE_INPUT or _VERSION_OUT_OF_MEMORY. One text's want of memory leaves the others' answers as
+ *   they are.
  * - SEMVER_PARSER_NO_SUCH_RULE, SEMVER_PARSER_RANGE_NOT_UTF8, _NOT_A_RANGE, _NUMBER_TOO_LARGE or _RANGE_OUT_OF_MEMORY, as of `semver_parser_meets`.
  *
  * After any answer but SEMVER_PARSER_OK `answers` is as it was.
