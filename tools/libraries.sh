@@ -1,8 +1,11 @@
-# What the scripts share that make a library of the proved one and of all of c/. Each reads tools/built.sh first, begins, and has the proved library
-# built. What is made lies in the folder `work`.
+# What the scripts share that make a library of the proved one and of all of c/, or tell its version. Each reads tools/built.sh first. Before it makes a
+# library it begins, and has the proved library built. What is made lies in the folder `work`.
 
 c=$top/crates/semver_parser_c version=$(cat "$top/VERSION")
-soname=libsemver_parser.so.${version%%.*}
+
+# What a program that is linked with the library asks for: a library whose version has the same first number, and while that is 0 the same second too.
+case $version in 0.*) interface=${version%.*} ;; *) interface=${version%%.*} ;; esac
+soname=libsemver_parser.so.$interface
 
 # The names of the calls, one on a line: those that the header declares and doesn't define itself.
 write_calls() {

@@ -4,14 +4,14 @@ import ctypes
 import os
 from typing import List, Tuple
 
-NAME = "libsemver_parser.so.0"
+FITTING = (0, 1)
+"""The major and minor number of the libraries that fit: while the major is 0, both decide."""
+
+NAME = "libsemver_parser.so." + ".".join(map(str, FITTING))
 """The name by which the system has the library, and the package beside its modules."""
 
 VARIABLE = "SEMVER_PARSER_LIBRARY"
 """The environment variable that names a library, in place of any other."""
-
-FITTING = (0, 1)
-"""The major and minor number of the libraries that fit: while the major is 0, both decide."""
 
 
 class Part(ctypes.Structure):

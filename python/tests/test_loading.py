@@ -14,7 +14,7 @@ from pathlib import Path
 
 PACKAGE = Path(__file__).resolve().parents[1] / "semver_parser"
 VARIABLE = "SEMVER_PARSER_LIBRARY"
-NAME = "libsemver_parser.so.0"
+NAME = "libsemver_parser.so.0.1"
 
 
 @unittest.skipUnless(os.environ.get(VARIABLE), f"{VARIABLE} names no library")
