@@ -46,7 +46,8 @@ def meets(
     mode: Compat = Compat.CARGO,
     pre_releases: PreReleases = PreReleases.STATED,
 ) -> bool:
-    """Whether a version meets a range. A build never counts.
+    """Whether a version meets a range, read in a mode, by a rule for pre-releases. A build never
+    counts.
 
     Raises `RangeError` where the range is none, and else `VersionError` where the version is none.
     """
@@ -68,7 +69,8 @@ def meets(
 
 @dataclass(frozen=True)
 class Filter:
-    """A range, a mode and a rule for pre-releases, to be asked about many versions.
+    """A text of a range (`range`), the `mode` in which it is read, and the rule for pre-releases
+    (`pre_releases`), to be asked about many versions.
 
     Raises `RangeError` where the range is none. `kept` and `greatest` read it once for all versions
     that they are given.
@@ -107,7 +109,8 @@ class Filter:
         """The greatest of the versions that meet the range, or None where none does.
 
         Precedence decides (SemVer 2.0.0, section 11), so builds don't count, and of versions that
-        are equal in it the first is the greatest. Texts that are no version go as in `kept`.
+        are equal in it the first is the greatest. Texts that are no version go as in `kept`. The
+        choice among the versions that meet the range is Python code, and not proved.
         """
         kept = self.kept(versions, pass_over)
         return max(kept, key=_precedence) if kept else None

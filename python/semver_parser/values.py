@@ -42,10 +42,15 @@ class Op(enum.Enum):
     """How a comparator compares."""
 
     LT = "<"
+    """Below."""
     LTE = "<="
+    """Below or equal."""
     GT = ">"
+    """Above."""
     GTE = ">="
+    """Above or equal."""
     EQ = "="
+    """Equal."""
 
     def __str__(self) -> str:
         return self.value
@@ -58,7 +63,8 @@ def _printed_part(mark: str, identifiers: Tuple[Identifier, ...]) -> str:
 
 @dataclass(frozen=True)
 class Version:
-    """A version: three numbers, a pre-release and a build.
+    """A version: the numbers `major`, `minor` and `patch`, and the identifiers of its pre-release
+    (`pre`) and its build (`build`).
 
     Two versions are equal where all their fields are. They have no order of their own: that of the
     standard doesn't see the build, and is the order of what `precedence` answers.
@@ -77,7 +83,8 @@ class Version:
 
 @dataclass(frozen=True)
 class Comparator:
-    """A comparator: an operator and the version that it compares with.
+    """A comparator: an operator (`op`), and what it compares with: the numbers `major`, `minor` and
+    `patch`, and the identifiers of a pre-release (`pre`).
 
     An identifier of digits alone, of a value up to 2**64 - 1, is an `int`, with or without zeros in
     front of it.
@@ -96,7 +103,8 @@ class Comparator:
 
 @dataclass(frozen=True)
 class Range:
-    """A range: comparators that a version meets all together, and the mode that it was read in."""
+    """A range: comparators that a version meets all together (`comparator_set`), and the mode that
+    it was read in (`compat`)."""
 
     comparator_set: Tuple[Comparator, ...]
     compat: Compat
@@ -107,7 +115,8 @@ class Range:
 
 @dataclass(frozen=True)
 class RangeSet:
-    """A range set: ranges of which a version meets one, and the mode that it was read in."""
+    """A range set: ranges of which a version meets one (`ranges`), and the mode that it was read in
+    (`compat`)."""
 
     ranges: Tuple[Range, ...]
     compat: Compat
@@ -124,8 +133,12 @@ def precedence(version: Version) -> PrecedenceKey:
     """What stands for a version in the precedence of the standard (SemVer 2.0.0, section 11).
 
     `sorted(versions, key=precedence)` goes from the lowest version to the greatest. Two versions
-    that differ in their builds alone have the same precedence.
+    that differ in their builds alone have the same precedence. It is Python code, and not proved.
+
+    A text is no `Version`: it raises `TypeError`, as anything else does. `parse_version` reads it.
     """
+    if not isinstance(version, Version):
+        raise TypeError(f"precedence takes a Version, and not {type(version).__name__}")
     identifiers = tuple(
         (False, it, "") if isinstance(it, int) else (True, 0, it) for it in version.pre
     )

@@ -1,12 +1,35 @@
-"""What the documents show in Python is what comes out, and one version number stands everywhere."""
+"""What the documents show in Python is what comes out, one version number stands everywhere, and
+each public name says what it is."""
 
+import ast
 import doctest
+import re
 import unittest
 from pathlib import Path
+from typing import Iterator, List, Tuple
 
 import semver_parser
 
 TOP = Path(__file__).resolve().parents[2]
+
+
+def named(body: List[ast.stmt]) -> Iterator[Tuple[str, ast.stmt, ast.stmt]]:
+    """What has a name among some statements: the name, its statement, and the one behind that."""
+    for it, behind in zip(body, [*body[1:], ast.Pass()]):
+        if isinstance(it, (ast.ClassDef, ast.FunctionDef)):
+            yield it.name, it, behind
+        elif isinstance(it, ast.Assign) and isinstance(it.targets[0], ast.Name):
+            yield it.targets[0].id, it, behind
+        elif isinstance(it, ast.AnnAssign) and isinstance(it.target, ast.Name):
+            yield it.target.id, it, behind
+
+
+def is_told(name: str, it: ast.stmt, behind: ast.stmt, around: str) -> bool:
+    """Whether something has a docstring, or a string behind it, or is named in the one around."""
+    if isinstance(it, (ast.ClassDef, ast.FunctionDef)):
+        return ast.get_docstring(it) is not None
+    is_text = isinstance(behind, ast.Expr) and isinstance(behind.value, ast.Constant)
+    return is_text or f"`{name}`" in around
 
 
 class Documents(unittest.TestCase):
@@ -17,10 +40,35 @@ class Documents(unittest.TestCase):
             failed, tried = doctest.testfile(str(document), module_relative=False)
             self.assertEqual((failed, tried > 0), (0, True), document)
 
+    def test_docstrings(self) -> None:
+        found = []
+        for file in (TOP / "python" / "semver_parser").glob("*.py"):
+            module = ast.parse(file.read_text())
+            self.assertTrue(ast.get_docstring(module), file)
+            for name, it, behind in named(module.body):
+                if name in semver_parser.__all__:
+                    found.append(name)
+                    self.assertTrue(is_told(name, it, behind, ""), name)
+                    self.check_members(it)
+        self.assertEqual(sorted(found), sorted(semver_parser.__all__))
+
+    def check_members(self, of: ast.stmt) -> None:
+        if isinstance(of, ast.ClassDef):
+            around = ast.get_docstring(of) or ""
+            for name, it, behind in named(of.body):
+                if not name.startswith("_"):
+                    self.assertTrue(is_told(name, it, behind, around), (of.name, name))
+
     def test_version(self) -> None:
         version = (TOP / "VERSION").read_text().strip()
         self.assertEqual(semver_parser.__version__, version)
-        fitting = ".".join(map(str, semver_parser.library.FITTING))
-        self.assertEqual(fitting, version.rpartition(".")[0])
-        major = version.partition(".")[0]
-        self.assertEqual(semver_parser.library.NAME, f"libsemver_parser.so.{major}")
+        major, minor, _ = map(int, version.split("."))
+        fitting = (major, minor) if major == 0 else (major,)
+        self.assertEqual(semver_parser.library.FITTING, fitting)
+
+    def test_name_of_the_library(self) -> None:
+        python = TOP / "python"
+        package = python / "semver_parser" / "__init__.py"
+        for file in (python / "README.md", python / "pyproject.toml", package, TOP / ".gitignore"):
+            named = re.findall(r"libsemver_parser\.so[.0-9]*[0-9]", file.read_text())
+            self.assertEqual(set(named), {semver_parser.library.NAME}, file)

@@ -142,6 +142,13 @@ class Greatest(unittest.TestCase):
                 wanted = meets(f"<{other}", one, pre_releases=PreReleases.INCLUDED)
                 self.assertIs(below, wanted, (one, other))
 
+    def test_other_types(self) -> None:
+        for value in ("1.2.3", b"1.2.3", (1, 2, 3), 1, None):
+            with self.assertRaises(TypeError):
+                precedence(value)
+            with self.assertRaises(TypeError):
+                sorted([parse_version("1.2.3"), value], key=precedence)
+
     def test_builds_do_not_count(self) -> None:
         one, other = parse_version("1.0.0-a+1"), parse_version("1.0.0-a+2")
         self.assertEqual(precedence(one), precedence(other))
