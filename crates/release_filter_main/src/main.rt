@@ -1,9 +1,10 @@
 //! The program `release-filter`: arguments, standard input and output, and exit status, nothing
 //! else. What it does with a filter is `copy_lines_behind` and `greatest_line_behind` of the
-//! library.
+//! library, on the input behind a byte order mark.
 #![tactic(auto)]
 
 mod arguments;
+mod mark;
 
 use arguments::{Refusal, Request, Wanted};
 use release_filter::{Filter, LineError};
@@ -85,9 +86,10 @@ fn filtered(rt: &HostRuntime, wanted: &Wanted) -> Result<bool, Fault> {
         wanted.options.pre_releases,
     )
     .map_err(Fault::Range)?;
-    let Ok(mut input) = BufReader::new(rt.alloc(), rt.reader()) else {
+    let Ok(input) = BufReader::new(rt.alloc(), rt.reader()) else {
         return Err(Fault::Lines(LineError::OutOfMemory));
     };
+    let mut input = mark::without_mark(rt.alloc(), input).map_err(Fault::Lines)?;
     if wanted.options.is_line_buffered {
         let Ok(mut output) = LineWriter::new(rt.alloc(), io::writer(rt)) else {
             return Err(Fault::Lines(LineError::OutOfMemory));
