@@ -98,8 +98,75 @@ in_crate() {
     exec "$@"
 }
 
+# crates_of CRATE: the crates that it stands on, and itself, one on a line, in the order of crates.txt, which has the lowest first.
+crates_of() {
+    awk -v wanted="$1" '
+        /^[^#]/ { head = $1; sub(":", "", head); names[++count] = head; uses[head] = $0 }
+        function need(name,   words, at) {
+            if (!(name in uses) || name in needed) return
+            needed[name]
+            sub("^[^:]*:", "", uses[name])
+            at = split(uses[name], words)
+            while (at) need(words[at--])
+        }
+        END { need(wanted); for (at = 1; at <= count; at++) if (names[at] in needed) print names[at] }
+    ' "$top/crates.txt"
+}
+
+# tell_crates CRATE: passes its input on to the notes, and says on standard error of each crate that `rt` begins to prove which one it is of those
+# that the crate needs.
+tell_crates() {
+    crates_of "$1" > "$work/needed"
+    all=$(wc -l < "$work/needed")
+    while IFS= read -r said; do
+        printf '%s\n' "$said" >> "$work/notes"
+        case $said in
+        'rt: chose --jobs '*' for '*)
+            place=$(grep -nx "${said##* }" "$work/needed") || continue
+            echo "proving ${said##* } (${place%%:*} of $all)" >&2
+            ;;
+        esac
+    done
+}
+
+# prove CRATE COMMAND..: runs a command beside the script, and has it told which crate is proved.
+prove() {
+    needing=$1
+    shift
+    [ -p "$work/said" ] || mkfifo "$work/said"
+    tell_crates "$needing" < "$work/said" &
+    telling=$!
+    proved=0
+    beside "$@" > "$work/said" 2>&1 || proved=$?
+    wait "$telling" || :
+    return "$proved"
+}
+
+# in_two_lanes: proves what reads versions, and beside it, in a copy, what reads ranges: `rt` works in one crate at a time, and on all that it stands
+# on, so two that both stand on semver_texts wait for each other in one folder. What is proved in the copy is then as if it had been proved here.
+in_two_lanes() {
+    lanes='' failed=0
+    trap 'kill $lanes; exit 143' TERM
+    in_crate semver_texts rt lib &
+    lanes=$!
+    wait "$lanes" || return
+    mkdir -p "$work/copy/crates" && cp "$top/crates.txt" "$work/copy" || return
+    cp -R "$top/crates/semver_texts" "$top/crates/semver_ranges" "$work/copy/crates" || return
+    in_crate semver_versions rt lib &
+    lanes=$!
+    (top=$work/copy && in_crate semver_ranges rt lib) &
+    lanes="$lanes $!"
+    for lane in $lanes; do wait "$lane" || failed=$?; done
+    [ "$failed" = 0 ] && mkdir -p "$top/crates/semver_ranges/out" && mv "$work/copy/crates/semver_ranges/out"/* "$top/crates/semver_ranges/out"
+}
+
+# is_unproved CRATE: whether a crate is there, and nothing of it was proved yet.
+is_unproved() {
+    [ -d "$top/crates/$1/src" ] && [ -z "$(ls -A "$top/crates/$1/out" 2> /dev/null)" ]
+}
+
 # build NAME CRATE FILE COMMAND..: builds what isn't built, by a command in the folder of a crate that makes the file out/FILE there. It says so
-# first, on standard error; what is said on the way goes there where it fails, and else nowhere.
+# first, on standard error, and which crate is proved; what is said on the way goes there where it fails, and else nowhere.
 build() {
     ! is_built "$1" || return 0
     may_build "$1"
@@ -108,7 +175,9 @@ build() {
     name=$1 crate=$2 file=$3
     shift 3
     : > "$work/begun"
-    beside in_crate "$crate" "$@" > "$work/notes" 2>&1 || {
+    : > "$work/notes"
+    if is_unproved semver_versions && is_unproved semver_ranges; then prove "$crate" in_two_lanes || :; fi
+    prove "$crate" in_crate "$crate" "$@" || {
         cat "$work/notes" >&2
         return 2
     }
