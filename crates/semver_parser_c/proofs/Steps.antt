@@ -1,6 +1,8 @@
 -- The numbers of what reading a version text or a range text answers.
 use Rattle.std.proofs.Common.{◌≡◌, ◌≢◌, ◌⊎◌, ◌↔◌, ℕ, ℤ, Bool, true, false, List, [], ◌∷◌, Option, Some, None, Result, Ok, Err, refl, sym}
-use Rattle.std.proofs.Common.{arith, pos, ◌<◌, ap, ◌∙◌, inl, inr, ⊎_elim, subst, IsUtf8}
+use Rattle.std.proofs.Common.{arith, pos, ◌<◌, ap, ◌∙◌, inl, inr, ⊎_elim, subst, IsUtf8, w32, to_z, of_z}
+use Rattle.std.specs.Prelude.{⊤}
+use Rattle.std.specs.List.{AllByRecursion}
 use Rattle.semver_parser.specs.Texts.{Text}
 use Rattle.semver_parser.specs.Tokens.{TokenValue}
 use Rattle.semver_parser.specs.declared.version.Version.{Version}
@@ -19,7 +21,7 @@ use Rattle.semver_parser.specs.VersionViews.{version_value}
 use Rattle.semver_parser.specs.declared.Compat.{Compat}
 use Rattle.semver_parser.specs.RewritingTable.{fits}
 use Rattle.semver_parser.proofs.ReadingComplete.{same_tree}
-use Rattle.semver_parser_c.specs.Numbers.{ok, version_out_of_memory, no_such_rule}
+use Rattle.semver_parser_c.specs.Numbers.{ok, no_room, version_out_of_memory, no_such_rule}
 use Rattle.semver_parser_c.specs.Faults.{IsOneOf, RangeIsRead, fault_number, range_fault_number, outcome_number, version_faults}
 use Rattle.semver_parser_c.specs.Faults.{range_faults, RefusesRange}
 use Rattle.semver_parser_c.specs.Rules.{IsMeeting, IsRule}
@@ -121,6 +123,38 @@ has_outcome text e z is outcome other =
     (Err h.0, h.1, h.2)
 
 -- ---- whether a version meets a range
+
+-- what is so of each number of a list is so of one of them
+among : (P : ℤ → Type 0) (ms : List ℤ) → AllByRecursion P ms → (n : ℤ) → IsOneOf ms n → P n
+among P [] all n one = absurd one
+among P (m ∷ ms) all n one = ⊎_elim (λ is. subst P (sym is) all.0) (λ later. among P ms all.1 n later) one
+
+far : (m : ℕ) → 0 < m → m < 14 → (pos m ≡ ok) ⊎ (pos m ≡ no_room) → ⊥
+far m some less put = ⊎_elim (λ (is : pos m ≡ pos 0). let same : m ≡ 0 = cc in omega (arith, same, some))
+    (λ (is : pos m ≡ pos 14). let same : m ≡ 14 = cc in omega (arith, same, less))
+    put
+
+-- a refused range text: C gets the number of its fault, and nothing is put into a room
+pub record IsRefused (mode : Compat) (text : Text) (z : ℤ) : Type 0 where
+  pub numbers : IsOneOf (ok ∷ no_room ∷ range_faults) z
+  pub nothing : (z ≡ ok) ⊎ (z ≡ no_room) → ⊥
+  pub refusals : RefusesRange ⊤ mode text z
+
+pub refused_range : (mode : Compat) (text : Text) (n : ℤ) → IsOneOf range_faults n → RefusesRange ⊤ mode text n
+    → IsRefused mode text (to_z w32 (of_z w32 n))
+refused_range mode text n one refused =
+    let same = among (λ m. to_z w32 (of_z w32 m) ≡ m) range_faults (refl, (refl, (refl, (refl, tt)))) n one in
+    let nothing = among (λ m. (m ≡ ok) ⊎ (m ≡ no_room) → ⊥) range_faults (
+      far 10 (omega arith) (omega arith),
+      (
+        far 11 (omega arith) (omega arith),
+        (
+          far 12 (omega arith) (omega arith),
+          (far 13 (omega arith) (omega arith), tt),
+        ),
+      ),
+    ) n one in
+    subst (IsRefused mode text) (sym same) (record { numbers = inr (inr one); nothing = nothing; refusals = refused })
 
 -- a refusal by the number that C gets, and by the rule that it gave
 pub refused_alike : (rule rule' : ℤ) (mode : Compat) (text : Text) (z n : ℤ) → rule' ≡ rule → z ≡ n

@@ -1,10 +1,23 @@
-use Rattle.std.proofs.Common.{rules, ◌≡◌, ap, sym, ◌∙◌, w32, to_z, of_z}
+use Rattle.std.proofs.Common.{rules, ◌≡◌, ap, sym, ◌∙◌, inl, refl, w32, to_z, of_z}
+use Rattle.semver_parser_c.proofs.Steps.{refused_range}
 use Rattle.semver_parser.specs.RewritingTable.{PlainSet}
 use Rattle.semver_parser.specs.PrintedRanges.{set_text}
 use Rattle.semver_parser.specs.RangeViews.{set_of}
 use Rattle.semver_parser_c.specs.Faults.{mode_of, set_for}
 use Rattle.semver_parser_c.proofs.PrintedPlaces.{printed_has, put_front}
 use Rattle.semver_parser_c.proofs.semver_parser_proved_comparators.Goals as goal
+
+pub returns-in-Err : goal.returns-in-Err
+returns-in-Err c =
+    let refused = refused_range _ _ _ c.in-Err.ensures.numbers c.in-Err.ensures.refusals in
+    record {
+      numbers = refused.numbers;
+      rewritten = λ put. absurd (refused.nothing put);
+      pre_releases = λ put. absurd (refused.nothing (inl put));
+      refusals = refused.refusals;
+      room_unchanged = λ _. refl;
+      count_unchanged = λ _. refl;
+    }
 
 pub returns-in-Ok-print-clause-pre_releases : goal.returns-in-Ok-print-clause-pre_releases
 returns-in-Ok-print-clause-pre_releases c = λ ok tree spells.

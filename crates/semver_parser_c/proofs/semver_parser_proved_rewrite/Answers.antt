@@ -1,11 +1,17 @@
-use Rattle.std.proofs.Common.{rules, ◌≡◌, ⊎_elim, inl, inr, refl, sym, ◌∙◌, subst, w32, to_z, of_z}
-use Rattle.semver_parser_c.specs.Faults.{IsOneOf, range_faults}
+use Rattle.std.proofs.Common.{rules, ◌≡◌, ⊎_elim, inl, inr, refl, ◌∙◌, w32, to_z, of_z}
+use Rattle.semver_parser_c.proofs.Steps.{refused_range}
 use Rattle.semver_parser_c.proofs.semver_parser_proved_rewrite.Goals as goal
 
-pub returns-in-Err-clause-numbers : goal.returns-in-Err-clause-numbers
-returns-in-Err-clause-numbers c =
-    let same : to_z w32 (of_z w32 c.in-Err.number) ≡ c.in-Err.number = search rules in
-    inr (inr (subst (IsOneOf range_faults) (sym same) c.in-Err.ensures.numbers))
+pub returns-in-Err : goal.returns-in-Err
+returns-in-Err c =
+    let refused = refused_range _ _ _ c.in-Err.ensures.numbers c.in-Err.ensures.refusals in
+    record {
+      numbers = refused.numbers;
+      rewritten = λ put. absurd (refused.nothing put);
+      refusals = refused.refusals;
+      room_unchanged = λ _. refl;
+      length_unchanged = λ _. refl;
+    }
 
 pub returns-in-Ok-to_string-clause-numbers : goal.returns-in-Ok-to_string-clause-numbers
 returns-in-Ok-to_string-clause-numbers c =
