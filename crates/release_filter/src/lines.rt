@@ -31,7 +31,7 @@ pub enum LineError {
     /// Writing failed, was interrupted, or took no byte.
     #[error("cannot write output: {0}")]
     Write(io::Error),
-    /// 2^64 - 1 lines were read.
+    /// At least 2^64 - 1 lines were read.
     #[error("too many lines")]
     TooManyLines,
 }
