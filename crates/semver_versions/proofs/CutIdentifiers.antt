@@ -270,7 +270,7 @@ marked_some : (mark : Text) (texts : List Text) → 0 < length texts → marked 
 marked_some mark [] some = absurd (omega (arith, some))
 marked_some mark (t ∷ texts) some = refl
 
-marked_cut : (mark : ℕ) (text : Text) → 0 < length text → marked (mark ∷ []) (cut_at_dots text) ≡ mark ∷ text
+pub marked_cut : (mark : ℕ) (text : Text) → 0 < length text → marked (mark ∷ []) (cut_at_dots text) ≡ mark ∷ text
 marked_cut mark text some =
     ap (marked (mark ∷ [])) (some_cut text some)
     ∙ marked_some (mark ∷ []) (slice_split is_dot text) (omega (arith, length-slice_split is_dot text))

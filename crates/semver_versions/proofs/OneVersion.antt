@@ -69,7 +69,7 @@ same_identifier (numeric n) (alphanumeric kept) text a b = absurd (b.2 (n, a.0, 
 same_identifier (alphanumeric kept) (numeric m) text a b = absurd (a.2 (m, b.0, sym a.0 ∙ b.1))
 same_identifier (alphanumeric kept) (alphanumeric text') text a b = ap alphanumeric (sym a.0 ∙ b.0)
 
-same_identifiers : (ids others : List IdentifierValue) (texts : List (List ℕ)) → AllZip SpellsIdentifier ids texts
+pub same_identifiers : (ids others : List IdentifierValue) (texts : List (List ℕ)) → AllZip SpellsIdentifier ids texts
     → AllZip SpellsIdentifier others texts → ids ≡ others
 same_identifiers [] [] [] a b = refl
 same_identifiers [] (o ∷ others) [] a b = absurd b

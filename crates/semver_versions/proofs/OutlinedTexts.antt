@@ -1,17 +1,22 @@
--- The outline of a version, from the numbers and the parts of a text that spells it.
-use Rattle.std.proofs.Common.{◌≡◌, ℕ, List, [], ◌∷◌, length, drop, sym, refl, ap, ◌∙◌, subst, arith, codes}
-use Rattle.std.specs.Prelude.{Option, Some, None, option_map, ◌↔◌, IfSome}
-use Rattle.std.specs.List.{AllZip, join_with_byte, prefix_len}
+-- The outline of a version, from the numbers and the parts of a text that spells it, and its parts back.
+use Rattle.std.proofs.Common.{◌≡◌, ◌<◌, ℕ, suc, ◌+◌, List, [], ◌∷◌, ◌++◌, length, take, drop, map, sym, refl, ap, ◌∙◌, subst, arith}
+use Rattle.std.proofs.Common.{⊎_elim, ◌⊎◌, inl, inr, append_assoc, length-append, length-drop, decimal, codes, ◌≤◌}
+use Rattle.std.specs.Prelude.{Option, Some, None, Result, Ok, Err, IfOk, IfErr, false, ◌==◌, ◌↔◌, IfSome, slice_index}
+use Rattle.std.specs.List.{AllByRecursion, AllZip, join_with_byte, prefix_len}
+use Rattle.std.proofs.lemmas.List.{take_at, drop_at}
+use Rattle.std.proofs.lemmas.List.Sums.{prefix_len-le-length}
 use Rattle.std.proofs.lemmas.List.Splits.{join_with_byte-slice_split}
-use Rattle.semver_texts.specs.Texts.{Text, BeginsWithNumbers, is_space}
-use Rattle.semver_texts.specs.Versions.{IdentifierValue, VersionValue}
-use Rattle.semver_texts.specs.VersionGrammar.{SpellsIdentifier, SpellsPart, SpellsVersion}
-use Rattle.semver_versions.specs.declared.outlines.Outline.{Outline}
-use Rattle.semver_versions.specs.Outlines.{OutlineValue, outline_value, dotted_text, outline_of, IsOutlineOf}
-use Rattle.semver_versions.specs.Means.Cutting.{cut_at_dots, AreParts, AreSpaces, IsOutlined}
-use Rattle.semver_versions.proofs.OneVersion.{one_version, identifiers_bytes, joined_some}
-use Rattle.semver_versions.proofs.SpelledParts.{spell_some, spells_version, spaced, unspaced}
-use Rattle.semver_versions.proofs.WholeText.{spelled_texts}
+use Rattle.semver_texts.specs.Texts.{Text, marked, BeginsWithNumbers, is_space}
+use Rattle.semver_texts.specs.Versions.{IdentifierValue, VersionValue, numbers}
+use Rattle.semver_texts.specs.PrintedText.{identifier_text, plain_text}
+use Rattle.semver_texts.specs.VersionGrammar.{SpellsIdentifier, SpellsPart, SpellsVersion, IsVersionText, IsIdentifierText}
+use Rattle.semver_tokens.proofs.TokenLists.{prefix_is}
+use Rattle.semver_versions.specs.Outlines.{OutlineValue, dotted_text, behind_mark, outline_behind, IsOutlineOf, StandsAt}
+use Rattle.semver_versions.specs.Means.Cutting.{cut_at_dots, AreParts, AreSpaces, IsOutlineBehind, IsOutlined}
+use Rattle.semver_versions.proofs.CutIdentifiers.{cut_texts, marked_cut}
+use Rattle.semver_versions.proofs.OneVersion.{one_version, identifiers_bytes, joined_some, same_identifiers, no_space_follows}
+use Rattle.semver_versions.proofs.SpelledParts.{spell_some, spells_version, spaced, unspaced, spelled_are}
+use Rattle.semver_versions.proofs.WholeText.{spelled_texts, part_text}
 
 -- ---- the text of identifiers
 
@@ -37,14 +42,79 @@ empty_text mark ids part w = (none ids w.texts w.each, λ e. ap dotted_text e)
           ap length (ap (join_with_byte 46) (spelled_texts (id ∷ ids) (t ∷ texts) all) ∙ e),
         ))
 
+-- cut at its dots, it spells them again
+cut_dotted : (ids : List IdentifierValue) (texts : List Text) → AllZip SpellsIdentifier ids texts
+    → AllZip SpellsIdentifier ids (cut_at_dots (dotted_text ids))
+cut_dotted [] texts each = tt
+cut_dotted (id ∷ ids) [] each = absurd each
+cut_dotted (id ∷ ids) (t ∷ texts) each =
+    subst (AllZip SpellsIdentifier (id ∷ ids))
+    (sym (ap (λ ts. cut_at_dots (join_with_byte 46 ts)) (sym (spelled_texts (id ∷ ids) (t ∷ texts) each))
+    ∙ cut_texts (t ∷ texts) (omega arith) (spelled_are (id ∷ ids) (t ∷ texts) each)))
+    each
+
+-- how many bytes a part has with its mark
+pub marked_size : (mark : ℕ) (part : Text) → (length part == 0) ≡ false → length part + 1 ≡ length (marked (mark ∷ []) (cut_at_dots part))
+marked_size mark [] some = cc
+marked_size mark (b ∷ part) some = omega (arith, ap length (marked_cut mark (b ∷ part) (omega arith)))
+
 -- ---- the outline
 
-pub has_outline : (text rest pre build : Text) (major minor patch : ℕ) → BeginsWithNumbers text major minor patch rest
-    → AreParts rest pre build
-    → IsOutlineOf text (record { major = major; minor = minor; patch = patch; pre = pre; build = build })
-has_outline text rest pre build major minor patch n w =
+-- the parts with their marks are within what stands behind the numbers
+pub parts_fit : (rest pre build : Text) → AreParts rest pre build
+    → length (marked (codes "-") (cut_at_dots pre)) + length (marked (codes "+") (cut_at_dots build)) ≤ length rest
+    × (length pre ≤ length (marked (codes "-") (cut_at_dots pre))) × (length build ≤ length (marked (codes "+") (cut_at_dots build)))
+parts_fit rest pre build w = (
+  omega (
+    arith,
+    ap length w.split,
+    length-append (marked (codes "-") (cut_at_dots pre)) (marked (codes "+") (cut_at_dots build) ++ w.after),
+    length-append (marked (codes "+") (cut_at_dots build)) w.after,
+  ),
+  within 45 pre,
+  within 43 build,
+)
+  where
+    within : (mark : ℕ) (part : Text) → length part ≤ length (marked (mark ∷ []) (cut_at_dots part))
+    within mark [] = omega arith
+    within mark (b ∷ part) = omega (arith, ap length (marked_cut mark (b ∷ part) (omega arith)))
+
+-- and what stands behind the numbers within the text
+pub rest_fits : (text rest : Text) (major minor patch : ℕ)
+    → BeginsWithNumbers (drop (prefix_len is_space text) text) major minor patch rest
+    → (length rest ≤ length text) × (length text ≡ prefix_len is_space text + length (drop (prefix_len is_space text) text))
+rest_fits text rest major minor patch n =
+    let front : Text = join_with_byte 46 (map decimal (major ∷ minor ∷ patch ∷ [])) in
+    let cut : length text ≡ prefix_len is_space text + length (drop (prefix_len is_space text) text) =
+    omega (arith, length-drop (prefix_len is_space text) text, prefix_len-le-length is_space text) in
+    (omega (arith, cut, ap length n.split, length-append front rest), cut)
+
+pub has_outline : (before : ℕ) (text rest pre build : Text) (major minor patch : ℕ) → BeginsWithNumbers text major minor patch rest
+    → AreParts rest pre build → (numbers_end pre_end : ℕ) → numbers_end + length rest ≡ before + length text
+    → pre_end ≡ numbers_end + length (marked (codes "-") (cut_at_dots pre))
+    → IsOutlineBehind before text (record {
+      major = major;
+      minor = minor;
+      patch = patch;
+      pre = pre;
+      build = build;
+      pre_offset = behind_mark numbers_end pre;
+      build_offset = behind_mark pre_end build;
+    })
+has_outline before text rest pre build major minor patch n w numbers_end pre_end at_numbers at_pre =
     let ids = spell_some (cut_at_dots pre) w.pre_each in
-    let others = spell_some (cut_at_dots build) w.build_each in (
+    let others = spell_some (cut_at_dots build) w.build_each in
+    let front : Text = join_with_byte 46 (map decimal (major ∷ minor ∷ patch ∷ [])) in
+    let behind_numbers : numbers_end ≡ before + length front = omega (arith, at_numbers, ap length n.split, length-append front rest) in
+    let part : Text = marked (codes "-") (map identifier_text ids.0) in
+    let behind_pre : pre_end ≡ before + length (front ++ part) =
+    omega (
+      arith,
+      at_pre,
+      behind_numbers,
+      ap (λ ts. length (marked (codes "-") ts)) (spelled_texts ids.0 (cut_at_dots pre) ids.1),
+      length-append front part,
+    ) in (
       record { plain = record { major = major; minor = minor; patch = patch; pre = ids.0 }; build = others.0 },
       spells_version text rest pre build major minor patch n w ids.0 others.0 ids.1 others.1,
       (λ i. record {
@@ -53,53 +123,184 @@ has_outline text rest pre build major minor patch n w =
         patch = patch;
         pre = cut_text pre ids.0 ids.1 i;
         build = cut_text build others.0 others.1 i;
+        pre_offset = behind_mark (behind_numbers i) (cut_text pre ids.0 ids.1 i);
+        build_offset = behind_mark (behind_pre i) (cut_text build others.0 others.1 i);
       }),
     )
 
 -- without identifiers
-pub has_plain_outline : (text rest : Text) (major minor patch : ℕ) → BeginsWithNumbers text major minor patch rest → AreSpaces rest
-    → IsOutlineOf text (record { major = major; minor = minor; patch = patch; pre = []; build = [] })
-has_plain_outline text rest major minor patch n spaces =
-    has_outline text rest [] [] major minor patch n
+pub has_plain_outline : (before : ℕ) (text rest : Text) (major minor patch : ℕ) → BeginsWithNumbers text major minor patch rest
+    → AreSpaces rest
+    → IsOutlineBehind before text
+    (record { major = major; minor = minor; patch = patch; pre = []; build = []; pre_offset = 0; build_offset = 0 })
+has_plain_outline before text rest major minor patch n spaces =
+    let front : Text = join_with_byte 46 (map decimal (major ∷ minor ∷ patch ∷ [])) in
+    has_outline before text rest [] [] major minor patch n
     (record { after = rest; pre_each = tt; build_each = tt; spaces = spaces; split = refl })
+    (before + length front) (before + length front) (omega (arith, ap length n.split, length-append front rest)) (omega arith)
 
 -- ---- white space before it
 
-pub outline_spaced : (text : Text) (o : OutlineValue) → IsOutlineOf (drop (prefix_len is_space text) text) o → IsOutlineOf text o
-outline_spaced text o w = (w.0, spaced w.0 text w.1, w.2)
+module _ (text : Text) where
+  pub outline_spaced : (o : OutlineValue) → IsOutlineBehind (prefix_len is_space text) (drop (prefix_len is_space text) text) o
+      → IsOutlineOf text o
+  outline_spaced o w = (w.0, spaced w.0 text w.1, w.2)
 
-pub outlined_spaced : (text : Text) (found : Option Outline) → IsOutlined (drop (prefix_len is_space text) text) found
-    → IsOutlined text found
-outlined_spaced text None none = λ v. none (v.0, unspaced v.0 text v.1)
-outlined_spaced text (Some o) w = outline_spaced text (outline_value o) w
+  pub outlined_spaced : (found : Option OutlineValue) → IsOutlined (prefix_len is_space text) (drop (prefix_len is_space text) text) found
+      → IsOutlined (prefix_len is_space text) text found
+  outlined_spaced None none = λ v. none (v.0, unspaced v.0 text v.1)
+  outlined_spaced (Some o) w = outline_spaced o w
 
 -- ---- what is answered
 
-pub exactly_outlined : (text : Text) (found : Option Outline) → IsOutlined text found → (o : OutlineValue)
-    → (option_map outline_value found ≡ Some o) ↔ IsOutlineOf text o
-exactly_outlined text None none o = (λ e. cc, λ w. absurd (none (w.0, w.1)))
-exactly_outlined text (Some found) is o = (
-  λ e. subst (IsOutlineOf text) (same e) is,
-  λ w. ap (λ (x : OutlineValue). Some x) (is.2 ∙ ap outline_of (one_version is.0 w.0 text is.1 w.1) ∙ sym w.2),
-)
+  pub exactly_outlined : (found : Option OutlineValue) → IsOutlined (prefix_len is_space text) text found → (o : OutlineValue)
+      → (found ≡ Some o) ↔ IsOutlineOf text o
+  exactly_outlined None none o = (λ e. cc, λ w. absurd (none (w.0, w.1)))
+  exactly_outlined (Some found) is o = (
+    λ e. subst (IsOutlineOf text) (same e) is,
+    λ w. ap (λ (x : OutlineValue). Some x)
+        (is.2 ∙ ap (outline_behind (prefix_len is_space text)) (one_version is.0 w.0 text is.1 w.1) ∙ sym w.2),
+  )
+    where
+      same : {x y : OutlineValue} → Some x ≡ Some y → x ≡ y
+      same e = cc
+
+-- ---- the parts of an outline
+
+-- a part stands behind its mark
+stands : (mark place : ℕ) (part lead rest text : Text) → text ≡ lead ++ ((mark ∷ part) ++ rest) → place ≡ length lead
+    → StandsAt (behind_mark place part) part text
+stands mark place [] lead rest text whole at = refl
+stands mark place (b ∷ part) lead rest text whole at =
+    ap (λ t. take (length (b ∷ part)) (drop (suc place) t)) (whole ∙ regroup lead (b ∷ part) rest)
+    ∙ ap (take (length (b ∷ part)))
+    (drop_at (lead ++ (mark ∷ [])) ((b ∷ part) ++ rest) (suc place) (omega (arith, at, length-append lead (mark ∷ []))))
+    ∙ take_at (b ∷ part) rest (length (b ∷ part)) refl
   where
-    same : {x y : OutlineValue} → Some x ≡ Some y → x ≡ y
-    same e = cc
+    regroup : (a b c : Text) → a ++ ((mark ∷ b) ++ c) ≡ (a ++ (mark ∷ [])) ++ (b ++ c)
+    regroup a b c = simp append_assoc
+
+part_stands : (mark place : ℕ) (ids : List IdentifierValue) (part lead rest text : Text) → SpellsPart (mark ∷ []) ids part
+    → text ≡ lead ++ (part ++ rest) → place ≡ length lead → StandsAt (behind_mark place (dotted_text ids)) (dotted_text ids) text
+part_stands mark place [] part lead rest text w whole at = refl
+part_stands mark place (id ∷ ids) part lead rest text w whole at =
+    stands mark place (dotted_text (id ∷ ids)) lead rest text
+    (whole ∙ ap (λ t. lead ++ (t ++ rest)) (part_text (mark ∷ []) (id ∷ ids) part w)) at
 
 module _ (text : Text) (v : VersionValue) (w : SpellsVersion v text) where
-  its_outline : (o : Outline) → IsOutlineOf text (outline_value o) → outline_value o ≡ outline_of v
-  its_outline o is = is.2 ∙ ap outline_of (one_version is.0 v text is.1 w)
+  its_outline : (o : OutlineValue) → IsOutlineOf text o → o ≡ outline_behind (prefix_len is_space text) v
+  its_outline o is = is.2 ∙ ap (outline_behind (prefix_len is_space text)) (one_version is.0 v text is.1 w)
 
-  pub no_pre_release : (found : Option Outline) → IsOutlined text found → IfSome found (λ o. (o.pre.now ≡ []) ↔ (v.plain.pre ≡ []))
+  its_pre : (o : OutlineValue) → IsOutlineOf text o → o.pre ≡ dotted_text v.plain.pre
+  its_pre o is = ap (λ (x : OutlineValue). x.pre) (its_outline o is)
+
+  its_build : (o : OutlineValue) → IsOutlineOf text o → o.build ≡ dotted_text v.build
+  its_build o is = ap (λ (x : OutlineValue). x.build) (its_outline o is)
+
+  pub no_pre_release : (found : Option OutlineValue) → IsOutlined (prefix_len is_space text) text found
+      → IfSome found (λ o. (o.pre ≡ []) ↔ (v.plain.pre ≡ []))
   no_pre_release None none = tt
   no_pre_release (Some o) is =
-      let same : o.pre.now ≡ dotted_text v.plain.pre = ap (λ (x : OutlineValue). x.pre) (its_outline o is) in
       let empty = empty_text (codes "-") v.plain.pre w.pre_text w.pre in
-      (λ e. empty.0 (sym same ∙ e), λ e. same ∙ empty.1 e)
+      (λ e. empty.0 (sym (its_pre o is) ∙ e), λ e. its_pre o is ∙ empty.1 e)
 
-  pub no_build : (found : Option Outline) → IsOutlined text found → IfSome found (λ o. (o.build.now ≡ []) ↔ (v.build ≡ []))
+  pub no_build : (found : Option OutlineValue) → IsOutlined (prefix_len is_space text) text found
+      → IfSome found (λ o. (o.build ≡ []) ↔ (v.build ≡ []))
   no_build None none = tt
   no_build (Some o) is =
-      let same : o.build.now ≡ dotted_text v.build = ap (λ (x : OutlineValue). x.build) (its_outline o is) in
       let empty = empty_text (codes "+") v.build w.build_text w.build in
-      (λ e. empty.0 (sym same ∙ e), λ e. same ∙ empty.1 e)
+      (λ e. empty.0 (sym (its_build o is) ∙ e), λ e. its_build o is ∙ empty.1 e)
+
+  -- what is cut from them are its identifiers
+  pub cut_pre : (o : OutlineValue) → IsOutlineOf text o → (ids : List IdentifierValue) → AllZip SpellsIdentifier ids (cut_at_dots o.pre)
+      → ids ≡ v.plain.pre
+  cut_pre o is ids each =
+      same_identifiers ids v.plain.pre (cut_at_dots o.pre) each
+      (subst (λ t. AllZip SpellsIdentifier v.plain.pre (cut_at_dots t)) (sym (its_pre o is)) (cut_dotted v.plain.pre w.pre.texts w.pre.each))
+
+  pub cut_build : (o : OutlineValue) → IsOutlineOf text o → (ids : List IdentifierValue) → AllZip SpellsIdentifier ids (cut_at_dots o.build)
+      → ids ≡ v.build
+  cut_build o is ids each =
+      same_identifiers ids v.build (cut_at_dots o.build) each
+      (subst (λ t. AllZip SpellsIdentifier v.build (cut_at_dots t)) (sym (its_build o is)) (cut_dotted v.build w.build.texts w.build.each))
+
+  -- and they stand at their offsets
+  both_stand : (o : OutlineValue) → IsOutlineOf text o → StandsAt o.pre_offset o.pre text × StandsAt o.build_offset o.build text
+  both_stand o is =
+      let front : Text = join_with_byte 46 (map decimal (numbers v.plain)) in
+      let behind : Text = w.pre_text ++ (w.build_text ++ w.after) in
+      let whole : text ≡ w.before ++ (front ++ behind) = w.spelled ∙ regroup w.before front w.pre_text w.build_text w.after in
+      let space : prefix_len is_space text ≡ length w.before =
+      ap (prefix_len is_space) whole ∙ prefix_is is_space w.before (front ++ behind) w.spaces_before refl
+      (ap (λ t. is_space (slice_index t 0)) (dots (decimal v.plain.major) (decimal v.plain.minor) (decimal v.plain.patch) behind)
+      ∙ no_space_follows v text w (46 ∷ (decimal v.plain.minor ++ (46 ∷ (decimal v.plain.patch ++ behind))))) in
+      let plain : length (plain_text v.plain) ≡ length front + length w.pre_text =
+      length-append front (marked (codes "-") (map identifier_text v.plain.pre))
+      ∙ ap (λ t. length front + length t) (sym (part_text (codes "-") v.plain.pre w.pre_text w.pre)) in
+      subst (λ (x : OutlineValue). StandsAt x.pre_offset x.pre text × StandsAt x.build_offset x.build text) (sym (its_outline o is)) (
+        part_stands 45 _ v.plain.pre w.pre_text (w.before ++ front) (w.build_text ++ w.after) text w.pre
+            (whole ∙ sym (append_assoc w.before front behind)) (omega (arith, space, length-append w.before front)),
+        part_stands 43 _ v.build w.build_text (w.before ++ (front ++ w.pre_text)) w.after text w.build
+            (whole ∙ at_build w.before front w.pre_text w.build_text w.after)
+            (omega (arith, space, plain, length-append w.before (front ++ w.pre_text), length-append front w.pre_text)),
+      )
+    where
+      regroup : (a b c d e : Text) → a ++ b ++ c ++ d ++ e ≡ a ++ (b ++ (c ++ (d ++ e)))
+      regroup a b c d e = simp append_assoc
+
+      at_build : (a b c d e : Text) → a ++ (b ++ (c ++ (d ++ e))) ≡ (a ++ (b ++ c)) ++ (d ++ e)
+      at_build a b c d e = simp append_assoc
+
+      dots : (a b c d : Text) → (a ++ (46 ∷ (b ++ (46 ∷ c)))) ++ d ≡ a ++ (46 ∷ (b ++ (46 ∷ (c ++ d))))
+      dots a b c d = simp append_assoc
+
+pub places : (text : Text) (found : Option OutlineValue) → IsOutlined (prefix_len is_space text) text found
+    → IfSome found (λ o. StandsAt o.pre_offset o.pre text × StandsAt o.build_offset o.build text)
+places text None none = tt
+places text (Some o) is = both_stand text is.0 is.1 o is
+
+-- ---- the version of an outline
+
+pub if_ok_more : {A E : Type 0} {P Q : A → Type 0} (r : Result A E) → ((x : A) → P x → Q x) → IfOk r P → IfOk r Q
+if_ok_more (Ok x) more p = more x p
+if_ok_more (Err e) more p = tt
+
+pub if_err : {A E P : Type 0} (r : Result A E) → P → IfErr r (λ _. P)
+if_err (Ok x) p = tt
+if_err (Err e) p = p
+
+pub exactly : (text : Text) (u : VersionValue) → SpellsVersion u text → (v : VersionValue) → (Some u ≡ Some v) ↔ SpellsVersion v text
+exactly text u spells v = (
+  λ e. subst (λ (w : VersionValue). SpellsVersion w text) (same e) spells,
+  λ s. ap (λ (w : VersionValue). Some w) (one_version u v text spells s),
+)
+  where
+    same : {u w : VersionValue} → Some u ≡ Some w → u ≡ w
+    same e = cc
+
+pub version_of : (text : Text) (o : OutlineValue) → IsOutlineOf text o → (pre build : List IdentifierValue)
+    → AllZip SpellsIdentifier pre (cut_at_dots o.pre) → AllZip SpellsIdentifier build (cut_at_dots o.build)
+    → SpellsVersion (record { plain = record { major = o.major; minor = o.minor; patch = o.patch; pre = pre }; build = build }) text
+version_of text o is pre build each every = subst (λ (v : VersionValue). SpellsVersion v text) (λ i. record {
+  plain = record {
+    major = (sym is.2 i).major;
+    minor = (sym is.2 i).minor;
+    patch = (sym is.2 i).patch;
+    pre = sym (cut_pre text is.0 is.1 o is pre each) i;
+  };
+  build = sym (cut_build text is.0 is.1 o is build every) i;
+}) is.1
+
+-- it has identifiers where a part isn't empty
+pub has_some : (text : Text) (o : OutlineValue) → IsOutlineOf text o → (0 < length o.pre) ⊎ (0 < length o.build)
+    → (v : VersionValue) × SpellsVersion v text × ((0 < length v.plain.pre) ⊎ (0 < length v.build))
+has_some text o is some = (
+  is.0,
+  is.1,
+  ⊎_elim (λ pre. inl (some_of is.0.plain.pre (omega (arith, pre, ap length (its_pre text is.0 is.1 o is)))))
+      (λ build. inr (some_of is.0.build (omega (arith, build, ap length (its_build text is.0 is.1 o is))))) some,
+)
+  where
+    some_of : (ids : List IdentifierValue) → 0 < length (dotted_text ids) → 0 < length ids
+    some_of [] some = some
+    some_of (id ∷ ids) some = omega arith

@@ -12,10 +12,7 @@ use Rattle.semver_texts.specs.Texts.{Text, marked, is_dot, is_space, BeginsWithN
 use Rattle.semver_texts.specs.Versions.{IdentifierValue, numeric, alphanumeric, VersionValue, numbers}
 use Rattle.semver_texts.specs.Means.Decimals.{is_number}
 use Rattle.semver_texts.specs.VersionGrammar.{IsIdentifierText, SpellsIdentifier, SpellsPart, SpellsVersion, IsVersionText}
-use Rattle.semver_versions.specs.Means.Cutting.{cut_at_dots, AreIdentifiers, is_inner_byte, AreSpaces, IsPart, AreParts, HasIdentifiers}
-use Rattle.semver_versions.specs.Means.Cutting.{IsFound}
-use Rattle.semver_texts.specs.VersionViews.{version_value}
-use Rattle.semver_texts.specs.declared.version.Version.{Version}
+use Rattle.semver_versions.specs.Means.Cutting.{cut_at_dots, AreIdentifiers, is_inner_byte, AreSpaces, IsPart, AreParts}
 use Rattle.semver_texts.proofs.Numbers.{is_number_true, canonical_from_is_number, canonical_from_IsNumber, IsNumber-from_canonical}
 use Rattle.semver_texts.proofs.Numbers.{same_rest}
 use Rattle.semver_tokens.proofs.FirstToken.{all_of_prefix, run_is_no_space}
@@ -99,16 +96,6 @@ spells_version text rest pre build major minor patch n w ids others each every =
     from_left : (a b c d : Text) → a ++ (b ++ (c ++ d)) ≡ [] ++ a ++ b ++ c ++ d
     from_left a b c d = simp append_assoc
 
--- without identifiers
-pub spells_numbers : (text rest : Text) (major minor patch : ℕ) → BeginsWithNumbers text major minor patch rest → AreSpaces rest
-    → (pre build : List IdentifierValue) → pre ≡ [] → build ≡ []
-    → SpellsVersion (record { plain = record { major = major; minor = minor; patch = patch; pre = pre }; build = build }) text
-spells_numbers text rest major minor patch n spaces pre build no_pre no_build =
-    spells_version text rest [] [] major minor patch n
-    (record { after = rest; pre_each = tt; build_each = tt; spaces = spaces; split = refl })
-    pre build (subst (λ (ids : List IdentifierValue). AllZip SpellsIdentifier ids []) (sym no_pre) tt)
-    (subst (λ (ids : List IdentifierValue). AllZip SpellsIdentifier ids []) (sym no_build) tt)
-
 -- each text of an identifier spells one
 spells_some : (t : Text) → IsIdentifierText t → (id : IdentifierValue) × SpellsIdentifier id t
 spells_some t is = ⊎_elim
@@ -127,38 +114,23 @@ spell_some (t ∷ ts) all =
     let ids = spell_some ts all.1 in
     (id.0 ∷ ids.0, (id.1, ids.1), omega (arith, ids.2))
 
--- so it has identifiers where a part isn't empty
-pub has_identifiers : (text rest pre build : Text) (major minor patch : ℕ) → BeginsWithNumbers text major minor patch rest
-    → AreParts rest pre build → (0 < length pre) ⊎ (0 < length build) → HasIdentifiers text
-has_identifiers text rest pre build major minor patch n w some =
-    let ids = spell_some (cut_at_dots pre) w.pre_each in
-    let others = spell_some (cut_at_dots build) w.build_each in (
-      record { plain = record { major = major; minor = minor; patch = patch; pre = ids.0 }; build = others.0 },
-      spells_version text rest pre build major minor patch n w ids.0 others.0 ids.1 others.1,
-      ⊎_elim (λ front. inl (omega (arith, ids.2, some_cut_some pre front)))
-          (λ back. inr (omega (arith, others.2, some_cut_some build back))) some,
-    )
-  where
-    some_cut_some : (t : Text) → 0 < length t → 0 < length (cut_at_dots t)
-    some_cut_some t front = omega (arith, ap length (some_cut t front), length-slice_split is_dot t)
-
 -- ---- and its numbers and its parts, from a version
+
+spelled_is : (id : IdentifierValue) (t : Text) → SpellsIdentifier id t → IsIdentifierText t
+spelled_is (numeric n) t s = subst IsIdentifierText (sym s.1) (run_identifier (decimal n) (decimal_is_run n s.0))
+spelled_is (alphanumeric kept) t s = subst IsIdentifierText (sym s.0) s.1
+
+pub spelled_are : (ids : List IdentifierValue) (texts : List Text) → AllZip SpellsIdentifier ids texts
+    → AllByRecursion IsIdentifierText texts
+spelled_are [] [] all = tt
+spelled_are [] (t ∷ texts) all = absurd all
+spelled_are (id ∷ ids) [] all = absurd all
+spelled_are (id ∷ ids) (t ∷ texts) all = (spelled_is id t all.0, spelled_are ids texts all.1)
 
 inner_of : (mark : Text) (ids : List IdentifierValue) (text : Text) → SpellsPart mark ids text
     → (inner : Text) × AreIdentifiers inner × (text ≡ marked mark (cut_at_dots inner))
 inner_of mark ids text w = go w.texts (spelled_are ids w.texts w.each) w.joined
   where
-    spelled_is : (id : IdentifierValue) (t : Text) → SpellsIdentifier id t → IsIdentifierText t
-    spelled_is (numeric n) t s = subst IsIdentifierText (sym s.1) (run_identifier (decimal n) (decimal_is_run n s.0))
-    spelled_is (alphanumeric kept) t s = subst IsIdentifierText (sym s.0) s.1
-
-    spelled_are : (ids : List IdentifierValue) (texts : List Text) → AllZip SpellsIdentifier ids texts
-        → AllByRecursion IsIdentifierText texts
-    spelled_are [] [] all = tt
-    spelled_are [] (t ∷ texts) all = absurd all
-    spelled_are (id ∷ ids) [] all = absurd all
-    spelled_are (id ∷ ids) (t ∷ texts) all = (spelled_is id t all.0, spelled_are ids texts all.1)
-
     go : (texts : List Text) → AllByRecursion IsIdentifierText texts → text ≡ marked mark texts
         → (inner : Text) × AreIdentifiers inner × (text ≡ marked mark (cut_at_dots inner))
     go [] each e = ([], tt, e)
@@ -244,10 +216,6 @@ no_parts text rest major minor patch n none v =
         ∙ run_is_no_space (slice_index (decimal major ++ (46 ∷ (decimal minor ++ (46 ∷ (decimal patch ++ rest))))) 0)
         (run_begins (decimal major) (46 ∷ (decimal minor ++ (46 ∷ (decimal patch ++ rest)))) (decimal_is_run major n.major_fits))
 
-pub if_err : {A E : Type 0} {P : Type 0} (r : Result A E) → P → IfErr r (λ _. P)
-if_err (Ok x) p = tt
-if_err (Err e) p = p
-
 -- ---- white space before it
 
 pub spaced : (v : VersionValue) (text : Text) → SpellsVersion v (drop (prefix_len is_space text) text) → SpellsVersion v text
@@ -293,31 +261,3 @@ unspaced v text w = record {
 
     count : prefix_len is_space text ≡ length w.before
     count = ap (prefix_len is_space) whole ∙ prefix_is is_space w.before _ w.spaces_before refl (no_space_follows v text w _)
-
-pub found_spaced : (text : Text) (found : Option Version) → IsFound (drop (prefix_len is_space text) text) found → IsFound text found
-found_spaced text None none = λ v. none (v.0, unspaced v.0 text v.1)
-found_spaced text (Some v) spells = spaced (version_value v) text spells
-
-pub identifiers_spaced : (text : Text) → HasIdentifiers (drop (prefix_len is_space text) text) → HasIdentifiers text
-identifiers_spaced text h = (h.0, spaced h.0 text h.1, h.2)
-
--- ---- what is answered
-
-pub if_ok_more : {A E : Type 0} {P Q : A → Type 0} (r : Result A E) → ((x : A) → P x → Q x) → IfOk r P → IfOk r Q
-if_ok_more (Ok x) more p = more x p
-if_ok_more (Err e) more p = tt
-
-pub exactly : (text : Text) (found : Option Version) → IsFound text found → (v : VersionValue)
-    → (option_map version_value found ≡ Some v) ↔ SpellsVersion v text
-exactly text None none v = (λ e. cc, λ s. absurd (none (v, s)))
-exactly text (Some w) spells v = (
-  λ e. subst (λ (u : VersionValue). SpellsVersion u text) (same e) spells,
-  λ s. ap (λ (u : VersionValue). Some u) (one_version (version_value w) v text spells s),
-)
-  where
-    same : {u w : VersionValue} → Some u ≡ Some w → u ≡ w
-    same e = cc
-
-pub exactly_none : (text : Text) (found : Option Version) → IsFound text found → (found ≡ None) ↔ ¬ (IsVersionText text)
-exactly_none text None none = (λ e. none, λ s. refl)
-exactly_none text (Some w) spells = (λ e. cc, λ s. absurd (s (version_value w, spells)))

@@ -43,7 +43,7 @@ spelled_texts [] (t ∷ texts) all = absurd all
 spelled_texts (id ∷ ids) [] all = absurd all
 spelled_texts (id ∷ ids) (t ∷ texts) all = (λ i. spelled_text id t all.0 i ∷ spelled_texts ids texts all.1 i)
 
-part_text : (mark : List ℕ) (ids : List IdentifierValue) (text : List ℕ) → SpellsPart mark ids text
+pub part_text : (mark : List ℕ) (ids : List IdentifierValue) (text : List ℕ) → SpellsPart mark ids text
     → text ≡ marked mark (map identifier_text ids)
 part_text mark ids text w = w.joined ∙ ap (marked mark) (spelled_texts ids w.texts w.each)
 

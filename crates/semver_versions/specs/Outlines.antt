@@ -1,45 +1,53 @@
--- Versions in outline: three numbers, and the texts of the pre-release and of the build.
+-- Versions in outline: three numbers, the texts of the pre-release and of the build, and where these
+-- begin in the text of the version.
 use Prim.Native.Char.{code}
-use Rattle.std.specs.Prelude.{◌≡◌, ℕ, List, map}
-use Rattle.std.specs.List.{join_with_byte}
-use Rattle.semver_texts.specs.Texts.{Text}
-use Rattle.semver_texts.specs.Versions.{IdentifierValue, VersionValue}
-use Rattle.semver_texts.specs.PrintedText.{identifier_text}
+use Rattle.std.specs.Prelude.{◌≡◌, ℕ, suc, ◌+◌, List, [], ◌∷◌, length, map, take, drop, decimal}
+use Rattle.std.specs.List.{join_with_byte, prefix_len}
+use Rattle.semver_texts.specs.Texts.{Text, is_space}
+use Rattle.semver_texts.specs.Versions.{IdentifierValue, VersionValue, numbers}
+use Rattle.semver_texts.specs.PrintedText.{identifier_text, plain_text}
 use Rattle.semver_texts.specs.VersionGrammar.{SpellsVersion}
-use Rattle.semver_versions.specs.declared.outlines.Outline.{Outline}
 
--- three numbers, and two texts
+-- three numbers, two texts, and how many bytes stand in front of each of these
 pub record OutlineValue : Type 0 where
   pub major : ℕ
   pub minor : ℕ
   pub patch : ℕ
   pub pre : Text
   pub build : Text
-
--- an outline, without where its texts lie in memory
-abbrev pub outline_value : Outline → OutlineValue
-outline_value o = record {
-  major = o.major;
-  minor = o.minor;
-  patch = o.patch;
-  pre = o.pre.now;
-  build = o.build.now;
-}
+  pub pre_offset : ℕ
+  pub build_offset : ℕ
 
 -- the text of identifiers: each as it prints, joined by dots; empty where there are none
 abbrev pub dotted_text : List IdentifierValue → Text
 dotted_text ids = join_with_byte (code ".") (map identifier_text ids)
 
--- the outline of a version: its numbers, and the texts of its identifiers
-abbrev pub outline_of : VersionValue → OutlineValue
-outline_of v = record {
+-- where a part begins whose mark stands at the place: behind it; 0 where there is no part
+abbrev pub behind_mark : ℕ → Text → ℕ
+behind_mark place [] = 0
+behind_mark place (byte ∷ part) = suc place
+
+-- the outline of a version that stands behind so many bytes: its numbers, and the texts of its
+-- identifiers, each behind its mark; that of the pre-release stands behind the numbers, and that of
+-- the build behind the version without it
+abbrev pub outline_behind : ℕ → VersionValue → OutlineValue
+outline_behind before v = record {
   major = v.plain.major;
   minor = v.plain.minor;
   patch = v.plain.patch;
   pre = dotted_text v.plain.pre;
   build = dotted_text v.build;
+  pre_offset = behind_mark
+      (before + length (join_with_byte (code ".") (map decimal (numbers v.plain))))
+      (dotted_text v.plain.pre);
+  build_offset = behind_mark (before + length (plain_text v.plain)) (dotted_text v.build);
 }
 
--- it is the outline of a version that the text spells
+-- it is the outline of a version that the text spells, which stands behind the white space
 abbrev pub IsOutlineOf : Text → OutlineValue → Type 0
-IsOutlineOf text o = (v : VersionValue) × SpellsVersion v text × (o ≡ outline_of v)
+IsOutlineOf text o = (v : VersionValue) × SpellsVersion v text
+    × (o ≡ outline_behind (prefix_len is_space text) v)
+
+-- the part stands in the text at the offset
+abbrev pub StandsAt : ℕ → Text → Text → Type 0
+StandsAt offset part text = take (length part) (drop offset text) ≡ part

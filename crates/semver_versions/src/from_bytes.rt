@@ -1,22 +1,19 @@
-//! A version read from the bytes of its text: three numbers, and the pre-release and the build as
-//! slices, which are cut at dots once the whole text is known to be a version. Each byte that is
-//! read as a part of a version is ASCII, so the bytes need no check for UTF-8.
-ghost use Rattle.std.specs.Prelude.{◌≡◌, ◌==◌, ◌||◌, ◌<◌, ◌++◌, [], ◌∷◌, true, false, length, map};
-ghost use Rattle.std.specs.Prelude.{drop, IfOk, IfErr, IfSome, MatchOption};
-ghost use Rattle.std.specs.List.{AllByRecursion, AllZip, prefix_len, slice_split};
-ghost use Rattle.semver_texts.specs.Texts.{Text, BeginsWithNumbers, marked, is_dot, is_space};
-ghost use Rattle.semver_texts.specs.VersionGrammar.{IsIdentifierText, SpellsIdentifier};
-ghost use Rattle.semver_texts.specs.VersionViews.{identifier_value};
+//! A version text read from its bytes to its outline: three numbers, and the pre-release and the
+//! build as slices. Each byte that is read as a part of a version is ASCII, so the bytes need no
+//! check for UTF-8.
+ghost use Rattle.std.specs.Prelude.{◌≡◌, ◌==◌, ◌||◌, ◌<◌, ◌+◌, ◌^◌, ◌++◌, [], ◌∷◌, ℕ, true, false};
+ghost use Rattle.std.specs.Prelude.{length, drop, IfSome, MatchOption};
+ghost use Rattle.std.specs.List.{prefix_len};
+ghost use Rattle.semver_texts.specs.Texts.{Text, BeginsWithNumbers, marked, is_space};
+ghost use Rattle.semver_versions.specs.Outlines.{behind_mark};
 ghost use Rattle.semver_versions.specs.Means.Cutting.{cut_at_dots, AreIdentifiers, is_inner_byte};
 ghost use Rattle.semver_versions.specs.Means.Cutting.{BeginsWithIdentifiers, AreSpaces, IsPart};
-ghost use Rattle.semver_versions.specs.Means.Cutting.{AreParts, IsFound, HasIdentifiers};
-ghost use Rattle.semver_versions.specs.Means.Cutting.{IsOutlined};
+ghost use Rattle.semver_versions.specs.Means.Cutting.{AreParts, IsOutlined};
 
+use crate::identifiers::text_of_identifiers;
 use crate::outlines::Outline;
-use semver_texts::bytes::{count_dots, space_len};
-use semver_texts::decimals::{begins_with_digit, numbers, whole_number};
-use semver_texts::version::{Identifier, Version};
-use std::alloc::{AllocError, Global};
+use semver_texts::bytes::space_len;
+use semver_texts::decimals::{begins_with_digit, numbers};
 
 /// A hyphen or a dot.
 #[inline(always)]
@@ -105,97 +102,49 @@ fn parts(bytes: &[u8]) -> Option<(&[u8], &[u8])>
     }
 }
 
-/// The text of identifiers. Their bytes are ASCII, which is proved, and so isn't checked.
+/// How many bytes a part has with its mark.
 #[inline(always)]
-fn text_of_identifiers(bytes: &[u8]) -> &str
-    requires { AreIdentifiers bytes.now }
-    ensures { result.now ≡ bytes.now }
+fn marked_len(part: &[u8]) -> usize
+    requires { length part.now + 1 < 2 ^ 64 }
+    ensures { (mark : ℕ) → result ≡ length (marked (mark ∷ []) (cut_at_dots part.now)) }
 {
-    unsafe { str::from_utf8_unchecked(bytes) }
+    if part.is_empty() { 0 } else { part.len() + 1 }
 }
 
-/// The identifier that the bytes spell.
+/// Where a part begins whose mark stands at the place; 0 where there is no part.
 #[inline(always)]
-fn identifier(alloc: Global, bytes: &[u8]) -> Result<Identifier, AllocError>
-    requires { IsIdentifierText bytes.now }
-    ensures { IfOk result (λ id. SpellsIdentifier (identifier_value id) bytes.now) }
+fn behind_mark_at(place: usize, part: &[u8]) -> usize
+    requires { place + length part.now < 2 ^ 64 }
+    ensures { result ≡ behind_mark place part.now }
 {
-    let text = text_of_identifiers(bytes);
-    match whole_number(text) {
-        Some(number) => Ok(Identifier::Numeric(number)),
-        None => Ok(Identifier::AlphaNumeric(String::from_str(alloc, text)?)),
-    }
+    if part.is_empty() { 0 } else { place + 1 }
 }
 
-/// The identifiers between the dots. Their list is asked for once, at its size.
-fn cut_identifiers(alloc: Global, bytes: &[u8]) -> Result<Vec<Identifier>, AllocError>
-    requires { AllByRecursion IsIdentifierText (slice_split is_dot bytes.now) }
-    ensures { IfOk result (λ ids. AllZip SpellsIdentifier (map identifier_value ids.items)
-        (slice_split is_dot bytes.now)) }
-{
-    let mut identifiers = Vec::with_capacity(alloc, count_dots(bytes).saturating_add(1))?;
-    for part in bytes.split(|byte| *byte == b'.') {
-        identifiers.push(identifier(alloc, part)?)?;
-    }
-    Ok(identifiers)
-}
-
-/// The identifiers that the bytes spell between their dots; none where there are no bytes, which
-/// takes no memory.
-#[inline(always)]
-fn identifiers(alloc: Global, bytes: &[u8]) -> Result<Vec<Identifier>, AllocError>
-    requires { AreIdentifiers bytes.now }
-    ensures spelled { IfOk result (λ ids. AllZip SpellsIdentifier (map identifier_value ids.items)
-        (cut_at_dots bytes.now)) }
-    ensures some { IfErr result (λ _. 0 < length bytes.now) }
-{
-    if bytes.is_empty() {
-        return Ok(Vec::new(alloc));
-    }
-    cut_identifiers(alloc, bytes)
-}
-
-/// The version whose numbers are known, and what stands behind them.
+/// The outline whose numbers are known, how many bytes there are up to their end, and what stands
+/// behind them.
 #[inline(never)]
 fn with_parts(
-    alloc: Global,
     major: u64,
     minor: u64,
     patch: u64,
+    numbers_end: usize,
     rest: &[u8],
-) -> Result<Option<Version>, AllocError>
-    ensures found { (text : Text) → BeginsWithNumbers text major minor patch rest.now
-        → IfOk result (λ found. IsFound text found) }
-    ensures memory { (text : Text) → BeginsWithNumbers text major minor patch rest.now
-        → IfErr result (λ _. HasIdentifiers text) }
-{
-    let Some((pre, build)) = parts(rest) else {
-        return Ok(None);
-    };
-    let pre = identifiers(alloc, pre)?;
-    let build = identifiers(alloc, build)?;
-    Ok(Some(Version {
-        major,
-        minor,
-        patch,
-        pre,
-        build,
-    }))
-}
-
-/// The outline whose numbers are known, and what stands behind them.
-#[inline(never)]
-fn outline_with_parts(major: u64, minor: u64, patch: u64, rest: &[u8]) -> Option<Outline<'_>>
-    ensures { (text : Text) → BeginsWithNumbers text major minor patch rest.now
-        → IsOutlined text result }
+) -> Option<Outline<'_>>
+    requires { numbers_end + length rest.now < 2 ^ 64 }
+    ensures { (text : Text) (before : ℕ) → BeginsWithNumbers text major minor patch rest.now
+        → numbers_end + length rest.now ≡ before + length text
+        → IsOutlined before text result }
 {
     let (pre, build) = parts(rest)?;
+    let pre_end = numbers_end + marked_len(pre);
     Some(Outline {
         major,
         minor,
         patch,
         pre: text_of_identifiers(pre),
         build: text_of_identifiers(build),
+        pre_offset: behind_mark_at(numbers_end, pre),
+        build_offset: behind_mark_at(pre_end, build),
     })
 }
 
@@ -210,34 +159,11 @@ fn behind_spaces(bytes: &[u8]) -> &[u8]
     &bytes[space_len(bytes)..]
 }
 
-/// The version that the bytes spell, if they spell one; an error is want of memory for its
-/// identifiers.
-///
-/// No memory is asked for before the bytes are known to be a version.
-#[inline(always)]
-pub(crate) fn version(alloc: Global, input: &[u8]) -> Result<Option<Version>, AllocError>
-    ensures found { IfOk result (λ found. IsFound input.now found) }
-    ensures memory { IfErr result (λ _. HasIdentifiers input.now) }
-{
-    let Some((major, minor, patch, rest)) = numbers(behind_spaces(input)) else {
-        return Ok(None);
-    };
-    if are_spaces(rest) {
-        return Ok(Some(Version {
-            major,
-            minor,
-            patch,
-            pre: Vec::new(alloc),
-            build: Vec::new(alloc),
-        }));
-    }
-    Ok(with_parts(alloc, major, minor, patch, rest)?)
-}
-
-/// The outline of the version that the bytes spell, if they spell one.
+/// The outline of the version that the bytes spell, if they spell one. For speed, one without a
+/// pre-release and a build is told first.
 #[inline(always)]
 pub(crate) fn outline(input: &[u8]) -> Option<Outline<'_>>
-    ensures { IsOutlined input.now result }
+    ensures { IsOutlined (prefix_len is_space input.now) input.now result }
 {
     let (major, minor, patch, rest) = numbers(behind_spaces(input))?;
     if are_spaces(rest) {
@@ -247,7 +173,9 @@ pub(crate) fn outline(input: &[u8]) -> Option<Outline<'_>>
             patch,
             pre: "",
             build: "",
+            pre_offset: 0,
+            build_offset: 0,
         });
     }
-    outline_with_parts(major, minor, patch, rest)
+    with_parts(major, minor, patch, input.len() - rest.len(), rest)
 }

@@ -3,6 +3,7 @@
 #![tactic(auto)]
 
 mod from_bytes;
+mod identifiers;
 pub mod laws;
 mod outlines;
 pub mod version;

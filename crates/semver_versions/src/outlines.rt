@@ -1,18 +1,157 @@
 //! Versions in outline.
 
-/// A version text in outline: the three numbers, and the texts of the pre-release and of the build.
-#[derive(Clone, Copy, PartialEq, Eq, Hash, Debug)]
+ghost use Rattle.std.specs.Prelude.{◌≡◌, ◌⊎◌, ◌<◌, [], length, map, IfOk, IfErr};
+ghost use Rattle.semver_texts.specs.Texts.{Text};
+ghost use Rattle.semver_texts.specs.Versions.{VersionValue};
+ghost use Rattle.semver_texts.specs.VersionGrammar.{SpellsVersion};
+ghost use Rattle.semver_texts.specs.VersionViews.{identifier_value, version_value};
+ghost use Rattle.semver_versions.specs.Outlines.{IsOutlineOf};
+
+use crate::identifiers::identifiers;
+use semver_texts::version::{Identifier, Version};
+use std::alloc::{AllocError, Global};
+use std::marker::Model;
+
+/// A version text in outline: the three numbers, and the texts of the pre-release and of the build
+/// with where they stand. `version::outline` answers it, and the version can be made of it.
+#[derive(Debug, Drop)]
 pub struct Outline<'t> {
+    pub(crate) major: u64,
+    pub(crate) minor: u64,
+    pub(crate) patch: u64,
+    pub(crate) pre: &'t str,
+    pub(crate) build: &'t str,
+    pub(crate) pre_offset: usize,
+    pub(crate) build_offset: usize,
+}
+
+impl<'t> Model for Outline<'t> {
+    ghost use Rattle.semver_versions.specs.Outlines.{OutlineValue};
+    ghost use Rattle.semver_versions.specs.Means.Cutting.{AreIdentifiers};
+
+    ghost Value = { OutlineValue };
+
+    ghost view = { λ o. record {
+      major = o.major;
+      minor = o.minor;
+      patch = o.patch;
+      pre = o.pre.now;
+      build = o.build.now;
+      pre_offset = o.pre_offset;
+      build_offset = o.build_offset;
+    } };
+
+    ghost invariant = { λ o. AreIdentifiers o.pre.now × AreIdentifiers o.build.now };
+}
+
+impl<'t> Outline<'t> {
     /// The first number: 1 in `1.2.3-rc.4+5aedf`.
-    pub major: u64,
+    #[inline(always)]
+    pub fn major(&self) -> u64
+        ensures { result ≡ self.now.major }
+    {
+        self.major
+    }
+
     /// The second number: 2 in `1.2.3-rc.4+5aedf`.
-    pub minor: u64,
+    #[inline(always)]
+    pub fn minor(&self) -> u64
+        ensures { result ≡ self.now.minor }
+    {
+        self.minor
+    }
+
     /// The third number: 3 in `1.2.3-rc.4+5aedf`.
-    pub patch: u64,
+    #[inline(always)]
+    pub fn patch(&self) -> u64
+        ensures { result ≡ self.now.patch }
+    {
+        self.patch
+    }
+
     /// The identifiers of the pre-release joined by dots, without the `-` in front of them; empty
     /// where there is no pre-release: `rc.4` in `1.2.3-rc.4+5aedf`.
-    pub pre: &'t str,
+    #[inline(always)]
+    pub fn pre(&self) -> &'t str
+        ensures { result.now ≡ self.now.pre }
+    {
+        self.pre
+    }
+
     /// The identifiers of the build joined by dots, without the `+` in front of them; empty where
     /// there is no build: `5aedf` in `1.2.3-rc.4+5aedf`.
-    pub build: &'t str,
+    #[inline(always)]
+    pub fn build(&self) -> &'t str
+        ensures { result.now ≡ self.now.build }
+    {
+        self.build
+    }
+
+    /// How many bytes of the text that was read stand in front of the identifiers of the
+    /// pre-release: 7 of ` 1.2.3-rc.4`. It is 0 where there is no pre-release.
+    #[inline(always)]
+    pub fn pre_offset(&self) -> usize
+        ensures { result ≡ self.now.pre_offset }
+    {
+        self.pre_offset
+    }
+
+    /// How many bytes of the text that was read stand in front of the identifiers of the build: 11
+    /// of `1.2.3-rc.4+5aedf`. It is 0 where there is no build.
+    #[inline(always)]
+    pub fn build_offset(&self) -> usize
+        ensures { result ≡ self.now.build_offset }
+    {
+        self.build_offset
+    }
+
+    /// The identifiers of the pre-release: `"rc"` and 4 of `1.2.3-rc.4+5aedf`.
+    ///
+    /// Memory is asked for where there are some: for their list, and for each that isn't a number.
+    /// `Err` is want of it.
+    #[inline(always)]
+    pub fn pre_identifiers(&self, alloc: Global) -> Result<Vec<Identifier>, AllocError>
+        // They are those of each version text that has this outline.
+        ensures identifiers { (text : Text) (v : VersionValue) → IsOutlineOf text self.now
+            → SpellsVersion v text
+            → IfOk result (λ ids. map identifier_value ids.items ≡ v.plain.pre) }
+        ensures out_of_memory { IfErr result (λ _. 0 < length self.now.pre) }
+    {
+        identifiers(alloc, self.pre.as_bytes())
+    }
+
+    /// The identifiers of the build: `"5aedf"` of `1.2.3-rc.4+5aedf`. Memory is asked for as by
+    /// [`Outline::pre_identifiers`].
+    #[inline(always)]
+    pub fn build_identifiers(&self, alloc: Global) -> Result<Vec<Identifier>, AllocError>
+        // They are those of each version text that has this outline.
+        ensures identifiers { (text : Text) (v : VersionValue) → IsOutlineOf text self.now
+            → SpellsVersion v text
+            → IfOk result (λ ids. map identifier_value ids.items ≡ v.build) }
+        ensures out_of_memory { IfErr result (λ _. 0 < length self.now.build) }
+    {
+        identifiers(alloc, self.build.as_bytes())
+    }
+
+    /// The version: of the outline of `1.2.3-rc.4+5aedf` the numbers 1, 2 and 3, the pre-release
+    /// `"rc"`, 4 and the build `"5aedf"`.
+    ///
+    /// Memory is asked for where there is a pre-release or a build: for the lists of identifiers,
+    /// and for each identifier that isn't a number. `Err` is want of it.
+    #[inline(always)]
+    pub fn version(&self, alloc: Global) -> Result<Version, AllocError>
+        // Each text that has this outline spells the version.
+        ensures version { IfOk result (λ version. (text : Text) → IsOutlineOf text self.now
+            → SpellsVersion (version_value version) text) }
+        ensures out_of_memory { IfErr result
+            (λ _. (0 < length self.now.pre) ⊎ (0 < length self.now.build)) }
+    {
+        Ok(Version {
+            major: self.major,
+            minor: self.minor,
+            patch: self.patch,
+            pre: self.pre_identifiers(alloc)?,
+            build: self.build_identifiers(alloc)?,
+        })
+    }
 }

@@ -13,7 +13,7 @@ ghost use Rattle.semver_texts.specs.PrintedText.{version_text};
 ghost use Rattle.semver_texts.specs.VersionViews.{version_value};
 ghost use Rattle.semver_texts.specs.VersionGrammar.{SpellsVersion, IsVersionText, IsTrimmed};
 ghost use Rattle.semver_texts.specs.VersionGrammar.{IsPrintableVersion};
-ghost use Rattle.semver_versions.specs.Outlines.{OutlineValue, outline_value, IsOutlineOf};
+ghost use Rattle.semver_versions.specs.Outlines.{OutlineValue, IsOutlineOf, StandsAt};
 ghost use Rattle.semver_steps.specs.VersionReading.{IsOutcomeOf, TextMayRunOut};
 ghost use Rattle.semver_steps.specs.ParserViews.{answer_of, UnlessOutOfMemory, IfOutOfMemory};
 
@@ -61,7 +61,10 @@ pub fn read_bytes(alloc: Global, input: &[u8]) -> Result<Option<Version>, AllocE
     ensures out_of_memory { IfErr result (λ _. (v : VersionValue) × SpellsVersion v input.now
         × ((0 < length v.plain.pre) ⊎ (0 < length v.build))) }
 {
-    from_bytes::version(alloc, input)
+    let Some(outline) = outline_bytes(input) else {
+        return Ok(None);
+    };
+    Ok(Some(outline.version(alloc)?))
 }
 
 /// The version that the text spells in outline, if it spells one: `" 1.2.3-rc.4+b5\n"` gives the
@@ -73,15 +76,18 @@ pub fn read_bytes(alloc: Global, input: &[u8]) -> Result<Option<Version>, AllocE
 pub fn outline(input: &str) -> Option<Outline<'_>>
     // An outline is answered exactly where it is that of a version that the text spells.
     ensures outlined { (o : OutlineValue) →
-        (option_map outline_value result ≡ Some o) ↔ IsOutlineOf input.now o }
+        (result ≡ Some o) ↔ IsOutlineOf input.now o }
     // None is answered exactly where the text spells no version.
     ensures none { (result ≡ None) ↔ ¬ (IsVersionText input.now) }
     // The text of the pre-release is empty exactly where the version has none.
     ensures pre_release { (v : VersionValue) → SpellsVersion v input.now →
-        IfSome result (λ o. (o.pre.now ≡ []) ↔ (v.plain.pre ≡ [])) }
+        IfSome result (λ o. (o.pre ≡ []) ↔ (v.plain.pre ≡ [])) }
     // So with the build.
     ensures build { (v : VersionValue) → SpellsVersion v input.now →
-        IfSome result (λ o. (o.build.now ≡ []) ↔ (v.build ≡ [])) }
+        IfSome result (λ o. (o.build ≡ []) ↔ (v.build ≡ [])) }
+    // Both texts stand in the input at their offsets.
+    ensures places { IfSome result (λ o. StandsAt o.pre_offset o.pre input.now
+        × StandsAt o.build_offset o.build input.now) }
 {
     outline_bytes(input.as_bytes())
 }
@@ -93,15 +99,18 @@ pub fn outline(input: &str) -> Option<Outline<'_>>
 pub fn outline_bytes(input: &[u8]) -> Option<Outline<'_>>
     // An outline is answered exactly where it is that of a version that the bytes spell.
     ensures outlined { (o : OutlineValue) →
-        (option_map outline_value result ≡ Some o) ↔ IsOutlineOf input.now o }
+        (result ≡ Some o) ↔ IsOutlineOf input.now o }
     // None is answered exactly where the bytes spell no version.
     ensures none { (result ≡ None) ↔ ¬ (IsVersionText input.now) }
     // The text of the pre-release is empty exactly where the version has none.
     ensures pre_release { (v : VersionValue) → SpellsVersion v input.now →
-        IfSome result (λ o. (o.pre.now ≡ []) ↔ (v.plain.pre ≡ [])) }
+        IfSome result (λ o. (o.pre ≡ []) ↔ (v.plain.pre ≡ [])) }
     // So with the build.
     ensures build { (v : VersionValue) → SpellsVersion v input.now →
-        IfSome result (λ o. (o.build.now ≡ []) ↔ (v.build ≡ [])) }
+        IfSome result (λ o. (o.build ≡ []) ↔ (v.build ≡ [])) }
+    // Both texts stand in the input at their offsets.
+    ensures places { IfSome result (λ o. StandsAt o.pre_offset o.pre input.now
+        × StandsAt o.build_offset o.build input.now) }
 {
     from_bytes::outline(input)
 }

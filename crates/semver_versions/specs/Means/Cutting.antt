@@ -1,16 +1,12 @@
 -- A version in parts, as it is read from its bytes: a means of proof. `VersionGrammar` says what
 -- the identifiers of a text are and which version it spells; the public clauses speak of that.
-use Rattle.std.specs.Prelude.{◌≡◌, ◌<◌, Bool, false, ◌||◌, ◌==◌, ℕ, List, [], ◌∷◌, ◌++◌, ◌⊎◌}
-use Rattle.std.specs.Prelude.{length}
+use Rattle.std.specs.Prelude.{◌≡◌, ◌<◌, Bool, false, ◌||◌, ◌==◌, ℕ, List, [], ◌∷◌, ◌++◌}
 use Rattle.std.specs.Prelude.{take, slice_index, IsTrue, Option, Some, None, codes}
 use Rattle.std.specs.List.{AllByRecursion, prefix_len, slice_split}
 use Rattle.semver_texts.specs.Texts.{Text, marked, is_dot, is_part_byte, is_space}
 use Rattle.semver_texts.specs.Versions.{VersionValue}
 use Rattle.semver_texts.specs.VersionGrammar.{IsIdentifierText, SpellsVersion, IsVersionText}
-use Rattle.semver_texts.specs.VersionViews.{version_value}
-use Rattle.semver_texts.specs.declared.version.Version.{Version}
-use Rattle.semver_versions.specs.Outlines.{outline_value, IsOutlineOf}
-use Rattle.semver_versions.specs.declared.outlines.Outline.{Outline}
+use Rattle.semver_versions.specs.Outlines.{OutlineValue, outline_behind}
 
 -- the texts between the dots; none where there is nothing
 abbrev pub cut_at_dots : Text → List Text
@@ -51,18 +47,12 @@ pub record AreParts (text pre build : Text) : Type 0 where
   pub split : text
       ≡ marked (codes "-") (cut_at_dots pre) ++ (marked (codes "+") (cut_at_dots build) ++ after)
 
--- the version that the text spells, or none where it spells none
-abbrev pub IsFound : Text → Option Version → Type 0
-IsFound text None = ¬ (IsVersionText text)
-IsFound text (Some v) = SpellsVersion (version_value v) text
+-- the outline of a version that the text spells behind so many bytes
+abbrev pub IsOutlineBehind : ℕ → Text → OutlineValue → Type 0
+IsOutlineBehind before text o =
+    (v : VersionValue) × SpellsVersion v text × (o ≡ outline_behind before v)
 
--- the text spells a version with a pre-release or a build
-abbrev pub HasIdentifiers : Text → Type 0
-HasIdentifiers text =
-    (v : VersionValue) × SpellsVersion v text
-    × ((0 < length v.plain.pre) ⊎ (0 < length v.build))
-
--- the outline of a version that the text spells, or none where it spells none
-abbrev pub IsOutlined : Text → Option Outline → Type 0
-IsOutlined text None = ¬ (IsVersionText text)
-IsOutlined text (Some o) = IsOutlineOf text (outline_value o)
+-- the same, or none where the text spells none
+abbrev pub IsOutlined : ℕ → Text → Option OutlineValue → Type 0
+IsOutlined before text None = ¬ (IsVersionText text)
+IsOutlined before text (Some o) = IsOutlineBehind before text o

@@ -1,9 +1,10 @@
-use Rattle.std.proofs.Common.{ℕ, subst, refl, None, drop}
-use Rattle.std.specs.List.{prefix_len}
+use Rattle.std.proofs.Common.{ℕ, subst, refl, None, drop, arith, length, ap, length-append, length-drop}
+use Rattle.std.specs.List.{prefix_len, join_with_byte}
+use Rattle.std.proofs.lemmas.List.Sums.{prefix_len-le-length}
 use Rattle.semver_texts.specs.Texts.{Text, is_space, BeginsWithNumbers}
 use Rattle.semver_versions.proofs.CutIdentifiers.{ends_front}
 use Rattle.semver_versions.proofs.SpelledParts.{no_numbers}
-use Rattle.semver_versions.proofs.OutlinedTexts.{has_plain_outline, outline_spaced, outlined_spaced}
+use Rattle.semver_versions.proofs.OutlinedTexts.{has_plain_outline, outline_spaced, outlined_spaced, rest_fits}
 use Rattle.semver_versions.proofs.from_bytes.outline.Goals as goal
 use Rattle.semver_versions.proofs.from_bytes.outline.Goals.{In_ok-major}
 
@@ -24,10 +25,12 @@ returns-in_err-major c = rw c.from_residual.ensures
 pub returns-then-are_spaces : goal.returns-then-are_spaces
 returns-then-are_spaces c =
     outline_spaced c.args.input.now _
-    (has_plain_outline _ c.in_ok-major.rest.now c.in_ok-major.major c.in_ok-major.minor c.in_ok-major.patch
+    (has_plain_outline _ _ c.in_ok-major.rest.now c.in_ok-major.major c.in_ok-major.minor c.in_ok-major.patch
     (begins (goal.at.returns-then-are_spaces c).In_ok-major) (c.are_spaces.ensures.yes c.if-are_spaces.true))
 
 pub returns : goal.returns
 returns c =
-    outlined_spaced c.args.input.now c.outline_with_parts.result
-    (c.outline_with_parts.ensures _ (begins (goal.at.returns c).In_ok-major))
+    let n = begins (goal.at.returns c).In_ok-major in
+    outlined_spaced c.args.input.now c.with_parts.result
+    (c.with_parts.ensures _ (prefix_len is_space c.args.input.now) n
+    (omega (arith, rest_fits c.args.input.now c.in_ok-major.rest.now _ _ _ n)))

@@ -1,24 +1,22 @@
-use Rattle.std.proofs.Common.{map, inl, inr}
-use Rattle.semver_texts.specs.VersionViews.{identifier_value}
-use Rattle.semver_versions.proofs.SpelledParts.{no_parts, has_identifiers, spells_version, if_err}
+use Rattle.std.proofs.Common.{arith}
+use Rattle.semver_versions.proofs.SpelledParts.{no_parts}
+use Rattle.semver_versions.proofs.OutlinedTexts.{has_outline, parts_fit}
 use Rattle.semver_versions.proofs.from_bytes.with_parts.Goals as goal
 
-pub returns-in_default-clause-found : goal.returns-in_default-clause-found
-returns-in_default-clause-found c = λ text n.
-    no_parts text c.args.rest.now c.args.major c.args.minor c.args.patch n c.in_default.ensures
+pub returns-in_err-pre : goal.returns-in_err-pre
+returns-in_err-pre c = λ text before n at. rw c.from_residual.ensures
+    (no_parts text c.args.rest.now c.args.major c.args.minor c.args.patch n c.in_err-pre.ensures)
 
-pub returns-in_err-pre-clause-memory : goal.returns-in_err-pre-clause-memory
-returns-in_err-pre-clause-memory c = λ text n.
-    if_err c.from_residual.result (has_identifiers text c.args.rest.now c.in-Some.pre.now c.in-Some.build.now
-    c.args.major c.args.minor c.args.patch n c.in-Some.ensures (inl c.in_err-pre.ensures.some))
+pub behind_mark_at-requires : goal.behind_mark_at-requires
+behind_mark_at-requires c =
+    omega (arith, c.requires, parts_fit c.args.rest.now c.in_ok-pre.pre.now c.in_ok-pre.build.now c.in_ok-pre.ensures)
 
-pub returns-in_err-build-clause-memory : goal.returns-in_err-build-clause-memory
-returns-in_err-build-clause-memory c = λ text n.
-    if_err c.from_residual-in_err-build.result (has_identifiers text c.args.rest.now c.in-Some.pre.now c.in-Some.build.now
-    c.args.major c.args.minor c.args.patch n c.in-Some.ensures (inr c.in_err-build.ensures.some))
+pub behind_mark_at-requires-2 : goal.behind_mark_at-requires-2
+behind_mark_at-requires-2 c =
+    omega (arith, c.requires, c.marked_len.ensures 45, parts_fit c.args.rest.now c.in_ok-pre.pre.now c.in_ok-pre.build.now c.in_ok-pre.ensures)
 
-pub returns-clause-found : goal.returns-clause-found
-returns-clause-found c = λ text n.
-    spells_version text c.args.rest.now c.in-Some.pre.now c.in-Some.build.now c.args.major c.args.minor c.args.patch n
-    c.in-Some.ensures (map identifier_value c.in_ok-pre.pre.items)
-    (map identifier_value c.in_ok-build.build.items) c.in_ok-pre.ensures.spelled c.in_ok-build.ensures.spelled
+pub returns : goal.returns
+returns c = λ text before n at.
+    rw (c.text_of_identifiers.ensures, c.text_of_identifiers-2.ensures, c.behind_mark_at.ensures, c.behind_mark_at-2.ensures)
+    (has_outline before text c.args.rest.now c.in_ok-pre.pre.now c.in_ok-pre.build.now c.args.major c.args.minor c.args.patch n
+    c.in_ok-pre.ensures c.args.numbers_end _ at (omega (arith, c.marked_len.ensures 45)))

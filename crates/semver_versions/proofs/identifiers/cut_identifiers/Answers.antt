@@ -9,8 +9,8 @@ use Rattle.semver_texts.specs.VersionGrammar.{IsIdentifierText, SpellsIdentifier
 use Rattle.semver_texts.specs.VersionViews.{identifier_value}
 use Rattle.semver_texts.specs.Texts.{is_dot}
 use Rattle.semver_versions.proofs.CutIdentifiers.{all_at, one_more_spelled}
-use Rattle.semver_versions.proofs.from_bytes.cut_identifiers.Goals as goal
-use Rattle.semver_versions.proofs.from_bytes.cut_identifiers.Goals.{In-Some}
+use Rattle.semver_versions.proofs.identifiers.cut_identifiers.Goals as goal
+use Rattle.semver_versions.proofs.identifiers.cut_identifiers.Goals.{In-Some}
 
 -- the text at the place that the loop has come to
 text_here : (c : In-Some) → (length c.loop-part.yielded < length (slice_split is_dot c.args.bytes.now))

@@ -3,7 +3,7 @@ use Rattle.std.specs.List.{AllZip, slice_split}
 use Rattle.semver_texts.specs.VersionGrammar.{SpellsIdentifier}
 use Rattle.semver_texts.specs.VersionViews.{identifier_value}
 use Rattle.semver_texts.specs.Texts.{is_dot}
-use Rattle.semver_versions.proofs.from_bytes.cut_identifiers.Given as goal
+use Rattle.semver_versions.proofs.identifiers.cut_identifiers.Given as goal
 
 abbrev pub invariant-loop-part : goal.invariant-loop-part
 invariant-loop-part l =
