@@ -1,6 +1,6 @@
 -- What stands behind the prefix of a line, and what that says of the line.
 use Rattle.std.proofs.Common.{Bor, ◌+◌, Option, Some, None, Result, Ok, Err, IfOk, MatchOption, ◌≡◌, ℕ, ◌++◌}
-use Rattle.std.proofs.Common.{Bool, true, false, List, ap, sym, subst, ◌∙◌, take, drop, length, eqb}
+use Rattle.std.proofs.Common.{Bool, true, false, List, ap, sym, subst, ◌∙◌, ◌⊎◌, ⊎_elim, take, drop, length, eqb}
 use Rattle.std.specs.Cmp.Lexicographic.{pointwise, bytes_decides}
 use Rattle.std.proofs.Math.Seq.{take-append_seam}
 use Rattle.std.proofs.lemmas.List.{append_cancel_left, take-append-drop}
@@ -8,7 +8,11 @@ use Rattle.semver_parser.specs.Versions.{VersionValue}
 use Rattle.semver_parser.specs.VersionGrammar.{SpellsVersion}
 use Rattle.semver_parser.specs.VersionViews.{version_value}
 use Rattle.semver_parser.specs.declared.version.Version.{Version}
-use Rattle.release_filter.specs.Means.Reading.{SpellsPlain, FindsPlain}
+use Rattle.semver_parser.specs.Outlines.{OutlineValue}
+use Rattle.release_filter.specs.Judging.{IsJudged}
+use Rattle.release_filter.specs.declared.judging.Judged.{Judged}
+use Rattle.release_filter.specs.declared.judging.Judged.TheVariants.{NoVersion, DoesNotPass, Passes}
+use Rattle.release_filter.specs.Means.Reading.{SpellsPlain}
 use Rattle.release_filter.specs.KeptLines.{line_text, IsKeptLine, SpellsOneThat}
 use Rattle.release_filter.proofs.Passing.{not_both}
 
@@ -22,18 +26,21 @@ module _ (test : VersionValue → Bool) (prefix line : List ℕ) where
     same_text : (t : List ℕ) → line_text line ≡ prefix ++ t → t ≡ text
     same_text t e = append_cancel_left prefix t text (sym e ∙ is)
 
-    -- no version that it spells passes
-    dropped : ((v : VersionValue) → SpellsVersion v text → test v ≡ false) → ¬ (IsKeptLine test prefix line)
-    dropped none = λ (v, (t, at, spells, passes)). not_both passes (none v (subst (SpellsVersion v) (same_text t at) spells))
+    -- where it isn't kept by what is said of that, neither is the line
+    dropped : ((v : VersionValue) → SpellsVersion v text → ¬ (test v ≡ true)) → ¬ (IsKeptLine test prefix line)
+    dropped none = λ (v, (t, at, spells, passes)). none v (subst (SpellsVersion v) (same_text t at) spells) passes
 
-    -- what a version of the text is to a filter, it is to the line
-    pub line_judged : {E : Type 0} (found : Result (Option Version) E)
-        → IfOk found (FindsPlain test text)
-        → IfOk found (λ found. MatchOption found (¬ (IsKeptLine test prefix line))
-        (λ x. SpellsPlain test prefix line (version_value x).plain))
-    line_judged (Err e) h = tt
-    line_judged (Ok None) none = dropped none
-    line_judged (Ok (Some x)) (v, spells, passes, same) = (v, (text, is, spells, passes), same)
+    -- what is said of that text is so of the line
+    pub line_passes : (version : Version) (outline : OutlineValue) → IsJudged test text (Passes version outline)
+        → SpellsPlain test prefix line (version_value version).plain
+    line_passes version outline ((v, spells, _), told) =
+        (v, (text, is, spells, (told v spells).0), ap (λ (w : VersionValue). w.plain) (told v spells).1)
+
+    pub line_fails : (said : Judged) → (said ≡ NoVersion) ⊎ (said ≡ DoesNotPass) → IsJudged test text said
+        → ¬ (IsKeptLine test prefix line)
+    line_fails NoVersion either none = dropped (λ v spells _. none (v, spells))
+    line_fails DoesNotPass either (_, fails) = dropped (λ v spells passes. not_both passes (fails v spells))
+    line_fails (Passes version outline) either _ = absurd (⊎_elim (λ none. cc) (λ fails. cc) either)
 
 -- what `strip_prefix` tells of bytes
 abbrev pub Strips : List ℕ → List ℕ → Option (Bor (List ℕ)) → Type 0

@@ -1,10 +1,11 @@
 -- What passes a filter meets its comparators, whatever its rule for pre-releases is.
-use Rattle.std.proofs.Common.{◌≡◌, ◌==◌, ◌∷◌, length, ℕ, List, [], Option, Some, None, MatchOption, IfSome, IfOk, IfErr, Result, Ok, Err}
+use Rattle.std.proofs.Common.{◌≡◌, ◌<◌, ◌==◌, ◌∷◌, arith, length, ℕ, List, [], Option, Some, None, MatchOption, IfSome, IfOk, IfErr, Result, Ok, Err}
 use Rattle.std.proofs.Common.{◌↔◌, subst, option_map, IsTrue, Bool, true, false, refl, sym, ap, ◌∙◌, rules}
 use Rattle.std.specs.Prelude.{◌&&◌}
 use Rattle.semver_parser.specs.Texts.{Text, is_empty}
 use Rattle.semver_parser.specs.Versions.{IdentifierValue, PlainVersion, VersionValue}
-use Rattle.semver_parser.specs.VersionGrammar.{SpellsVersion}
+use Rattle.semver_parser.specs.VersionGrammar.{SpellsVersion, IsVersionText}
+use Rattle.semver_parser.specs.Outlines.{OutlineValue, IsOutlineOf}
 use Rattle.semver_parser.specs.VersionViews.{version_value}
 use Rattle.semver_parser.specs.declared.version.Version.{Version}
 use Rattle.semver_parser.specs.RewritingTable.{PlainSet}
@@ -13,7 +14,9 @@ use Rattle.semver_parser.specs.StatedPreReleases.{counts_beside, meets_set_as_st
 use Rattle.std.specs.declared.alloc.AllocError.{AllocError}
 use Rattle.release_filter.specs.Filters.{meets_with, FilterValue, passes}
 use Rattle.release_filter.specs.KeptReleases.{is_release}
-use Rattle.release_filter.specs.Means.Reading.{FindsPlain}
+use Rattle.release_filter.specs.Judging.{IsJudged, without_build}
+use Rattle.release_filter.specs.Means.Tested.{IsReadAs, IsTested}
+use Rattle.release_filter.specs.declared.judging.Judged.TheVariants.{NoVersion, DoesNotPass, Passes}
 use Rattle.release_filter.specs.declared.rules.PreReleases.{PreReleases}
 use Rattle.release_filter.specs.declared.rules.PreReleases.TheVariants.{Excluded, Stated, Included}
 use Rattle.release_filter.proofs.Tests.{first_of_both}
@@ -62,55 +65,67 @@ with_rule Included set v w e = ap (λ (p : PlainVersion). meets_set p set) e
 pub same_plain : (filter : FilterValue) (v w : VersionValue) → v.plain ≡ w.plain → passes filter v ≡ passes filter w
 same_plain filter = with_rule filter.pre_releases filter.set
 
--- a text that spells a version, of which one has been made that is the same but for the build
-module _ (filter : FilterValue) (text : Text) (made : Version) (v : VersionValue) (spells : SpellsVersion v text)
-    (same : (w : VersionValue) → SpellsVersion w text → (version_value made).plain ≡ w.plain) where
-  pub judged : (found : Option Version)
-      → MatchOption found (passes filter (version_value made) ≡ false) (λ x. (x ≡ made) × IsTrue (passes filter (version_value made)))
-      → FindsPlain (passes filter) text found
-  judged None fails = λ w is. sym (same_plain filter (version_value made) w (same w is)) ∙ fails
-  judged (Some x) (is, passed) = (
-    v,
-    spells,
-    sym (same_plain filter (version_value made) v (same v spells)) ∙ passed,
-    ap (λ (y : Version). (version_value y).plain) is ∙ same v spells,
-  )
-
--- a version that was made is answered as it is, if at all
-pub made_is : (A B : Type 0) (made : Version) (v : VersionValue) → version_value made ≡ v → (found : Option Version)
-    → MatchOption found A (λ x. (x ≡ made) × B) → IfSome found (λ x. version_value x ≡ v)
-made_is A B made v is None _ = tt
-made_is A B made v is (Some x) found = ap version_value found.0 ∙ is
-
--- what some outline or version is
+-- what some value is
 pub some_is : {X : Type 0} {x y : X} → Some x ≡ Some y → x ≡ y
 some_is e = cc
-
-pub release_is : (m n k : ℕ) (p : PlainVersion) → m ≡ p.major → n ≡ p.minor → k ≡ p.patch → p.pre ≡ []
-    → ◌≡◌ {A = PlainVersion} (record { major = m; minor = n; patch = k; pre = [] }) p
-release_is m n k p major minor patch none =
-    λ i. record { major = major i; minor = minor i; patch = patch i; pre = sym none i }
 
 pub no_length : (xs : List ℕ) → (length xs == 0) ≡ true → xs ≡ []
 no_length [] e = refl
 no_length (x ∷ xs) e = absurd (search rules)
 
--- where what is found is the version that the text spells, the version that passes is found, and no other
-module _ (filter : FilterValue) (text : Text) where
-  exact_of : (found : Option Version)
-      → FindsPlain (passes filter) text found
-      → ((v : VersionValue) → SpellsVersion v text → IfSome found (λ x. version_value x ≡ v))
-      → (v : VersionValue) → (option_map version_value found ≡ Some v) ↔ (SpellsVersion v text × IsTrue (passes filter v))
-  exact_of None fails whole v = (λ e. absurd (search rules), λ both. absurd (not_both both.1 (fails v both.0)))
-  exact_of (Some x) (w, spells, passed, _) whole v = (
-    λ e. let same : w ≡ v = sym (whole w spells) ∙ some_is e in
-        (subst (λ u. SpellsVersion u text) same spells, subst (λ u. passes filter u ≡ true) same passed),
-    λ both. ap Some (whole v both.0),
-  )
+-- ---- an outline that was put to the test of a filter
 
-  pub exactly : (result : Result (Option Version) AllocError)
-      → IfOk result (FindsPlain (passes filter) text)
-      → ((v : VersionValue) → SpellsVersion v text → IfOk result (λ found. IfSome found (λ x. version_value x ≡ v)))
-      → (v : VersionValue) → IfOk result (λ found. (option_map version_value found ≡ Some v) ↔ (SpellsVersion v text × IsTrue (passes filter v)))
-  exactly (Ok found) told whole v = exact_of found told whole v
-  exactly (Err error) told whole v = tt
+module _ (filter : FilterValue) where
+  -- a version that is the same but for the build
+  pub tested_plain : (v w : VersionValue) → w ≡ without_build v → (found : Option Version) → IsTested (passes filter) w found
+      → IsTested (passes filter) v found
+  tested_plain v w same None fails = sym (same_plain filter w v (ap (λ (u : VersionValue). u.plain) same)) ∙ fails
+  tested_plain v w same (Some version) (passed, is) =
+      (sym (same_plain filter w v (ap (λ (u : VersionValue). u.plain) same)) ∙ passed, is ∙ ap without_build same)
+
+  -- a version that was made of it
+  pub tested_made : (v : VersionValue) (made : Version) → version_value made ≡ without_build v → (found : Option Version)
+      → MatchOption found (passes filter (version_value made) ≡ false) (λ x. (x ≡ made) × (passes filter (version_value made) ≡ true))
+      → IsTested (passes filter) v found
+  tested_made v made same None fails = sym (same_plain filter (version_value made) v (ap (λ (u : VersionValue). u.plain) same)) ∙ fails
+  tested_made v made same (Some x) (is, passed) =
+      (sym (same_plain filter (version_value made) v (ap (λ (u : VersionValue). u.plain) same)) ∙ passed, ap version_value is ∙ same)
+
+-- a version of these numbers and this pre-release
+pub made_is : (text : Text) (v : VersionValue) (o : OutlineValue) → IsReadAs text v o → (major minor patch : ℕ) (pre build : List IdentifierValue)
+    → major ≡ o.major → minor ≡ o.minor → patch ≡ o.patch → pre ≡ v.plain.pre → build ≡ []
+    → ◌≡◌ {A = VersionValue} (record { plain = record { major = major; minor = minor; patch = patch; pre = pre }; build = build }) (without_build v)
+made_is text v o read major minor patch pre build at_major at_minor at_patch at_pre none = λ i. record {
+  plain = record {
+    major = (at_major ∙ ap (λ (x : OutlineValue). x.major) read.outline) i;
+    minor = (at_minor ∙ ap (λ (x : OutlineValue). x.minor) read.outline) i;
+    patch = (at_patch ∙ ap (λ (x : OutlineValue). x.patch) read.outline) i;
+    pre = at_pre i;
+  };
+  build = none i;
+}
+
+-- ---- what is said of a text
+
+module _ (test : VersionValue → Bool) (text : Text) (o : OutlineValue) (outlined : IsOutlineOf text o)
+    (read : (v : VersionValue) → SpellsVersion v text → IsReadAs text v o) where
+  pub judged_none : ((v : VersionValue) → IsReadAs text v o → IsTested test v None) → IsJudged test text DoesNotPass
+  judged_none fails = ((outlined.0, outlined.1), λ v spells. fails v (read v spells))
+
+  -- memory ran out at a pre-release
+  pub has_pre_release : 0 < length o.pre → (v : VersionValue) × SpellsVersion v text × (0 < length v.plain.pre)
+  has_pre_release some = (outlined.0, outlined.1, at outlined.0.plain.pre (read outlined.0 outlined.1).pre_release.1)
+    where
+      at : (pre : List IdentifierValue) → (pre ≡ [] → o.pre ≡ []) → 0 < length pre
+      at [] none = absurd (omega (arith, some, ap length (none refl)))
+      at (id ∷ pre) none = omega arith
+
+-- what is answered of a text is each version that it spells, and that passes
+pub exactly_that : (test : VersionValue → Bool) (text : Text) (u : VersionValue) → IsVersionText text
+    → ((v : VersionValue) → SpellsVersion v text → (test v ≡ true) × (u ≡ v)) → (v : VersionValue)
+    → (Some u ≡ Some v) ↔ (SpellsVersion v text × IsTrue (test v))
+exactly_that test text u some told v = (
+  λ e. let same : some.0 ≡ v = sym (told some.0 some.1).1 ∙ some_is e in
+      (subst (λ w. SpellsVersion w text) same some.1, subst (λ w. test w ≡ true) same (told some.0 some.1).0),
+  λ both. ap Some (told v both.0).1,
+)

@@ -14,7 +14,9 @@ use Rattle.release_filter.specs.declared.lines.LineError.{LineError}
 use Rattle.release_filter.specs.declared.lines.LineError.TheVariants.{OutOfMemory}
 use Rattle.release_filter.specs.KeptLines.{IsKeptLine}
 use Rattle.release_filter.specs.Means.Reading.{ReadsPart, ReadsLine, IsWholeLine, SpellsPlain, Judges, JudgesNext, StopsInLine}
-use Rattle.release_filter.specs.Means.Reading.{FindsEnd}
+use Rattle.release_filter.specs.Means.Reading.{FindsEnd, taken}
+use Rattle.release_filter.specs.declared.next_line.Taken.{Taken}
+use Rattle.release_filter.specs.declared.next_line.Taken.TheVariants.{Nothing, PassedOver, Kept}
 use Rattle.release_filter.proofs.LineSteps.{stops_before}
 use Rattle.release_filter.proofs.Passing.{not_both}
 
@@ -54,13 +56,14 @@ module _ {E : Type 0} (test : VersionValue → Bool) (prefix : Text) (line : Lis
   in_place (Err e) h = tt
 
   -- what was found of a line is what it is judged to be
-  pub is_judged : (Nothing Stopped : Type 0) (a c : Option (List ℕ)) (copy : List ℕ) (found : Result (Option Version) E)
-      (result : Result (Option (Option Version)) LineError)
-      → MatchResult found (λ version. result ≡ Ok (Some version)) (λ e. result ≡ Err OutOfMemory)
+  pub is_judged : (NoLine Stopped : Type 0) (a c : Option (List ℕ)) (copy : List ℕ) (found : Result (Option Version) E)
+      (result : Result Taken LineError)
+      → MatchResult found (λ found. result ≡ Ok (taken found)) (λ e. result ≡ Err OutOfMemory)
       → IfOk found (Judges test prefix line copy) → ReadsLine a c line → IfErr found (λ e. Stopped)
-      → JudgesNext Nothing Stopped test prefix a c copy result
-  is_judged Nothing Stopped a c copy (Ok version) result is judges whole stops = rw is (line, whole, judges)
-  is_judged Nothing Stopped a c copy (Err e) result is judges whole stops = rw is stops
+      → JudgesNext NoLine Stopped test prefix a c copy result
+  is_judged NoLine Stopped a c copy (Ok None) result is judges whole stops = rw is (line, whole, judges)
+  is_judged NoLine Stopped a c copy (Ok (Some version)) result is judges whole stops = rw is (line, whole, judges.0, judges.1)
+  is_judged NoLine Stopped a c copy (Err e) result is judges whole stops = rw is stops
 
 -- where memory ran out, the line was read
 pub on_err_part : {T E : Type 0} (a c : Option (List ℕ)) (line : List ℕ) (r : Result T E) → ReadsPart a c line
@@ -84,9 +87,10 @@ stops_kept (Some x) (Some y) kept = subst (λ z. StopsInLine (Some x) (Some z)) 
 
 -- a line that is shown whole is judged as any line is
 pub as_any_line : (test : VersionValue → Bool) (prefix : Text) (a c : Option (List ℕ)) (copy : List ℕ)
-    (result : Result (Option (Option Version)) LineError) → ¬ (result ≡ Ok None)
+    (result : Result Taken LineError) → ¬ (result ≡ Ok Nothing)
     → JudgesNext (Keeps a c) (Keeps a c) test prefix a c copy result
     → JudgesNext (FindsEnd a c) (StopsInLine a c) test prefix a c copy result
-as_any_line test prefix a c copy (Ok None) some judged = absurd (some refl)
-as_any_line test prefix a c copy (Ok (Some found)) some judged = judged
+as_any_line test prefix a c copy (Ok Nothing) some judged = absurd (some refl)
+as_any_line test prefix a c copy (Ok PassedOver) some judged = judged
+as_any_line test prefix a c copy (Ok (Kept version)) some judged = judged
 as_any_line test prefix a c copy (Err e) some kept = stops_kept a c kept

@@ -1,5 +1,6 @@
 pub mod KeptReleases
 pub mod Filters
+pub mod Judging
 pub mod Greatest
 pub mod Means
 pub mod KeptLines

@@ -1,2 +1,4 @@
 pub mod Majors
+pub mod PlainVersions
 pub mod Reading
+pub mod Tested

@@ -1,12 +1,10 @@
 //! A range text read once, as a test on many versions.
 
-ghost use Rattle.std.specs.Prelude.{◌≡◌, ◌↔◌, ◌<◌, ◌^◌, ◌⊎◌, map, filter, length, option_map, true};
-ghost use Rattle.std.specs.Prelude.{false, [], Any, IfOk, IfErr, IfSome, IsTrue, MatchOption};
-ghost use Rattle.std.specs.Prelude.{Some, None};
+ghost use Rattle.std.specs.Prelude.{◌≡◌, ◌↔◌, ◌<◌, ◌^◌, map, filter, Any, IfOk, IfErr, IfSome};
+ghost use Rattle.std.specs.Prelude.{IsTrue, None, []};
 ghost use Rattle.semver_parser.specs.RangeTexts.{RefusesExactly};
 ghost use Rattle.semver_parser.specs.RangeTree.{SetTree, Spells};
 ghost use Rattle.semver_parser.specs.Versions.{PlainVersion, VersionValue};
-ghost use Rattle.semver_parser.specs.VersionGrammar.{SpellsVersion};
 ghost use Rattle.semver_parser.specs.Meeting.{meets_set};
 ghost use Rattle.semver_parser.specs.RangeViews.{set_of};
 ghost use Rattle.semver_parser.specs.VersionViews.{version_value};
@@ -14,13 +12,14 @@ ghost use Rattle.release_filter.specs.KeptReleases.{kept_releases, meant_with};
 ghost use Rattle.release_filter.specs.Filters.{FilterValue, meets_with, passes};
 ghost use Rattle.release_filter.specs.Greatest.{HasNone, IsGreatest, IsOneThat};
 ghost use Rattle.release_filter.specs.Means.Majors.{IsWithin};
-ghost use Rattle.release_filter.specs.Means.Reading.{FindsPlain, SpellsIdentifiers};
+ghost use Rattle.release_filter.specs.Means.PlainVersions.{plain_of};
 
 use crate::majors::{self, Majors};
-use crate::meeting::{release_meets, version_meets, version_meets_as_stated};
+use crate::meeting::{is_met, is_met_as_stated};
+use crate::plain::{self, Plain};
 use crate::precedence;
 use crate::rules::PreReleases;
-use semver_parser::version::{self, Outline, Version};
+use semver_parser::version::Version;
 use semver_parser::{Compat, RangeError, RangeSet, laws};
 use std::alloc::{AllocError, Global};
 use std::marker::Model;
@@ -33,9 +32,9 @@ pub struct Filter {
     /// The comparators: with exact bounds wherever pre-releases can count.
     set: RangeSet,
     /// The rule.
-    pre_releases: PreReleases,
+    pub(crate) pre_releases: PreReleases,
     /// The first numbers that a version can have which meets the set.
-    majors: Majors,
+    pub(crate) majors: Majors,
 }
 
 impl Model for Filter {
@@ -81,107 +80,17 @@ impl Filter {
     pub fn meets(&self, version: &Version) -> bool
         ensures meets { result ≡ passes self.now (version_value version.now) }
     {
-        self.majors.has(version.major) && self.is_met_by(version)
-    }
-
-    /// The version that a text spells, if it spells one that passes: with a filter of `^1.2`,
-    /// releases alone, `1.9.0+b5` gives that version, and `2.0.0`, `1.3.0-rc` and `1.2` give
-    /// `None`.
-    ///
-    /// The text is read as by `version::read`, but only as far as is needed. Memory is taken only
-    /// where it spells a version with a pre-release or a build, and where releases alone pass for
-    /// no pre-release. `Err` is want of it.
-    pub fn read(&self, alloc: Global, text: &str) -> Result<Option<Version>, AllocError>
-        // Unless memory ran out, a version is answered exactly where the text spells it, and it
-        // passes.
-        ensures exact { (v : VersionValue) → IfOk result (λ found.
-            (option_map version_value found ≡ Some v)
-            ↔ (SpellsVersion v text.now × IsTrue (passes self.now v))) }
-        // Unless memory ran out, no version is answered exactly where the text spells none that
-        // passes.
-        ensures none { IfOk result (λ found. (found ≡ None)
-            ↔ ((v : VersionValue) → SpellsVersion v text.now → passes self.now v ≡ false)) }
-        // Memory runs out only where the text spells a version with a pre-release or a build.
-        ensures out_of_memory { IfErr result (λ _. (v : VersionValue) × SpellsVersion v text.now
-            × ((0 < length v.plain.pre) ⊎ (0 < length v.build))) }
-        // A pre-release takes no memory where releases alone pass.
-        ensures releases { (v : VersionValue) → SpellsVersion v text.now → ¬ (v.plain.pre ≡ [])
-            → self.now.pre_releases ≡ PreReleases.Excluded → result ≡ Ok None }
-    {
-        self.version_that_passes(alloc, text.as_bytes(), true)
-    }
-
-    /// The version that the bytes spell, if it passes: with its build where that is asked for, else
-    /// without. What can't pass by its first number or its pre-release isn't read further.
-    #[inline(always)]
-    pub(crate) fn version_that_passes(
-        &self,
-        alloc: Global,
-        text: &[u8],
-        with_build: bool,
-    ) -> Result<Option<Version>, AllocError>
-        ensures found { IfOk result (FindsPlain (passes self.now) text.now) }
-        ensures whole { with_build ≡ true → (v : VersionValue) → SpellsVersion v text.now
-            → IfOk result (λ found. IfSome found (λ version. version_value version ≡ v)) }
-        ensures memory { IfErr result (λ _. SpellsIdentifiers text.now) }
-        ensures releases { (v : VersionValue) → SpellsVersion v text.now → ¬ (v.plain.pre ≡ [])
-            → self.now.pre_releases ≡ PreReleases.Excluded → result ≡ Ok None }
-    {
-        let Some(outline) = version::outline_bytes(text) else {
-            return Ok(None);
-        };
-        if !self.majors.has(outline.major) {
-            return Ok(None);
-        }
-        if outline.pre.is_empty() {
-            if !with_build || outline.build.is_empty() {
-                return Ok(self.if_it_passes(release(alloc, &outline)));
-            }
-        } else if self.pre_releases == PreReleases::Excluded {
-            return Ok(None);
-        }
-        self.whole_version_that_passes(alloc, text)
-    }
-
-    /// The version that the bytes spell, if it passes. All of it is read.
-    #[inline(always)]
-    fn whole_version_that_passes(
-        &self,
-        alloc: Global,
-        text: &[u8],
-    ) -> Result<Option<Version>, AllocError>
-        ensures found { IfOk result (FindsPlain (passes self.now) text.now) }
-        ensures whole { (v : VersionValue) → SpellsVersion v text.now
-            → IfOk result (λ found. IfSome found (λ version. version_value version ≡ v)) }
-        ensures memory { IfErr result (λ _. SpellsIdentifiers text.now) }
-    {
-        match version::read_bytes(alloc, text)? {
-            Some(version) => Ok(self.if_it_passes(version)),
-            None => Ok(None),
-        }
-    }
-
-    /// The version, if it passes.
-    #[inline(always)]
-    fn if_it_passes(&self, version: Version) -> Option<Version>
-        ensures { MatchOption result (passes self.now (version_value version) ≡ false)
-            (λ v. (v ≡ version) × IsTrue (passes self.now (version_value version))) }
-    {
-        if self.is_met_by(&version) {
-            Some(version)
-        } else {
-            None
-        }
+        self.majors.has(version.major) && self.is_met_by(&plain::of(version))
     }
 
     /// Whether a version passes, of whatever first number.
-    fn is_met_by(&self, version: &Version) -> bool
-        ensures { result ≡ passes self.now (version_value version.now) }
+    pub(crate) fn is_met_by(&self, version: &Plain<'_>) -> bool
+        ensures { result ≡ passes self.now (record { plain = plain_of version.now; build = [] }) }
     {
         match self.pre_releases {
-            PreReleases::Excluded => release_meets(&self.set, version),
-            PreReleases::Stated => version_meets_as_stated(&self.set, version),
-            PreReleases::Included => version_meets(&self.set, version),
+            PreReleases::Excluded => version.pre.is_empty() && is_met(&self.set, version),
+            PreReleases::Stated => is_met_as_stated(&self.set, version),
+            PreReleases::Included => is_met(&self.set, version),
         }
     }
 
@@ -235,28 +144,6 @@ impl Filter {
             }
         }
         greatest
-    }
-}
-
-/// The release of an outline, without its build.
-#[inline(always)]
-fn release(alloc: Global, outline: &Outline<'_>) -> Version
-    ensures { version_value result ≡ record {
-      plain = record {
-        major = outline.now.major;
-        minor = outline.now.minor;
-        patch = outline.now.patch;
-        pre = [];
-      };
-      build = [];
-    } }
-{
-    Version {
-        major: outline.major,
-        minor: outline.minor,
-        patch: outline.patch,
-        pre: Vec::new(alloc),
-        build: Vec::new(alloc),
     }
 }
 

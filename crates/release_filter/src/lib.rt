@@ -3,14 +3,17 @@
 #![tactic(auto)]
 
 mod filter;
+mod judging;
 mod lines;
 mod majors;
 mod meeting;
 mod next_line;
+mod plain;
 mod precedence;
 mod rules;
 
 pub use filter::{Filter, filter_text};
+pub use judging::Judged;
 pub use lines::LineError;
 pub use meeting::{release_meets, version_meets, version_meets_as_stated};
 pub use rules::PreReleases;

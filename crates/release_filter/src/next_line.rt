@@ -11,14 +11,26 @@ ghost use Rattle.release_filter.specs.KeptLines.{line_text, IsKeptLine, IsNoWrit
 ghost use Rattle.release_filter.specs.KeptLines.{SpellsOneThat};
 ghost use Rattle.release_filter.specs.Means.Reading.{ReadsPart, ReadsLine, FindsEnd, IsOfOneLine};
 ghost use Rattle.release_filter.specs.Means.Reading.{SpellsPlain, IsWholeLine, Judges, JudgesNext};
-ghost use Rattle.release_filter.specs.Means.Reading.{PassesOver, FindsNext, StopsInLine};
+ghost use Rattle.release_filter.specs.Means.Reading.{PassesOver, FindsNext, StopsInLine, taken};
 ghost use Rattle.semver_parser.specs.Texts.{Text};
 
 use crate::filter::Filter;
+use crate::judging::Judged;
 use crate::lines::LineError;
 use semver_parser::version::Version;
 use std::alloc::{AllocError, Global};
 use std::io::{self, BufRead, ErrorKind};
+
+/// What was taken of a stream.
+#[derive(Drop)]
+pub enum Taken {
+    /// No line.
+    Nothing,
+    /// A line that isn't kept.
+    PassedOver,
+    /// A line that is kept, and spells this version, which is told without its build.
+    Kept(Version),
+}
 
 impl Filter {
     /// The version of the next kept line, and that line in `line`; `None` where none is left. The
@@ -39,18 +51,17 @@ impl Filter {
     {
         'lines: for _passed in 0..u64::MAX {
             match self.judge_next(alloc, prefix, input, line) {
-                Ok(Some(None)) => {}
-                Ok(Some(Some(version))) => return Ok(Some(version)),
-                Ok(None) => return Ok(None),
+                Ok(Taken::PassedOver) => {}
+                Ok(Taken::Kept(version)) => return Ok(Some(version)),
+                Ok(Taken::Nothing) => return Ok(None),
                 Err(error) => return Err(error),
             }
         }
         Err(LineError::TooManyLines)
     }
 
-    /// Takes the next line, and answers its version if it is kept, and the line in `line`; `None`
-    /// where no line is left. A line that the reader doesn't show whole is read into `line`, and
-    /// judged there.
+    /// Takes the next line, and if it is kept has it in `line`; nothing where no line is left. A
+    /// line that the reader doesn't show whole is read into `line`, and judged there.
     #[inline(always)]
     fn judge_next<R: BufRead>(
         &self,
@@ -58,7 +69,7 @@ impl Filter {
         prefix: &str,
         input: &mut R,
         line: &mut Vec<u8>,
-    ) -> Result<Option<Option<Version>>, LineError>
+    ) -> Result<Taken, LineError>
         ensures judges { JudgesNext (FindsEnd (R.remaining input.old) (R.remaining input.new))
             (StopsInLine (R.remaining input.old) (R.remaining input.new))
             (passes self.now) prefix.now (R.remaining input.old) (R.remaining input.new)
@@ -66,19 +77,19 @@ impl Filter {
         ensures of_one_line { IfErr result IsOfOneLine }
     {
         match self.judge_shown(alloc, prefix, input, line) {
-            Ok(None) => {}
+            Ok(Taken::Nothing) => {}
             judged => return judged,
         }
         match read_line(input, line) {
             Ok(true) => judged(self.kept_version(alloc, prefix, line.as_slice())),
-            Ok(false) => Ok(None),
+            Ok(false) => Ok(Taken::Nothing),
             Err(error) => Err(error),
         }
     }
 
     /// What `judge_next` does with a line that the reader shows whole: it is judged where it
-    /// stands, and let go. `None` where the reader shows no whole line, or was interrupted. Then
-    /// nothing is taken, and neither is after a fault, want of memory too.
+    /// stands, and let go. Nothing is taken where the reader shows no whole line, or was
+    /// interrupted, and after a fault, want of memory too.
     #[inline(always)]
     fn judge_shown<R: BufRead>(
         &self,
@@ -86,7 +97,7 @@ impl Filter {
         prefix: &str,
         input: &mut R,
         line: &mut Vec<u8>,
-    ) -> Result<Option<Option<Version>>, LineError>
+    ) -> Result<Taken, LineError>
         ensures judges { JudgesNext (Keeps (R.remaining input.old) (R.remaining input.new))
             (Keeps (R.remaining input.old) (R.remaining input.new))
             (passes self.now) prefix.now (R.remaining input.old) (R.remaining input.new)
@@ -95,11 +106,11 @@ impl Filter {
     {
         let shown = match input.fill_buf() {
             Ok(shown) => shown,
-            Err(error) if error.kind() == ErrorKind::Interrupted => return Ok(None),
+            Err(error) if error.kind() == ErrorKind::Interrupted => return Ok(Taken::Nothing),
             Err(error) => return Err(reading_fault(error)),
         };
         let Some(first) = whole_line(shown) else {
-            return Ok(None);
+            return Ok(Taken::Nothing);
         };
         let found = self.copy_kept(alloc, prefix, first, line);
         if found.is_err() {
@@ -142,9 +153,12 @@ impl Filter {
             (¬ (IsKeptLine (passes self.now) prefix.now line.now))
             (λ v. SpellsPlain (passes self.now) prefix.now line.now (version_value v).plain)) }
     {
-        match text_behind(prefix, line) {
-            Some(text) => self.version_that_passes(alloc, text, false),
-            None => Ok(None),
+        let Some(text) = text_behind(prefix, line) else {
+            return Ok(None);
+        };
+        match self.judge(alloc, text)? {
+            Judged::Passes(version, _) => Ok(Some(version)),
+            Judged::NoVersion | Judged::DoesNotPass => Ok(None),
         }
     }
 }
@@ -165,14 +179,13 @@ fn text_behind<'l>(prefix: &str, line: &'l [u8]) -> Option<&'l [u8]>
 
 /// What `judge_next` answers of a line for which this was found.
 #[inline(always)]
-fn judged(found: Result<Option<Version>, AllocError>) -> Result<Option<Option<Version>>, LineError>
-    ensures { MatchResult found (λ version. result ≡ Ok (Some version))
+fn judged(found: Result<Option<Version>, AllocError>) -> Result<Taken, LineError>
+    ensures { MatchResult found (λ found. result ≡ Ok (taken found))
         (λ _. result ≡ Err LineError.OutOfMemory) }
 {
     match found {
-        // By itself, so that no version is moved where there is none.
-        Ok(None) => Ok(Some(None)),
-        Ok(version) => Ok(Some(version)),
+        Ok(Some(version)) => Ok(Taken::Kept(version)),
+        Ok(None) => Ok(Taken::PassedOver),
         Err(_) => Err(LineError::OutOfMemory),
     }
 }

@@ -1,15 +1,16 @@
 -- What reading a line did to the bytes that a reader tells: a means of proof.
 use Rattle.std.specs.Prelude.{◌≡◌, Bool, ℕ, ◌<◌, ◌≤◌, ◌-◌, ◌^◌, List, [], ◌++◌, length, ⊤, Option}
-use Rattle.std.specs.Prelude.{Some, None, IfSome, MatchOption, Result, Ok, Err, ◌⊎◌, IsTrue, false}
+use Rattle.std.specs.Prelude.{Some, None, IfSome, MatchOption, Result, Ok, Err}
 use Rattle.std.specs.Io.{StopsAt, IsEmptyOrEndsWith}
 use Rattle.std.specs.Io.BufRead.{take_through, drop_through}
 use Rattle.semver_parser.specs.Texts.{Text}
 use Rattle.semver_parser.specs.Versions.{PlainVersion, VersionValue}
-use Rattle.semver_parser.specs.VersionGrammar.{SpellsVersion}
 use Rattle.semver_parser.specs.VersionViews.{version_value}
 use Rattle.semver_parser.specs.declared.version.Version.{Version}
 use Rattle.release_filter.specs.Greatest.{HasNone}
 use Rattle.release_filter.specs.KeptLines.{SpellsOneThat, IsKeptLine, StandsBehind}
+use Rattle.release_filter.specs.declared.next_line.Taken.{Taken}
+use Rattle.release_filter.specs.declared.next_line.Taken.TheVariants.{Nothing, PassedOver, Kept}
 use Rattle.release_filter.specs.declared.lines.LineError.{LineError}
 use Rattle.release_filter.specs.declared.lines.LineError.TheVariants.{OutOfMemory, Read, Write}
 use Rattle.release_filter.specs.declared.lines.LineError.TheVariants.{TooManyLines}
@@ -42,18 +43,6 @@ abbrev pub SpellsPlain : (VersionValue → Bool) → Text → List ℕ → Plain
 SpellsPlain test prefix line plain =
     (v : VersionValue) × SpellsOneThat test prefix line v × (plain ≡ v.plain)
 
--- the version that a text spells and that passes, but for its build; none where there is none
-abbrev pub FindsPlain : (VersionValue → Bool) → Text → Option Version → Type 0
-FindsPlain test text found =
-    MatchOption found ((v : VersionValue) → SpellsVersion v text → test v ≡ false)
-    (λ version. (v : VersionValue) × SpellsVersion v text × IsTrue (test v)
-    × ((version_value version).plain ≡ v.plain))
-
--- a text that spells a version with a pre-release or a build
-abbrev pub SpellsIdentifiers : Text → Type 0
-SpellsIdentifiers text = (v : VersionValue) × SpellsVersion v text
-    × ((0 < length v.plain.pre) ⊎ (0 < length v.build))
-
 -- a line that ends with a line feed
 abbrev pub IsWholeLine : List ℕ → Type 0
 IsWholeLine line = (0 < length line) × StopsAt line 10 × IsEmptyOrEndsWith line 10
@@ -68,13 +57,21 @@ Judges test prefix line copy found =
     MatchOption found (¬ (IsKeptLine test prefix line))
     (λ v. (copy ≡ line) × SpellsPlain test prefix line (version_value v).plain)
 
+-- what was taken where this was found of a line
+abbrev pub taken : Option Version → Taken
+taken None = PassedOver
+taken (Some version) = Kept version
+
 -- the first line was taken and judged; or there was nothing to take, or a fault, which say these
 abbrev pub JudgesNext : Type 0 → Type 0 → (VersionValue → Bool) → Text → Option (List ℕ)
-    → Option (List ℕ) → List ℕ → Result (Option (Option Version)) LineError → Type 0
-JudgesNext Nothing Stopped test prefix old new copy (Ok None) = Nothing
-JudgesNext Nothing Stopped test prefix old new copy (Ok (Some found)) =
-    (line : List ℕ) × ReadsLine old new line × Judges test prefix line copy found
-JudgesNext Nothing Stopped test prefix old new copy (Err error) = Stopped
+    → Option (List ℕ) → List ℕ → Result Taken LineError → Type 0
+JudgesNext NoLine Stopped test prefix old new copy (Ok Nothing) = NoLine
+JudgesNext NoLine Stopped test prefix old new copy (Ok PassedOver) =
+    (line : List ℕ) × ReadsLine old new line × ¬ (IsKeptLine test prefix line)
+JudgesNext NoLine Stopped test prefix old new copy (Ok (Kept v)) =
+    (line : List ℕ) × ReadsLine old new line × (copy ≡ line)
+    × SpellsPlain test prefix line (version_value v).plain
+JudgesNext NoLine Stopped test prefix old new copy (Err error) = Stopped
 
 -- so many lines were read at least, of which none has a version that passes
 abbrev pub PassesOver : (List ℕ → VersionValue → Type 0) → ℕ → Option (List ℕ)

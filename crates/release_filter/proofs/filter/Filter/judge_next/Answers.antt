@@ -5,7 +5,7 @@ use Rattle.release_filter.proofs.filter.Filter.judge_next.Goals as goal
 pub returns-in-Ok-true-clause-judges : goal.returns-in-Ok-true-clause-judges
 returns-in-Ok-true-clause-judges g c =
     let line = c.read_line.new.line.items in
-    let kept = rw c.in-Ok-None.field-0-is at c.in-Ok-None.ensures.judges in
+    let kept = rw c.in-Ok-Nothing.field-0-is at c.in-Ok-Nothing.ensures.judges in
     let judges = in_place _ _ line _ (rw c.as_slice.ensures.value at c.kept_version.ensures) in
     is_judged _ _ line _ _ _ _ _ _ _ c.judged.ensures judges
     (behind_kept _ _ _ kept (c.in-Ok-true.ensures.whole (ap Ok c.in-Ok-true.field-0-test)))
