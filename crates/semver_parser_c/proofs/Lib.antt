@@ -1,6 +1,5 @@
 mod EachPlace
 mod PartBytes
-mod Places
 mod PrintedPlaces
 mod PrintedSets
 mod Steps

@@ -11,7 +11,8 @@ use Rattle.semver_parser.specs.PrintedRanges.{op_text, comparator_text, range_te
 use Rattle.semver_parser.specs.RewritingTable.{PlainComparator, PlainRange, PlainSet}
 use Rattle.semver_parser_c.specs.declared.PrintedComparator.{PrintedComparator}
 use Rattle.semver_parser_c.specs.Numbers.{ok, no_room}
-use Rattle.semver_parser_c.specs.Places.{bytes_at, dotted}
+use Rattle.semver_parser.specs.Outlines.{dotted_text}
+use Rattle.semver_parser_c.specs.Places.{bytes_at}
 use Rattle.semver_parser_c.specs.Comparators.{told_comparator, told_range, told_ranges, told_set, HasPreReleases}
 use Rattle.semver_parser_c.specs.Printing.{IsAtFront, Puts, Putting, PutsBoth}
 use Rattle.semver_parser_c.proofs.PartBytes.{marked_bytes}
@@ -29,7 +30,7 @@ joined_more separator first next others = append_assoc first separator (joined s
 
 module _ (text : Text) where
   abbrev HasPre : PrintedComparator → PlainComparator → Type 0
-  HasPre c plain = bytes_at c.pre text ≡ dotted plain.version.pre
+  HasPre c plain = bytes_at c.pre text ≡ dotted_text plain.version.pre
 
   comparator_has : (n at : ℕ) (before after : Text) (c : PlainComparator) → text ≡ before ++ (comparator_text c ++ after)
       → at ≡ length before → HasPre (told_comparator n at c) c

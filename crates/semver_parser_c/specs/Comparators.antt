@@ -7,11 +7,12 @@ use Rattle.semver_parser.specs.declared.Op.TheVariants.{Lt, Lte, Gt, Gte, Eq}
 use Rattle.semver_parser.specs.Texts.{Text, marked}
 use Rattle.semver_parser.specs.Versions.{numbers}
 use Rattle.semver_parser.specs.PrintedText.{identifier_text}
+use Rattle.semver_parser.specs.Outlines.{dotted_text}
 use Rattle.semver_parser.specs.PrintedRanges.{op_text, comparator_text, range_text}
 use Rattle.semver_parser.specs.RewritingTable.{PlainComparator, PlainRange, PlainSet}
 use Rattle.semver_parser_c.specs.declared.PrintedComparator.{PrintedComparator}
 use Rattle.semver_parser_c.specs.Numbers as number
-use Rattle.semver_parser_c.specs.Places.{behind_mark, bytes_at, dotted}
+use Rattle.semver_parser_c.specs.Places.{behind_mark, bytes_at}
 
 -- the number of an operator
 abbrev pub op_number : Op → ℤ
@@ -59,4 +60,4 @@ comparators_in s = flat_map (λ r. r.comparators) s.ranges
 -- at each place that is told stand the identifiers of that comparator's pre-release, joined by dots
 abbrev pub HasPreReleases : Text → List PrintedComparator → PlainSet → Type 0
 HasPreReleases text told s =
-    AllZip (λ c plain. bytes_at c.pre text ≡ dotted plain.version.pre) told (comparators_in s)
+    AllZip (λ c plain. bytes_at c.pre text ≡ dotted_text plain.version.pre) told (comparators_in s)

@@ -3,6 +3,8 @@ use Rattle.std.specs.Prelude.{ℤ, Bool, true, false, ◌≡◌, ◌≢◌, ◌�
 use Rattle.std.specs.Prelude.{[], ◌∷◌, Result, Ok, Err}
 use Rattle.semver_parser.specs.Texts.{Text}
 use Rattle.semver_parser.specs.Versions.{VersionValue}
+use Rattle.semver_parser.specs.VersionGrammar.{SpellsVersion}
+use Rattle.semver_parser.specs.VersionReading.{IsOutcomeOf, TextMayRunOut}
 use Rattle.semver_parser.specs.declared.Compat.{Compat}
 use Rattle.semver_parser.specs.declared.Compat.TheVariants.{Cargo, Npm}
 use Rattle.semver_parser.specs.declared.RangeError.{RangeError}
@@ -14,7 +16,7 @@ use Rattle.semver_parser.specs.RangeTexts.{IsRangeText, HasSet, IsTooLarge}
 use Rattle.semver_parser.specs.RewritingTable.{fits, rewritten, PlainSet}
 use Rattle.semver_parser.specs.ExactBounds.{rewritten_exactly}
 use Rattle.semver_parser_c.specs.Numbers as number
-use Rattle.semver_parser_c.specs.Numbers.{range_out_of_memory}
+use Rattle.semver_parser_c.specs.Numbers.{range_out_of_memory, version_out_of_memory}
 
 -- the number of a fault of a version text
 abbrev pub fault_number : Fault → ℤ
@@ -77,6 +79,17 @@ pub record RefusesRange (Asked : Type 0) (mode : Compat) (text : Text) (n : ℤ)
   pub not_a_range : Asked → IsUtf8 text → (n ≡ number.not_a_range) ↔ ¬ (IsRangeText text)
   pub too_large : Asked → IsUtf8 text → (n ≡ number.number_too_large) ↔ IsTooLarge mode text
   pub out_of_memory : n ≡ range_out_of_memory → HasSet mode text
+
+-- what a call refuses of a version text by the number that it answers: bytes that are no UTF-8,
+-- exactly; of a text that spells no version the fault that is its outcome; and a version for want of
+-- memory alone. Memory runs out only where it may
+pub record RefusesVersion (text : Text) (n : ℤ) : Type 0 where
+  pub one : IsOneOf version_faults n
+  pub not_utf8 : (n ≡ number.version_not_utf8) ↔ ¬ (IsUtf8 text)
+  pub accepted : (v : VersionValue) → IsUtf8 text → SpellsVersion v text → n ≡ version_out_of_memory
+  pub refused : IsUtf8 text → n ≢ version_out_of_memory
+      → (e : Fault) × IsOutcomeOf text (Err e) × (n ≡ fault_number e)
+  pub out_of_memory : n ≡ version_out_of_memory → TextMayRunOut text
 
 -- the text is a range that fits, and its memory was found
 pub record RangeIsRead (mode : Compat) (text : Text) (answer : ℤ) : Type 0 where

@@ -1,7 +1,6 @@
 pub mod Numbers
 pub mod Faults
 pub mod Places
-pub mod Means
 pub mod Printing
 pub mod Comparators
 pub mod Rules

@@ -19,6 +19,7 @@ ghost use Rattle.std.specs.Prelude.{IfSome, IsUtf8, Result, drop, length, slice_
 ghost use Rattle.std.specs.Prelude.{slice_index, take};
 ghost use Rattle.semver_parser.specs.Versions.{VersionValue};
 ghost use Rattle.semver_parser.specs.VersionGrammar.{IsVersionText, SpellsVersion};
+ghost use Rattle.semver_parser.specs.Outlines.{OutlineValue, IsOutlineOf, dotted_text};
 ghost use Rattle.semver_parser.specs.VersionReading.{IsOutcomeOf, TextMayRunOut};
 ghost use Rattle.semver_parser.specs.ParserState.{Fault};
 ghost use Rattle.semver_parser.specs.RangeTree.{SetTree, Spells};
@@ -29,7 +30,7 @@ ghost use Rattle.release_filter.specs.declared.PreReleases.{PreReleases as Rule}
 ghost use Rattle.semver_parser_c.specs.Numbers as number;
 ghost use Rattle.semver_parser_c.specs.Faults.{IsOneOf, RangeIsRead, mode_of, outcome_number};
 ghost use Rattle.semver_parser_c.specs.Faults.{RefusesRange, range_faults, set_for, version_faults};
-ghost use Rattle.semver_parser_c.specs.Places.{bytes_at, dotted, told};
+ghost use Rattle.semver_parser_c.specs.Places.{bytes_at, told};
 ghost use Rattle.semver_parser_c.specs.Comparators.{HasPreReleases, told_set};
 ghost use Rattle.semver_parser_c.specs.Printing.{Puts, PutsBoth};
 ghost use Rattle.semver_parser_c.specs.Rules.{IsAnswer, IsRule, rule_number};
@@ -94,7 +95,7 @@ pub struct PrintedComparator {
 ///
 /// `VERSION_NOT_UTF8`, and those of `semver_parser::version::parse`: `UNEXPECTED_END`,
 /// `UNEXPECTED_TOKEN`, `UNEXPECTED_CHAR`, `MORE_INPUT`, and `VERSION_OUT_OF_MEMORY`, which never
-/// comes for a version without pre-release and build.
+/// comes for a version: memory is asked for only to tell the fault of a text that spells none.
 #[unsafe(no_mangle)]
 pub extern "C" fn semver_parser_proved_parse_version(
     alloc: Global,
@@ -102,17 +103,15 @@ pub extern "C" fn semver_parser_proved_parse_version(
     out: &mut ReadVersion,
 ) -> i32
     ensures numbers { IsOneOf (number.ok ∷ version_faults) result }
-    // What is read is the version that the text spells, and where it has its parts: there stand the
-    // identifiers, joined by dots.
-    ensures version { result ≡ number.ok → (v : VersionValue) × (w : SpellsVersion v text.now)
-        × (out.new ≡ told w) }
+    // What is read is the outline of the version that the text spells, with where it has its parts:
+    // there stand the identifiers, joined by dots. It takes no memory.
+    ensures version { result ≡ number.ok → (o : OutlineValue) × IsOutlineOf text.now o
+        × (out.new ≡ told o) }
     ensures parts { result ≡ number.ok → (v : VersionValue) → SpellsVersion v text.now
-        → (bytes_at out.new.pre text.now ≡ dotted v.plain.pre)
-        × (bytes_at out.new.build text.now ≡ dotted v.build) }
+        → (bytes_at out.new.pre text.now ≡ dotted_text v.plain.pre)
+        × (bytes_at out.new.build text.now ≡ dotted_text v.build) }
     ensures accepted { (v : VersionValue) → IsUtf8 text.now → SpellsVersion v text.now
-        → (result ≡ number.ok) ⊎ (result ≡ number.version_out_of_memory) }
-    ensures plain { (v : VersionValue) → IsUtf8 text.now → SpellsVersion v text.now
-        → v.plain.pre ≡ [] → v.build ≡ [] → result ≡ number.ok }
+        → result ≡ number.ok }
 
     // Faults: the bytes, the outcome of the text, and want of memory.
     ensures not_utf8 { (result ≡ number.version_not_utf8) ↔ ¬ (IsUtf8 text.now) }
@@ -121,15 +120,20 @@ pub extern "C" fn semver_parser_proved_parse_version(
     ensures out_of_memory { result ≡ number.version_out_of_memory → TextMayRunOut text.now }
     ensures unchanged { result ≢ number.ok → out.new ≡ out.old }
 {
-    match version_text::read(alloc, text) {
-        Ok(version) => {
-            let (pre, build) = version_text::parts(text);
+    match version_text::outline(alloc, text) {
+        Ok(outline) => {
             *out = ReadVersion {
-                major: version.major,
-                minor: version.minor,
-                patch: version.patch,
-                pre,
-                build,
+                major: outline.major(),
+                minor: outline.minor(),
+                patch: outline.patch(),
+                pre: Part {
+                    offset: outline.pre_offset(),
+                    length: outline.pre().len(),
+                },
+                build: Part {
+                    offset: outline.build_offset(),
+                    length: outline.build().len(),
+                },
             };
             numbers::OK
         }

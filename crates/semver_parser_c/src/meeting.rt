@@ -15,11 +15,11 @@ ghost use Rattle.release_filter.specs.Filters.{passes};
 ghost use Rattle.release_filter.specs.declared.PreReleases.{PreReleases as Rule};
 ghost use Rattle.semver_parser_c.specs.Numbers as number;
 ghost use Rattle.semver_parser_c.specs.Faults.{IsOneOf, fault_number, mode_of, number_of};
-ghost use Rattle.semver_parser_c.specs.Faults.{RefusesRange, range_faults, version_faults};
+ghost use Rattle.semver_parser_c.specs.Faults.{RefusesRange, RefusesVersion, range_faults, version_faults};
 ghost use Rattle.semver_parser_c.specs.Rules.{IsAnswer, IsFilterOf, IsRule, rule_number};
 
 use crate::{numbers, range_text, version_text};
-use release_filter::{Filter, PreReleases};
+use release_filter::{Filter, Judged, PreReleases};
 use std::alloc::Global;
 
 /// The filter of a range text by the rule of a number, or the number of a fault.
@@ -62,18 +62,16 @@ pub fn judge(alloc: Global, filter: &Filter, version: &[u8]) -> Result<bool, i32
     ensures met { IfOk result (λ met. (v : VersionValue) → SpellsVersion v version.now
         → met ≡ passes filter.now v) }
     ensures read { IfOk result (λ met. IsVersionText version.now) }
-    ensures accepted { (v : VersionValue) → IsUtf8 version.now → SpellsVersion v version.now
-        → (number_of result ≡ number.ok) ⊎ (number_of result ≡ number.version_out_of_memory) }
-    ensures numbers { IfErr result (λ n. IsOneOf version_faults n) }
-    ensures not_utf8 { (number_of result ≡ number.version_not_utf8) ↔ ¬ (IsUtf8 version.now) }
-    ensures refused { IfErr result (λ n. IsUtf8 version.now → n ≢ number.version_out_of_memory
-        → (e : Fault) × IsOutcomeOf version.now (Err e) × (n ≡ fault_number e)) }
-    ensures out_of_memory { number_of result ≡ number.version_out_of_memory
-        → TextMayRunOut version.now }
+    ensures refused { IfErr result (RefusesVersion version.now) }
 {
-    match version_text::read(alloc, version) {
-        Ok(version) => Ok(filter.meets(&version)),
-        Err(number) => Err(number),
+    let Ok(text) = std::str::from_utf8(version) else {
+        return Err(numbers::VERSION_NOT_UTF8);
+    };
+    match filter.judge(alloc, text.as_bytes()) {
+        Ok(Judged::Passes(_, _)) => Ok(true),
+        Ok(Judged::DoesNotPass) => Ok(false),
+        Ok(Judged::NoVersion) => Err(version_text::fault(alloc, text)),
+        Err(_) => Err(numbers::VERSION_OUT_OF_MEMORY),
     }
 }
 
