@@ -13,12 +13,14 @@ use Rattle.semver_tokens.specs.Tokens.{TokenValue, Hyphen, Whitespace, Numeric, 
 use Rattle.semver_tokens.specs.Tokens.{tokens_text, IsTokenAt, IsBadStart, AreInPlace, NoneMerge, AreTokensFrom}
 use Rattle.semver_tokens.specs.ParserState.{ParserState, IsStateFrom}
 use Rattle.semver_texts.specs.VersionGrammar.{SpellsIdentifier}
+use Rattle.semver_texts.proofs.Lists.{Passes, all_more, passes_append}
 use Rattle.semver_texts.specs.Versions.{alphanumeric}
 use Rattle.semver_steps.specs.VersionReading.{IsIdentifierShape, inner_text, inner_texts, HoldsRun, MayRunOutInIdentifier, ReadsIdentifier}
 use Rattle.semver_steps.specs.Means.Taking.{run, PassesIdentifier, TakesIdentifier, lone_number}
 use Rattle.semver_steps.specs.ParserViews.{UnlessOutOfMemory, IfOutOfMemory}
 use Rattle.semver_steps.specs.declared.parser.Error.{Error}
 use Rattle.semver_steps.specs.declared.parser.Error.TheVariants as error
+use Rattle.semver_tokens.proofs.FirstToken.{run_is_part}
 use Rattle.semver_tokens.proofs.TokenLists.{prefix_is, shows_kind, decimal_is_run, opens_nothing}
 use Rattle.semver_steps.proofs.ReadingSteps.{Stops, reads_other}
 use Rattle.semver_steps.proofs.IdentifierSteps.{id_step, identifier_stops, hyphened, first_run_of, IsWellFormed, kept_as, kept_spells}
@@ -31,26 +33,15 @@ is_piece t = is_component t
 abbrev pub IsPiece : TokenValue → Type 0
 IsPiece t = IsTrue (is_piece t)
 
-abbrev ArePartBytes : List ℕ → Type 0
-ArePartBytes bs = AllByRecursion (λ b. IsTrue (is_part_byte b)) bs
-
-run_bytes : (bs : List ℕ) → AllByRecursion (λ b. IsTrue (is_ascii_alphanumeric b)) bs → ArePartBytes bs
-run_bytes [] all = tt
-run_bytes (b ∷ bs) all = (rw all.0 refl, run_bytes bs all.1)
-
-all_append : (xs ys : List ℕ) → ArePartBytes xs → ArePartBytes ys → ArePartBytes (xs ++ ys)
-all_append [] ys a b = b
-all_append (x ∷ xs) ys a b = (a.0, all_append xs ys a.1 b)
-
-piece_bytes : (t : TokenValue) → IsPiece t → IsWellFormed t → ArePartBytes (inner_text t)
-piece_bytes (Numeric n) h w = run_bytes _ (decimal_is_run n w).1
-piece_bytes (AlphaNumeric s) h w = run_bytes s w.0.1
+piece_bytes : (t : TokenValue) → IsPiece t → IsWellFormed t → Passes is_part_byte (inner_text t)
+piece_bytes (Numeric n) h w = all_more run_is_part _ (decimal_is_run n w).1
+piece_bytes (AlphaNumeric s) h w = all_more run_is_part s w.0.1
 piece_bytes Hyphen h w = (refl, tt)
 piece_bytes _ h w = cc
 
-pieces_bytes : (ts : List TokenValue) → AllByRecursion IsPiece ts → AllByRecursion IsWellFormed ts → ArePartBytes (inner_texts ts)
+pieces_bytes : (ts : List TokenValue) → AllByRecursion IsPiece ts → AllByRecursion IsWellFormed ts → Passes is_part_byte (inner_texts ts)
 pieces_bytes [] all well = tt
-pieces_bytes (t ∷ ts) all well = all_append (inner_text t) (inner_texts ts) (piece_bytes t all.0 well.0) (pieces_bytes ts all.1 well.1)
+pieces_bytes (t ∷ ts) all well = passes_append is_part_byte (inner_text t) (inner_texts ts) (piece_bytes t all.0 well.0) (pieces_bytes ts all.1 well.1)
 
 -- the text of such a token doesn't depend on the input
 piece_text : (text : List ℕ) (t : TokenValue) → IsPiece t → token_text text t ≡ inner_text t

@@ -271,16 +271,19 @@ no_third text second rest n m first next none major minor patch more w =
     (sym (same_number second minor m _ rest (subst (λ (l : List ℕ). BeginsWithNumber l minor (46 ∷ a.third)) same a.second_is) next).1)
     a.third_is
 
--- what follows the three is one text
-pub same_rest : (text : List ℕ) (major minor patch major' minor' patch' : ℕ) (rest more : List ℕ)
-    → BeginsWithNumbers text major minor patch rest → BeginsWithNumbers text major' minor' patch' more → rest ≡ more
-same_rest text major minor patch major' minor' patch' rest more v w =
+-- they are the same, and so is what follows them
+pub same_numbers : (text : List ℕ) (major minor patch major' minor' patch' : ℕ) (rest more : List ℕ)
+    → BeginsWithNumbers text major minor patch rest → BeginsWithNumbers text major' minor' patch' more
+    → (major ≡ major') × (minor ≡ minor') × (patch ≡ patch') × (rest ≡ more)
+same_numbers text major minor patch major' minor' patch' rest more v w =
     let a = three_apart text major minor patch rest v in
     let b = three_apart text major' minor' patch' more w in
-    let second : a.second ≡ b.second = tails (same_number text major major' _ _ a.first_is b.first_is).1 in
-    let third : a.third ≡ b.third = tails (same_number b.second minor minor' _ _
-    (subst (λ (l : List ℕ). BeginsWithNumber l minor (46 ∷ a.third)) second a.second_is) b.second_is).1 in
-    (same_number b.third patch patch' rest more (subst (λ (l : List ℕ). BeginsWithNumber l patch rest) third a.third_is) b.third_is).1
+    let first = same_number text major major' _ _ a.first_is b.first_is in
+    let second = same_number b.second minor minor' _ _
+    (subst (λ (l : List ℕ). BeginsWithNumber l minor (46 ∷ a.third)) (tails first.1) a.second_is) b.second_is in
+    let third = same_number b.third patch patch' rest more
+    (subst (λ (l : List ℕ). BeginsWithNumber l patch rest) (tails second.1) a.third_is) b.third_is in
+    (first.0, second.0, third.0, third.1)
 
 -- ---- digit by digit
 

@@ -58,6 +58,9 @@ space_is_no_eq b h = grind (arith, nat_tests)
 pub run_is_no_space : (b : ℕ) → is_ascii_alphanumeric b ≡ true → is_space b ≡ false
 run_is_no_space b h = grind (arith, nat_tests)
 
+pub run_is_part : (b : ℕ) → is_ascii_alphanumeric b ≡ true → is_part_byte b ≡ true
+run_is_part b h = rw h refl
+
 pub run_is_no_eq : (b : ℕ) → is_ascii_alphanumeric b ≡ true → eqb b 61 ≡ false
 run_is_no_eq b h = grind (arith, nat_tests)
 

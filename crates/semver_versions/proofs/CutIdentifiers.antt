@@ -1,9 +1,9 @@
 -- Identifiers as they are found byte by byte, and as they are cut at dots.
 use Rattle.std.proofs.Common.{◌≡◌, ℕ, ◌<◌, suc, ◌+◌, Bool, true, false, cond, List, [], ◌∷◌, ◌++◌, zero, length, take, drop}
 use Rattle.std.proofs.Common.{get_or, sym, refl, ap, ◌∙◌, subst, arith, append_assoc, append-nil, length-append, one-add}
-use Rattle.std.specs.Prelude.{IsTrue, ◌==◌, ◌||◌, ◌&&◌, slice_index, MatchOption}
+use Rattle.std.specs.Prelude.{◌==◌, ◌||◌, ◌&&◌, slice_index, MatchOption}
 use Rattle.std.specs.Bool.{then_some}
-use Rattle.std.specs.List.{All, AllByRecursion, AllZip, slice_split, join_with_byte, prefix_len}
+use Rattle.std.specs.List.{AllByRecursion, AllZip, slice_split, join_with_byte, prefix_len}
 use Rattle.std.specs.Char.{is_ascii_alphanumeric}
 use Rattle.std.proofs.Math.Seq.{take-suc}
 use Rattle.std.proofs.lemmas.Bool.{eqb-true, eq-eqb}
@@ -11,24 +11,21 @@ use Rattle.std.proofs.lemmas.Bool.Decides.{nat_tests}
 use Rattle.std.proofs.lemmas.List.Folds.{length-prefix_len}
 use Rattle.std.proofs.lemmas.List.{take-append-drop, drop_more, take_at, drop_at}
 use Rattle.std.proofs.lemmas.List.Sums.{prefix_len-drop_no}
-use Rattle.std.proofs.lemmas.List.Splits.{slice_split_none, slice_split_at, join_with_byte-slice_split, length-slice_split}
-use Rattle.std.proofs.lemmas.List.Elements.{All-nil, All-cons}
+use Rattle.std.proofs.lemmas.Slice.Zip.{all_zipped_more}
+use Rattle.std.proofs.lemmas.List.Splits.{join_with_byte-slice_split, length-slice_split}
 use Rattle.semver_texts.specs.Texts.{Text, marked, is_part_byte, IsRun, is_dot}
 use Rattle.semver_texts.specs.Versions.{IdentifierValue}
 use Rattle.semver_texts.specs.VersionGrammar.{IsIdentifierText, SpellsIdentifier}
 use Rattle.semver_versions.specs.Means.Cutting.{cut_at_dots, AreIdentifiers, is_inner_byte, BeginsWithIdentifiers, IsPart}
-use Rattle.semver_versions.proofs.OneVersion.{Passes, IsPartText, joined_runs, dotted_bytes}
+use Rattle.semver_texts.proofs.Lists.{Passes, all_more, passes_append, dotted_pass}
+use Rattle.semver_versions.proofs.OneVersion.{IsPartText, joined_runs, joined_some, split_joined}
 use Rattle.semver_tokens.proofs.TokenLists.{prefix_is}
 
 -- ---- one run more
 
-all_append : {X : Type 0} (P : X → Type 0) (xs ys : List X) → AllByRecursion P xs → AllByRecursion P ys → AllByRecursion P (xs ++ ys)
-all_append P [] ys a b = b
-all_append P (x ∷ xs) ys a b = (a.0, all_append P xs ys a.1 b)
-
 run_more : (run : Text) (b : ℕ) → IsRun run → is_ascii_alphanumeric b ≡ true → IsRun (run ++ b ∷ [])
 run_more run b is_run letter =
-    (omega (arith, length-append run (b ∷ [])), all_append (λ c. IsTrue (is_ascii_alphanumeric c)) run (b ∷ []) is_run.1 (letter, tt))
+    (omega (arith, length-append run (b ∷ [])), passes_append is_ascii_alphanumeric run (b ∷ []) is_run.1 (letter, tt))
 
 one_run : (b : ℕ) → is_ascii_alphanumeric b ≡ true → IsRun (b ∷ [])
 one_run b letter = (omega arith, (letter, tt))
@@ -159,47 +156,32 @@ identifiers_stand in_run (t ∷ next ∷ texts) more some each =
 
 -- ---- where they end they are cut so
 
-no_dots : (bytes : Text) → Passes is_part_byte bytes → All (λ b. (b == 46) ≡ false) bytes
-no_dots [] all = All-nil (λ b. (b == 46) ≡ false)
-no_dots (b ∷ bytes) all = All-cons (λ b. (b == 46) ≡ false) b bytes (no_dot b all.0) (no_dots bytes all.1)
-  where
-    no_dot : (b : ℕ) → is_part_byte b ≡ true → (b == 46) ≡ false
-    no_dot b h = grind (arith, nat_tests)
-
 pub identifier_part : (text : Text) → IsIdentifierText text → IsPartText text
 identifier_part text w = subst IsPartText (sym w.joined) (joined_runs w.runs w.some w.each)
 
-cut_joined : (texts : List Text) → 0 < length texts → AllByRecursion IsIdentifierText texts
-    → slice_split is_dot (join_with_byte 46 texts) ≡ texts
-cut_joined [] some each = absurd (omega (arith, some))
-cut_joined (t ∷ []) some each = slice_split_none is_dot t (no_dots t (identifier_part t each.0).1)
-cut_joined (t ∷ next ∷ texts) some each =
-    slice_split_at is_dot t 46 (join_with_byte 46 (next ∷ texts)) (no_dots t (identifier_part t each.0).1) refl
-    ∙ ap (λ (ts : List Text). t ∷ ts) (cut_joined (next ∷ texts) (omega arith) each.1)
-
 some_joined : (texts : List Text) → 0 < length texts → AllByRecursion IsIdentifierText texts → 0 < length (join_with_byte 46 texts)
 some_joined [] some each = absurd (omega (arith, some))
-some_joined (t ∷ []) some each = (identifier_part t each.0).0
-some_joined (t ∷ next ∷ texts) some each =
-    omega (arith, (identifier_part t each.0).0, length-append t (46 ∷ join_with_byte 46 (next ∷ texts)))
+some_joined (t ∷ texts) some each = joined_some t texts (identifier_part t each.0).0
 
 pub some_cut : (text : Text) → 0 < length text → cut_at_dots text ≡ slice_split is_dot text
 some_cut [] some = absurd (omega (arith, some))
 some_cut (b ∷ text) some = refl
 
-pub cut_texts : (texts : List Text) → 0 < length texts → AllByRecursion IsIdentifierText texts
-    → cut_at_dots (join_with_byte 46 texts) ≡ texts
-cut_texts texts some each = some_cut (join_with_byte 46 texts) (some_joined texts some each) ∙ cut_joined texts some each
+pub cut_texts : (texts : List Text) → AllByRecursion IsIdentifierText texts → cut_at_dots (join_with_byte 46 texts) ≡ texts
+cut_texts [] each = refl
+cut_texts (t ∷ texts) each =
+    some_cut (join_with_byte 46 (t ∷ texts)) (some_joined (t ∷ texts) (omega arith) each)
+    ∙ split_joined t texts (all_more identifier_part (t ∷ texts) each)
 
 -- one of them alone
 pub is_identifiers : (text : Text) → IsIdentifierText text → AreIdentifiers text
-is_identifiers text is = subst (AllByRecursion IsIdentifierText) (sym (cut_texts (text ∷ []) (omega arith) (is, tt))) (is, tt)
+is_identifiers text is = subst (AllByRecursion IsIdentifierText) (sym (cut_texts (text ∷ []) (is, tt))) (is, tt)
 
 pub stand_found : (bytes : Text) → stands false bytes ≡ true → BeginsWithIdentifiers bytes
 stand_found bytes e =
     let w = (begun bytes).0 e in (
       omega (arith, some_joined w.texts w.some w.each, ap length w.joined, length-prefix_len is_inner_byte bytes),
-      subst AreIdentifiers (sym w.joined) (subst (AllByRecursion IsIdentifierText) (sym (cut_texts w.texts w.some w.each)) w.each),
+      subst AreIdentifiers (sym w.joined) (subst (AllByRecursion IsIdentifierText) (sym (cut_texts w.texts w.each)) w.each),
     )
 
 -- what follows the front begins with no byte of it
@@ -280,11 +262,13 @@ inner_passes : (inner : Text) → AreIdentifiers inner → Passes is_inner_byte 
 inner_passes [] each = tt
 inner_passes (b ∷ inner) each =
     subst (Passes is_inner_byte) (join_with_byte-slice_split 46 (b ∷ inner))
-    (dotted_bytes is_inner_byte (λ c h. rw h refl) refl (cut_at_dots (b ∷ inner)) (part_texts (cut_at_dots (b ∷ inner)) each))
+    (dotted_pass is_inner_byte refl (cut_at_dots (b ∷ inner)) (all_more inner_text (cut_at_dots (b ∷ inner)) each))
   where
-    part_texts : (texts : List Text) → AllByRecursion IsIdentifierText texts → AllByRecursion IsPartText texts
-    part_texts [] each = tt
-    part_texts (t ∷ texts) each = (identifier_part t each.0, part_texts texts each.1)
+    part_is_inner : (b : ℕ) → is_part_byte b ≡ true → is_inner_byte b ≡ true
+    part_is_inner b h = rw h refl
+
+    inner_text : (t : Text) → IsIdentifierText t → Passes is_inner_byte t
+    inner_text t is = all_more part_is_inner t (identifier_part t is).1
 
 module _ (text behind : Text) (mark : ℕ) (apart : text ≡ mark ∷ behind) where
   -- the part that is found
@@ -351,13 +335,6 @@ all_at P [] n d all inside = absurd (omega (arith, inside))
 all_at P (x ∷ xs) zero d all inside = all.0
 all_at P (x ∷ xs) (suc n) d all inside = all_at P xs n d all.1 (omega (arith, inside))
 
-zip_push : (ids : List IdentifierValue) (texts : List Text) (id : IdentifierValue) (t : Text)
-    → AllZip SpellsIdentifier ids texts → SpellsIdentifier id t → AllZip SpellsIdentifier (ids ++ id ∷ []) (texts ++ t ∷ [])
-zip_push [] [] id t zip spells = (spells, tt)
-zip_push [] (u ∷ texts) id t zip spells = absurd zip
-zip_push (i ∷ ids) [] id t zip spells = absurd zip
-zip_push (i ∷ ids) (u ∷ texts) id t zip spells = (zip.0, zip_push ids texts id t zip.1 spells)
-
 -- the first n texts are spelled by identifiers, and the next one is by one more
 pub one_more_spelled : (texts : List Text) (n : ℕ) (t : Text) (ids : List IdentifierValue) (id : IdentifierValue) → n < length texts
     → t ≡ get_or texts n t → SpellsIdentifier id t → AllZip SpellsIdentifier ids (take n texts)
@@ -366,4 +343,4 @@ one_more_spelled texts n t ids id inside here spells zip =
     let next : suc n ≡ n + 1 = omega arith in
     subst (AllZip SpellsIdentifier (ids ++ id ∷ []))
     (ap (λ (u : Text). take n texts ++ u ∷ []) here ∙ sym (take-suc texts n t inside) ∙ ap (λ (k : ℕ). take k texts) next)
-    (zip_push ids (take n texts) id t zip spells)
+    (all_zipped_more SpellsIdentifier ids (take n texts) id t zip spells)

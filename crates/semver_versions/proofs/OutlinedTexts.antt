@@ -94,12 +94,12 @@ module _ (text : Text) (v : VersionValue) (w : SpellsVersion v text) where
   no_pre_release None none = tt
   no_pre_release (Some o) is =
       let same : o.pre.now ≡ dotted_text v.plain.pre = ap (λ (x : OutlineValue). x.pre) (its_outline o is) in
-      let empty = empty_text (codes "-") v.plain.pre w.pre_text w.pre in
+      let empty = empty_text (codes "-") v.plain.pre w.spells.pre_text w.spells.pre in
       (λ e. empty.0 (sym same ∙ e), λ e. same ∙ empty.1 e)
 
   pub no_build : (found : Option Outline) → IsOutlined text found → IfSome found (λ o. (o.build.now ≡ []) ↔ (v.build ≡ []))
   no_build None none = tt
   no_build (Some o) is =
       let same : o.build.now ≡ dotted_text v.build = ap (λ (x : OutlineValue). x.build) (its_outline o is) in
-      let empty = empty_text (codes "+") v.build w.build_text w.build in
+      let empty = empty_text (codes "+") v.build w.spells.build_text w.spells.build in
       (λ e. empty.0 (sym same ∙ e), λ e. same ∙ empty.1 e)

@@ -4,7 +4,7 @@ use Rattle.std.proofs.Common.{◌↔◌}
 use Rattle.semver_tokens.specs.Tokens.{TokenValue}
 use Rattle.semver_texts.specs.Versions.{VersionValue}
 use Rattle.semver_texts.specs.PrintedText.{version_text}
-use Rattle.semver_texts.specs.VersionGrammar.{SpellsVersion, IsTrimmed, IsPrintableVersion}
+use Rattle.semver_texts.specs.VersionGrammar.{SpellsCore, SpellsVersion, IsTrimmed, IsPrintableVersion}
 use Rattle.semver_tokens.specs.ParserState as fault
 use Rattle.semver_tokens.specs.ParserState.{ParserState, Fault, IsStateOf}
 use Rattle.semver_steps.specs.ParserSteps.{Step, tail, tail_of}
@@ -91,7 +91,7 @@ at_bad_start text e w = record {
   end = record { remaining = []; pending = Some w.0 };
   state = w.2;
   reads =
-      reads_stuck version_is_read SpellsVersion
+      reads_stuck version_is_read SpellsCore
       (none_taken version_is_read _) (at_nothing w.0) (inl refl);
   whole = ap (λ (x : Fault). Err x) w.1;
 }

@@ -2,7 +2,7 @@
 use Rattle.std.proofs.Common.{◌≡◌, ℕ, zero, suc, ◌+◌, ◌-◌, ◌<◌, ◌^◌, Bool, true, false, eqb, ◌||◌, List, [], ◌∷◌, ◌++◌, length, drop, map}
 use Rattle.std.proofs.Common.{Some, None, Option, Result, Ok, Err, sym, refl, ap, ◌∙◌, subst, inr, inl, ⊎_elim, arith, append_assoc}
 use Rattle.std.proofs.Common.{append-nil, length-append, codes, decimal, IsUtf8}
-use Rattle.std.specs.Prelude.{slice_index, slice_get, chars, flat_map, encode_utf8_all}
+use Rattle.std.specs.Prelude.{slice_index, slice_get, chars, flat_map, encode_utf8_all, not}
 use Rattle.std.specs.Str.{IsAscii, IsCharBoundary}
 use Rattle.std.specs.List.{AllByRecursion, AllZip, join_by, join_with_byte}
 use Rattle.std.specs.Char.{is_ascii_alphanumeric}
@@ -17,7 +17,7 @@ use Rattle.semver_tokens.specs.Tokens.{TokenValue, Dot, Hyphen, Plus, Whitespace
 use Rattle.semver_tokens.specs.Tokens.{AreTokensOf}
 use Rattle.semver_texts.specs.Versions.{IdentifierValue, numeric, alphanumeric, VersionValue, numbers}
 use Rattle.semver_texts.specs.PrintedText.{identifier_text, version_text}
-use Rattle.semver_texts.specs.VersionGrammar.{SpellsIdentifier, SpellsPart, SpellsVersion, IsTrimmed, IsPrintableIdentifier}
+use Rattle.semver_texts.specs.VersionGrammar.{SpellsIdentifier, SpellsPart, SpellsCore, SpellsVersion, IsTrimmed, IsPrintableIdentifier}
 use Rattle.semver_texts.specs.VersionGrammar.{IsPrintableVersion}
 use Rattle.semver_tokens.specs.ParserState.{ParserState, Fault, IsStateOf}
 use Rattle.semver_steps.specs.VersionReading.{IsIdentifierShape, IsPartShape, IsOuterShape, IsVersionShape, IsLongestFront, ReadsVersion}
@@ -27,7 +27,9 @@ use Rattle.semver_tokens.proofs.TokenLists.{same_tokens, decimal_is_run}
 use Rattle.semver_steps.proofs.ReadingSteps.{same_front, reads_once}
 use Rattle.semver_steps.proofs.IdentifierSteps.{identifier_is_read}
 use Rattle.semver_steps.proofs.IdentifierTexts.{pieces, pieces_text, behind_in_place}
-use Rattle.semver_versions.proofs.OneVersion.{Passes, passes_more, passes_append, run_passes, part_passes, one_version}
+use Rattle.semver_texts.proofs.Lists.{Passes, all_more, passes_append, passes_apart, dotted_pass}
+use Rattle.semver_tokens.proofs.FirstToken.{run_is_part}
+use Rattle.semver_versions.proofs.OneVersion.{part_passes, bare, one_core}
 use Rattle.semver_versions.proofs.VersionTokens.{HasTokens, version_tokens}
 
 -- ---- printed texts
@@ -47,11 +49,24 @@ part_text : (mark : List ℕ) (ids : List IdentifierValue) (text : List ℕ) →
     → text ≡ marked mark (map identifier_text ids)
 part_text mark ids text w = w.joined ∙ ap (marked mark) (spelled_texts ids w.texts w.each)
 
-core_printed : (v : VersionValue) (text : List ℕ) (w : SpellsVersion v text)
-    → join_with_byte 46 (map decimal (numbers v.plain)) ++ w.pre_text ++ w.build_text ≡ version_text v
-core_printed v text w =
-    (λ i. join_with_byte 46 (map decimal (numbers v.plain)) ++ part_text (codes "-") v.plain.pre w.pre_text w.pre i
+core_printed : (v : VersionValue) (core : List ℕ) → SpellsCore v core → core ≡ version_text v
+core_printed v core w =
+    w.spelled ∙ (λ i. join_with_byte 46 (map decimal (numbers v.plain)) ++ part_text (codes "-") v.plain.pre w.pre_text w.pre i
     ++ part_text (codes "+") v.build w.build_text w.build i)
+
+-- the bytes of a core, where those of numbers pass, dots, and those of its parts
+core_passes : (p : ℕ → Bool) → ((b : ℕ) → is_ascii_alphanumeric b ≡ true → p b ≡ true) → p 46 ≡ true → (v : VersionValue) (core : List ℕ)
+    (w : SpellsCore v core) → Passes p w.pre_text → Passes p w.build_text → Passes p core
+core_passes p letters dot v core w pre build =
+    subst (Passes p) (sym w.spelled)
+    (passes_append p (three ++ w.pre_text) w.build_text (passes_append p three w.pre_text
+    (dotted_pass p dot (map decimal (numbers v.plain)) (number _ w.major, (number _ w.minor, (number _ w.patch, tt)))) pre) build)
+  where
+    three : List ℕ
+    three = join_with_byte 46 (map decimal (numbers v.plain))
+
+    number : (n : ℕ) → n < 2 ^ 64 → Passes p (decimal n)
+    number n small = all_more letters (decimal n) (decimal_is_run n small).1
 
 -- bytes of a version
 abbrev is_version_byte : ℕ → Bool
@@ -63,25 +78,10 @@ no_space_byte b h = grind (arith, nat_tests)
 part_is_version : (b : ℕ) → is_part_byte b ≡ true → is_version_byte b ≡ true
 part_is_version b h = rw h refl
 
-number_passes : (n : ℕ) → n < 2 ^ 64 → Passes is_version_byte (decimal n)
-number_passes n small =
-    passes_more is_part_byte is_version_byte part_is_version (decimal n) (run_passes (decimal n) (decimal_is_run n small).1)
-
-core_bytes : (v : VersionValue) (text : List ℕ) (w : SpellsVersion v text)
-    → Passes is_version_byte (join_with_byte 46 (map decimal (numbers v.plain)) ++ w.pre_text ++ w.build_text)
-core_bytes v text w =
-    let major = decimal v.plain.major in
-    let minor = decimal v.plain.minor in
-    let patch = decimal v.plain.patch in
-    let three : Passes is_version_byte (major ++ (46 ∷ (minor ++ (46 ∷ patch)))) =
-    passes_append is_version_byte major (46 ∷ (minor ++ (46 ∷ patch))) (number_passes v.plain.major w.major) (
-      refl,
-      passes_append is_version_byte minor (46 ∷ patch) (number_passes v.plain.minor w.minor)
-          (refl, number_passes v.plain.patch w.patch),
-    ) in
-    passes_append is_version_byte (join_with_byte 46 (map decimal (numbers v.plain)) ++ w.pre_text) w.build_text
-    (passes_append is_version_byte (join_with_byte 46 (map decimal (numbers v.plain))) w.pre_text three
-    (part_passes is_version_byte part_is_version refl 45 refl v.plain.pre w.pre_text w.pre))
+core_bytes : (v : VersionValue) (core : List ℕ) → SpellsCore v core → Passes is_version_byte core
+core_bytes v core w =
+    core_passes is_version_byte (λ b h. part_is_version b (run_is_part b h)) refl v core w
+    (part_passes is_version_byte part_is_version refl 45 refl v.plain.pre w.pre_text w.pre)
     (part_passes is_version_byte part_is_version refl 43 refl v.build w.build_text w.build)
 
 no_space_at : (bs : List ℕ) → Passes is_version_byte bs → (k : ℕ) → is_space (slice_index bs k) ≡ false
@@ -91,23 +91,16 @@ no_space_at (b ∷ bs) all (suc k) = no_space_at bs all.1 k
 
 pub trimmed : (v : VersionValue) (text : List ℕ) → SpellsVersion v text → IsTrimmed text (version_text v)
 trimmed v text w =
-    let core : List ℕ = join_with_byte 46 (map decimal (numbers v.plain)) ++ w.pre_text ++ w.build_text in
-    let no_space : (k : ℕ) → is_space (slice_index (version_text v) k)
-    ≡ false = λ k. ap (λ (l : List ℕ). is_space (slice_index l k)) (sym (core_printed v text w))
-    ∙ no_space_at core (core_bytes v text w) k in
-    record {
+    let no_space = no_space_at w.core (core_bytes v w.core w.spells) in
+    subst (IsTrimmed text) (core_printed v w.core w.spells) (record {
       before = w.before;
       after = w.after;
       spaces_before = w.spaces_before;
       spaces_after = w.spaces_after;
-      whole = w.spelled ∙ around w.before (join_with_byte 46 (map decimal (numbers v.plain))) w.pre_text w.build_text w.after
-          ∙ ap (λ (l : List ℕ). w.before ++ l ++ w.after) (core_printed v text w);
+      whole = w.whole;
       first = no_space 0;
-      last = no_space (length (version_text v) - 1);
-    }
-  where
-    around : (a b c d e : List ℕ) → a ++ b ++ c ++ d ++ e ≡ a ++ (b ++ c ++ d) ++ e
-    around a b c d e = simp append_assoc
+      last = no_space (length w.core - 1);
+    })
 
 printable_identifier : (id : IdentifierValue) (text : List ℕ) → SpellsIdentifier id text → IsPrintableIdentifier id
 printable_identifier (numeric n) text w = (w.0, refl)
@@ -123,11 +116,11 @@ printable_identifiers (id ∷ ids) (t ∷ texts) all = (printable_identifier id 
 pub printable : (v : VersionValue) (text : List ℕ) → SpellsVersion v text → IsPrintableVersion v
 printable v text w =
     record {
-      major = w.major;
-      minor = w.minor;
-      patch = w.patch;
-      pre = printable_identifiers v.plain.pre w.pre.texts w.pre.each;
-      build = printable_identifiers v.build w.build.texts w.build.each;
+      major = w.spells.major;
+      minor = w.spells.minor;
+      patch = w.spells.patch;
+      pre = printable_identifiers v.plain.pre w.spells.pre.texts w.spells.pre.each;
+      build = printable_identifiers v.build w.spells.build.texts w.spells.build.each;
     }
 
 prints_each : (ids : List IdentifierValue) → AllByRecursion IsPrintableIdentifier ids
@@ -137,20 +130,16 @@ prints_each (id ∷ ids) all = (all.0, prints_each ids all.1)
 
 -- the printed text of a printable version spells it
 pub printed_spells : (v : VersionValue) → IsPrintableVersion v → SpellsVersion v (version_text v)
-printed_spells v w = record {
-  before = [];
+printed_spells v w = bare (record {
   pre_text = marked (codes "-") (map identifier_text v.plain.pre);
   build_text = marked (codes "+") (map identifier_text v.build);
-  after = [];
   major = w.major;
   minor = w.minor;
   patch = w.patch;
   pre = record { texts = map identifier_text v.plain.pre; each = prints_each v.plain.pre w.pre; joined = refl };
   build = record { texts = map identifier_text v.build; each = prints_each v.build w.build; joined = refl };
-  spaces_before = tt;
-  spaces_after = tt;
-  spelled = sym (append-nil (version_text v));
-}
+  spelled = refl;
+})
 
 -- ---- from tokens to the text
 
@@ -194,7 +183,7 @@ part_same text mark ts same w =
 
 -- what the tokens spell without white space, the text spells with it
 pub whole_spelled : (v : VersionValue) (text : List ℕ) (ts : List TokenValue) → AreTokensOf text ts [] → IsVersionShape ts
-    → SpellsVersion v (inner_texts ts) → SpellsVersion v text
+    → SpellsCore v (inner_texts ts) → SpellsVersion v text
 whole_spelled v text ts tokens shape w =
     let three : List TokenValue = join_by (λ n. Numeric n ∷ []) (Dot ∷ []) (shape.major ∷ shape.minor ∷ shape.patch ∷ []) in
     let before : List ℕ = tokens_text text shape.before in
@@ -217,27 +206,18 @@ whole_spelled v text ts tokens shape w =
     (λ t us e. behind_in_place text 0 (shape.before ++ three ++ shape.pre ++ shape.build) t us
     (subst (λ (l : List TokenValue). AreInPlace text 0 (shape.before ++ three ++ shape.pre ++ shape.build ++ l)) e in_place)) in
     record {
-      before = before ++ w.before;
-      pre_text = w.pre_text;
-      build_text = w.build_text;
-      after = w.after ++ after;
-      major = w.major;
-      minor = w.minor;
-      patch = w.patch;
-      pre = w.pre;
-      build = w.build;
-      spaces_before = passes_append is_space before w.before spaces_first w.spaces_before;
-      spaces_after = passes_append is_space w.after after w.spaces_after spaces_last;
-      spelled = text_is ∙ ap (λ (l : List ℕ). before ++ l ++ after) (sym inner_is ∙ w.spelled)
-          ∙ regroup7 before w.before (join_with_byte 46 (map decimal (numbers v.plain))) w.pre_text w.build_text w.after after;
+      before = before;
+      core = inner_texts ts;
+      after = after;
+      spaces_before = spaces_first;
+      spaces_after = spaces_last;
+      spells = w;
+      whole = text_is ∙ ap (λ (l : List ℕ). before ++ l ++ after) (sym inner_is);
     }
   where
     split5 : (f : TokenValue → List ℕ) (a b c d e : List TokenValue)
         → flat_map f (a ++ b ++ c ++ d ++ e) ≡ flat_map f a ++ (flat_map f b ++ flat_map f c ++ flat_map f d) ++ flat_map f e
     split5 f a b c d e = simp (flat_map-append, append_assoc)
-
-    regroup7 : (a b c d e f g : List ℕ) → a ++ (b ++ c ++ d ++ e ++ f) ++ g ≡ (a ++ b) ++ c ++ d ++ e ++ (f ++ g)
-    regroup7 a b c d e f g = simp append_assoc
 
     first_place : (t : TokenValue) (us ts more : List TokenValue) → ts ≡ t ∷ us → AreInPlace text 0 (ts ++ more)
         → (at : ℕ) × IsTokenAt text at t
@@ -292,36 +272,21 @@ accepted_spells v text utf8 o =
     let tokens : AreTokensOf text o.start.remaining [] = subst (AreTokensOf text o.start.remaining)
     (no_rest text o.start utf8 o.state none) o.state.1 in
     whole_spelled v text o.start.remaining tokens (subst IsVersionShape all w.answer.whole.shape)
-    (subst (λ (l : List TokenValue). SpellsVersion v (inner_texts l)) all w.answer.spelled)
+    (subst (λ (l : List TokenValue). SpellsCore v (inner_texts l)) all w.answer.spelled)
 
 -- ---- a text that spells a version
 
--- bytes of a version without pre-release and build, with white space
-abbrev is_plain_byte : ℕ → Bool
-is_plain_byte b = (is_ascii_alphanumeric b || eqb b 46) || is_space b
+-- a byte that is no mark of a pre-release or a build
+abbrev pub is_no_mark : ℕ → Bool
+is_no_mark b = not (eqb b 45 || eqb b 43)
 
-no_part : (mark : List ℕ) (ids : List IdentifierValue) (part : List ℕ) → ids ≡ [] → SpellsPart mark ids part → part ≡ []
-no_part mark ids part none w = part_text mark ids part w ∙ ap (λ (l : List IdentifierValue). marked mark (map identifier_text l)) none
+pub letter_no_mark : (b : ℕ) → is_ascii_alphanumeric b ≡ true → is_no_mark b ≡ true
+letter_no_mark b h = grind (arith, nat_tests)
 
-run_plain : (b : ℕ) → is_ascii_alphanumeric b ≡ true → is_plain_byte b ≡ true
-run_plain b h = rw h refl
-
-space_plain : (b : ℕ) → is_space b ≡ true → is_plain_byte b ≡ true
-space_plain b h = rw h (or_true (is_ascii_alphanumeric b || eqb b 46))
-  where
-    or_true : (a : Bool) → (a || true) ≡ true
-    or_true true = refl
-    or_true false = refl
-
-number_plain : (n : ℕ) → n < 2 ^ 64 → Passes is_plain_byte (decimal n)
-number_plain n small = passes_more is_ascii_alphanumeric is_plain_byte run_plain (decimal n) (decimal_is_run n small).1
-
-pub behind : (p : ℕ → Bool) (xs : List ℕ) (y : ℕ) (ys : List ℕ) → Passes p (xs ++ y ∷ ys) → p y ≡ true
-behind p [] y ys all = all.0
-behind p (x ∷ xs) y ys all = behind p xs y ys all.1
-
-without : (a b c : List ℕ) → a ++ b ++ [] ++ [] ++ c ≡ a ++ (b ++ c)
-without a b c = simp (append_assoc, append-nil)
+-- so are all bytes of a part without identifiers
+no_part : (mark : List ℕ) (ids : List IdentifierValue) (part : List ℕ) → ids ≡ [] → SpellsPart mark ids part → Passes is_no_mark part
+no_part mark ids part none w =
+    subst (Passes is_no_mark) (sym (part_text mark ids part w ∙ ap (λ (l : List IdentifierValue). marked mark (map identifier_text l)) none)) tt
 
 module _ (v : VersionValue) (text : List ℕ) (spells : SpellsVersion v text) where
   pub has : HasTokens v text
@@ -350,8 +315,8 @@ module _ (v : VersionValue) (text : List ℕ) (spells : SpellsVersion v text) wh
       go : (r : Result VersionValue Fault) → ReadsVersion o.start r o.end → whole_answer r o.end.remaining o.end.pending ≡ Ok v
       go (Ok u) w =
           let same = front_is o.start o.state w.front w.rest w.longest in
-          let value : u ≡ v = one_version u v (inner_texts has.ts)
-          (subst (λ (l : List TokenValue). SpellsVersion u (inner_texts l)) (sym same.0) w.answer.spelled) has.spells in
+          let value : u ≡ v = one_core u v (inner_texts has.ts)
+          (subst (λ (l : List TokenValue). SpellsCore u (inner_texts l)) (sym same.0) w.answer.spelled) has.spells in
           ap (λ (l : List TokenValue). whole_answer (Ok u) l o.end.pending) (w.answer.leaves ∙ sym same.1)
           ∙ ap (λ (z : VersionValue). Ok z) value
       go (Err e) w =
@@ -393,46 +358,27 @@ module _ (v : VersionValue) (text : List ℕ) (spells : SpellsVersion v text) wh
   pub plain_has_memory : v.plain.pre ≡ [] → v.build ≡ [] → ¬ (TextMayRunOut text)
   plain_has_memory no_pre no_build m =
       ⊎_elim
-      (λ holds. no_sign plain_bytes (subst HoldsIdentifierRun (sym (front_is m.start m.state m.front m.rest m.longest).0) holds))
+      (λ holds. no_sign (subst HoldsIdentifierRun (sym (front_is m.start m.state m.front m.rest m.longest).0) holds))
       (λ left. let e = outcome_spelled _ left.1 in cc)
       m.why
     where
-      plain_bytes : Passes is_plain_byte (inner_texts has.ts)
-      plain_bytes =
+      no_marks : Passes is_no_mark (inner_texts has.ts)
+      no_marks =
           let w = has.spells in
-          let major = decimal v.plain.major in
-          let minor = decimal v.plain.minor in
-          let patch = decimal v.plain.patch in
-          let three : Passes is_plain_byte (major ++ (46 ∷ (minor ++ (46 ∷ patch)))) =
-          passes_append is_plain_byte major (46 ∷ (minor ++ (46 ∷ patch))) (number_plain v.plain.major w.major) (
-            refl,
-            passes_append is_plain_byte minor (46 ∷ patch) (number_plain v.plain.minor w.minor)
-                (refl, number_plain v.plain.patch w.patch),
-          ) in
-          let is : inner_texts has.ts ≡ w.before ++ (major ++ (46 ∷ (minor ++ (46 ∷ patch)))) ++ [] ++ [] ++ w.after =
-          w.spelled ∙ (λ i. w.before ++ join_with_byte 46 (map decimal (numbers v.plain))
-          ++ no_part (codes "-") v.plain.pre w.pre_text no_pre w.pre i ++ no_part (codes "+") v.build w.build_text no_build w.build i
-          ++ w.after) in
-          subst (Passes is_plain_byte) (sym (is ∙ without w.before (major ++ (46 ∷ (minor ++ (46 ∷ patch)))) w.after))
-          (passes_append is_plain_byte w.before ((major ++ (46 ∷ (minor ++ (46 ∷ patch)))) ++ w.after)
-          (passes_more is_space is_plain_byte space_plain w.before w.spaces_before)
-          (passes_append is_plain_byte (major ++ (46 ∷ (minor ++ (46 ∷ patch)))) w.after three
-          (passes_more is_space is_plain_byte space_plain w.after w.spaces_after)))
+          core_passes is_no_mark letter_no_mark refl v (inner_texts has.ts) w
+          (no_part (codes "-") v.plain.pre w.pre_text no_pre w.pre) (no_part (codes "+") v.build w.build_text no_build w.build)
 
-      no_sign : Passes is_plain_byte (inner_texts has.ts) → HoldsIdentifierRun has.ts → ⊥
-      no_sign all h =
+      no_sign : HoldsIdentifierRun has.ts → ⊥
+      no_sign h =
           let split : inner_texts has.ts ≡ inner_texts h.before ++ (inner_text h.sign ++ inner_texts (h.component ∷ h.after)) = ap
           inner_texts h.split
           ∙ flat_map-append inner_text h.before (h.sign ∷ h.component ∷ h.after) in
-          let passes : Passes is_plain_byte (inner_texts h.before ++ (inner_text h.sign ++ inner_texts (h.component ∷ h.after))) = subst
-          (Passes is_plain_byte) split all in
+          let at_sign : Passes is_no_mark (inner_text h.sign) =
+          (passes_apart is_no_mark (inner_text h.sign) _
+          (passes_apart is_no_mark (inner_texts h.before) _ (subst (Passes is_no_mark) split no_marks)).1).0 in
           ⊎_elim
-          (λ hyphen. let e : is_plain_byte 45 ≡ true = behind is_plain_byte (inner_texts h.before) 45 (inner_texts (h.component ∷ h.after))
-          (subst (λ (x : TokenValue). Passes is_plain_byte (inner_texts h.before
-          ++ (inner_text x ++ inner_texts (h.component ∷ h.after)))) hyphen passes) in cc)
-          (λ plus. let e : is_plain_byte 43 ≡ true = behind is_plain_byte (inner_texts h.before) 43 (inner_texts (h.component ∷ h.after))
-          (subst (λ (x : TokenValue). Passes is_plain_byte (inner_texts h.before
-          ++ (inner_text x ++ inner_texts (h.component ∷ h.after)))) plus passes) in cc)
+          (λ hyphen. let e = subst (λ (x : TokenValue). Passes is_no_mark (inner_text x)) hyphen at_sign in cc (e.0))
+          (λ plus. let e = subst (λ (x : TokenValue). Passes is_no_mark (inner_text x)) plus at_sign in cc (e.0))
           h.is_sign
 
 -- ---- the outcome is one
@@ -442,6 +388,6 @@ one_outcome text x y a b =
     let same = same_tokens text 0 a.start.remaining b.start.remaining a.state.0 b.state.0 a.state.1 b.state.1 in
     let pending : a.start.pending ≡ b.start.pending = a.state.2 ∙ ap (λ (l : List ℕ). slice_get (chars l) 0) same.1 ∙ sym b.state.2 in
     let begin : a.start ≡ b.start = (λ i. record { remaining = same.0 i; pending = pending i }) in
-    let once = reads_once IsVersionShape SpellsVersion one_version b.start a.answer b.answer a.end b.end
+    let once = reads_once IsVersionShape SpellsCore one_core b.start a.answer b.answer a.end b.end
     (subst (λ (s : ParserState). ReadsVersion s a.answer a.end) begin a.reads) b.reads in
     a.whole ∙ (λ i. whole_answer (once.0 i) (once.1 i).remaining (once.1 i).pending) ∙ sym b.whole

@@ -1,0 +1,43 @@
+-- What holds of each element of a list.
+use Rattle.std.proofs.Common.{◌≡◌, ℕ, Bool, true, List, [], ◌∷◌, ◌++◌}
+use Rattle.std.specs.Prelude.{IsTrue}
+use Rattle.std.specs.List.{AllByRecursion, AllZip, join_with_byte}
+use Rattle.semver_texts.specs.Texts.{marked}
+
+pub all_more : {X : Type 0} {P Q : X → Type 0} → ((x : X) → P x → Q x) → (xs : List X) → AllByRecursion P xs → AllByRecursion Q xs
+all_more more [] all = tt
+all_more more (x ∷ xs) all = (more x all.0, all_more more xs all.1)
+
+-- from two lists, place by place
+pub all_zipped : {A B : Type 0} {R : A → B → Type 0} {P : B → Type 0} → ((a : A) (b : B) → R a b → P b) → (xs : List A) (ys : List B)
+    → AllZip R xs ys → AllByRecursion P ys
+all_zipped each [] [] all = tt
+all_zipped each [] (y ∷ ys) all = absurd all
+all_zipped each (x ∷ xs) [] all = absurd all
+all_zipped each (x ∷ xs) (y ∷ ys) all = (each x y all.0, all_zipped each xs ys all.1)
+
+-- ---- bytes
+
+-- each byte passes the test
+abbrev pub Passes : (ℕ → Bool) → List ℕ → Type 0
+Passes p bs = AllByRecursion (λ b. IsTrue (p b)) bs
+
+pub passes_append : (p : ℕ → Bool) (xs ys : List ℕ) → Passes p xs → Passes p ys → Passes p (xs ++ ys)
+passes_append p [] ys a b = b
+passes_append p (x ∷ xs) ys a b = (a.0, passes_append p xs ys a.1 b)
+
+pub passes_apart : (p : ℕ → Bool) (xs ys : List ℕ) → Passes p (xs ++ ys) → Passes p xs × Passes p ys
+passes_apart p [] ys all = (tt, all)
+passes_apart p (x ∷ xs) ys all = let both = passes_apart p xs ys all.1 in ((all.0, both.0), both.1)
+
+-- texts that pass, joined by dots, and behind a mark
+pub dotted_pass : (p : ℕ → Bool) → p 46 ≡ true → (xs : List (List ℕ)) → AllByRecursion (Passes p) xs → Passes p (join_with_byte 46 xs)
+dotted_pass p dot [] all = tt
+dotted_pass p dot (x ∷ []) all = all.0
+dotted_pass p dot (x ∷ y ∷ xs) all =
+    passes_append p x (46 ∷ join_with_byte 46 (y ∷ xs)) all.0 (dot, dotted_pass p dot (y ∷ xs) all.1)
+
+pub marked_passes : (p : ℕ → Bool) → p 46 ≡ true → (mark : ℕ) → p mark ≡ true → (xs : List (List ℕ)) → AllByRecursion (Passes p) xs
+    → Passes p (marked (mark ∷ []) xs)
+marked_passes p dot mark here [] all = tt
+marked_passes p dot mark here (x ∷ xs) all = (here, dotted_pass p dot (x ∷ xs) all)
