@@ -41,7 +41,8 @@ piece_bytes _ h w = cc
 
 pieces_bytes : (ts : List TokenValue) → AllByRecursion IsPiece ts → AllByRecursion IsWellFormed ts → Passes is_part_byte (inner_texts ts)
 pieces_bytes [] all well = tt
-pieces_bytes (t ∷ ts) all well = passes_append is_part_byte (inner_text t) (inner_texts ts) (piece_bytes t all.0 well.0) (pieces_bytes ts all.1 well.1)
+pieces_bytes (t ∷ ts) all well =
+    passes_append is_part_byte (inner_text t) (inner_texts ts) (piece_bytes t all.0 well.0) (pieces_bytes ts all.1 well.1)
 
 -- the text of such a token doesn't depend on the input
 piece_text : (text : List ℕ) (t : TokenValue) → IsPiece t → token_text text t ≡ inner_text t

@@ -1,8 +1,11 @@
--- What holds of each element of a list.
+-- Lists, and what holds of each of their elements.
 use Rattle.std.proofs.Common.{◌≡◌, ℕ, Bool, true, List, [], ◌∷◌, ◌++◌}
 use Rattle.std.specs.Prelude.{IsTrue}
 use Rattle.std.specs.List.{AllByRecursion, AllZip, join_with_byte}
 use Rattle.semver_texts.specs.Texts.{marked}
+
+pub tails : {x y : ℕ} {xs ys : List ℕ} → x ∷ xs ≡ y ∷ ys → xs ≡ ys
+tails e = cc
 
 pub all_more : {X : Type 0} {P Q : X → Type 0} → ((x : X) → P x → Q x) → (xs : List X) → AllByRecursion P xs → AllByRecursion Q xs
 all_more more [] all = tt

@@ -20,6 +20,7 @@ use Rattle.std.proofs.lemmas.Bool.{and_parts}
 use Rattle.std.proofs.lemmas.Grind.{common_steps}
 use Rattle.semver_texts.proofs.Numerals.{own}
 use Rattle.semver_texts.specs.Texts.{IsNumber, BeginsWithNumber, BeginsWithNumbers}
+use Rattle.semver_texts.proofs.Lists.{tails}
 use Rattle.semver_texts.specs.Means.Decimals.{is_number, digits_front}
 
 -- what makes a run a number
@@ -258,9 +259,6 @@ pub no_second : (text rest : List ℕ) (n : ℕ) → BeginsWithNumber text n res
 no_second text rest n first none major minor patch more w =
     let a = three_apart text major minor patch more w in
     none minor a.second (46 ∷ a.third) (sym (same_number text major n _ rest a.first_is first).1) a.second_is
-
-tails : {x y : ℕ} {xs ys : List ℕ} → x ∷ xs ≡ y ∷ ys → xs ≡ ys
-tails e = cc
 
 pub no_third : (text second rest : List ℕ) (n m : ℕ) → BeginsWithNumber text n (46 ∷ second) → BeginsWithNumber second m rest
     → NoneBehindDot rest → NotThree text

@@ -17,8 +17,9 @@ use Rattle.semver_texts.specs.Texts.{Text, marked, is_part_byte, IsRun, is_dot}
 use Rattle.semver_texts.specs.Versions.{IdentifierValue}
 use Rattle.semver_texts.specs.VersionGrammar.{IsIdentifierText, SpellsIdentifier}
 use Rattle.semver_versions.specs.Means.Cutting.{cut_at_dots, AreIdentifiers, is_inner_byte, BeginsWithIdentifiers, IsPart}
-use Rattle.semver_texts.proofs.Lists.{Passes, all_more, passes_append, dotted_pass}
+use Rattle.semver_texts.proofs.Lists.{tails, Passes, all_more, passes_append, dotted_pass}
 use Rattle.semver_versions.proofs.OneVersion.{IsPartText, joined_runs, joined_some, split_joined}
+use Rattle.semver_tokens.proofs.FirstToken.{never, prefix_stops}
 use Rattle.semver_tokens.proofs.TokenLists.{prefix_is}
 
 -- ---- one run more
@@ -186,13 +187,7 @@ stand_found bytes e =
 
 -- what follows the front begins with no byte of it
 pub ends_front : (p : ℕ → Bool) → p 0 ≡ false → (text : Text) → p (slice_index (drop (prefix_len p text) text) 0) ≡ false
-ends_front p past [] = past
-ends_front p past (b ∷ text) = by (p b) refl (ends_front p past text)
-  where
-    by : (e : Bool) → p b ≡ e → p (slice_index (drop (prefix_len p text) text) 0) ≡ false
-        → p (slice_index (drop (cond e (1 + prefix_len p text) 0) (b ∷ text)) 0) ≡ false
-    by true e more = rw one-add more
-    by false e more = e
+ends_front p past text = prefix_stops p text past
 
 other_stands : (more : Text) → is_inner_byte (slice_index more 0) ≡ false → stands true more ≡ true
 other_stands [] e = refl
@@ -284,13 +279,7 @@ module _ (text behind : Text) (mark : ℕ) (apart : text ≡ mark ∷ behind) wh
 
   part_begins : (inner rest : Text) → IsPart mark text inner rest
       → (0 < length inner) × (behind ≡ inner ++ rest) × (prefix_len is_inner_byte behind ≡ length inner)
-  part_begins [] rest w = absurd (clash (sym (ap (λ (t : Text). slice_index t 0 == mark) (sym apart ∙ w.split)) ∙ same mark) w.no_mark)
-    where
-      same : (n : ℕ) → (n == n) ≡ true
-      same n = eq-eqb n n refl
-
-      clash : {b : Bool} → b ≡ true → b ≡ false → ⊥
-      clash e f = cc
+  part_begins [] rest w = absurd (never (sym (ap (λ (t : Text). slice_index t 0 == mark) (sym apart ∙ w.split)) ∙ eq-eqb mark mark refl) w.no_mark)
   part_begins (b ∷ inner) rest w =
       let behind_is : behind ≡ (b ∷ inner) ++ rest =
       tails (sym apart ∙ w.split ∙ ap (λ (t : Text). t ++ rest) (marked_cut mark (b ∷ inner) (omega arith))) in (
@@ -299,9 +288,6 @@ module _ (text behind : Text) (mark : ℕ) (apart : text ≡ mark ∷ behind) wh
         ap (prefix_len is_inner_byte) behind_is
             ∙ prefix_is is_inner_byte (b ∷ inner) rest (inner_passes (b ∷ inner) w.each) refl w.ended,
       )
-    where
-      tails : {x y : ℕ} {xs ys : Text} → x ∷ xs ≡ y ∷ ys → xs ≡ ys
-      tails e = cc
 
   -- where there is a part, it is that
   pub part_not_found : ¬ (BeginsWithIdentifiers behind) → (inner rest : Text) → ¬ (IsPart mark text inner rest)

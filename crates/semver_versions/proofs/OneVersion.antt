@@ -12,7 +12,7 @@ use Rattle.std.proofs.lemmas.Bool.Decides.{nat_tests}
 use Rattle.semver_texts.specs.Texts.{marked, is_part_byte, IsRun, is_space, is_dot, BeginsWithNumbers}
 use Rattle.semver_texts.specs.Versions.{IdentifierValue, numeric, alphanumeric, VersionValue}
 use Rattle.semver_texts.specs.VersionGrammar.{SpellsIdentifier, SpellsPart, SpellsCore, SpellsVersion}
-use Rattle.semver_texts.proofs.Lists.{Passes, all_more, all_zipped, passes_append, marked_passes}
+use Rattle.semver_texts.proofs.Lists.{tails, Passes, all_more, all_zipped, passes_append, marked_passes}
 use Rattle.semver_texts.proofs.Numbers.{same_numbers}
 use Rattle.semver_tokens.proofs.FirstToken.{run_is_no_space, run_is_part}
 use Rattle.semver_tokens.proofs.TokenLists.{prefix_is, decimal_is_run}
@@ -69,9 +69,6 @@ same_identifiers (id ∷ ids) (o ∷ others) (t ∷ texts) a b =
     (λ i. same_identifier id o t a.0 b.0 i ∷ same_identifiers ids others texts a.1 b.1 i)
 
 -- ---- parts
-
-tails : {x y : ℕ} {xs ys : List ℕ} → x ∷ xs ≡ y ∷ ys → xs ≡ ys
-tails e = cc
 
 pub joined_some : (x : List ℕ) (xs : List (List ℕ)) → 0 < length x → 0 < length (join_with_byte 46 (x ∷ xs))
 joined_some x [] some = some

@@ -18,7 +18,7 @@ use Rattle.semver_texts.specs.declared.version.Version.{Version}
 use Rattle.semver_texts.proofs.Numbers.{is_number_true, canonical_from_is_number, canonical_from_IsNumber, IsNumber-from_canonical}
 use Rattle.semver_texts.proofs.Numbers.{same_numbers}
 use Rattle.semver_texts.proofs.Lists.{all_zipped, passes_append}
-use Rattle.semver_tokens.proofs.FirstToken.{all_of_prefix}
+use Rattle.semver_tokens.proofs.FirstToken.{all_of_prefix, never}
 use Rattle.semver_tokens.proofs.TokenLists.{prefix_is, decimal_is_run}
 use Rattle.semver_versions.proofs.OneVersion.{begins_marked, space_begins, numbers_first, at_numbers, behind_numbers, behind_spaces}
 use Rattle.semver_versions.proofs.OneVersion.{core_begins, one_version}
@@ -114,11 +114,8 @@ spells_numbers text rest major minor patch n spaces pre build no_pre no_build =
 spells_some : (t : Text) → IsIdentifierText t → (id : IdentifierValue) × SpellsIdentifier id t
 spells_some t is = ⊎_elim
     (λ yes. let n = IsNumber-from_canonical t (identifier_part t is).0 (canonical_from_is_number t yes) in (numeric n.0, (n.1, n.2)))
-    (λ other. (alphanumeric t, (refl, is, λ number. clash (sym (is_number_true t (canonical_from_IsNumber t number)) ∙ other))))
+    (λ other. (alphanumeric t, (refl, is, λ number. never (is_number_true t (canonical_from_IsNumber t number)) other)))
     (cases_Bool (is_number t))
-  where
-    clash : true ≡ false → ⊥
-    clash e = cc
 
 pub spell_some : (ts : List Text) → AllByRecursion IsIdentifierText ts
     → (ids : List IdentifierValue) × AllZip SpellsIdentifier ids ts × (length ids ≡ length ts)
@@ -185,7 +182,7 @@ module _ (v : VersionValue) (text : Text) (w : SpellsVersion v text) where
       go [] spaces e =
           subst (λ (t : Text). BeginsWithNumbers t v.plain.major v.plain.minor v.plain.patch (behind_numbers w)) (sym e) (core_begins w)
       go (b ∷ before) spaces e =
-          let c : true ≡ false = sym (ap (λ (t : Text). is_space (slice_index t 0)) e ∙ spaces.0) ∙ first in cc
+          absurd (never (ap (λ (t : Text). is_space (slice_index t 0)) e ∙ spaces.0) first)
 
 -- so a text spells none where its numbers aren't there, or its parts
 pub no_numbers : (text : Text) → is_space (slice_index text 0) ≡ false

@@ -1,9 +1,8 @@
 -- A text that spells a version with identifiers has tokens that hold a run of one, so reading it may run out of memory.
-use Rattle.std.proofs.Common.{◌≡◌, ℕ, ◌<◌, ◌+◌, Bool, true, false, arith, List, [], ◌∷◌, length, map, Some, None}
-use Rattle.std.proofs.Common.{Option, sym, refl, ap, ◌∙◌, subst, inl, inr, ⊎_elim, ◌⊎◌, decimal}
-use Rattle.std.specs.Prelude.{option_and_then}
+use Rattle.std.proofs.Common.{◌≡◌, ℕ, ◌<◌, ◌+◌, Bool, true, false, arith, List, [], ◌∷◌, length, map, Some}
+use Rattle.std.proofs.Common.{sym, refl, ap, ◌∙◌, subst, inl, inr, ⊎_elim, ◌⊎◌, decimal}
 use Rattle.std.specs.List.{AllZip, join_with_byte}
-use Rattle.std.proofs.lemmas.Option.{none-some}
+use Rattle.std.proofs.lemmas.Option.{option_and_then_some}
 use Rattle.semver_texts.specs.Texts.{Text, marked}
 use Rattle.semver_texts.specs.Versions.{IdentifierValue, VersionValue, numbers}
 use Rattle.semver_tokens.specs.Tokens.{TokenValue, LtEq, GtEq, Or, Hyphen, Plus, Whitespace, Numeric, AlphaNumeric, IsTokenAt, AreInPlace}
@@ -15,40 +14,26 @@ use Rattle.semver_steps.specs.Means.Taking.{accepts}
 use Rattle.semver_tokens.proofs.TokenLists.{decimal_is_run}
 use Rattle.semver_texts.proofs.Lists.{Passes, all_more, passes_append, passes_apart}
 use Rattle.semver_steps.proofs.VersionSteps.{version_is_read}
-use Rattle.semver_steps.proofs.VersionTaking.{holds_later, sign_holds}
+use Rattle.semver_steps.proofs.VersionTaking.{holds_later, mark_of, sign_holds}
 use Rattle.semver_versions.proofs.WholeText.{is_no_mark, letter_no_mark, has, spelled_may_run_out}
 
 -- ---- behind a mark comes a run
 
-mark_leads : (mark : TokenValue) → (mark ≡ Hyphen) ⊎ (mark ≡ Plus) → (p q : Place) → step p mark ≡ Some q
-    → (part : Part) × (q ≡ at_run part)
-mark_leads mark is p q e =
-    ⊎_elim (λ hyphen. hyphen_leads p q (ap (step p) (sym hyphen) ∙ e)) (λ plus. plus_leads p q (ap (step p) (sym plus) ∙ e)) is
+mark_leads : (mark : Part) (p q : Place) → step p (mark_of mark) ≡ Some q → (part : Part) × (q ≡ at_run part)
+mark_leads pre_release (behind_number patch) q e = (pre_release, cc)
+mark_leads pre_release (behind_run part) q e = (part, cc)
+mark_leads build (behind_number patch) q e = (build, cc)
+mark_leads build (behind_run pre_release) q e = (build, cc)
+mark_leads _ _ q e = cc
+
+mark_holds : (mark : Part) (p q : Place) → step p (mark_of mark) ≡ Some q → (ts : List TokenValue) (last : Place)
+    → run step q ts ≡ Some last → accepts last ≡ true → HoldsIdentifierRun (mark_of mark ∷ ts)
+mark_holds mark p q leads ts last e ok =
+    let to = mark_leads mark p q leads in sign_holds (mark_of mark) (is_sign mark) to.0 ts last (ap (λ (r : Place). run step r ts) (sym to.1) ∙ e) ok
   where
-    hyphen_leads : (p q : Place) → step p Hyphen ≡ Some q → (part : Part) × (q ≡ at_run part)
-    hyphen_leads (behind_number patch) q e = (pre_release, cc)
-    hyphen_leads (behind_run part) q e = (part, cc)
-    hyphen_leads _ q e = absurd (none-some q e)
-
-    plus_leads : (p q : Place) → step p Plus ≡ Some q → (part : Part) × (q ≡ at_run part)
-    plus_leads (behind_number patch) q e = (build, cc)
-    plus_leads (behind_run pre_release) q e = (build, cc)
-    plus_leads _ q e = absurd (none-some q e)
-
-mark_holds : (mark : TokenValue) → (mark ≡ Hyphen) ⊎ (mark ≡ Plus) → (p q : Place) → step p mark ≡ Some q
-    → (ts : List TokenValue) (last : Place) → run step q ts ≡ Some last → accepts last ≡ true → HoldsIdentifierRun (mark ∷ ts)
-mark_holds mark is p q leads ts last e ok =
-    let to = mark_leads mark is p q leads in sign_holds mark is to.0 ts last (ap (λ (r : Place). run step r ts) (sym to.1) ∙ e) ok
-
--- where a token leads on
-led : (p : Place) (t : TokenValue) (ts : List TokenValue) (last : Place) → run step p (t ∷ ts) ≡ Some last
-    → (q : Place) × (step p t ≡ Some q) × (run step q ts ≡ Some last)
-led p t ts last e = go (step p t) refl e
-  where
-    go : (o : Option Place) → step p t ≡ o → option_and_then (λ u. run step u ts) o ≡ Some last
-        → (q : Place) × (step p t ≡ Some q) × (run step q ts ≡ Some last)
-    go None here e = absurd (none-some last e)
-    go (Some q) here e = (q, here, e)
+    is_sign : (mark : Part) → (mark_of mark ≡ Hyphen) ⊎ (mark_of mark ≡ Plus)
+    is_sign pre_release = inl refl
+    is_sign build = inr refl
 
 -- ---- tokens without a mark have a text without one
 
@@ -75,14 +60,14 @@ holds_or_none : (text : List ℕ) (place : ℕ) (p last : Place) (ts : List Toke
     → accepts last ≡ true → HoldsIdentifierRun ts ⊎ Passes is_no_mark (inner_texts ts)
 holds_or_none text place p last [] placed leads ok = inr tt
 holds_or_none text place p last (Hyphen ∷ ts) placed leads ok =
-    let to = led p Hyphen ts last leads in inl (mark_holds Hyphen (inl refl) p to.0 to.1 ts last to.2 ok)
+    option_and_then_some _ (step p Hyphen) last leads (λ q here on. inl (mark_holds pre_release p q here ts last on ok))
 holds_or_none text place p last (Plus ∷ ts) placed leads ok =
-    let to = led p Plus ts last leads in inl (mark_holds Plus (inr refl) p to.0 to.1 ts last to.2 ok)
+    option_and_then_some _ (step p Plus) last leads (λ q here on. inl (mark_holds build p q here ts last on ok))
 holds_or_none text place p last (t ∷ ts) placed leads ok =
-    let to = led p t ts last leads in
+    option_and_then_some _ (step p t) last leads (λ q here on.
     ⊎_elim (λ holds. inl (holds_later t ts holds)) (λ none. inr
     (passes_append is_no_mark (inner_text t) (inner_texts ts) (no_mark_inside text place t refl placed.0) none))
-    (holds_or_none text (place + length (token_text text t)) to.0 last ts placed.1 to.2 ok)
+    (holds_or_none text (place + length (token_text text t)) q last ts placed.1 on ok))
 
 -- ---- a version with identifiers
 

@@ -1,14 +1,13 @@
 -- A text that spells a version has the tokens of one, and they spell that version.
-use Rattle.std.proofs.Common.{◌≡◌, ℕ, ◌+◌, ◌-◌, ◌<◌, ◌^◌, Bool, true, false, List, [], ◌∷◌, ◌++◌, length, take, drop, Some, None, sym, refl}
-use Rattle.std.proofs.Common.{ap, ◌∙◌, subst, inl, arith, append_assoc, append-nil, length-append, length-drop, decimal, cond}
-use Rattle.std.specs.Prelude.{option_and_then, IsTrue, slice_index, slice_range}
+use Rattle.std.proofs.Common.{◌≡◌, ℕ, ◌+◌, ◌-◌, ◌<◌, ◌^◌, true, false, List, [], ◌∷◌, ◌++◌, length, take, drop, Some, sym, refl}
+use Rattle.std.proofs.Common.{ap, ◌∙◌, subst, inl, arith, append_assoc, append-nil, length-append, length-drop, decimal}
+use Rattle.std.specs.Prelude.{option_and_then, slice_index, slice_range}
 use Rattle.std.specs.List.{AllByRecursion, AllZip, join_with_byte}
 use Rattle.std.specs.Char.{is_ascii_alphanumeric}
 use Rattle.std.proofs.lemmas.List.{take_at, drop_at, drop-drop}
 use Rattle.semver_texts.specs.Texts.{marked, IsRun, is_space}
 use Rattle.semver_tokens.specs.Tokens.{TokenValue, Dot, Hyphen, Plus, Whitespace, Numeric, token_text, IsTokenAt, AreTokensFrom}
-use Rattle.semver_tokens.specs.Tokens.{AreTokensOf, is_component, is_whitespace}
-use Rattle.semver_texts.specs.Means.Decimals.{is_number}
+use Rattle.semver_tokens.specs.Tokens.{AreTokensOf}
 use Rattle.semver_tokens.specs.Means.Scanning.{component}
 use Rattle.semver_texts.specs.Versions.{IdentifierValue, numeric, alphanumeric, VersionValue}
 use Rattle.semver_texts.specs.VersionGrammar.{SpellsIdentifier, SpellsPart, SpellsCore, SpellsVersion}
@@ -17,10 +16,9 @@ use Rattle.semver_steps.specs.Means.Taking.{run, major, minor, patch, Part, pre_
 use Rattle.semver_steps.specs.Means.Taking.{at_run, behind_run, end, step, accepts}
 use Rattle.semver_texts.proofs.Lists.{Passes}
 use Rattle.semver_tokens.proofs.FirstToken.{IsFound, continues_into, continues-component, token_text-component, IsTokenAt-component}
-use Rattle.semver_tokens.proofs.FirstToken.{by_test, never, space_is_no_run}
+use Rattle.semver_tokens.proofs.FirstToken.{space_is_no_run}
 use Rattle.semver_tokens.proofs.TokenLists.{tokens_cons, shows_kind, decimal_is_run}
-use Rattle.semver_texts.proofs.Numbers.{is_number_true, canonical_from_is_number}
-use Rattle.semver_tokens.proofs.Components.{component_number, component_other}
+use Rattle.semver_tokens.proofs.Components.{component_cases}
 use Rattle.semver_steps.proofs.VersionSteps.{version_is_read}
 use Rattle.semver_steps.proofs.VersionTaking.{mark_of}
 use Rattle.semver_versions.proofs.OneVersion.{at_numbers, behind_spaces, build_ends, pre_ends, numbers_end, numbers_first, core_begins}
@@ -39,13 +37,13 @@ record AreEnding (text : List ℕ) (p : Place) (spelled : List ℕ) (at : ℕ) :
 abbrev EndsWith : List ℕ → List ℕ → Place → List ℕ → Type 0
 EndsWith text suffix p spelled = (at : ℕ) → drop at text ≡ suffix → AreEnding text p spelled at
 
-component_kind : (bytes : List ℕ) → (is_whitespace (component bytes) ≡ false) × IsTrue (is_component (component bytes))
-component_kind bytes =
-    by_test (is_number bytes)
-    (λ e. subst (λ (t : TokenValue). (is_whitespace t ≡ false) × IsTrue (is_component t))
-    (sym (component_number bytes (canonical_from_is_number bytes e))) (refl, refl))
-    (λ e. subst (λ (t : TokenValue). (is_whitespace t ≡ false) × IsTrue (is_component t))
-    (sym (component_other bytes (λ c. never (is_number_true bytes c) e))) (refl, refl))
+-- the token of a run is no white space, and has the run as its text
+run_inner : (run : List ℕ) → 0 < length run → inner_text (component run) ≡ run
+run_inner run some =
+    component_cases run (λ t. inner_text t ≡ token_text [] t) (λ c. refl) (λ other. refl) ∙ token_text-component [] run some
+
+run_leads : (part : Part) (run : List ℕ) → step (at_run part) (component run) ≡ Some (behind_run part)
+run_leads part run = component_cases run (λ t. step (at_run part) t ≡ Some (behind_run part)) (λ c. refl) (λ other. refl)
 
 module _ (text : List ℕ) where
   -- a token, and what ends behind it
@@ -143,15 +141,12 @@ module _ (text : List ℕ) where
       run_more : (bytes spelled : List ℕ) → IsRun bytes → NoRun spelled → Ends (behind_run part) spelled
           → Ends (at_run part) (bytes ++ spelled)
       run_more bytes spelled w stops rest at here =
-          let kind = component_kind bytes in
-          let inner : inner_text (component bytes) ≡ bytes =
-          ap (λ (b : Bool). cond b [] (token_text [] (component bytes))) kind.0 ∙ token_text-component [] bytes w.0 in
-          subst (λ (l : List ℕ). AreEnding text (at_run part) (l ++ spelled) at) inner
+          subst (λ (l : List ℕ). AreEnding text (at_run part) (l ++ spelled) at) (run_inner bytes w.0)
           (one_more (component bytes) (at_run part) (behind_run part) (spelled ++ after) spelled at
           (here ∙ append_assoc bytes spelled after
           ∙ ap (λ (l : List ℕ). l ++ (spelled ++ after)) (sym (token_text-component text bytes w.0)))
           (IsTokenAt-component text at bytes w) (continues-component bytes (slice_index (spelled ++ after) 0) ∙ stops)
-          (ap (λ (c : Bool). cond c (Some (behind_run part)) None) kind.1) rest)
+          (run_leads part bytes) rest)
 
       runs_more : (runs : List (List ℕ)) (spelled : List ℕ) → 0 < length runs → AllByRecursion IsRun runs → NoRun spelled
           → Ends (behind_run part) spelled → Ends (at_run part) (join_with_byte 45 runs ++ spelled)
@@ -186,8 +181,10 @@ module _ (text : List ℕ) where
 
     mark_more : (part : Part) (from : Place) (spelled : List ℕ) → step from (mark_of part) ≡ Some (at_run part) → Ends (at_run part) spelled
         → Ends from (inner_text (mark_of part) ++ spelled)
-    mark_more pre_release from spelled leads rest at here = one_more Hyphen from (at_run pre_release) (spelled ++ after) spelled at here tt refl leads rest
-    mark_more build from spelled leads rest at here = one_more Plus from (at_run build) (spelled ++ after) spelled at here tt refl leads rest
+    mark_more pre_release from spelled leads rest at here =
+        one_more Hyphen from (at_run pre_release) (spelled ++ after) spelled at here tt refl leads rest
+    mark_more build from spelled leads rest at here =
+        one_more Plus from (at_run build) (spelled ++ after) spelled at here tt refl leads rest
 
     -- a part, from a place where its mark leads to a run of it, or nothing
     part_more : (part : Part) (from : Place) (ids : List IdentifierValue) (bytes spelled : List ℕ)

@@ -1,14 +1,14 @@
 -- What reading a whole text answers, by the texts and the grammar.
-use Rattle.std.proofs.Common.{◌≡◌, ℕ, zero, suc, ◌+◌, ◌-◌, ◌<◌, ◌^◌, Bool, true, false, eqb, ◌||◌, List, [], ◌∷◌, ◌++◌, length, drop, map}
+use Rattle.std.proofs.Common.{◌≡◌, ℕ, zero, suc, ◌+◌, ◌-◌, ◌<◌, ◌^◌, Bool, true, false, eqb, ◌||◌, List, [], ◌∷◌, ◌++◌, length, map}
 use Rattle.std.proofs.Common.{Some, None, Option, Result, Ok, Err, sym, refl, ap, ◌∙◌, subst, inr, inl, ⊎_elim, arith, append_assoc}
 use Rattle.std.proofs.Common.{append-nil, length-append, codes, decimal, IsUtf8}
 use Rattle.std.specs.Prelude.{slice_index, slice_get, chars, flat_map, encode_utf8_all, not}
-use Rattle.std.specs.Str.{IsAscii, IsCharBoundary}
+use Rattle.std.specs.Str.{IsAscii}
 use Rattle.std.specs.List.{AllByRecursion, AllZip, join_by, join_with_byte}
 use Rattle.std.specs.Char.{is_ascii_alphanumeric}
-use Rattle.std.proofs.lemmas.Str.{chars-nil, encodes-chars, IsAscii-append, IsUtf8-drop}
+use Rattle.std.proofs.lemmas.Str.{chars-nil, chars-append, encodes-chars, IsAscii-append, IsUtf8-from_ascii}
 use Rattle.std.proofs.lemmas.Str.Ascii.{IsAscii-nil}
-use Rattle.std.proofs.lemmas.List.{drop_at}
+use Rattle.std.proofs.lemmas.List.{append_cancel_left}
 use Rattle.std.proofs.lemmas.Option.{none-some}
 use Rattle.std.proofs.lemmas.Grind.{flat_map-append}
 use Rattle.std.proofs.lemmas.Bool.Decides.{nat_tests}
@@ -22,7 +22,7 @@ use Rattle.semver_texts.specs.VersionGrammar.{IsPrintableVersion}
 use Rattle.semver_tokens.specs.ParserState.{ParserState, Fault, IsStateOf}
 use Rattle.semver_steps.specs.VersionReading.{IsIdentifierShape, IsPartShape, IsOuterShape, IsVersionShape, IsLongestFront, ReadsVersion}
 use Rattle.semver_steps.specs.VersionReading.{IsOutcomeOf, whole_answer, HoldsIdentifierRun, TextMayRunOut, inner_text, inner_texts}
-use Rattle.semver_tokens.proofs.Cuts.{IsAscii-token_text, cut_after_ascii}
+use Rattle.semver_tokens.proofs.Cuts.{IsAscii-token_text}
 use Rattle.semver_tokens.proofs.TokenLists.{same_tokens, decimal_is_run}
 use Rattle.semver_steps.proofs.ReadingSteps.{same_front, reads_once}
 use Rattle.semver_steps.proofs.IdentifierSteps.{identifier_is_read}
@@ -108,8 +108,7 @@ printable_identifier (alphanumeric kept) text w = (refl, w.1, w.2)
 
 printable_identifiers : (ids : List IdentifierValue) (texts : List (List ℕ)) → AllZip SpellsIdentifier ids texts
     → AllByRecursion IsPrintableIdentifier ids
-printable_identifiers [] [] all = tt
-printable_identifiers [] (t ∷ texts) all = absurd all
+printable_identifiers [] texts all = tt
 printable_identifiers (id ∷ ids) [] all = absurd all
 printable_identifiers (id ∷ ids) (t ∷ texts) all = (printable_identifier id t all.0, printable_identifiers ids texts all.1)
 
@@ -225,31 +224,25 @@ whole_spelled v text ts tokens shape w =
 
 -- ---- an accepted text
 
--- behind ASCII a text is UTF-8 too
-utf8_behind : (text xs ys : List ℕ) → IsUtf8 text → text ≡ xs ++ ys → IsAscii xs → IsUtf8 ys
-utf8_behind text [] ys utf8 e ascii = subst IsUtf8 e utf8
-utf8_behind text (x ∷ xs) ys utf8 e ascii =
-    let cut : IsCharBoundary text (0 + length (x ∷ xs)) = cut_after_ascii text 0 (x ∷ xs) ys utf8 e (omega arith) ascii in
-    let here : drop (0 + length (x ∷ xs)) text ≡ ys = ap (drop (0 + length (x ∷ xs))) e
-    ∙ drop_at (x ∷ xs) ys (0 + length (x ∷ xs)) (omega arith) in
-    subst IsUtf8 here (IsUtf8-drop text (0 + length (x ∷ xs)) utf8 cut)
-
 tokens_ascii : (text : List ℕ) (place : ℕ) (ts : List TokenValue) → AreInPlace text place ts → IsAscii (tokens_text text ts)
 tokens_ascii text place [] w = IsAscii-nil
 tokens_ascii text place (t ∷ ts) w =
     IsAscii-append (token_text text t) (tokens_text text ts) (IsAscii-token_text text place t w.0)
     (tokens_ascii text (place + length (token_text text t)) ts w.1)
 
-no_char : (cs bs : List ℕ) → encode_utf8_all cs ≡ bs → slice_get cs 0 ≡ None → bs ≡ []
-no_char [] bs e none = sym e
-no_char (c ∷ cs) bs e none = absurd (none-some c (sym none))
+none_first : (cs : List ℕ) → slice_get cs 0 ≡ None → cs ≡ []
+none_first [] none = refl
+none_first (c ∷ cs) none = absurd (none-some c (sym none))
 
 -- where no character is pending, the tokens are all of the text
 no_rest : (text : List ℕ) (s : ParserState) → IsUtf8 text → (w : IsStateOf text s) → s.pending ≡ None → w.0 ≡ []
 no_rest text s utf8 w none =
-    let rest_utf8 : IsUtf8 w.0 = utf8_behind text (tokens_text text s.remaining) w.0 utf8 w.1.spelled
-    (tokens_ascii text 0 s.remaining w.1.in_place) in
-    no_char (chars w.0) w.0 (encodes-chars w.0 rest_utf8) (sym w.2 ∙ none)
+    let front : List ℕ = tokens_text text s.remaining in
+    let front_utf8 : IsUtf8 front = IsUtf8-from_ascii front (tokens_ascii text 0 s.remaining w.1.in_place) in
+    let same : chars text ≡ chars front = ap chars w.1.spelled ∙ chars-append front w.0 front_utf8
+    ∙ ap (λ (cs : List ℕ). chars front ++ cs) (none_first (chars w.0) (sym w.2 ∙ none)) ∙ append-nil (chars front) in
+    append_cancel_left front w.0 [] (sym w.1.spelled ∙ sym (encodes-chars text utf8) ∙ ap encode_utf8_all same
+    ∙ encodes-chars front front_utf8 ∙ sym (append-nil front))
 
 -- and where they are, none is
 no_pending : (text : List ℕ) (s : ParserState) → (w : IsStateOf text s) → w.0 ≡ [] → s.pending ≡ None
@@ -286,7 +279,8 @@ letter_no_mark b h = grind (arith, nat_tests)
 -- so are all bytes of a part without identifiers
 no_part : (mark : List ℕ) (ids : List IdentifierValue) (part : List ℕ) → ids ≡ [] → SpellsPart mark ids part → Passes is_no_mark part
 no_part mark ids part none w =
-    subst (Passes is_no_mark) (sym (part_text mark ids part w ∙ ap (λ (l : List IdentifierValue). marked mark (map identifier_text l)) none)) tt
+    subst (Passes is_no_mark)
+    (sym (part_text mark ids part w ∙ ap (λ (l : List IdentifierValue). marked mark (map identifier_text l)) none)) tt
 
 module _ (v : VersionValue) (text : List ℕ) (spells : SpellsVersion v text) where
   pub has : HasTokens v text
