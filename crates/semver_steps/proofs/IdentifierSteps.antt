@@ -49,6 +49,19 @@ first_run_of ts w = of_runs w.runs w.some w.each w.joined
 pub identifier_of : {ts : List TokenValue} → HasFirstRun ts → IsIdentifierShape ts
 identifier_of w = record { runs = w.first ∷ w.runs; some = omega arith; each = (w.first_run, w.each_run); joined = w.is }
 
+pub one_run : (t : TokenValue) → IsTrue (is_component t) → IsIdentifierShape (t ∷ [])
+one_run t h = record { runs = t ∷ []; some = omega arith; each = (h, tt); joined = refl }
+
+pub run_more : {ts : List TokenValue} (t : TokenValue) → IsTrue (is_component t) → IsIdentifierShape ts → IsIdentifierShape (t ∷ Hyphen ∷ ts)
+run_more {ts} t h w =
+    let f = first_run_of ts w in
+    record {
+      runs = t ∷ f.first ∷ f.runs;
+      some = omega arith;
+      each = (h, (f.first_run, f.each_run));
+      joined = ap (λ l. t ∷ Hyphen ∷ l) f.is;
+    }
+
 component_leads : (t : TokenValue) → IsTrue (is_component t) → (ts : List TokenValue) → run id_step false (t ∷ ts) ≡ run id_step true ts
 component_leads t h ts = rw h refl
 

@@ -13,7 +13,7 @@ use Rattle.semver_tokens.specs.Tokens.{TokenValue, Hyphen, Whitespace, Numeric, 
 use Rattle.semver_tokens.specs.Tokens.{tokens_text, IsTokenAt, IsBadStart, AreInPlace, NoneMerge, AreTokensFrom}
 use Rattle.semver_tokens.specs.ParserState.{ParserState, IsStateFrom}
 use Rattle.semver_texts.specs.VersionGrammar.{SpellsIdentifier}
-use Rattle.semver_texts.proofs.Lists.{Passes, all_more, passes_append}
+use Rattle.semver_texts.proofs.Lists.{Passes, all_more, all_apart, passes_append}
 use Rattle.semver_texts.specs.Versions.{alphanumeric}
 use Rattle.semver_steps.specs.VersionReading.{IsIdentifierShape, inner_text, inner_texts, HoldsRun, MayRunOutInIdentifier, ReadsIdentifier}
 use Rattle.semver_steps.specs.Means.Taking.{run, PassesIdentifier, TakesIdentifier, lone_number}
@@ -71,11 +71,13 @@ well_formed text place (Numeric n) w = w
 well_formed text place (AlphaNumeric s) w = w
 well_formed text place _ w = tt
 
-front_well_formed : (text : List ℕ) (place : ℕ) (ts us : List TokenValue) → AreInPlace text place (ts ++ us)
-    → AllByRecursion IsWellFormed ts
-front_well_formed text place [] us a = tt
-front_well_formed text place (t ∷ ts) us a =
-    (well_formed text place t a.0, front_well_formed text (place + length (token_text text t)) ts us a.1)
+-- each of them stands in some place
+abbrev pub IsPlaced : List ℕ → TokenValue → Type 0
+IsPlaced text t = (at : ℕ) × IsTokenAt text at t
+
+pub each_placed : (text : List ℕ) (place : ℕ) (ts : List TokenValue) → AreInPlace text place ts → AllByRecursion (IsPlaced text) ts
+each_placed text place [] a = tt
+each_placed text place (t ∷ ts) a = ((place, a.0), each_placed text (place + length (token_text text t)) ts a.1)
 
 -- ---- what follows
 
@@ -120,12 +122,6 @@ no_run_follows false (x ∷ y ∷ ts) t us some e none = cc
 no_run_follows true (Hyphen ∷ y ∷ ts) t us some e none = no_run_follows false (y ∷ ts) t us (omega arith) e none.1
 no_run_follows true (x ∷ y ∷ ts) t us some e none = cc
 
--- the first of the tokens behind some stands in its place
-pub behind_in_place : (text : List ℕ) (place : ℕ) (ts : List TokenValue) (t : TokenValue) (us : List TokenValue)
-    → AreInPlace text place (ts ++ t ∷ us) → (at : ℕ) × IsTokenAt text at t
-behind_in_place text place [] t us a = (place, a.0)
-behind_in_place text place (x ∷ ts) t us a = behind_in_place text (place + length (token_text text x)) ts t us a.1
-
 -- what follows begins with none of these bytes
 follows : (text : List ℕ) (place : ℕ) (ts rest : List TokenValue) (end : List ℕ) → 0 < length ts → run id_step false ts ≡ Some true
     → Stops id_step true rest
@@ -133,7 +129,7 @@ follows : (text : List ℕ) (place : ℕ) (ts rest : List TokenValue) (end : Lis
     → is_part_byte (slice_index (tokens_text text rest ++ end) 0) ≡ false
 follows text place ts [] end some leads stops in_place none ended = bad_byte end ended
 follows text place ts (t ∷ us) end some leads stops in_place none ended =
-    let here = behind_in_place text place ts t us in_place in
+    let here = (all_apart (IsPlaced text) ts (t ∷ us) (each_placed text place (ts ++ t ∷ us) in_place)).1.0 in
     let shown : 0 < length (token_text text t) = (shows_kind text here.0 t here.1).some in
     ap (λ (l : List ℕ). is_part_byte (slice_index l 0)) (append_assoc (token_text text t) (tokens_text text us) end)
     ∙ ap is_part_byte (get_or_append_left (token_text text t) (tokens_text text us ++ end) 0 0 shown)
@@ -158,7 +154,8 @@ front_is_cut text s t n from w =
     let stop = identifier_stops w.longest w.answer.whole.shape in
     let leads = stop.0 in
     let tokens : AreTokensFrom from.input from.place (front ++ w.rest) from.rest = rw w.longest.split at from.tokens in
-    let well : AllByRecursion IsWellFormed front = front_well_formed from.input from.place front w.rest tokens.in_place in
+    let well : AllByRecursion IsWellFormed front = all_more (λ t placed. well_formed from.input placed.0 t placed.1) front
+    (all_apart (IsPlaced from.input) front w.rest (each_placed from.input from.place (front ++ w.rest) tokens.in_place)).0 in
     let after : List ℕ = tokens_text from.input w.rest ++ from.rest in
     let spelled : text ≡ inner_texts front ++ after =
     from.begins ∙ tokens.spelled ∙ ap (λ (l : List ℕ). l ++ from.rest) (flat_map-append (token_text from.input) front w.rest)

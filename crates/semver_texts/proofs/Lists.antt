@@ -11,6 +11,10 @@ pub all_more : {X : Type 0} {P Q : X → Type 0} → ((x : X) → P x → Q x) �
 all_more more [] all = tt
 all_more more (x ∷ xs) all = (more x all.0, all_more more xs all.1)
 
+pub all_apart : {X : Type 0} (P : X → Type 0) (xs ys : List X) → AllByRecursion P (xs ++ ys) → AllByRecursion P xs × AllByRecursion P ys
+all_apart P [] ys all = (tt, all)
+all_apart P (x ∷ xs) ys all = let both = all_apart P xs ys all.1 in ((all.0, both.0), both.1)
+
 -- from two lists, place by place
 pub all_zipped : {A B : Type 0} {R : A → B → Type 0} {P : B → Type 0} → ((a : A) (b : B) → R a b → P b) → (xs : List A) (ys : List B)
     → AllZip R xs ys → AllByRecursion P ys
@@ -30,8 +34,7 @@ passes_append p [] ys a b = b
 passes_append p (x ∷ xs) ys a b = (a.0, passes_append p xs ys a.1 b)
 
 pub passes_apart : (p : ℕ → Bool) (xs ys : List ℕ) → Passes p (xs ++ ys) → Passes p xs × Passes p ys
-passes_apart p [] ys all = (tt, all)
-passes_apart p (x ∷ xs) ys all = let both = passes_apart p xs ys all.1 in ((all.0, both.0), both.1)
+passes_apart p = all_apart (λ b. IsTrue (p b))
 
 -- texts that pass, joined by dots, and behind a mark
 pub dotted_pass : (p : ℕ → Bool) → p 46 ≡ true → (xs : List (List ℕ)) → AllByRecursion (Passes p) xs → Passes p (join_with_byte 46 xs)

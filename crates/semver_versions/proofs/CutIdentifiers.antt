@@ -133,27 +133,28 @@ run_stands : (in_run : Bool) (run more : Text) → IsRun run → stands in_run (
 run_stands in_run [] more is = absurd (omega (arith, is.0))
 run_stands in_run (b ∷ run) more is = rw is.1.0 (letters_stand run more is.1.1)
 
-runs_stand : (in_run : Bool) (runs : List Text) (more : Text) → 0 < length runs → AllByRecursion IsRun runs
-    → stands in_run (join_with_byte 45 runs ++ more) ≡ stands true more
-runs_stand in_run [] more some each = absurd (omega (arith, some))
-runs_stand in_run (run ∷ []) more some each = run_stands in_run run more each.0
-runs_stand in_run (run ∷ next ∷ runs) more some each =
-    ap (stands in_run) (append_assoc run (45 ∷ join_with_byte 45 (next ∷ runs)) more)
-    ∙ run_stands in_run run (45 ∷ (join_with_byte 45 (next ∷ runs) ++ more)) each.0
-    ∙ runs_stand false (next ∷ runs) more (omega arith) each.1
+-- a text behind which a run is being read
+abbrev Stands : Text → Type 0
+Stands text = (in_run : Bool) (more : Text) → stands in_run (text ++ more) ≡ stands true more
 
-identifier_stands : (in_run : Bool) (text more : Text) → IsIdentifierText text → stands in_run (text ++ more) ≡ stands true more
-identifier_stands in_run text more w =
-    ap (λ (t : Text). stands in_run (t ++ more)) w.joined ∙ runs_stand in_run w.runs more w.some w.each
+joined_stand : (mark : ℕ) → ((more : Text) → stands true (mark ∷ more) ≡ stands false more) → (texts : List Text) → 0 < length texts
+    → AllByRecursion Stands texts → Stands (join_with_byte mark texts)
+joined_stand mark leads [] some each in_run more = absurd (omega (arith, some))
+joined_stand mark leads (t ∷ []) some each in_run more = each.0 in_run more
+joined_stand mark leads (t ∷ next ∷ texts) some each in_run more =
+    let others : Text = join_with_byte mark (next ∷ texts) in
+    ap (stands in_run) (append_assoc t (mark ∷ others) more) ∙ each.0 in_run (mark ∷ (others ++ more)) ∙ leads (others ++ more)
+    ∙ joined_stand mark leads (next ∷ texts) (omega arith) each.1 false more
+
+identifier_stands : (text : Text) → IsIdentifierText text → Stands text
+identifier_stands text w =
+    subst Stands (sym w.joined)
+    (joined_stand 45 (λ more. refl) w.runs w.some (all_more (λ run is in_run more. run_stands in_run run more is) w.runs w.each))
 
 identifiers_stand : (in_run : Bool) (texts : List Text) (more : Text) → 0 < length texts → AllByRecursion IsIdentifierText texts
     → stands in_run (join_with_byte 46 texts ++ more) ≡ stands true more
-identifiers_stand in_run [] more some each = absurd (omega (arith, some))
-identifiers_stand in_run (t ∷ []) more some each = identifier_stands in_run t more each.0
-identifiers_stand in_run (t ∷ next ∷ texts) more some each =
-    ap (stands in_run) (append_assoc t (46 ∷ join_with_byte 46 (next ∷ texts)) more)
-    ∙ identifier_stands in_run t (46 ∷ (join_with_byte 46 (next ∷ texts) ++ more)) each.0
-    ∙ identifiers_stand false (next ∷ texts) more (omega arith) each.1
+identifiers_stand in_run texts more some each =
+    joined_stand 46 (λ more. refl) texts some (all_more identifier_stands texts each) in_run more
 
 -- ---- where they end they are cut so
 

@@ -26,8 +26,8 @@ use Rattle.semver_tokens.proofs.Cuts.{IsAscii-token_text}
 use Rattle.semver_tokens.proofs.TokenLists.{same_tokens, decimal_is_run}
 use Rattle.semver_steps.proofs.ReadingSteps.{same_front, reads_once}
 use Rattle.semver_steps.proofs.IdentifierSteps.{identifier_is_read}
-use Rattle.semver_steps.proofs.IdentifierTexts.{pieces, pieces_text, behind_in_place}
-use Rattle.semver_texts.proofs.Lists.{Passes, all_more, passes_append, passes_apart, dotted_pass}
+use Rattle.semver_steps.proofs.IdentifierTexts.{pieces, pieces_text, IsPlaced, each_placed}
+use Rattle.semver_texts.proofs.Lists.{Passes, all_more, all_apart, passes_append, passes_apart, dotted_pass}
 use Rattle.semver_tokens.proofs.FirstToken.{run_is_part}
 use Rattle.semver_versions.proofs.OneVersion.{part_passes, bare, one_core}
 use Rattle.semver_versions.proofs.VersionTokens.{HasTokens, version_tokens}
@@ -142,19 +142,13 @@ printed_spells v w = bare (record {
 
 -- ---- from tokens to the text
 
-outer_inner : (ts : List TokenValue) → IsOuterShape ts → inner_texts ts ≡ []
-outer_inner [] w = refl
-outer_inner ((Whitespace a b) ∷ []) w = refl
-outer_inner (t ∷ []) w = cc (w.1.0)
-outer_inner (t ∷ u ∷ ts) w = absurd (omega (arith, w.0))
-
-outer_spaces : (text : List ℕ) (ts : List TokenValue) → IsOuterShape ts
-    → ((t : TokenValue) (us : List TokenValue) → ts ≡ t ∷ us → (at : ℕ) × IsTokenAt text at t) → Passes is_space (tokens_text text ts)
-outer_spaces text [] w here = tt
-outer_spaces text ((Whitespace a b) ∷ []) w here =
-    let h = here (Whitespace a b) [] refl in subst (Passes is_space) (sym (append-nil (token_text text (Whitespace a b)))) h.1.3
-outer_spaces text (t ∷ []) w here = cc (w.1.0)
-outer_spaces text (t ∷ u ∷ ts) w here = absurd (omega (arith, w.0))
+outer_texts : (text : List ℕ) (ts : List TokenValue) → IsOuterShape ts → AllByRecursion (IsPlaced text) ts
+    → (inner_texts ts ≡ []) × Passes is_space (tokens_text text ts)
+outer_texts text [] w placed = (refl, tt)
+outer_texts text ((Whitespace a b) ∷ []) w placed =
+    (refl, subst (Passes is_space) (sym (append-nil (token_text text (Whitespace a b)))) placed.0.1.3)
+outer_texts text (t ∷ []) w placed = cc (w.1.0)
+outer_texts text (t ∷ u ∷ ts) w placed = absurd (omega (arith, w.0))
 
 identifier_same : (text : List ℕ) (id : List TokenValue) → IsIdentifierShape id → tokens_text text id ≡ inner_texts id
 identifier_same text id w = let whole = identifier_is_read.read id w in pieces_text text id (pieces false whole.0 id whole.1)
@@ -185,42 +179,33 @@ pub whole_spelled : (v : VersionValue) (text : List ℕ) (ts : List TokenValue) 
     → SpellsCore v (inner_texts ts) → SpellsVersion v text
 whole_spelled v text ts tokens shape w =
     let three : List TokenValue = join_by (λ n. Numeric n ∷ []) (Dot ∷ []) (shape.major ∷ shape.minor ∷ shape.patch ∷ []) in
-    let before : List ℕ = tokens_text text shape.before in
-    let after : List ℕ = tokens_text text shape.after in
     let mid : List ℕ = inner_texts three ++ inner_texts shape.pre ++ inner_texts shape.build in
-    let in_place : AreInPlace text 0 (shape.before ++ three ++ shape.pre ++ shape.build ++ shape.after) = subst
-    (AreInPlace text 0) shape.joined tokens.in_place in
-    let text_is : text ≡ before ++ mid ++ after =
-    tokens.spelled ∙ append-nil (tokens_text text ts) ∙ ap (tokens_text text) shape.joined
-    ∙ split5 (token_text text) shape.before three shape.pre shape.build shape.after
-    ∙ (λ i. before ++ (inner_texts three ++ part_same text Hyphen shape.pre refl shape.pre_shape i
-    ++ part_same text Plus shape.build refl shape.build_shape i) ++ after) in
+    let placed : AllByRecursion (IsPlaced text) (shape.before ++ ((three ++ shape.pre ++ shape.build) ++ shape.after)) = subst
+    (AllByRecursion (IsPlaced text)) (shape.joined ∙ simp append_assoc) (each_placed text 0 ts tokens.in_place) in
+    let parts = all_apart (IsPlaced text) shape.before _ placed in
+    let first = outer_texts text shape.before shape.space_before parts.0 in
+    let last = outer_texts text shape.after shape.space_after
+    (all_apart (IsPlaced text) (three ++ shape.pre ++ shape.build) shape.after parts.1).1 in
     let inner_is : inner_texts ts ≡ mid =
     ap inner_texts shape.joined ∙ split5 inner_text shape.before three shape.pre shape.build shape.after
-    ∙ (λ i. outer_inner shape.before shape.space_before i ++ mid ++ outer_inner shape.after shape.space_after i) ∙ append-nil mid in
-    let spaces_first : Passes is_space before = outer_spaces text shape.before shape.space_before
-    (λ t us e. first_place t us shape.before (three ++ shape.pre ++ shape.build ++ shape.after) e
-    (subst (AreInPlace text 0) (simp append_assoc) in_place)) in
-    let spaces_last : Passes is_space after = outer_spaces text shape.after shape.space_after
-    (λ t us e. behind_in_place text 0 (shape.before ++ three ++ shape.pre ++ shape.build) t us
-    (subst (λ (l : List TokenValue). AreInPlace text 0 (shape.before ++ three ++ shape.pre ++ shape.build ++ l)) e in_place)) in
+    ∙ (λ i. first.0 i ++ mid ++ last.0 i) ∙ append-nil mid in
     record {
-      before = before;
+      before = tokens_text text shape.before;
       core = inner_texts ts;
-      after = after;
-      spaces_before = spaces_first;
-      spaces_after = spaces_last;
+      after = tokens_text text shape.after;
+      spaces_before = first.1;
+      spaces_after = last.1;
       spells = w;
-      whole = text_is ∙ ap (λ (l : List ℕ). before ++ l ++ after) (sym inner_is);
+      whole = tokens.spelled ∙ append-nil (tokens_text text ts) ∙ ap (tokens_text text) shape.joined
+          ∙ split5 (token_text text) shape.before three shape.pre shape.build shape.after
+          ∙ (λ i. tokens_text text shape.before ++ (inner_texts three ++ part_same text Hyphen shape.pre refl shape.pre_shape i
+          ++ part_same text Plus shape.build refl shape.build_shape i) ++ tokens_text text shape.after)
+          ∙ ap (λ l. tokens_text text shape.before ++ l ++ tokens_text text shape.after) (sym inner_is);
     }
   where
     split5 : (f : TokenValue → List ℕ) (a b c d e : List TokenValue)
         → flat_map f (a ++ b ++ c ++ d ++ e) ≡ flat_map f a ++ (flat_map f b ++ flat_map f c ++ flat_map f d) ++ flat_map f e
     split5 f a b c d e = simp (flat_map-append, append_assoc)
-
-    first_place : (t : TokenValue) (us ts more : List TokenValue) → ts ≡ t ∷ us → AreInPlace text 0 (ts ++ more)
-        → (at : ℕ) × IsTokenAt text at t
-    first_place t us ts more e a = (0, (subst (λ (l : List TokenValue). AreInPlace text 0 (l ++ more)) e a).0)
 
 -- ---- an accepted text
 
