@@ -132,7 +132,7 @@ run_texts (t ∷ runs) all well = (run_text t all.0 well.0, run_texts runs all.1
 
 texts_joined : (t : TokenValue) (runs : List TokenValue) → inner_texts (t ∷ hyphened runs) ≡ join_with_byte 45 (map inner_text (t ∷ runs))
 texts_joined t [] = append-nil (inner_text t)
-texts_joined t (r ∷ runs) = ap (λ (l : List ℕ). inner_text t ++ 45 ∷ l) (texts_joined r runs)
+texts_joined t (r ∷ runs) = ap (λ l. inner_text t ++ 45 ∷ l) (texts_joined r runs)
 
 -- a hyphen is no digit
 hyphen_no_digits : (xs ys : List ℕ) → all_ascii_digits (xs ++ 45 ∷ ys) ≡ false

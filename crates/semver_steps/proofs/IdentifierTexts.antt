@@ -131,7 +131,7 @@ follows text place ts [] end some leads stops in_place none ended = bad_byte end
 follows text place ts (t ∷ us) end some leads stops in_place none ended =
     let here = (all_apart (IsPlaced text) ts (t ∷ us) (each_placed text place (ts ++ t ∷ us) in_place)).1.0 in
     let shown : 0 < length (token_text text t) = (shows_kind text here.0 t here.1).some in
-    ap (λ (l : List ℕ). is_part_byte (slice_index l 0)) (append_assoc (token_text text t) (tokens_text text us) end)
+    ap (λ l. is_part_byte (slice_index l 0)) (append_assoc (token_text text t) (tokens_text text us) end)
     ∙ ap is_part_byte (get_or_append_left (token_text text t) (tokens_text text us ++ end) 0 0 shown)
     ∙ other_hyphen text here.0 t here.1 (λ e. cc)
     (no_run_follows false ts t us some leads none)
@@ -158,9 +158,9 @@ front_is_cut text s t n from w =
     (all_apart (IsPlaced from.input) front w.rest (each_placed from.input from.place (front ++ w.rest) tokens.in_place)).0 in
     let after : List ℕ = tokens_text from.input w.rest ++ from.rest in
     let spelled : text ≡ inner_texts front ++ after =
-    from.begins ∙ tokens.spelled ∙ ap (λ (l : List ℕ). l ++ from.rest) (flat_map-append (token_text from.input) front w.rest)
+    from.begins ∙ tokens.spelled ∙ ap (λ l. l ++ from.rest) (flat_map-append (token_text from.input) front w.rest)
     ∙ append_assoc (tokens_text from.input front) (tokens_text from.input w.rest) from.rest
-    ∙ ap (λ (l : List ℕ). l ++ after) (pieces_text from.input front (pieces false true front leads)) in
+    ∙ ap (λ l. l ++ after) (pieces_text from.input front (pieces false true front leads)) in
     let len : prefix_len is_part_byte (inner_texts front ++ after) ≡ length (inner_texts front) =
     prefix_is is_part_byte (inner_texts front) after (pieces_bytes front (pieces false true front leads) well) refl
     (follows from.input from.place front w.rest from.rest (some_led front leads) leads stop.1
@@ -184,8 +184,8 @@ pub reads_text : (text kept : List ℕ) (s t : ParserState) (n : Option ℕ) →
 reads_text text kept s t n from w none is =
     let value = front_has_value text s t n from w.passes w.number in
     reads_other SpellsIdentifier s t n (alphanumeric kept) w.passes
-    (subst (λ (x : Option ℕ). SpellsIdentifier (kept_as x kept) (inner_texts w.passes.front)) none
-    (subst (λ (l : List ℕ). SpellsIdentifier (kept_as n l) (inner_texts w.passes.front)) (sym is) value))
+    (subst (λ x. SpellsIdentifier (kept_as x kept) (inner_texts w.passes.front)) none
+    (subst (λ l. SpellsIdentifier (kept_as n l) (inner_texts w.passes.front)) (sym is) value))
 
 -- and it holds a run
 pub front_holds_run : (front : List TokenValue) → IsIdentifierShape front → HoldsRun front

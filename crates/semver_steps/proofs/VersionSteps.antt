@@ -216,7 +216,7 @@ identifier_leads part b v (t ∷ ts) e =
 
 module _ (part : Part) where
   id_leads : (id : List TokenValue) → IsIdentifierShape id → run step (at_run part) id ≡ Some (behind_run part)
-  id_leads id shape = let w = identifier_is_read.read id shape in identifier_leads part false true id (w.1 ∙ ap (λ (b : Bool). Some b) w.2)
+  id_leads id shape = let w = identifier_is_read.read id shape in identifier_leads part false true id (w.1 ∙ ap (λ b. Some b) w.2)
 
   dotted_lead : (ids : List (List TokenValue)) → AllByRecursion IsIdentifierShape ids
       → run step (behind_run part) (dotted ids) ≡ Some (behind_run part)

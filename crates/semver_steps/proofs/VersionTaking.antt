@@ -239,7 +239,7 @@ holds_later t ts h =
       component = h.component;
       after = h.after;
       split = ap
-          (λ (l : List TokenValue). t ∷ l) h.split;
+          (λ l. t ∷ l) h.split;
       is_sign = h.is_sign;
       is_run = h.is_run;
     }

@@ -105,7 +105,7 @@ front_canonical : (text : List ℕ) (n : ℕ) (rest : List ℕ) → BeginsWithNu
     → (0 < length (digits_front text)) × IsCanonical (digits_front text)
 front_canonical text n rest w =
     let front = (front_is text n rest w).0 in (
-      subst (λ (l : List ℕ). 0 < length l) (sym front) (decimal_nonempty n w.fits),
+      subst (λ l. 0 < length l) (sym front) (decimal_nonempty n w.fits),
       subst IsCanonical (sym front) (canonical_decimal n w.fits),
     )
 
@@ -115,11 +115,11 @@ front_begins : (text : List ℕ) → 0 < length (digits_front text) → (get_or 
     → BeginsWithNumber text (digits_value 10 (digits_front text)) (drop (length (digits_front text)) text)
 front_begins text some no_zero small = record {
   fits = small;
-  split = sym (ap (λ (l : List ℕ). l ++ drop (length (digits_front text)) text)
+  split = sym (ap (λ l. l ++ drop (length (digits_front text)) text)
       (decimal_canonical (digits_front text) some (record { digits = front_digits text; no_leading_zero = no_zero; small = small }))
-      ∙ ap (λ (k : ℕ). digits_front text ++ drop k text) (length-prefix_len is_ascii_digit text)
+      ∙ ap (λ k. digits_front text ++ drop k text) (length-prefix_len is_ascii_digit text)
       ∙ take-append-drop (prefix_len is_ascii_digit text) text);
-  ended = ap (λ (k : ℕ). is_ascii_digit (slice_index (drop k text) 0)) (length-prefix_len is_ascii_digit text) ∙ front_ended text;
+  ended = ap (λ k. is_ascii_digit (slice_index (drop k text) 0)) (length-prefix_len is_ascii_digit text) ∙ front_ended text;
 }
 
 first_of_front : (text : List ℕ) → 0 < length (digits_front text) → get_or (digits_front text) 0 0 ≡ get_or text 0 0
@@ -133,7 +133,7 @@ first_of_front (b ∷ text) some = by (is_ascii_digit b) some
 
 -- what follows so many bytes
 behind : (text rest : List ℕ) (len : ℕ) → rest ≡ take (length text - len) (drop len text) → rest ≡ drop len text
-behind text rest len is = is ∙ ap (λ (k : ℕ). take k (drop len text)) (sym (length-drop len text)) ∙ take-length (drop len text)
+behind text rest len is = is ∙ ap (λ k. take k (drop len text)) (sym (length-drop len text)) ∙ take-length (drop len text)
 
 digit_some : (text : List ℕ) → is_ascii_digit (slice_index text 0) ≡ true → 0 < length text
 digit_some [] digit = cc
@@ -152,9 +152,9 @@ pub number_read : (text rest : List ℕ) (n len : ℕ) → is_ascii_digit (slice
     → BeginsWithNumber text n rest
 number_read text rest n len digit no_zero small is count left =
     let filled = front_some text digit in
-    subst (λ (l : List ℕ). BeginsWithNumber text n l) (sym (behind text rest len left ∙ ap (λ (k : ℕ). drop k text) count))
-    (subst (λ (m : ℕ). BeginsWithNumber text m (drop (length (digits_front text)) text)) (sym is)
-    (front_begins text filled (λ z. absurd (no_zero (sym (first_of_front text filled) ∙ z))) (subst (λ (m : ℕ). m < 2 ^ 64) is small)))
+    subst (λ l. BeginsWithNumber text n l) (sym (behind text rest len left ∙ ap (λ k. drop k text) count))
+    (subst (λ m. BeginsWithNumber text m (drop (length (digits_front text)) text)) (sym is)
+    (front_begins text filled (λ z. absurd (no_zero (sym (first_of_front text filled) ∙ z))) (subst (λ m. m < 2 ^ 64) is small)))
 
 -- and else there is none
 pub too_large : (text : List ℕ) → 2 ^ 64 ≤ digits_value 10 (digits_front text) → (n : ℕ) (rest : List ℕ) → ¬ (BeginsWithNumber text n rest)
@@ -174,7 +174,7 @@ pub leading_zero : (text rest : List ℕ) → rest ≡ take (length text - 1) (d
     → is_ascii_digit (slice_index rest 0) ≡ true → (n : ℕ) (more : List ℕ) → ¬ (BeginsWithNumber text n more)
 leading_zero [] rest is zero digit n more w = absurd (omega (arith, zero))
 leading_zero (b ∷ []) rest is zero digit n more w =
-    let e : false ≡ true = sym (ap (λ (t : List ℕ). is_ascii_digit (slice_index t 0)) (behind (b ∷ []) rest 1 is)) ∙ digit in cc
+    let e : false ≡ true = sym (ap (λ t. is_ascii_digit (slice_index t 0)) (behind (b ∷ []) rest 1 is)) ∙ digit in cc
 leading_zero (b ∷ c ∷ text) rest is zero digit n more w =
     let canonical = front_canonical (b ∷ c ∷ text) n more w in
     absurd (omega (
@@ -185,7 +185,7 @@ leading_zero (b ∷ c ∷ text) rest is zero digit n more w =
     ))
   where
     second : is_ascii_digit c ≡ true
-    second = sym (ap (λ (t : List ℕ). is_ascii_digit (slice_index t 0)) (behind (b ∷ c ∷ text) rest 1 is)) ∙ digit
+    second = sym (ap (λ t. is_ascii_digit (slice_index t 0)) (behind (b ∷ c ∷ text) rest 1 is)) ∙ digit
 
     two : prefix_len is_ascii_digit (b ∷ c ∷ text) ≡ 1 + (1 + prefix_len is_ascii_digit text)
     two = rw (zero, second) refl
@@ -197,7 +197,7 @@ one_digit (b ∷ text) rest is digit other n same_n =
     let range : (48 ≤ b) × (b ≤ 57) = grind arith in
     let same : 48 + (b - 48) ≡ b = omega (arith, range.0) in
     let alone : decimal (b - 48) ≡ b ∷ [] =
-    decimal_digit (b - 48) (omega (arith, range.1)) ∙ ap (λ (x : ℕ). x ∷ []) same in
+    decimal_digit (b - 48) (omega (arith, range.1)) ∙ ap (λ x. x ∷ []) same in
     record {
       fits = omega (arith, range.1, same_n);
       split = (λ i. sym (ap decimal same_n ∙ alone) i ++ sym (behind (b ∷ text) rest 1 is) i);
@@ -266,7 +266,7 @@ no_third text second rest n m first next none major minor patch more w =
     let a = three_apart text major minor patch more w in
     let same : a.second ≡ second = tails (same_number text major n _ _ a.first_is first).1 in
     none patch a.third more
-    (sym (same_number second minor m _ rest (subst (λ (l : List ℕ). BeginsWithNumber l minor (46 ∷ a.third)) same a.second_is) next).1)
+    (sym (same_number second minor m _ rest (subst (λ l. BeginsWithNumber l minor (46 ∷ a.third)) same a.second_is) next).1)
     a.third_is
 
 -- they are the same, and so is what follows them
@@ -278,9 +278,9 @@ same_numbers text major minor patch major' minor' patch' rest more v w =
     let b = three_apart text major' minor' patch' more w in
     let first = same_number text major major' _ _ a.first_is b.first_is in
     let second = same_number b.second minor minor' _ _
-    (subst (λ (l : List ℕ). BeginsWithNumber l minor (46 ∷ a.third)) (tails first.1) a.second_is) b.second_is in
+    (subst (λ l. BeginsWithNumber l minor (46 ∷ a.third)) (tails first.1) a.second_is) b.second_is in
     let third = same_number b.third patch patch' rest more
-    (subst (λ (l : List ℕ). BeginsWithNumber l patch rest) (tails second.1) a.third_is) b.third_is in
+    (subst (λ l. BeginsWithNumber l patch rest) (tails second.1) a.third_is) b.third_is in
     (first.0, second.0, third.0, third.1)
 
 -- ---- digit by digit
@@ -295,7 +295,7 @@ pub front_read : (text : List ℕ) (at n : ℕ) → at ≤ length text → prefi
     → (n ≡ digits_value 10 (digits_front text)) × (at ≡ length (digits_front text))
 front_read text at n within none is on =
     let all : prefix_len is_ascii_digit text ≡ at = omega (arith, on, none) in (
-      is ∙ ap (λ (k : ℕ). digits_value 10 (take k text)) (sym all),
+      is ∙ ap (λ k. digits_value 10 (take k text)) (sym all),
       sym (length-prefix_len is_ascii_digit text ∙ all),
     )
 
@@ -314,6 +314,6 @@ goes_on text at within digit on = omega (arith, on, prefix_len-drop_yes is_ascii
 -- the digits before a place write no more than all at the front
 pub value_before : (text : List ℕ) (at : ℕ) → GoesOn text at → digits_value 10 (take at text) ≤ digits_value 10 (digits_front text)
 value_before text at on =
-    subst (λ (l : List ℕ). digits_value 10 l ≤ digits_value 10 (digits_front text))
+    subst (λ l. digits_value 10 l ≤ digits_value 10 (digits_front text))
     (take-take at (prefix_len is_ascii_digit text) text (omega (arith, on)))
     (digits_value-take-le 10 (digits_front text) at (omega arith))

@@ -68,8 +68,8 @@ pub first_token-run : (place : ℕ) (run more : List ℕ) → IsRun run → is_a
 first_token-run place [] more is_run stop = absurd (omega (arith, is_run.0))
 first_token-run place (b ∷ bs) more is_run stop =
     first_token-at_run place b (bs ++ more) is_run.1.0
-    ∙ ap (λ (n : ℕ). Some (component (take n (b ∷ (bs ++ more))), n)) (prefix_is is_ascii_alphanumeric (b ∷ bs) more is_run.1 refl stop)
-    ∙ ap (λ (r : List ℕ). Some (component r, length (b ∷ bs))) (take_at (b ∷ bs) more (length (b ∷ bs)) refl)
+    ∙ ap (λ n. Some (component (take n (b ∷ (bs ++ more))), n)) (prefix_is is_ascii_alphanumeric (b ∷ bs) more is_run.1 refl stop)
+    ∙ ap (λ r. Some (component r, length (b ∷ bs))) (take_at (b ∷ bs) more (length (b ∷ bs)) refl)
 
 pub first_token-space : (place : ℕ) (spaces more : List ℕ) → 0 < length spaces → AllByRecursion (λ b. IsTrue (is_space b)) spaces
     → is_space (slice_index more 0) ≡ false
@@ -77,7 +77,7 @@ pub first_token-space : (place : ℕ) (spaces more : List ℕ) → 0 < length sp
 first_token-space place [] more some all stop = absurd (omega (arith, some))
 first_token-space place (b ∷ bs) more some all stop =
     first_token-at_space place b (bs ++ more) all.0
-    ∙ ap (λ (n : ℕ). Some (Whitespace place (place + n), n)) (prefix_is is_space (b ∷ bs) more all refl stop)
+    ∙ ap (λ n. Some (Whitespace place (place + n), n)) (prefix_is is_space (b ∷ bs) more all refl stop)
 
 pub decimal_is_run : (n : ℕ) → n < 2 ^ 64 → IsRun (decimal n)
 decimal_is_run n small = (decimal_nonempty n small, digits_are_run (decimal n) ((canonical_decimal n small).digits))

@@ -43,7 +43,7 @@ run_in_front run text is w = record {
   runs = run ∷ w.runs;
   some = omega arith;
   each = (is, w.each);
-  joined = ap (λ (t : Text). run ++ (45 ∷ t)) w.joined ∙ sym (joined_behind 45 run w.runs w.some);
+  joined = ap (λ t. run ++ (45 ∷ t)) w.joined ∙ sym (joined_behind 45 run w.runs w.some);
 }
 
 -- one or more identifiers joined by dots
@@ -61,11 +61,11 @@ before_dot run text is w = record {
   texts = run ∷ w.texts;
   some = omega arith;
   each = (run_identifier run is, w.each);
-  joined = ap (λ (t : Text). run ++ (46 ∷ t)) w.joined ∙ sym (joined_behind 46 run w.texts w.some);
+  joined = ap (λ t. run ++ (46 ∷ t)) w.joined ∙ sym (joined_behind 46 run w.texts w.some);
 }
 
 before_hyphen : (run text : Text) → IsRun run → AreJoined text → AreJoined (run ++ (45 ∷ text))
-before_hyphen run text is w = subst (λ (t : Text). AreJoined (run ++ (45 ∷ t))) (sym w.joined) (go w.texts w.some w.each)
+before_hyphen run text is w = subst (λ t. AreJoined (run ++ (45 ∷ t))) (sym w.joined) (go w.texts w.some w.each)
   where
     go : (texts : List Text) → 0 < length texts → AllByRecursion IsIdentifierText texts
         → AreJoined (run ++ (45 ∷ join_with_byte 46 texts))
@@ -108,17 +108,17 @@ begun (b ∷ bytes) = by (is_ascii_alphanumeric b) (b == 45) (b == 46) refl refl
         → AreJoined (run ++ take (cond ((letter || hyphen) || dot) (1 + prefix_len is_inner_byte bytes) 0) (b ∷ bytes)))
     by true hyphen dot is h d more = (
       λ e. subst AreJoined (sym (one_taken _)) (more.1 (b ∷ []) (one_run b is) e),
-      λ run r e. subst AreJoined (append_assoc run (b ∷ []) (front bytes) ∙ ap (λ (t : Text). run ++ t) (sym (one_taken _)))
+      λ run r e. subst AreJoined (append_assoc run (b ∷ []) (front bytes) ∙ ap (λ t. run ++ t) (sym (one_taken _)))
           (more.1 (run ++ b ∷ []) (run_more run b r is) e),
     )
     by false true dot is h d more = (
       λ e. cc,
-      λ run r e. subst AreJoined ((λ i. run ++ (sym (eqb-true b 45 h) i ∷ front bytes)) ∙ ap (λ (t : Text). run ++ t) (sym (one_taken _)))
+      λ run r e. subst AreJoined ((λ i. run ++ (sym (eqb-true b 45 h) i ∷ front bytes)) ∙ ap (λ t. run ++ t) (sym (one_taken _)))
           (before_hyphen run (front bytes) r (more.0 e)),
     )
     by false false true is h d more = (
       λ e. cc,
-      λ run r e. subst AreJoined ((λ i. run ++ (sym (eqb-true b 46 d) i ∷ front bytes)) ∙ ap (λ (t : Text). run ++ t) (sym (one_taken _)))
+      λ run r e. subst AreJoined ((λ i. run ++ (sym (eqb-true b 46 d) i ∷ front bytes)) ∙ ap (λ t. run ++ t) (sym (one_taken _)))
           (before_dot run (front bytes) r (more.0 e)),
     )
     by false false false is h d more = (λ e. cc, λ run r e. subst AreJoined (sym (append-nil run)) (alone run r))
@@ -205,7 +205,7 @@ found_stand bytes w =
     ap (join_with_byte 46) (some_cut (take n bytes) some) ∙ join_with_byte-slice_split 46 (take n bytes) in
     let count : 0 < length (cut_at_dots (take n bytes)) =
     omega (arith, ap length (some_cut (take n bytes) some), length-slice_split is_dot (take n bytes)) in
-    ap (stands false) (sym (take-append-drop n bytes) ∙ ap (λ (t : Text). t ++ drop n bytes) (sym is))
+    ap (stands false) (sym (take-append-drop n bytes) ∙ ap (λ t. t ++ drop n bytes) (sym is))
     ∙ identifiers_stand false (cut_at_dots (take n bytes)) (drop n bytes) count w.1
     ∙ other_stands (drop n bytes) (ends_front is_inner_byte refl bytes)
 
@@ -252,7 +252,7 @@ marked_cut : (mark : ℕ) (text : Text) → 0 < length text → marked (mark ∷
 marked_cut mark text some =
     ap (marked (mark ∷ [])) (some_cut text some)
     ∙ marked_some (mark ∷ []) (slice_split is_dot text) (omega (arith, length-slice_split is_dot text))
-    ∙ ap (λ (t : Text). mark ∷ t) (join_with_byte-slice_split 46 text)
+    ∙ ap (λ t. mark ∷ t) (join_with_byte-slice_split 46 text)
 
 inner_passes : (inner : Text) → AreIdentifiers inner → Passes is_inner_byte inner
 inner_passes [] each = tt
@@ -271,19 +271,19 @@ module _ (text behind : Text) (mark : ℕ) (apart : text ≡ mark ∷ behind) wh
   pub part_found : (inner rest : Text) (len : ℕ) → BeginsWithIdentifiers behind → len ≡ prefix_len is_inner_byte behind
       → inner ≡ take len behind → rest ≡ drop len behind → AreIdentifiers inner × (text ≡ marked (mark ∷ []) (cut_at_dots inner) ++ rest)
   part_found inner rest len begins is front back =
-      let same : inner ≡ take (prefix_len is_inner_byte behind) behind = front ∙ ap (λ (k : ℕ). take k behind) is in
+      let same : inner ≡ take (prefix_len is_inner_byte behind) behind = front ∙ ap (λ k. take k behind) is in
       let some : 0 < length inner = omega (arith, begins.0, ap length same, length-prefix_len is_inner_byte behind) in (
         subst AreIdentifiers (sym same) begins.1,
-        apart ∙ ap (λ (t : Text). mark ∷ t) (sym (take-append-drop len behind) ∙ (λ i. sym front i ++ sym back i))
-            ∙ ap (λ (t : Text). t ++ rest) (sym (marked_cut mark inner some)),
+        apart ∙ ap (λ t. mark ∷ t) (sym (take-append-drop len behind) ∙ (λ i. sym front i ++ sym back i))
+            ∙ ap (λ t. t ++ rest) (sym (marked_cut mark inner some)),
       )
 
   part_begins : (inner rest : Text) → IsPart mark text inner rest
       → (0 < length inner) × (behind ≡ inner ++ rest) × (prefix_len is_inner_byte behind ≡ length inner)
-  part_begins [] rest w = absurd (never (sym (ap (λ (t : Text). slice_index t 0 == mark) (sym apart ∙ w.split)) ∙ eq-eqb mark mark refl) w.no_mark)
+  part_begins [] rest w = absurd (never (sym (ap (λ t. slice_index t 0 == mark) (sym apart ∙ w.split)) ∙ eq-eqb mark mark refl) w.no_mark)
   part_begins (b ∷ inner) rest w =
       let behind_is : behind ≡ (b ∷ inner) ++ rest =
-      tails (sym apart ∙ w.split ∙ ap (λ (t : Text). t ++ rest) (marked_cut mark (b ∷ inner) (omega arith))) in (
+      tails (sym apart ∙ w.split ∙ ap (λ t. t ++ rest) (marked_cut mark (b ∷ inner) (omega arith))) in (
         omega arith,
         behind_is,
         ap (prefix_len is_inner_byte) behind_is
@@ -313,7 +313,7 @@ pub no_part : (text : Text) (mark : ℕ) → ((behind : Text) → ¬ (text ≡ m
     → IsPart mark text inner rest → ([] ≡ inner) × (text ≡ rest)
 no_part text mark other [] rest w = (refl, w.split)
 no_part text mark other (b ∷ inner) rest w =
-    absurd (other ((b ∷ inner) ++ rest) (w.split ∙ ap (λ (t : Text). t ++ rest) (marked_cut mark (b ∷ inner) (omega arith))))
+    absurd (other ((b ∷ inner) ++ rest) (w.split ∙ ap (λ t. t ++ rest) (marked_cut mark (b ∷ inner) (omega arith))))
 
 -- ---- identifiers one after the other
 
@@ -329,5 +329,5 @@ pub one_more_spelled : (texts : List Text) (n : ℕ) (t : Text) (ids : List Iden
 one_more_spelled texts n t ids id inside here spells zip =
     let next : suc n ≡ n + 1 = omega arith in
     subst (AllZip SpellsIdentifier (ids ++ id ∷ []))
-    (ap (λ (u : Text). take n texts ++ u ∷ []) here ∙ sym (take-suc texts n t inside) ∙ ap (λ (k : ℕ). take k texts) next)
+    (ap (λ u. take n texts ++ u ∷ []) here ∙ sym (take-suc texts n t inside) ∙ ap (λ k. take k texts) next)
     (all_zipped_more SpellsIdentifier ids (take n texts) id t zip spells)

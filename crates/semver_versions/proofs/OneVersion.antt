@@ -135,7 +135,7 @@ begins_marked p mark (x ∷ xs) more here there = here
 part_begins : (p : ℕ → Bool) (mark : ℕ) {ids : List IdentifierValue} {text : List ℕ} (more : List ℕ) → SpellsPart (mark ∷ []) ids text
     → p mark ≡ false → p (slice_index more 0) ≡ false → p (slice_index (text ++ more) 0) ≡ false
 part_begins p mark more w here there =
-    ap (λ (l : List ℕ). p (slice_index (l ++ more) 0)) w.joined ∙ begins_marked p mark w.texts more here there
+    ap (λ l. p (slice_index (l ++ more) 0)) w.joined ∙ begins_marked p mark w.texts more here there
 
 pub space_begins : (p : ℕ → Bool) (after : List ℕ) → Passes is_space after → p 0 ≡ false
     → ((b : ℕ) → is_space b ≡ true → p b ≡ false) → p (slice_index after 0) ≡ false
@@ -161,7 +161,7 @@ pub numbers_first : {text rest : List ℕ} {major minor patch : ℕ} → BeginsW
 numbers_first {text} {rest} {major} {minor} {patch} n =
     let behind : List ℕ = 46 ∷ (decimal minor ++ (46 ∷ (decimal patch ++ rest))) in
     let whole : text ≡ decimal major ++ behind = n.split ∙ simp append_assoc in
-    ap (λ (t : List ℕ). is_space (slice_index t 0)) whole
+    ap (λ t. is_space (slice_index t 0)) whole
     ∙ run_is_no_space (slice_index (decimal major ++ behind) 0) (run_begins (decimal major) behind (decimal_is_run major n.major_fits))
 
 -- ---- versions
@@ -193,7 +193,7 @@ module _ {v : VersionValue} {text : List ℕ} (w : SpellsVersion v text) where
     major_fits = w.spells.major;
     minor_fits = w.spells.minor;
     patch_fits = w.spells.patch;
-    split = ap (λ (t : List ℕ). t ++ w.after) w.spells.spelled ∙ simp append_assoc;
+    split = ap (λ t. t ++ w.after) w.spells.spelled ∙ simp append_assoc;
     ended = numbers_end is_ascii_digit refl space_no_digit refl refl;
   }
 
@@ -201,7 +201,7 @@ pub one_version : (v w : VersionValue) (text : List ℕ) → SpellsVersion v tex
 one_version v w text a b =
     let core = peel is_space a.before b.before (at_numbers a) (at_numbers b) refl a.spaces_before b.spaces_before
     (numbers_first (core_begins a)) (numbers_first (core_begins b)) (sym (behind_spaces a) ∙ behind_spaces b) in
-    let three = same_numbers (at_numbers b) _ _ _ _ _ _ _ _ (subst (λ (t : List ℕ).
+    let three = same_numbers (at_numbers b) _ _ _ _ _ _ _ _ (subst (λ t.
     BeginsWithNumbers t v.plain.major v.plain.minor v.plain.patch (behind_numbers a)) core.1 (core_begins a)) (core_begins b) in
     let pre = same_part 45 _ _ _ _ _ _ a.spells.pre b.spells.pre refl refl
     (pre_ends a (is_byte_of 45) refl space_no_pre refl) (pre_ends b (is_byte_of 45) refl space_no_pre refl) three.3 in

@@ -86,7 +86,7 @@ at_bad_start text e w = record {
   reads =
       reads_stuck version_is_read SpellsCore
       (none_taken version_is_read _) (at_nothing w.0) (inl refl);
-  whole = ap (λ (x : Fault). Err x) w.1;
+  whole = ap (λ x. Err x) w.1;
 }
 
 pub lexer_has_memory : (P : Type 0) (e : Error) (c : ℕ) → fault_of e ≡ fault.Lexer c → IfOutOfMemory {T = Unit {0}} (Err e) P
@@ -111,7 +111,7 @@ module _ (text : List ℕ) (s t : ParserState) (v : VersionValue) (state : IsSta
         state = state;
         reads = reads;
         whole = sym
-            (ap (λ (l : List TokenValue). whole_answer (Ok v) l t.pending) none);
+            (ap (λ l. whole_answer (Ok v) l t.pending) none);
       }
 
   -- the tail, where some token is left

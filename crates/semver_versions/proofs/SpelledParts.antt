@@ -63,14 +63,14 @@ no_pre text none pre build w = none pre _ (pre_is text pre build w)
 module _ (text found rest : Text) (pre_only : (inner more : Text) → IsPart 45 text inner more → (found ≡ inner) × (rest ≡ more)) where
   pub no_build : ((inner more : Text) → ¬ (IsPart 43 rest inner more)) → (pre build : Text) → ¬ (AreParts text pre build)
   no_build none pre build w =
-      none build w.after (subst (λ (t : Text). IsPart 43 t build w.after) (sym (pre_only pre _ (pre_is text pre build w)).1)
+      none build w.after (subst (λ t. IsPart 43 t build w.after) (sym (pre_only pre _ (pre_is text pre build w)).1)
       (build_is text pre build w))
 
   pub no_end : (also left : Text) → ((inner more : Text) → IsPart 43 rest inner more → (also ≡ inner) × (left ≡ more)) → ¬ (AreSpaces left)
       → (pre build : Text) → ¬ (AreParts text pre build)
   no_end also left build_only other pre build w =
       other (subst AreSpaces (sym (build_only build w.after
-      (subst (λ (t : Text). IsPart 43 t build w.after) (sym (pre_only pre _ (pre_is text pre build w)).1) (build_is text pre build w))).1)
+      (subst (λ t. IsPart 43 t build w.after) (sym (pre_only pre _ (pre_is text pre build w)).1) (build_is text pre build w))).1)
       w.spaces)
 
 -- ---- a version, from its numbers and its parts
@@ -97,7 +97,7 @@ spells_version text rest pre build major minor patch n w ids others each every =
         build = record { texts = cut_at_dots build; each = every; joined = refl };
         spelled = refl;
       };
-      whole = n.split ∙ ap (λ (t : Text). three ++ t) w.split ∙ simp append_assoc;
+      whole = n.split ∙ ap (λ t. three ++ t) w.split ∙ simp append_assoc;
     }
 
 -- without identifiers
@@ -107,8 +107,8 @@ pub spells_numbers : (text rest : Text) (major minor patch : ℕ) → BeginsWith
 spells_numbers text rest major minor patch n spaces pre build no_pre no_build =
     spells_version text rest [] [] major minor patch n
     (record { after = rest; pre_each = tt; build_each = tt; spaces = spaces; split = refl })
-    pre build (subst (λ (ids : List IdentifierValue). AllZip SpellsIdentifier ids []) (sym no_pre) tt)
-    (subst (λ (ids : List IdentifierValue). AllZip SpellsIdentifier ids []) (sym no_build) tt)
+    pre build (subst (λ ids. AllZip SpellsIdentifier ids []) (sym no_pre) tt)
+    (subst (λ ids. AllZip SpellsIdentifier ids []) (sym no_build) tt)
 
 -- each text of an identifier spells one
 spells_some : (t : Text) → IsIdentifierText t → (id : IdentifierValue) × SpellsIdentifier id t
@@ -180,9 +180,9 @@ module _ (v : VersionValue) (text : Text) (w : SpellsVersion v text) where
       go : (before : Text) → AreSpaces before → text ≡ before ++ at_numbers w
           → BeginsWithNumbers text v.plain.major v.plain.minor v.plain.patch (behind_numbers w)
       go [] spaces e =
-          subst (λ (t : Text). BeginsWithNumbers t v.plain.major v.plain.minor v.plain.patch (behind_numbers w)) (sym e) (core_begins w)
+          subst (λ t. BeginsWithNumbers t v.plain.major v.plain.minor v.plain.patch (behind_numbers w)) (sym e) (core_begins w)
       go (b ∷ before) spaces e =
-          absurd (never (ap (λ (t : Text). is_space (slice_index t 0)) e ∙ spaces.0) first)
+          absurd (never (ap (λ t. is_space (slice_index t 0)) e ∙ spaces.0) first)
 
 -- so a text spells none where its numbers aren't there, or its parts
 pub no_numbers : (text : Text) → is_space (slice_index text 0) ≡ false
@@ -194,7 +194,7 @@ pub no_parts : (text rest : Text) (major minor patch : ℕ) → BeginsWithNumber
 no_parts text rest major minor patch n none v =
     let p = its_parts v.0 text v.1 in
     let same = same_numbers text _ _ _ major minor patch _ rest (its_numbers v.0 text v.1 (numbers_first n)) n in
-    none p.0 p.1 (subst (λ (t : Text). AreParts t p.0 p.1) same.3 p.2)
+    none p.0 p.1 (subst (λ t. AreParts t p.0 p.1) same.3 p.2)
 
 pub if_err : {A E : Type 0} {P : Type 0} (r : Result A E) → P → IfErr r (λ _. P)
 if_err (Ok x) p = tt
@@ -212,7 +212,7 @@ spaced v text w =
       spaces_before = passes_append is_space spaces w.before (all_of_prefix is_space text) w.spaces_before;
       spaces_after = w.spaces_after;
       spells = w.spells;
-      whole = sym (take-append-drop (prefix_len is_space text) text) ∙ ap (λ (t : Text). spaces ++ t) w.whole ∙ simp append_assoc;
+      whole = sym (take-append-drop (prefix_len is_space text) text) ∙ ap (λ t. spaces ++ t) w.whole ∙ simp append_assoc;
     }
 
 pub unspaced : (v : VersionValue) (text : Text) → SpellsVersion v text → SpellsVersion v (drop (prefix_len is_space text) text)
@@ -247,8 +247,8 @@ pub exactly : (text : Text) (found : Option Version) → IsFound text found → 
     → (option_map version_value found ≡ Some v) ↔ SpellsVersion v text
 exactly text None none v = (λ e. cc, λ s. absurd (none (v, s)))
 exactly text (Some w) spells v = (
-  λ e. subst (λ (u : VersionValue). SpellsVersion u text) (same e) spells,
-  λ s. ap (λ (u : VersionValue). Some u) (one_version (version_value w) v text spells s),
+  λ e. subst (λ u. SpellsVersion u text) (same e) spells,
+  λ s. ap (λ u. Some u) (one_version (version_value w) v text spells s),
 )
   where
     same : {u w : VersionValue} → Some u ≡ Some w → u ≡ w

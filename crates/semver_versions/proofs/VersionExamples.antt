@@ -27,7 +27,7 @@ use Rattle.semver_versions.proofs.OneVersion.{bare}
 -- tokens that are found are the tokens
 tokens_found : (text : Text) (ts : List TokenValue) (rest : Text) → scan (length text) text 0 ≡ (ts, rest) → AreTokensOf text ts rest
 tokens_found text ts rest e =
-    subst (λ (p : List TokenValue × Text). AreTokensOf text p.0 p.1) e (scan_finds text (length text) 0 (omega arith))
+    subst (λ p. AreTokensOf text p.0 p.1) e (scan_finds text (length text) 0 (omega arith))
 
 word_space_slash : AreTokensOf (codes "foo / *") (token.AlphaNumeric (codes "foo") ∷ token.Whitespace 3 4 ∷ []) (codes "/ *")
 unfolding scan first_token component sign

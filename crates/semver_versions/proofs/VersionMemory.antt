@@ -29,7 +29,7 @@ mark_leads _ _ q e = cc
 mark_holds : (mark : Part) (p q : Place) → step p (mark_of mark) ≡ Some q → (ts : List TokenValue) (last : Place)
     → run step q ts ≡ Some last → accepts last ≡ true → HoldsIdentifierRun (mark_of mark ∷ ts)
 mark_holds mark p q leads ts last e ok =
-    let to = mark_leads mark p q leads in sign_holds (mark_of mark) (is_sign mark) to.0 ts last (ap (λ (r : Place). run step r ts) (sym to.1) ∙ e) ok
+    let to = mark_leads mark p q leads in sign_holds (mark_of mark) (is_sign mark) to.0 ts last (ap (λ r. run step r ts) (sym to.1) ∙ e) ok
   where
     is_sign : (mark : Part) → (mark_of mark ≡ Hyphen) ⊎ (mark_of mark ≡ Plus)
     is_sign pre_release = inl refl

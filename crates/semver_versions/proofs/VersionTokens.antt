@@ -57,7 +57,7 @@ module _ (text : List ℕ) where
       let found : IsFound text at (drop at text) t n = record {
         front =
             record {
-              spelled = here ∙ ap (λ (l : List ℕ). token_text text t ++ l) (sym behind);
+              spelled = here ∙ ap (λ l. token_text text t ++ l) (sym behind);
               is_token = is_token;
               stops = ap
                   (continues_into t) behind ∙ stops;
@@ -71,7 +71,7 @@ module _ (text : List ℕ) where
         last = e.last;
         leads = ap (option_and_then (λ v. run step v e.ts)) leads ∙ e.leads;
         may_end = e.may_end;
-        text_is = ap (λ (l : List ℕ). inner_text t ++ l) e.text_is;
+        text_is = ap (λ l. inner_text t ++ l) e.text_is;
       }
 
   -- ---- white space
@@ -79,7 +79,7 @@ module _ (text : List ℕ) where
   slice_here : (at : ℕ) (spaces more : List ℕ) → drop at text ≡ spaces ++ more → slice_range text at (at + length spaces) ≡ spaces
   slice_here at spaces more here =
       let n : (at + length spaces) - at ≡ length spaces = omega arith in
-      ap (λ (m : ℕ). take m (drop at text)) n ∙ ap (take (length spaces)) here ∙ take_at spaces more (length spaces) refl
+      ap (λ m. take m (drop at text)) n ∙ ap (take (length spaces)) here ∙ take_at spaces more (length spaces) refl
 
   space_at : (at : ℕ) (spaces more : List ℕ) → drop at text ≡ spaces ++ more → 0 < length spaces → Passes is_space spaces
       → IsTokenAt text at (Whitespace at (at + length spaces))
@@ -98,7 +98,7 @@ module _ (text : List ℕ) where
   spaces_more p q (b ∷ spaces) more spelled all stops leads without rest at here =
       let n : ℕ = at + length (b ∷ spaces) in
       one_more (Whitespace at n) p q more spelled at
-      (here ∙ ap (λ (l : List ℕ). l ++ more) (sym (slice_here at (b ∷ spaces) more here)))
+      (here ∙ ap (λ l. l ++ more) (sym (slice_here at (b ∷ spaces) more here)))
       (space_at at (b ∷ spaces) more here (omega arith) all) stops (leads at n) rest
 
   nothing_more : (p : Place) → accepts p ≡ true → EndsWith text [] p []
@@ -123,7 +123,7 @@ module _ (text : List ℕ) where
 
     end_more : (p : Place) → accepts p ≡ true → ((a b : ℕ) → step p (Whitespace a b) ≡ Some end) → Ends p []
     end_more p may space =
-        subst (λ (l : List ℕ). EndsWith text l p []) (append-nil after)
+        subst (λ l. EndsWith text l p []) (append-nil after)
         (spaces_more p end after [] [] spaces refl space (nothing_more p may) (nothing_more end refl))
 
     dot_more : (p q : Place) (spelled : List ℕ) → step p Dot ≡ Some q → Ends q spelled → Ends p (46 ∷ spelled)
@@ -141,10 +141,10 @@ module _ (text : List ℕ) where
       run_more : (bytes spelled : List ℕ) → IsRun bytes → NoRun spelled → Ends (behind_run part) spelled
           → Ends (at_run part) (bytes ++ spelled)
       run_more bytes spelled w stops rest at here =
-          subst (λ (l : List ℕ). AreEnding text (at_run part) (l ++ spelled) at) (run_inner bytes w.0)
+          subst (λ l. AreEnding text (at_run part) (l ++ spelled) at) (run_inner bytes w.0)
           (one_more (component bytes) (at_run part) (behind_run part) (spelled ++ after) spelled at
           (here ∙ append_assoc bytes spelled after
-          ∙ ap (λ (l : List ℕ). l ++ (spelled ++ after)) (sym (token_text-component text bytes w.0)))
+          ∙ ap (λ l. l ++ (spelled ++ after)) (sym (token_text-component text bytes w.0)))
           (IsTokenAt-component text at bytes w) (continues-component bytes (slice_index (spelled ++ after) 0) ∙ stops)
           (run_leads part bytes) rest)
 
@@ -162,10 +162,10 @@ module _ (text : List ℕ) where
       identifier_more : (id : IdentifierValue) (bytes spelled : List ℕ) → SpellsIdentifier id bytes → NoRun spelled
           → Ends (behind_run part) spelled → Ends (at_run part) (bytes ++ spelled)
       identifier_more (numeric n) bytes spelled w stops rest =
-          subst (λ (l : List ℕ). Ends (at_run part) (l ++ spelled)) (sym w.1)
+          subst (λ l. Ends (at_run part) (l ++ spelled)) (sym w.1)
           (run_more (decimal n) spelled (decimal_is_run n w.0) stops rest)
       identifier_more (alphanumeric kept) bytes spelled w stops rest =
-          subst (λ (l : List ℕ). Ends (at_run part) (l ++ spelled)) (sym (w.0 ∙ w.1.joined))
+          subst (λ l. Ends (at_run part) (l ++ spelled)) (sym (w.0 ∙ w.1.joined))
           (runs_more w.1.runs spelled w.1.some w.1.each stops rest)
 
       identifiers_more : (ids : List IdentifierValue) (texts : List (List ℕ)) (spelled : List ℕ) → 0 < length texts
@@ -191,7 +191,7 @@ module _ (text : List ℕ) where
         → step from (mark_of part) ≡ Some (at_run part) → SpellsPart (inner_text (mark_of part)) ids bytes → NoRun spelled
         → Ends from spelled → Ends (behind_run part) spelled → Ends from (bytes ++ spelled)
     part_more part from ids bytes spelled leads w stops without rest =
-        subst (λ (l : List ℕ). Ends from (l ++ spelled)) (sym w.joined) (at_texts w.texts w.each)
+        subst (λ l. Ends from (l ++ spelled)) (sym w.joined) (at_texts w.texts w.each)
       where
         at_texts : (texts : List (List ℕ)) → AllZip SpellsIdentifier ids texts
             → Ends from (marked (inner_text (mark_of part)) texts ++ spelled)

@@ -164,7 +164,7 @@ identifiers_same text (id ∷ ids) all =
         → tokens_text text (flat_map (λ id. Dot ∷ id) ids) ≡ inner_texts (flat_map (λ id. Dot ∷ id) ids)
     others [] all = refl
     others (id ∷ ids) all =
-        ap (λ (l : List ℕ). 46 ∷ l) (flat_map-append (token_text text) id _ ∙ (λ i. identifier_same text id all.0 i ++ others ids all.1 i)
+        ap (λ l. 46 ∷ l) (flat_map-append (token_text text) id _ ∙ (λ i. identifier_same text id all.0 i ++ others ids all.1 i)
         ∙ sym (flat_map-append inner_text id _))
 
 part_same : (text : List ℕ) (mark : TokenValue) (ts : List TokenValue) → token_text text mark ≡ inner_text mark → IsPartShape mark ts
@@ -225,13 +225,13 @@ no_rest text s utf8 w none =
     let front : List ℕ = tokens_text text s.remaining in
     let front_utf8 : IsUtf8 front = IsUtf8-from_ascii front (tokens_ascii text 0 s.remaining w.1.in_place) in
     let same : chars text ≡ chars front = ap chars w.1.spelled ∙ chars-append front w.0 front_utf8
-    ∙ ap (λ (cs : List ℕ). chars front ++ cs) (none_first (chars w.0) (sym w.2 ∙ none)) ∙ append-nil (chars front) in
+    ∙ ap (λ cs. chars front ++ cs) (none_first (chars w.0) (sym w.2 ∙ none)) ∙ append-nil (chars front) in
     append_cancel_left front w.0 [] (sym w.1.spelled ∙ sym (encodes-chars text utf8) ∙ ap encode_utf8_all same
     ∙ encodes-chars front front_utf8 ∙ sym (append-nil front))
 
 -- and where they are, none is
 no_pending : (text : List ℕ) (s : ParserState) → (w : IsStateOf text s) → w.0 ≡ [] → s.pending ≡ None
-no_pending text s w empty = w.2 ∙ ap (λ (l : List ℕ). slice_get (chars l) 0) empty ∙ ap (λ (cs : List ℕ). slice_get cs 0) chars-nil
+no_pending text s w empty = w.2 ∙ ap (λ l. slice_get (chars l) 0) empty ∙ ap (λ cs. slice_get cs 0) chars-nil
 
 ok_whole : (v : VersionValue) (r : Result VersionValue Fault) (left : List TokenValue) (pending : Option ℕ)
     → Ok v ≡ whole_answer r left pending → (r ≡ Ok v) × (left ≡ [])
@@ -243,14 +243,14 @@ ok_whole v (Ok w) (t ∷ left) (Some c) d = cc
 pub accepted_spells : (v : VersionValue) (text : List ℕ) → IsUtf8 text → IsOutcomeOf text (Ok v) → SpellsVersion v text
 accepted_spells v text utf8 o =
     let q = ok_whole v o.answer o.end.remaining o.end.pending o.whole in
-    let w : ReadsVersion o.start (Ok v) o.end = subst (λ (r : Result VersionValue Fault). ReadsVersion o.start r o.end) q.0 o.reads in
+    let w : ReadsVersion o.start (Ok v) o.end = subst (λ r. ReadsVersion o.start r o.end) q.0 o.reads in
     let empty : w.rest ≡ [] = sym w.answer.leaves ∙ q.1 in
-    let all : w.front ≡ o.start.remaining = sym (w.longest.split ∙ ap (λ (l : List TokenValue). w.front ++ l) empty ∙ append-nil w.front) in
+    let all : w.front ≡ o.start.remaining = sym (w.longest.split ∙ ap (λ l. w.front ++ l) empty ∙ append-nil w.front) in
     let none : o.start.pending ≡ None = ⊎_elim (λ some. absurd (omega (arith, some, ap length empty))) (λ n. n) w.answer.whole.known in
     let tokens : AreTokensOf text o.start.remaining [] = subst (AreTokensOf text o.start.remaining)
     (no_rest text o.start utf8 o.state none) o.state.1 in
     whole_spelled v text o.start.remaining tokens (subst IsVersionShape all w.answer.whole.shape)
-    (subst (λ (l : List TokenValue). SpellsCore v (inner_texts l)) all w.answer.spelled)
+    (subst (λ l. SpellsCore v (inner_texts l)) all w.answer.spelled)
 
 -- ---- a text that spells a version
 
@@ -265,7 +265,7 @@ letter_no_mark b h = grind (arith, nat_tests)
 no_part : (mark : List ℕ) (ids : List IdentifierValue) (part : List ℕ) → ids ≡ [] → SpellsPart mark ids part → Passes is_no_mark part
 no_part mark ids part none w =
     subst (Passes is_no_mark)
-    (sym (part_text mark ids part w ∙ ap (λ (l : List IdentifierValue). marked mark (map identifier_text l)) none)) tt
+    (sym (part_text mark ids part w ∙ ap (λ l. marked mark (map identifier_text l)) none)) tt
 
 module _ (v : VersionValue) (text : List ℕ) (spells : SpellsVersion v text) where
   pub has : HasTokens v text
@@ -286,7 +286,7 @@ module _ (v : VersionValue) (text : List ℕ) (spells : SpellsVersion v text) wh
       → (has.ts ≡ front) × ([] ≡ rest)
   front_is s w front rest longest =
       same_front IsVersionShape has.ts has.ts front [] rest all_longest
-      (subst (λ (l : List TokenValue). IsLongestFront IsVersionShape l front rest) (sym (state_is s w).0) longest)
+      (subst (λ l. IsLongestFront IsVersionShape l front rest) (sym (state_is s w).0) longest)
 
   pub outcome_spelled : (x : Result VersionValue Fault) → IsOutcomeOf text x → x ≡ Ok v
   outcome_spelled x o = o.whole ∙ go o.answer o.reads
@@ -295,9 +295,9 @@ module _ (v : VersionValue) (text : List ℕ) (spells : SpellsVersion v text) wh
       go (Ok u) w =
           let same = front_is o.start o.state w.front w.rest w.longest in
           let value : u ≡ v = one_core u v (inner_texts has.ts)
-          (subst (λ (l : List TokenValue). SpellsCore u (inner_texts l)) (sym same.0) w.answer.spelled) has.spells in
-          ap (λ (l : List TokenValue). whole_answer (Ok u) l o.end.pending) (w.answer.leaves ∙ sym same.1)
-          ∙ ap (λ (z : VersionValue). Ok z) value
+          (subst (λ l. SpellsCore u (inner_texts l)) (sym same.0) w.answer.spelled) has.spells in
+          ap (λ l. whole_answer (Ok u) l o.end.pending) (w.answer.leaves ∙ sym same.1)
+          ∙ ap (λ z. Ok z) value
       go (Err e) w =
           let same = front_is o.start o.state w.front w.rest w.longest in
           absurd (w.answer.broken (record {
@@ -310,7 +310,7 @@ module _ (v : VersionValue) (text : List ℕ) (spells : SpellsVersion v text) wh
   at_start = record { remaining = has.ts; pending = None }
 
   is_start : IsStateOf text at_start
-  is_start = ([], has.tokens, ap (λ (cs : List ℕ). slice_get cs 0) (sym chars-nil))
+  is_start = ([], has.tokens, ap (λ cs. slice_get cs 0) (sym chars-nil))
 
   pub spelled_outcome : IsOutcomeOf text (Ok v)
   spelled_outcome = record {
@@ -356,8 +356,8 @@ module _ (v : VersionValue) (text : List ℕ) (spells : SpellsVersion v text) wh
           (passes_apart is_no_mark (inner_text h.sign) _
           (passes_apart is_no_mark (inner_texts h.before) _ (subst (Passes is_no_mark) split no_marks)).1).0 in
           ⊎_elim
-          (λ hyphen. let e = subst (λ (x : TokenValue). Passes is_no_mark (inner_text x)) hyphen at_sign in cc (e.0))
-          (λ plus. let e = subst (λ (x : TokenValue). Passes is_no_mark (inner_text x)) plus at_sign in cc (e.0))
+          (λ hyphen. let e = subst (λ x. Passes is_no_mark (inner_text x)) hyphen at_sign in cc (e.0))
+          (λ plus. let e = subst (λ x. Passes is_no_mark (inner_text x)) plus at_sign in cc (e.0))
           h.is_sign
 
 -- ---- the outcome is one
@@ -365,8 +365,8 @@ module _ (v : VersionValue) (text : List ℕ) (spells : SpellsVersion v text) wh
 pub one_outcome : (text : List ℕ) (x y : Result VersionValue Fault) → IsOutcomeOf text x → IsOutcomeOf text y → x ≡ y
 one_outcome text x y a b =
     let same = same_tokens text 0 a.start.remaining b.start.remaining a.state.0 b.state.0 a.state.1 b.state.1 in
-    let pending : a.start.pending ≡ b.start.pending = a.state.2 ∙ ap (λ (l : List ℕ). slice_get (chars l) 0) same.1 ∙ sym b.state.2 in
+    let pending : a.start.pending ≡ b.start.pending = a.state.2 ∙ ap (λ l. slice_get (chars l) 0) same.1 ∙ sym b.state.2 in
     let begin : a.start ≡ b.start = (λ i. record { remaining = same.0 i; pending = pending i }) in
     let once = reads_once IsVersionShape SpellsCore one_core b.start a.answer b.answer a.end b.end
-    (subst (λ (s : ParserState). ReadsVersion s a.answer a.end) begin a.reads) b.reads in
+    (subst (λ s. ReadsVersion s a.answer a.end) begin a.reads) b.reads in
     a.whole ∙ (λ i. whole_answer (once.0 i) (once.1 i).remaining (once.1 i).pending) ∙ sym b.whole
