@@ -1,7 +1,7 @@
 -- Lists, and what holds of each of their elements.
-use Rattle.std.proofs.Common.{◌≡◌, ℕ, Bool, true, List, [], ◌∷◌, ◌++◌}
-use Rattle.std.specs.Prelude.{IsTrue}
-use Rattle.std.specs.List.{AllByRecursion, AllZip, join_with_byte}
+use Rattle.std.proofs.Common.{◌≡◌, ℕ, Bool, true, false, List, [], ◌∷◌, ◌++◌, length, take, drop, refl, one-add}
+use Rattle.std.specs.Prelude.{IsTrue, slice_index}
+use Rattle.std.specs.List.{AllByRecursion, AllZip, prefix_len, join_with_byte}
 use Rattle.semver_texts.specs.Texts.{marked}
 
 pub tails : {x y : ℕ} {xs ys : List ℕ} → x ∷ xs ≡ y ∷ ys → xs ≡ ys
@@ -25,6 +25,11 @@ all_zipped each (x ∷ xs) (y ∷ ys) all = (each x y all.0, all_zipped each xs 
 
 -- ---- bytes
 
+-- either way a test goes
+pub by_test : {A : Type 0} (b : Bool) → (b ≡ true → A) → (b ≡ false → A) → A
+by_test true f g = f refl
+by_test false f g = g refl
+
 -- each byte passes the test
 abbrev pub Passes : (ℕ → Bool) → List ℕ → Type 0
 Passes p bs = AllByRecursion (λ b. IsTrue (p b)) bs
@@ -35,6 +40,23 @@ passes_append p (x ∷ xs) ys a b = (a.0, passes_append p xs ys a.1 b)
 
 pub passes_apart : (p : ℕ → Bool) (xs ys : List ℕ) → Passes p (xs ++ ys) → Passes p xs × Passes p ys
 passes_apart p = all_apart (λ b. IsTrue (p b))
+
+-- the front that passes a test passes it
+pub all_of_prefix : (p : ℕ → Bool) (xs : List ℕ) → Passes p (take (prefix_len p xs) xs)
+all_of_prefix p [] = tt
+all_of_prefix p (x ∷ xs) = by_test (p x) (λ h. rw (h, one-add) (h, all_of_prefix p xs)) (λ h. rw h tt)
+
+-- what follows the longest front that passes a test fails it
+pub prefix_stops : (p : ℕ → Bool) (xs : List ℕ) → p 0 ≡ false → p (slice_index (drop (prefix_len p xs) xs) 0) ≡ false
+prefix_stops p [] past = past
+prefix_stops p (x ∷ xs) past = by_test (p x) (λ h. rw (h, one-add) (prefix_stops p xs past)) (λ h. rw h h)
+
+-- the longest front that passes a test, where a list that passes is followed by what fails it
+pub prefix_is : (p : ℕ → Bool) (xs ys : List ℕ) → Passes p xs → p 0 ≡ false → p (slice_index ys 0) ≡ false
+    → prefix_len p (xs ++ ys) ≡ length xs
+prefix_is p [] [] all past stop = refl
+prefix_is p [] (y ∷ ys) all past stop = rw stop
+prefix_is p (x ∷ xs) ys all past stop = rw (all.0, prefix_is p xs ys all.1 past stop, one-add)
 
 -- texts that pass, joined by dots, and behind a mark
 pub dotted_pass : (p : ℕ → Bool) → p 46 ≡ true → (xs : List (List ℕ)) → AllByRecursion (Passes p) xs → Passes p (join_with_byte 46 xs)

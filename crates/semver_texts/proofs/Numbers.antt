@@ -20,7 +20,7 @@ use Rattle.std.proofs.lemmas.Bool.{and_parts}
 use Rattle.std.proofs.lemmas.Grind.{common_steps}
 use Rattle.semver_texts.proofs.Numerals.{own}
 use Rattle.semver_texts.specs.Texts.{IsNumber, BeginsWithNumber, BeginsWithNumbers}
-use Rattle.semver_texts.proofs.Lists.{tails}
+use Rattle.semver_texts.proofs.Lists.{tails, Passes, by_test, all_of_prefix, prefix_stops, prefix_is}
 use Rattle.semver_texts.specs.Means.Decimals.{is_number, digits_front}
 
 -- what makes a run a number
@@ -64,37 +64,21 @@ canonical_from_IsNumber run number = subst IsCanonical (sym number.2) (canonical
 
 -- ---- a number at the front of a text
 
-digits_end : (ds rest : List ℕ) → all_ascii_digits ds ≡ true → is_ascii_digit (slice_index rest 0) ≡ false
-    → prefix_len is_ascii_digit (ds ++ rest) ≡ length ds
-digits_end [] [] all ended = refl
-digits_end [] (b ∷ rest) all ended = rw ended
-digits_end (d ∷ ds) rest all ended =
-    let parts = and_parts (is_ascii_digit d) (all_ascii_digits ds) all in rw (parts.0, digits_end ds rest parts.1 ended, one-add)
+digits_all : (ds : List ℕ) → Passes is_ascii_digit ds → all_ascii_digits ds ≡ true
+digits_all [] all = refl
+digits_all (d ∷ ds) all = rw (all.0, digits_all ds all.1) refl
 
-front_digits : (text : List ℕ) → all_ascii_digits (digits_front text) ≡ true
-front_digits [] = refl
-front_digits (b ∷ text) = by (is_ascii_digit b) refl (front_digits text)
-  where
-    by : (e : Bool) → is_ascii_digit b ≡ e → all_ascii_digits (digits_front text) ≡ true
-        → all_ascii_digits (take (cond e (1 + prefix_len is_ascii_digit text) 0) (b ∷ text)) ≡ true
-    by true e more = rw (one-add, e, more)
-    by false e more = refl
-
-front_ended : (text : List ℕ) → is_ascii_digit (slice_index (drop (prefix_len is_ascii_digit text) text) 0) ≡ false
-front_ended [] = refl
-front_ended (b ∷ text) = by (is_ascii_digit b) refl (front_ended text)
-  where
-    by : (e : Bool) → is_ascii_digit b ≡ e → is_ascii_digit (slice_index (drop (prefix_len is_ascii_digit text) text) 0) ≡ false
-        → is_ascii_digit (slice_index (drop (cond e (1 + prefix_len is_ascii_digit text) 0) (b ∷ text)) 0) ≡ false
-    by true e more = rw one-add more
-    by false e more = e
+pub all_digits : (ds : List ℕ) → all_ascii_digits ds ≡ true → Passes is_ascii_digit ds
+all_digits [] all = tt
+all_digits (d ∷ ds) all = let parts = and_parts (is_ascii_digit d) (all_ascii_digits ds) all in (parts.0, all_digits ds parts.1)
 
 -- the digits at the front are the number's decimal
 front_is : (text : List ℕ) (n : ℕ) (rest : List ℕ) → BeginsWithNumber text n rest
     → (digits_front text ≡ decimal n) × (rest ≡ drop (length (digits_front text)) text)
 front_is text n rest w =
     let len : prefix_len is_ascii_digit text ≡ length (decimal n) =
-    ap (prefix_len is_ascii_digit) w.split ∙ digits_end (decimal n) rest (canonical_decimal n w.fits).digits w.ended in
+    ap (prefix_len is_ascii_digit) w.split
+    ∙ prefix_is is_ascii_digit (decimal n) rest (all_digits (decimal n) (canonical_decimal n w.fits).digits) refl w.ended in
     let front : digits_front text ≡ decimal n =
     (λ i. take (len i) (w.split i)) ∙ take_at (decimal n) rest (length (decimal n)) refl in (
       front,
@@ -116,20 +100,17 @@ front_begins : (text : List ℕ) → 0 < length (digits_front text) → (get_or 
 front_begins text some no_zero small = record {
   fits = small;
   split = sym (ap (λ l. l ++ drop (length (digits_front text)) text)
-      (decimal_canonical (digits_front text) some (record { digits = front_digits text; no_leading_zero = no_zero; small = small }))
+      (decimal_canonical (digits_front text) some (record { digits = digits_all _ (all_of_prefix is_ascii_digit text); no_leading_zero = no_zero; small = small }))
       ∙ ap (λ k. digits_front text ++ drop k text) (length-prefix_len is_ascii_digit text)
       ∙ take-append-drop (prefix_len is_ascii_digit text) text);
-  ended = ap (λ k. is_ascii_digit (slice_index (drop k text) 0)) (length-prefix_len is_ascii_digit text) ∙ front_ended text;
+  ended = ap (λ k. is_ascii_digit (slice_index (drop k text) 0)) (length-prefix_len is_ascii_digit text)
+      ∙ prefix_stops is_ascii_digit text refl;
 }
 
 first_of_front : (text : List ℕ) → 0 < length (digits_front text) → get_or (digits_front text) 0 0 ≡ get_or text 0 0
 first_of_front [] some = refl
-first_of_front (b ∷ text) some = by (is_ascii_digit b) some
-  where
-    by : (e : Bool) → 0 < length (take (cond e (1 + prefix_len is_ascii_digit text) 0) (b ∷ text))
-        → get_or (take (cond e (1 + prefix_len is_ascii_digit text) 0) (b ∷ text)) 0 0 ≡ b
-    by true some = rw one-add refl
-    by false some = absurd (omega (arith, some))
+first_of_front (b ∷ text) some =
+    by_test (is_ascii_digit b) (λ h. rw (h, one-add) refl) (λ h. absurd (omega (arith, rw h at some)))
 
 -- what follows so many bytes
 behind : (text rest : List ℕ) (len : ℕ) → rest ≡ take (length text - len) (drop len text) → rest ≡ drop len text
