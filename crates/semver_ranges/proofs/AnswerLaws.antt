@@ -124,6 +124,6 @@ module _ (t : Text) (mode : Compat) where
       × (rewritten mode tree ≡ set_of set))
   printed_back (Ok set) h =
       let found = printed_again [] (set_of set) (exact_printable (Ok set) h) in
-      let same : (set_of set).compat ≡ mode = ap (λ (s : PlainSet). s.compat) h.3 in
+      let same : (set_of set).compat ≡ mode = ap (λ s. s.compat) h.3 in
       (found.0, found.1, subst (λ x. fits x found.0 ≡ true) same found.2, subst (λ x. rewritten x found.0 ≡ set_of set) same found.3)
   printed_back (Err e) h = tt

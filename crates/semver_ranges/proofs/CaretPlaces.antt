@@ -12,12 +12,12 @@ or_true false = refl
 pub same_agreement : (s numbers : List ℕ) → agrees_past_zeros s numbers ≡ starts_with nat_eq numbers (take (leading_place s) s)
 same_agreement [] numbers = refl
 same_agreement (n ∷ []) [] = refl
-same_agreement (n ∷ []) (m ∷ others) = ap (λ (b : Bool). (n == m) && b) (or_true (not (n == 0)))
+same_agreement (n ∷ []) (m ∷ others) = ap (λ b. (n == m) && b) (or_true (not (n == 0)))
 same_agreement (n ∷ next ∷ rest) [] = elim (cases_Bool (n == 0)) [
   | inl same ↦ rw same refl
   | inr other ↦ rw other refl
 ]
 same_agreement (n ∷ next ∷ rest) (m ∷ others) = elim (cases_Bool (n == 0)) [
-  | inl same ↦ rw same (ap (λ (b : Bool). (n == m) && b) (same_agreement (next ∷ rest) others))
+  | inl same ↦ rw same (ap (λ b. (n == m) && b) (same_agreement (next ∷ rest) others))
   | inr other ↦ rw other refl
 ]

@@ -18,7 +18,7 @@ first_apart : (t : Text) → 1 ≤ length t → t ≡ get_or t 0 0 ∷ take (len
 first_apart [] some = absurd (omega (arith, some))
 first_apart (x ∷ xs) some =
     let same : length xs ≡ length (x ∷ xs) - 1 = omega arith in
-    ap (λ (t : Text). x ∷ t) (sym (take-length xs)) ∙ ap (λ (k : ℕ). x ∷ take k xs) same
+    ap (λ t. x ∷ t) (sym (take-length xs)) ∙ ap (λ k. x ∷ take k xs) same
 
 -- a wildcard, and a zero
 one_byte : (b : ℕ) (t : Text) → (is_wildcard (b ∷ []) || (b == 48)) ≡ true → component (b ∷ t) ≡ Some (b ∷ [], t)
@@ -38,7 +38,7 @@ pub zero_front : (t : Text) → 1 ≤ length t → get_or t 0 0 ≡ 48
     × (fits_u64 (digits_value 10 x) ≡ true) × (0 ≡ digits_value 10 x)
 zero_front t some e = (
   48 ∷ [],
-  ap component (first_apart t some ∙ ap (λ (b : ℕ). b ∷ take (length t - 1) (drop 1 t)) e)
+  ap component (first_apart t some ∙ ap (λ b. b ∷ take (length t - 1) (drop 1 t)) e)
       ∙ one_byte 48 _ refl,
   refl,
   refl,
@@ -77,8 +77,8 @@ digits_front t rest n value some e other first v is =
     let range = digit_bounds b e in
     let same : 48 + n ≡ b = omega (arith, first, range.0) in (
       b ∷ front is_ascii_digit u,
-      ap component (first_apart t some) ∙ digit_component b u e other ∙ ap (λ (x : Text). Some (b ∷ front is_ascii_digit u, x)) (sym is),
-      (no_wildcard b (front is_ascii_digit u) e, subst (λ (c : ℕ). IsValue (digits_value 10 (c ∷ front is_ascii_digit u)) value) same v),
+      ap component (first_apart t some) ∙ digit_component b u e other ∙ ap (λ x. Some (b ∷ front is_ascii_digit u, x)) (sym is),
+      (no_wildcard b (front is_ascii_digit u) e, subst (λ c. IsValue (digits_value 10 (c ∷ front is_ascii_digit u)) value) same v),
     )
 
 -- one digit more
@@ -89,8 +89,8 @@ value_more c t i value within e v =
     let range = digit_bounds (get_or t i 0) e in
     let digit : digit_value (get_or t i 0) ≡ get_or t i 0 - 48 = omega (arith, digit_value_digit (get_or t i 0) range) in
     let next : i + 1 ≡ suc i = omega arith in
-    let more : take (i + 1) t ≡ take i t ++ get_or t i 0 ∷ [] = ap (λ (k : ℕ). take k t) next ∙ take-suc t i 0 within in
+    let more : take (i + 1) t ≡ take i t ++ get_or t i 0 ∷ [] = ap (λ k. take k t) next ∙ take-suc t i 0 within in
     let whole : digits_value 10 (c ∷ take (i + 1) t) ≡ digits_value 10 (c ∷ take i t) * 10 + (get_or t i 0 - 48) =
-    ap (λ (u : Text). digits_value 10 (c ∷ u)) more ∙ digits_value_push 10 (c ∷ take i t) (get_or t i 0)
-    ∙ ap (λ (d : ℕ). digits_value 10 (c ∷ take i t) * 10 + d) digit in
-    subst (λ (n : ℕ). IsValue n value) (sym whole) v
+    ap (λ u. digits_value 10 (c ∷ u)) more ∙ digits_value_push 10 (c ∷ take i t) (get_or t i 0)
+    ∙ ap (λ d. digits_value 10 (c ∷ take i t) * 10 + d) digit in
+    subst (λ n. IsValue n value) (sym whole) v

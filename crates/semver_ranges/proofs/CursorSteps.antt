@@ -24,7 +24,7 @@ qualifier_found a b c pre build [] u v e f =
     let same : ([], []) ≡ (pre, u) = cc in
     let none : [] ≡ pre = ap (λ (f : List Text × Text). f.0) same in
     let end : [] ≡ u = ap (λ (f : List Text × Text). f.1) same in
-    build_found a b c [] build [] v (ap (marked_parts 43) end ∙ f) ∙ ap (λ (p : List Text). Some (three a b c p build, v)) none
+    build_found a b c [] build [] v (ap (marked_parts 43) end ∙ f) ∙ ap (λ p. Some (three a b c p build, v)) none
 qualifier_found a b c pre build (m ∷ t) u v e f = elim (cases_Bool (m == 45)) [
   | inl y ↦ let found : parts t ≡ Some (pre, u) = rw y at e in rw (y, found) (build_found a b c pre build u v f)
   | inr n ↦
@@ -33,7 +33,7 @@ qualifier_found a b c pre build (m ∷ t) u v e f = elim (cases_Bool (m == 45)) 
       let none : [] ≡ pre = ap (λ (f : List Text × Text). f.0) same in
       let rest : m ∷ t ≡ u = ap (λ (f : List Text × Text). f.1) same in
       rw n (build_found a b c [] build (m ∷ t) v (ap (marked_parts 43) rest ∙ f)
-      ∙ ap (λ (p : List Text). Some (three a b c p build, v)) none)
+      ∙ ap (λ p. Some (three a b c p build, v)) none)
 ]
 
 -- what follows a component that no dot follows
@@ -49,5 +49,5 @@ major_end a (m ∷ t) e = rw e refl
 pub simple_found : (t u v w : Text) (form : Form) (p : PartialTree) → (form, u) ≡ operator t → partial u ≡ Some (p, v) → w ≡ behind_blanks v
     → simple t ≡ Some (record { form = form; partial = p }, w)
 simple_found t u v w form p sign found blanks =
-    ap (λ (o : Form × Text). with_form o.0 (partial o.1)) (sym sign) ∙ ap (with_form form) found
-    ∙ ap (λ (x : Text). Some (record { form = form; partial = p }, x)) (sym blanks)
+    ap (λ o. with_form o.0 (partial o.1)) (sym sign) ∙ ap (with_form form) found
+    ∙ ap (λ x. Some (record { form = form; partial = p }, x)) (sym blanks)

@@ -35,7 +35,7 @@ made_of_sides : (l r : PartialTree) → IsMadeOf (hyphen l r) (yielded (hyphen l
 made_of_sides l r = λ mode. elim (cases_Bool (states_nothing r)) [
   | inl y ↦ elim (cases_Bool (states_nothing l)) [
     | inl x ↦ rw (y, x) (
-      ap (λ (b : Bool). term_fits mode (of_simple (left_side l)) && (b && true)) (fits_nothing mode r (nothing_is (stated r) y)),
+      ap (λ b. term_fits mode (of_simple (left_side l)) && (b && true)) (fits_nothing mode r (nothing_is (stated r) y)),
       λ bound_pre. from_zero bound_pre mode l (nothing_is (stated l) x),
     )
     | inr n ↦ rw (y, n) (refl, λ bound_pre. refl)
@@ -53,7 +53,7 @@ made_of (simples first others) = λ mode. (sym (list_all-map (term_fits mode) of
 
 pub range_made : (bound_pre : List IdentifierValue) (mode : Compat) (r : RangeTree)
     → range_of_simples bound_pre mode (yielded r) ≡ range_for bound_pre mode r
-range_made bound_pre mode r = ap (λ (l : List PlainComparator). record { comparators = l; compat = mode }) ((made_of r mode).1 bound_pre)
+range_made bound_pre mode r = ap (λ l. record { comparators = l; compat = mode }) ((made_of r mode).1 bound_pre)
 
 -- simples in front of events
 front_fits : (mode : Compat) (ss : List Simple) (es : List Event)

@@ -35,7 +35,7 @@ pub sum_more : (mode : Compat) (whole : Option (Bool × ℕ)) (fit here : Bool) 
     → whole ≡ summed mode (fit && here) ended left
 sum_more mode whole fit here ended o left s so_far first is =
     so_far ∙ ap (summed mode fit ended) first ∙ sum_simple mode fit ended s left
-    ∙ ap (λ (b : Bool). summed mode (fit && b) ended left) (sym is)
+    ∙ ap (λ b. summed mode (fit && b) ended left) (sym is)
 
 -- at the end of a text
 pub sum_end : (mode : Compat) (t : Text) (fit : Bool) (ended : ℕ) → summed mode true 0 (events t) ≡ summed mode fit ended (Some [])
@@ -70,7 +70,7 @@ one_range_more bound_pre mode tree (x ∷ others) before r cursor at fit count w
       others,
       (and_parts _ _ fit).1,
       omega (arith, count),
-      subst (λ (es : List Event). HasLeft cursor (Some es)) (first_others x others) has,
+      subst (λ es. HasLeft cursor (Some es)) (first_others x others) has,
       append_assoc before (r ∷ []) (map (range_for bound_pre mode) others)
-          ∙ ap (λ (y : PlainRange). before ++ y ∷ map (range_for bound_pre mode) others) range ∙ whole,
+          ∙ ap (λ y. before ++ y ∷ map (range_for bound_pre mode) others) range ∙ whole,
     )

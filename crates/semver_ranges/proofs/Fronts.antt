@@ -44,13 +44,13 @@ pub taken_more : (p : ℕ → Bool) (t : Text) (i : ℕ) → i < length t → p 
     → front p t ≡ take (i + 1) t ++ front p (drop (i + 1) t)
 taken_more p t i within e so_far =
     let next : suc i ≡ i + 1 = omega arith in
-    so_far ∙ ap (λ (u : Text). take i t ++ u) (front_more p t i within e)
+    so_far ∙ ap (λ u. take i t ++ u) (front_more p t i within e)
     ∙ sym (append_assoc (take i t) (get_or t i 0 ∷ []) (front p (drop (i + 1) t)))
-    ∙ ap (λ (u : Text). u ++ front p (drop (i + 1) t)) (sym (take-suc t i 0 within) ∙ ap (λ (n : ℕ). take n t) next)
+    ∙ ap (λ u. u ++ front p (drop (i + 1) t)) (sym (take-suc t i 0 within) ∙ ap (λ n. take n t) next)
 
 pub taken_stops : (p : ℕ → Bool) (t : Text) (i : ℕ) → i < length t → p (get_or t i 0) ≡ false → front p t ≡ take i t ++ front p (drop i t)
     → front p t ≡ take i t
-taken_stops p t i within e so_far = so_far ∙ ap (λ (u : Text). take i t ++ u) (front_stops p t i within e) ∙ append-nil (take i t)
+taken_stops p t i within e so_far = so_far ∙ ap (λ u. take i t ++ u) (front_stops p t i within e) ∙ append-nil (take i t)
 
 pub taken_ends : (p : ℕ → Bool) (t : Text) (i : ℕ) → length t ≤ i → front p t ≡ take i t ++ front p (drop i t) → front p t ≡ take i t
-taken_ends p t i within so_far = so_far ∙ ap (λ (u : Text). take i t ++ u) (front_ends p t i within) ∙ append-nil (take i t)
+taken_ends p t i within so_far = so_far ∙ ap (λ u. take i t ++ u) (front_ends p t i within) ∙ append-nil (take i t)

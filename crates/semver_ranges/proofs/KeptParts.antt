@@ -33,7 +33,7 @@ pub kept_number : (t : Text) (n : ℕ) → is_part t ≡ true → ParsesUnsigned
 kept_number t n e h =
     let p = parse_plain own {E = Unit {0}} 64 t (Ok n) h (part_plus t e) in
     let fit : fits_u64 (digits_value 10 t) ≡ true = small_fits (digits_value 10 t) p.0.2 in
-    ap numeric p.1 ∙ sym (ap (λ (b : Bool). if b then numeric (digits_value 10 t) else alphanumeric t) (and_from _ _ p.0.0 fit))
+    ap numeric p.1 ∙ sym (ap (λ b. if b then numeric (digits_value 10 t) else alphanumeric t) (and_from _ _ p.0.0 fit))
 
 pub kept_text : (t : Text) → is_part t ≡ true → ParsesUnsigned {E = Unit {0}} 64 10 t (Err tt) → alphanumeric t ≡ kept t
 kept_text t e h =
@@ -41,5 +41,5 @@ kept_text t e h =
     elim (cases_Bool (all_ascii_digits t && fits_u64 (digits_value 10 t))) [
       | inl y ↦ let parts = and_parts (all_ascii_digits t) (fits_u64 (digits_value 10 t)) y in
           absurd (p (parts.0, part_some t e, fits_small (digits_value 10 t) parts.1))
-      | inr n ↦ sym (ap (λ (b : Bool). if b then numeric (digits_value 10 t) else alphanumeric t) n)
+      | inr n ↦ sym (ap (λ b. if b then numeric (digits_value 10 t) else alphanumeric t) n)
     ]

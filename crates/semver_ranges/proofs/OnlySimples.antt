@@ -17,19 +17,19 @@ nothing_left (b ∷ u) e = absurd (omega arith)
 pub only_simple : (t u : Text) (s : Simple) → simple t ≡ Some (s, u) → length u ≡ 0 → read t ≡ Some (simples s [] ∷ [])
 only_simple t u s e end =
     let here : SimpleAt t (Some (s, u)) = subst (λ o. SimpleAt t o) e (simple_sound t) in
-    let whole : t ≡ here.0 ++ here.1 = here.4 ∙ ap (λ (x : Text). here.0 ++ (here.1 ++ x)) (nothing_left u end)
-    ∙ ap (λ (x : Text). here.0 ++ x) (append-nil here.1) in
+    let whole : t ≡ here.0 ++ here.1 = here.4 ∙ ap (λ x. here.0 ++ (here.1 ++ x)) (nothing_left u end)
+    ∙ ap (λ x. here.0 ++ x) (append-nil here.1) in
     let spelled : Spells (simples s [] ∷ []) t = ([], here.0, here.1, refl, here.2, here.3.0, whole) in
     tree_read (simples s [] ∷ []) t spelled
 
 -- its set
 pub one_fits : (mode : Compat) (s : Simple) → simple_fits mode s ≡ true → fits mode (simples s [] ∷ []) ≡ true
-one_fits mode s e = ap (λ (b : Bool). (b && true) && true) e
+one_fits mode s e = ap (λ b. (b && true) && true) e
 
 pub one_made : (bound_pre : List IdentifierValue) (mode : Compat) (s : Simple) (comparators : List PlainComparator)
     → comparators ≡ written_simple bound_pre mode s
     → record { ranges = record { comparators = comparators; compat = mode } ∷ []; compat = mode }
     ≡ written_set bound_pre mode (simples s [] ∷ [])
 one_made bound_pre mode s comparators e =
-    ap (λ (l : List PlainComparator). record { ranges = record { comparators = l; compat = mode } ∷ []; compat = mode }) (e
+    ap (λ l. record { ranges = record { comparators = l; compat = mode } ∷ []; compat = mode }) (e
     ∙ sym (append-nil (written_simple bound_pre mode s)))

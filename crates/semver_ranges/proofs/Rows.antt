@@ -268,7 +268,7 @@ module _ (v : PlainVersion) (f : List IdentifierValue) {i : Bool} (t : Tail (pre
       → comparators ≡ ((is_ge (precedence v z) && agrees (leading_place s) s v) || excepted i v (Some (up (leading_place s) s)))
       → comparators ≡ ((is_ge (precedence v z) && agrees_past_zeros s (numbers v)) || excepted i v (Some (up (leading_place s) s)))
   past_zeros s z comparators e = e
-      ∙ ap (λ (b : Bool). (is_ge (precedence v z) && b) || excepted i v (Some (up (leading_place s) s)))
+      ∙ ap (λ b. (is_ge (precedence v z) && b) || excepted i v (Some (up (leading_place s) s)))
       (sym (same_agreement s (numbers v)))
 
   -- one number stated
@@ -340,7 +340,7 @@ row v mode form {s = s} shape p =
     let c : Cell = cell mode form s in
     let z : PlainVersion = filled s p in
     any_row v [] (tail v.pre) mode form shape p
-    ∙ ap (λ (b : Bool). meets_stated mode form s z v || b) (excepted_plainly v (cell_raised c s))
+    ∙ ap (λ b. meets_stated mode form s z v || b) (excepted_plainly v (cell_raised c s))
 
 -- with exact bounds they are met exactly if its meaning is
 pub exact_row : (v : PlainVersion) (mode : Compat) (form : Form) {s : List ℕ} → Shape s → (p : List IdentifierValue)
@@ -350,4 +350,4 @@ exact_row v mode form {s = s} shape p =
     let c : Cell = cell mode form s in
     let z : PlainVersion = filled s p in
     any_row v lowest_pre_release (floor v.pre) mode form shape p
-    ∙ ap (λ (b : Bool). meets_stated mode form s z v || b) (excepted_never v (cell_raised c s)) ∙ or_false (meets_stated mode form s z v)
+    ∙ ap (λ b. meets_stated mode form s z v || b) (excepted_never v (cell_raised c s)) ∙ or_false (meets_stated mode form s z v)

@@ -57,7 +57,7 @@ row_of mode s simple b placed is raised comparators = (
   (is.1.3, placed),
   fits (cases_Bool p.fits),
   λ all bounds. let f = (and_parts p.fits (bound_fits (cell_raised (cell_of b) (stated_of p))) all).0 in
-      cell_comparators bounds b p ∙ ap (λ (l : List ℕ). written_cell (pre_of bounds) (cell_of b) l (version_of p)) (is.1.1 f).0
+      cell_comparators bounds b p ∙ ap (λ l. written_cell (pre_of bounds) (cell_of b) l (version_of p)) (is.1.1 f).0
       ∙ ap (written_cell (pre_of bounds) (cell_of b) (stated s.partial)) (is.1.1 f).1 ∙ comparators f (pre_of bounds),
 )
   where
@@ -66,9 +66,9 @@ row_of mode s simple b placed is raised comparators = (
 
     fits : ((p.fits ≡ true) ⊎ (p.fits ≡ false)) → bounds_fit b p ≡ simple_fits mode s
     fits (inl f) =
-        ap (λ (q : Bool). q && bound_fits (cell_raised (cell_of b) (stated_of p))) (sym is.1.0)
-        ∙ ap (λ (l : List ℕ). list_all fits_u64 (stated s.partial) && bound_fits (cell_raised (cell_of b) l)) (is.1.1 f).0
-        ∙ ap (λ (q : Bool). list_all fits_u64 (stated s.partial) && q) (raised f)
+        ap (λ q. q && bound_fits (cell_raised (cell_of b) (stated_of p))) (sym is.1.0)
+        ∙ ap (λ l. list_all fits_u64 (stated s.partial) && bound_fits (cell_raised (cell_of b) l)) (is.1.1 f).0
+        ∙ ap (λ q. list_all fits_u64 (stated s.partial) && q) (raised f)
     fits (inr n) = and_left _ _ n ∙ sym (and_left _ _ (is.1.0 ∙ n))
 
 -- the column where nothing is stated
@@ -78,8 +78,8 @@ pub row_of_nothing : (mode : Compat) (s : Simple) (simple : read.Simple) (b : Bo
 row_of_nothing mode s simple b kind column placed is =
     let p : Partial = simple.partial in
     let none : stated s.partial ≡ [] = sym (is.1.1 (none_fits p is.1.2 kind)).0
-    ∙ ap (λ (k : PartialKind). stated_at k p.major p.minor p.patch) kind in
-    let same : cell_of b ≡ with_version (nothing_stated s.form) = column ∙ ap (λ (f : Form). with_version (nothing_stated f)) is.0 in
+    ∙ ap (λ k. stated_at k p.major p.minor p.patch) kind in
+    let same : cell_of b ≡ with_version (nothing_stated s.form) = column ∙ ap (λ f. with_version (nothing_stated f)) is.0 in
     row_of mode s simple b placed is (λ _. rw (none, same) (nothing_raised s.form))
     (λ _ bound_pre. rw (none, same) (nothing_written bound_pre s.form))
 
@@ -90,8 +90,8 @@ pub row_of_cell : (mode : Compat) (s : Simple) (simple : read.Simple) (b : Bound
 row_of_cell mode s simple b column placed is =
     let p : Partial = simple.partial in
     row_of mode s simple b placed is
-    (λ f. ap (λ (c : Cell). bound_fits (cell_raised c (stated s.partial))) (same f))
-    (λ f bound_pre. ap (λ (c : Cell). written_cell bound_pre c (stated s.partial) (zero_filled s.partial)) (same f))
+    (λ f. ap (λ c. bound_fits (cell_raised c (stated s.partial))) (same f))
+    (λ f bound_pre. ap (λ c. written_cell bound_pre c (stated s.partial) (zero_filled s.partial)) (same f))
   where
     same : simple.partial.fits ≡ true → cell_of b ≡ cell mode s.form (stated s.partial)
-    same f = column ∙ ap (λ (form : Form). cell mode form (stated_of simple.partial)) is.0 ∙ ap (cell mode s.form) (is.1.1 f).0
+    same f = column ∙ ap (λ form. cell mode form (stated_of simple.partial)) is.0 ∙ ap (cell mode s.form) (is.1.1 f).0

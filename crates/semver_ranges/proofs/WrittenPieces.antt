@@ -235,5 +235,5 @@ pub simple_read : (s : Simple) (w gap u : Text) → SpellsSimple s w → AreBlan
 simple_read s w gap u (sign, text, form, spelled, whole) blanks ends first =
     let begins = starts-append is_component_byte text (gap ++ u) (partial_starts s.partial text spelled) in
     ap (λ x. simple (x ++ (gap ++ u))) whole ∙ ap simple (append_assoc sign text (gap ++ u))
-    ∙ ap (λ (x : Form × Text). with_form x.0 (partial x.1)) (operator_read s.form sign (text ++ (gap ++ u)) form begins)
+    ∙ ap (λ x. with_form x.0 (partial x.1)) (operator_read s.form sign (text ++ (gap ++ u)) form begins)
     ∙ ap (with_form s.form) (partial_read s.partial text (gap ++ u) spelled ends) ∙ ap (λ x. Some (s, x)) (blanks_behind gap u blanks first)

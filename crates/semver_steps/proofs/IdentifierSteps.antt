@@ -49,6 +49,19 @@ first_run_of ts w = of_runs w.runs w.some w.each w.joined
 pub identifier_of : {ts : List TokenValue} → HasFirstRun ts → IsIdentifierShape ts
 identifier_of w = record { runs = w.first ∷ w.runs; some = omega arith; each = (w.first_run, w.each_run); joined = w.is }
 
+pub one_run : (t : TokenValue) → IsTrue (is_component t) → IsIdentifierShape (t ∷ [])
+one_run t h = record { runs = t ∷ []; some = omega arith; each = (h, tt); joined = refl }
+
+pub run_more : {ts : List TokenValue} (t : TokenValue) → IsTrue (is_component t) → IsIdentifierShape ts → IsIdentifierShape (t ∷ Hyphen ∷ ts)
+run_more {ts} t h w =
+    let f = first_run_of ts w in
+    record {
+      runs = t ∷ f.first ∷ f.runs;
+      some = omega arith;
+      each = (h, (f.first_run, f.each_run));
+      joined = ap (λ l. t ∷ Hyphen ∷ l) f.is;
+    }
+
 component_leads : (t : TokenValue) → IsTrue (is_component t) → (ts : List TokenValue) → run id_step false (t ∷ ts) ≡ run id_step true ts
 component_leads t h ts = rw h refl
 
@@ -119,7 +132,7 @@ run_texts (t ∷ runs) all well = (run_text t all.0 well.0, run_texts runs all.1
 
 texts_joined : (t : TokenValue) (runs : List TokenValue) → inner_texts (t ∷ hyphened runs) ≡ join_with_byte 45 (map inner_text (t ∷ runs))
 texts_joined t [] = append-nil (inner_text t)
-texts_joined t (r ∷ runs) = ap (λ (l : List ℕ). inner_text t ++ 45 ∷ l) (texts_joined r runs)
+texts_joined t (r ∷ runs) = ap (λ l. inner_text t ++ 45 ∷ l) (texts_joined r runs)
 
 -- a hyphen is no digit
 hyphen_no_digits : (xs ys : List ℕ) → all_ascii_digits (xs ++ 45 ∷ ys) ≡ false

@@ -13,12 +13,14 @@ use Rattle.semver_tokens.specs.Tokens.{TokenValue, Hyphen, Whitespace, Numeric, 
 use Rattle.semver_tokens.specs.Tokens.{tokens_text, IsTokenAt, IsBadStart, AreInPlace, NoneMerge, AreTokensFrom}
 use Rattle.semver_tokens.specs.ParserState.{ParserState, IsStateFrom}
 use Rattle.semver_texts.specs.VersionGrammar.{SpellsIdentifier}
+use Rattle.semver_texts.proofs.Lists.{Passes, all_more, all_apart, passes_append}
 use Rattle.semver_texts.specs.Versions.{alphanumeric}
 use Rattle.semver_steps.specs.VersionReading.{IsIdentifierShape, inner_text, inner_texts, HoldsRun, MayRunOutInIdentifier, ReadsIdentifier}
 use Rattle.semver_steps.specs.Means.Taking.{run, PassesIdentifier, TakesIdentifier, lone_number}
 use Rattle.semver_steps.specs.ParserViews.{UnlessOutOfMemory, IfOutOfMemory}
 use Rattle.semver_steps.specs.declared.parser.Error.{Error}
 use Rattle.semver_steps.specs.declared.parser.Error.TheVariants as error
+use Rattle.semver_tokens.proofs.FirstToken.{run_is_part}
 use Rattle.semver_tokens.proofs.TokenLists.{prefix_is, shows_kind, decimal_is_run, opens_nothing}
 use Rattle.semver_steps.proofs.ReadingSteps.{Stops, reads_other}
 use Rattle.semver_steps.proofs.IdentifierSteps.{id_step, identifier_stops, hyphened, first_run_of, IsWellFormed, kept_as, kept_spells}
@@ -31,26 +33,16 @@ is_piece t = is_component t
 abbrev pub IsPiece : TokenValue → Type 0
 IsPiece t = IsTrue (is_piece t)
 
-abbrev ArePartBytes : List ℕ → Type 0
-ArePartBytes bs = AllByRecursion (λ b. IsTrue (is_part_byte b)) bs
-
-run_bytes : (bs : List ℕ) → AllByRecursion (λ b. IsTrue (is_ascii_alphanumeric b)) bs → ArePartBytes bs
-run_bytes [] all = tt
-run_bytes (b ∷ bs) all = (rw all.0 refl, run_bytes bs all.1)
-
-all_append : (xs ys : List ℕ) → ArePartBytes xs → ArePartBytes ys → ArePartBytes (xs ++ ys)
-all_append [] ys a b = b
-all_append (x ∷ xs) ys a b = (a.0, all_append xs ys a.1 b)
-
-piece_bytes : (t : TokenValue) → IsPiece t → IsWellFormed t → ArePartBytes (inner_text t)
-piece_bytes (Numeric n) h w = run_bytes _ (decimal_is_run n w).1
-piece_bytes (AlphaNumeric s) h w = run_bytes s w.0.1
+piece_bytes : (t : TokenValue) → IsPiece t → IsWellFormed t → Passes is_part_byte (inner_text t)
+piece_bytes (Numeric n) h w = all_more run_is_part _ (decimal_is_run n w).1
+piece_bytes (AlphaNumeric s) h w = all_more run_is_part s w.0.1
 piece_bytes Hyphen h w = (refl, tt)
 piece_bytes _ h w = cc
 
-pieces_bytes : (ts : List TokenValue) → AllByRecursion IsPiece ts → AllByRecursion IsWellFormed ts → ArePartBytes (inner_texts ts)
+pieces_bytes : (ts : List TokenValue) → AllByRecursion IsPiece ts → AllByRecursion IsWellFormed ts → Passes is_part_byte (inner_texts ts)
 pieces_bytes [] all well = tt
-pieces_bytes (t ∷ ts) all well = all_append (inner_text t) (inner_texts ts) (piece_bytes t all.0 well.0) (pieces_bytes ts all.1 well.1)
+pieces_bytes (t ∷ ts) all well =
+    passes_append is_part_byte (inner_text t) (inner_texts ts) (piece_bytes t all.0 well.0) (pieces_bytes ts all.1 well.1)
 
 -- the text of such a token doesn't depend on the input
 piece_text : (text : List ℕ) (t : TokenValue) → IsPiece t → token_text text t ≡ inner_text t
@@ -79,11 +71,13 @@ well_formed text place (Numeric n) w = w
 well_formed text place (AlphaNumeric s) w = w
 well_formed text place _ w = tt
 
-front_well_formed : (text : List ℕ) (place : ℕ) (ts us : List TokenValue) → AreInPlace text place (ts ++ us)
-    → AllByRecursion IsWellFormed ts
-front_well_formed text place [] us a = tt
-front_well_formed text place (t ∷ ts) us a =
-    (well_formed text place t a.0, front_well_formed text (place + length (token_text text t)) ts us a.1)
+-- each of them stands in some place
+abbrev pub IsPlaced : List ℕ → TokenValue → Type 0
+IsPlaced text t = (at : ℕ) × IsTokenAt text at t
+
+pub each_placed : (text : List ℕ) (place : ℕ) (ts : List TokenValue) → AreInPlace text place ts → AllByRecursion (IsPlaced text) ts
+each_placed text place [] a = tt
+each_placed text place (t ∷ ts) a = ((place, a.0), each_placed text (place + length (token_text text t)) ts a.1)
 
 -- ---- what follows
 
@@ -128,12 +122,6 @@ no_run_follows false (x ∷ y ∷ ts) t us some e none = cc
 no_run_follows true (Hyphen ∷ y ∷ ts) t us some e none = no_run_follows false (y ∷ ts) t us (omega arith) e none.1
 no_run_follows true (x ∷ y ∷ ts) t us some e none = cc
 
--- the first of the tokens behind some stands in its place
-pub behind_in_place : (text : List ℕ) (place : ℕ) (ts : List TokenValue) (t : TokenValue) (us : List TokenValue)
-    → AreInPlace text place (ts ++ t ∷ us) → (at : ℕ) × IsTokenAt text at t
-behind_in_place text place [] t us a = (place, a.0)
-behind_in_place text place (x ∷ ts) t us a = behind_in_place text (place + length (token_text text x)) ts t us a.1
-
 -- what follows begins with none of these bytes
 follows : (text : List ℕ) (place : ℕ) (ts rest : List TokenValue) (end : List ℕ) → 0 < length ts → run id_step false ts ≡ Some true
     → Stops id_step true rest
@@ -141,9 +129,9 @@ follows : (text : List ℕ) (place : ℕ) (ts rest : List TokenValue) (end : Lis
     → is_part_byte (slice_index (tokens_text text rest ++ end) 0) ≡ false
 follows text place ts [] end some leads stops in_place none ended = bad_byte end ended
 follows text place ts (t ∷ us) end some leads stops in_place none ended =
-    let here = behind_in_place text place ts t us in_place in
+    let here = (all_apart (IsPlaced text) ts (t ∷ us) (each_placed text place (ts ++ t ∷ us) in_place)).1.0 in
     let shown : 0 < length (token_text text t) = (shows_kind text here.0 t here.1).some in
-    ap (λ (l : List ℕ). is_part_byte (slice_index l 0)) (append_assoc (token_text text t) (tokens_text text us) end)
+    ap (λ l. is_part_byte (slice_index l 0)) (append_assoc (token_text text t) (tokens_text text us) end)
     ∙ ap is_part_byte (get_or_append_left (token_text text t) (tokens_text text us ++ end) 0 0 shown)
     ∙ other_hyphen text here.0 t here.1 (λ e. cc)
     (no_run_follows false ts t us some leads none)
@@ -166,12 +154,13 @@ front_is_cut text s t n from w =
     let stop = identifier_stops w.longest w.answer.whole.shape in
     let leads = stop.0 in
     let tokens : AreTokensFrom from.input from.place (front ++ w.rest) from.rest = rw w.longest.split at from.tokens in
-    let well : AllByRecursion IsWellFormed front = front_well_formed from.input from.place front w.rest tokens.in_place in
+    let well : AllByRecursion IsWellFormed front = all_more (λ t placed. well_formed from.input placed.0 t placed.1) front
+    (all_apart (IsPlaced from.input) front w.rest (each_placed from.input from.place (front ++ w.rest) tokens.in_place)).0 in
     let after : List ℕ = tokens_text from.input w.rest ++ from.rest in
     let spelled : text ≡ inner_texts front ++ after =
-    from.begins ∙ tokens.spelled ∙ ap (λ (l : List ℕ). l ++ from.rest) (flat_map-append (token_text from.input) front w.rest)
+    from.begins ∙ tokens.spelled ∙ ap (λ l. l ++ from.rest) (flat_map-append (token_text from.input) front w.rest)
     ∙ append_assoc (tokens_text from.input front) (tokens_text from.input w.rest) from.rest
-    ∙ ap (λ (l : List ℕ). l ++ after) (pieces_text from.input front (pieces false true front leads)) in
+    ∙ ap (λ l. l ++ after) (pieces_text from.input front (pieces false true front leads)) in
     let len : prefix_len is_part_byte (inner_texts front ++ after) ≡ length (inner_texts front) =
     prefix_is is_part_byte (inner_texts front) after (pieces_bytes front (pieces false true front leads) well) refl
     (follows from.input from.place front w.rest from.rest (some_led front leads) leads stop.1
@@ -195,8 +184,8 @@ pub reads_text : (text kept : List ℕ) (s t : ParserState) (n : Option ℕ) →
 reads_text text kept s t n from w none is =
     let value = front_has_value text s t n from w.passes w.number in
     reads_other SpellsIdentifier s t n (alphanumeric kept) w.passes
-    (subst (λ (x : Option ℕ). SpellsIdentifier (kept_as x kept) (inner_texts w.passes.front)) none
-    (subst (λ (l : List ℕ). SpellsIdentifier (kept_as n l) (inner_texts w.passes.front)) (sym is) value))
+    (subst (λ x. SpellsIdentifier (kept_as x kept) (inner_texts w.passes.front)) none
+    (subst (λ l. SpellsIdentifier (kept_as n l) (inner_texts w.passes.front)) (sym is) value))
 
 -- and it holds a run
 pub front_holds_run : (front : List TokenValue) → IsIdentifierShape front → HoldsRun front

@@ -310,7 +310,7 @@ same_front Shape ts front other rest left a b =
     let same : front ≡ other =
     sym (take_at front rest (length front) refl) ∙ ap (take (length front)) (sym a.split ∙ b.split)
     ∙ take_at other left (length front) (sym len) in
-    (same, append_cancel_left front rest left (sym a.split ∙ b.split ∙ ap (λ (l : List TokenValue). l ++ left) (sym same)))
+    (same, append_cancel_left front rest left (sym a.split ∙ b.split ∙ ap (λ l. l ++ left) (sym same)))
 
 -- and so is the fault, with what it leaves
 pub same_refusal : (ts : List TokenValue) (pending : Option ℕ) (rest : List TokenValue) (e f : Fault) (left other : List TokenValue)

@@ -41,7 +41,7 @@ next_err s u (Some (Err (UnexpectedChar c))) x gives e = (c, cc, state_at_error 
 -- without a token ahead none remains
 pub remaining_none : {T : Type 0} (o : Option T) (u : ParserState) → IfNone o (u ≡ record { remaining = []; pending = None })
     → IfNone o (u.remaining ≡ [])
-remaining_none None u e = ap (λ (s : ParserState). s.remaining) e
+remaining_none None u e = ap (λ s. s.remaining) e
 remaining_none (Some t) u e = tt
 
 -- the first token is given, and what was read ahead comes first

@@ -9,7 +9,7 @@ use Rattle.semver_steps.specs.VersionReading.{IsIdentifierShape, IsPartShape, Is
 use Rattle.semver_steps.specs.Means.Taking.{run, major, minor, patch, Part, pre_release, build, Place, start, at_number}
 use Rattle.semver_steps.specs.Means.Taking.{behind_number, at_run, behind_run, end, step, accepts}
 use Rattle.semver_steps.proofs.ReadingSteps.{run-append, IsReadBy}
-use Rattle.semver_steps.proofs.IdentifierSteps.{id_step, identifier_is_read, hyphened}
+use Rattle.semver_steps.proofs.IdentifierSteps.{id_step, one_run, run_more, identifier_is_read}
 
 -- the place where a run of a part is wanted, and the one behind it
 abbrev pub run_place : Part → Bool → Place
@@ -23,50 +23,38 @@ abbrev dotted : List (List TokenValue) → List TokenValue
 dotted ids = flat_map (λ id. Dot ∷ id) ids
 
 record AreIds (ts : List TokenValue) : Type 0 where
-  first : TokenValue
-  runs : List TokenValue
+  first : List TokenValue
   ids : List (List TokenValue)
-  first_run : IsTrue (is_component first)
-  each_run : AllByRecursion (λ t. IsTrue (is_component t)) runs
-  each_id : AllByRecursion IsIdentifierShape ids
-  is : ts ≡ (first ∷ hyphened runs) ++ dotted ids
+  first_is : IsIdentifierShape first
+  each : AllByRecursion IsIdentifierShape ids
+  is : ts ≡ first ++ dotted ids
 
 ids_one : (t : TokenValue) → IsTrue (is_component t) → AreIds (t ∷ [])
-ids_one t h = record { first = t; runs = []; ids = []; first_run = h; each_run = tt; each_id = tt; is = refl }
+ids_one t h = record { first = t ∷ []; ids = []; first_is = one_run t h; each = tt; is = refl }
 
 ids_hyphen : (ts : List TokenValue) → AreIds ts → (t : TokenValue) → IsTrue (is_component t) → AreIds (t ∷ Hyphen ∷ ts)
 ids_hyphen ts a t h =
     record {
-      first = t;
-      runs = a.first ∷ a.runs;
+      first = t ∷ Hyphen ∷ a.first;
       ids = a.ids;
-      first_run = h;
-      each_run = (a.first_run, a.each_run);
-      each_id = a.each_id;
+      first_is = run_more t h a.first_is;
+      each = a.each;
       is = ap (λ l. t ∷ Hyphen ∷ l) a.is;
     }
 
--- the first of them too is an identifier
-each_is_id : {ts : List TokenValue} (a : AreIds ts) → AllByRecursion IsIdentifierShape ((a.first ∷ hyphened a.runs) ∷ a.ids)
-each_is_id a = (record { runs = a.first ∷ a.runs; some = omega arith; each = (a.first_run, a.each_run); joined = refl }, a.each_id)
-
 ids_dot : (ts : List TokenValue) → AreIds ts → (t : TokenValue) → IsTrue (is_component t) → AreIds (t ∷ Dot ∷ ts)
-ids_dot ts a t h = record {
-  first = t;
-  runs = [];
-  ids = (a.first ∷ hyphened a.runs) ∷ a.ids;
-  first_run = h;
-  each_run = tt;
-  each_id = each_is_id a;
-  is = ap (λ l. t ∷ Dot ∷ l) a.is;
-}
+ids_dot ts a t h =
+    record {
+      first = t ∷ [];
+      ids = a.first ∷ a.ids;
+      first_is = one_run t h;
+      each = (a.first_is, a.each);
+      is = ap (λ l. t ∷ Dot ∷ l) a.is;
+    }
 
 ids_part : (sign : TokenValue) (ts : List TokenValue) → AreIds ts → IsPartShape sign (sign ∷ ts)
-ids_part sign ts a = record {
-  ids = (a.first ∷ hyphened a.runs) ∷ a.ids;
-  each = each_is_id a;
-  parted = inr (omega arith, ap (λ l. sign ∷ l) a.is);
-}
+ids_part sign ts a =
+    record { ids = a.first ∷ a.ids; each = (a.first_is, a.each); parted = inr (omega arith, ap (λ l. sign ∷ l) a.is) }
 
 no_part : (sign : TokenValue) → IsPartShape sign []
 no_part sign = record { ids = []; each = tt; parted = inl (refl, refl) }
@@ -228,7 +216,7 @@ identifier_leads part b v (t ∷ ts) e =
 
 module _ (part : Part) where
   id_leads : (id : List TokenValue) → IsIdentifierShape id → run step (at_run part) id ≡ Some (behind_run part)
-  id_leads id shape = let w = identifier_is_read.read id shape in identifier_leads part false true id (w.1 ∙ ap (λ (b : Bool). Some b) w.2)
+  id_leads id shape = let w = identifier_is_read.read id shape in identifier_leads part false true id (w.1 ∙ ap (λ b. Some b) w.2)
 
   dotted_lead : (ids : List (List TokenValue)) → AllByRecursion IsIdentifierShape ids
       → run step (behind_run part) (dotted ids) ≡ Some (behind_run part)

@@ -1,6 +1,6 @@
 -- Taking a version token by token: each step goes on, or is a way in which reading ends.
-use Rattle.std.proofs.Common.{◌≡◌, ℕ, ◌<◌, ◌^◌, Bool, true, false, List, [], ◌∷◌, ◌++◌, length, Some, None, Option, Ok, Err, sym}
-use Rattle.std.proofs.Common.{refl, ap, ◌∙◌, ◌⊎◌, inl, inr, ⊎_elim, ◌↔◌, arith, append_assoc, append-nil, length-append, decimal}
+use Rattle.std.proofs.Common.{◌≡◌, ℕ, ◌<◌, Bool, true, false, List, [], ◌∷◌, ◌++◌, length, Some, None, Option, Ok, Err, sym}
+use Rattle.std.proofs.Common.{refl, ap, ◌∙◌, ◌⊎◌, inl, inr, ⊎_elim, ◌↔◌, arith, append_assoc, append-nil, length-append, decimal, map}
 use Rattle.std.proofs.Common.{codes}
 use Rattle.std.specs.Prelude.{option_map, slice_get, IsTrue}
 use Rattle.std.specs.List.{AllZip, join_with_byte}
@@ -12,7 +12,7 @@ use Rattle.semver_texts.specs.Versions.{IdentifierValue, VersionValue}
 use Rattle.semver_tokens.specs.Tokens.{TokenValue, Hyphen, Dot, Plus, Whitespace, Numeric, AlphaNumeric, is_component}
 use Rattle.semver_tokens.specs.ParserState.{ParserState, Fault}
 use Rattle.semver_steps.specs.ParserSteps.{Step, pop, look, expect, number_of, dot_of, numeric, dot_numeric}
-use Rattle.semver_texts.specs.VersionGrammar.{SpellsIdentifier, SpellsPart, SpellsVersion}
+use Rattle.semver_texts.specs.VersionGrammar.{SpellsIdentifier, SpellsPart, SpellsCore}
 use Rattle.semver_steps.specs.VersionReading.{IsIdentifierShape, IsVersionShape, Refuses, ReadsIdentifier, ReadsVersion}
 use Rattle.semver_steps.specs.VersionReading.{HoldsRun, HoldsIdentifierRun, IsEndPart, MayRunOutInIdentifier, MayRunOutInVersion}
 use Rattle.semver_steps.specs.VersionReading.{inner_text, inner_texts, last_alone, IsWhole}
@@ -46,7 +46,7 @@ module _ {s t : ParserState} {p : Place} {text : Text} (k : IsTakenTo s p text t
   next_taken : (q : Place) (x : TokenValue) → look t ≡ Some x → step p x ≡ Some q
       → Gives (RefusesVersion s) (λ y u. IsTakenTo s q (text ++ inner_text x) u) (pop t)
   next_taken q x looked leads =
-      next_given version_is_read SpellsVersion k.taken (λ u. IsTakenTo s q (text ++ inner_text x) u) x q looked leads
+      next_given version_is_read SpellsCore k.taken (λ u. IsTakenTo s q (text ++ inner_text x) u) x q looked leads
       (λ u pops taken. one_more x taken)
 
   -- white space was taken, or none comes next
@@ -68,7 +68,7 @@ module _ {s t : ParserState} {p : Place} {text : Text} (k : IsTakenTo s p text t
       → ((x : TokenValue) → look t ≡ Some x → step p x ≡ option_map (λ (a : A). q) (value x))
       → Gives (RefusesVersion s) (λ a u. IsTakenTo s q (text ++ value_text a) u) (expect value t)
   valued_given value value_text q text_of wants leads =
-      expected_given version_is_read SpellsVersion k.taken (λ a u. IsTakenTo s q (text ++ value_text a) u) value q wants leads
+      expected_given version_is_read SpellsCore k.taken (λ a u. IsTakenTo s q (text ++ value_text a) u) value q wants leads
       (λ x a u is pops taken. rw (← text_of x a is) (one_more x taken))
 
 -- ---- the three numbers
@@ -108,7 +108,7 @@ dot_number_given {t = t} {k = k} taken wants =
 
 -- their text
 abbrev pub numbers_text : ℕ × ℕ × ℕ → Text
-numbers_text n = (((decimal n.0 ++ codes ".") ++ decimal n.1) ++ codes ".") ++ decimal n.2
+numbers_text n = join_with_byte 46 (map decimal (n.0 ∷ n.1 ∷ n.2 ∷ []))
 
 -- all three were taken, or the first comes next
 abbrev pub HasNumbers : ParserState → ℕ × ℕ × ℕ → ParserState → Type 0
@@ -119,7 +119,7 @@ numbers_given s d e =
     rw e (then_given _ _ _ (skip_whitespace s) _ first
     (λ _ t first. then_given _ _ _ (numeric t) _ first
     (λ a u taken. then_given _ _ _ (dot_numeric u) _ (dot_number_given taken refl)
-    (λ b v taken. then_given _ _ _ (dot_numeric v) _ (dot_number_given taken refl) (λ c w taken. taken)))))
+    (λ b v taken. then_given _ _ _ (dot_numeric v) _ (dot_number_given taken refl) (λ c w taken. simp append_assoc at taken)))))
   where
     GivesMajor : ParserState → Type 0
     GivesMajor t = Gives (RefusesVersion s) (λ a u. IsTakenTo s (behind_number major) (decimal a) u) (numeric t)
@@ -202,7 +202,7 @@ module _ {part : Part} {s t : ParserState} {text : Text} (k : IsTakenTo s (at_ru
       reads : (b : Bool) → run id_step false w.front ≡ Some b → Stops step (run_place part b) w.rest
           → ¬ (IsWhole IsVersionShape (k.front ++ w.front) s.pending w.rest) → ReadsVersion s (Err e) u
       reads b leads stops broken =
-          reads_fault version_is_read SpellsVersion (k.front ++ w.front) w.rest (run_place part b)
+          reads_fault version_is_read SpellsCore (k.front ++ w.front) w.rest (run_place part b)
           (fronts_split w.front w.rest w.longest.split) (fronts_lead w.front b leads) stops broken
           (rw (← k.taken.pending, k.taken.split)
           (refuses_more k.front t.remaining t.pending w.rest u.remaining k.taken.known w.answer.refuses)) (cc)
@@ -239,7 +239,7 @@ holds_later t ts h =
       component = h.component;
       after = h.after;
       split = ap
-          (λ (l : List TokenValue). t ∷ l) h.split;
+          (λ l. t ∷ l) h.split;
       is_sign = h.is_sign;
       is_run = h.is_run;
     }
@@ -422,7 +422,7 @@ pub record IsBehind (s : ParserState) (part : Part) (text : Text) (t : ParserSta
 
 -- all is taken that leads on, with this text
 abbrev pub ReadsAll : ParserState → Text → ParserState → Type 0
-ReadsAll s text u = (v : VersionValue) → SpellsVersion v text → ReadsVersion s (Ok v) u
+ReadsAll s text u = (v : VersionValue) → SpellsCore v text → ReadsVersion s (Ok v) u
 
 -- the part that was taken, with its text
 pub record IsPart (s : ParserState) (part : Part) (text : Text) (ids : List IdentifierValue) (t : ParserState) : Type 0 where
@@ -525,7 +525,7 @@ module _ {s t : ParserState} {text : Text} where
       (λ none. ended t b.place b.taken b.may_end (stops_here t.remaining none b.leads)))
     where
       ended : (u : ParserState) (p : Place) → IsTakenTo s p text u → accepts p ≡ true → Stops step p u.remaining → ReadsAll s text u
-      ended u p k ok stops v spells = reads_value version_is_read SpellsVersion k.taken v ok stops (rw k.text_is spells)
+      ended u p k ok stops v spells = reads_value version_is_read SpellsCore k.taken v ok stops (rw k.text_is spells)
 
       stops_at_end : (ts : List TokenValue) → Stops step end ts
       stops_at_end [] = tt
@@ -536,26 +536,3 @@ module _ {s t : ParserState} {text : Text} where
       stops_here [] none leads = tt
       stops_here ((Whitespace x y) ∷ ts) none leads = absurd (none x y refl)
       stops_here (x ∷ ts) none leads = leads x refl
-
--- three numbers and the two parts spell a version
-pub spells_whole : (v : VersionValue) (pre after : Text) → v.plain.major < 2 ^ 64 → v.plain.minor < 2 ^ 64 → v.plain.patch < 2 ^ 64
-    → SpellsPart (codes "-") v.plain.pre pre → SpellsPart (codes "+") v.build after
-    → SpellsVersion v ((numbers_text (v.plain.major, v.plain.minor, v.plain.patch) ++ pre) ++ after)
-spells_whole v pre after a b c pre_part build_part = record {
-  before = [];
-  pre_text = pre;
-  build_text = after;
-  after = [];
-  major = a;
-  minor = b;
-  patch = c;
-  pre = pre_part;
-  build = build_part;
-  spaces_before = tt;
-  spaces_after = tt;
-  spelled = regroup (decimal v.plain.major) (decimal v.plain.minor) (decimal v.plain.patch);
-}
-  where
-    regroup : (a b c : Text)
-        → (((((a ++ codes ".") ++ b) ++ codes ".") ++ c) ++ pre) ++ after ≡ [] ++ join_with_byte 46 (a ∷ b ∷ c ∷ []) ++ pre ++ after ++ []
-    regroup a b c = simp (append_assoc, append-nil)

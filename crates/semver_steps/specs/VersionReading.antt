@@ -6,7 +6,7 @@ use Rattle.semver_tokens.specs.Tokens as token
 use Rattle.semver_tokens.specs.Tokens.{TokenValue, is_component, is_whitespace}
 use Rattle.semver_tokens.specs.ParserState as fault
 use Rattle.semver_tokens.specs.ParserState.{ParserState, Fault, IsStateOf}
-use Rattle.semver_texts.specs.VersionGrammar.{SpellsIdentifier, SpellsVersion}
+use Rattle.semver_texts.specs.VersionGrammar.{SpellsIdentifier, SpellsCore}
 use Rattle.semver_texts.specs.Versions.{IdentifierValue, VersionValue}
 
 -- ---- shapes: conditions on lists of tokens
@@ -130,7 +130,7 @@ abbrev pub ReadsIdentifier : ParserState → Result IdentifierValue Fault → Pa
 ReadsIdentifier s r t = Reads IsIdentifierShape SpellsIdentifier s r t
 
 abbrev pub ReadsVersion : ParserState → Result VersionValue Fault → ParserState → Type 0
-ReadsVersion s r t = Reads IsVersionShape SpellsVersion s r t
+ReadsVersion s r t = Reads IsVersionShape SpellsCore s r t
 
 -- what reading a whole text makes of what reading a version answered and left
 abbrev pub whole_answer : {V : Type 0} → Result V Fault → List TokenValue → Option ℕ

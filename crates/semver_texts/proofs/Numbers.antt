@@ -20,6 +20,7 @@ use Rattle.std.proofs.lemmas.Bool.{and_parts}
 use Rattle.std.proofs.lemmas.Grind.{common_steps}
 use Rattle.semver_texts.proofs.Numerals.{own}
 use Rattle.semver_texts.specs.Texts.{IsNumber, BeginsWithNumber, BeginsWithNumbers}
+use Rattle.semver_texts.proofs.Lists.{tails, Passes, by_test, all_of_prefix, prefix_stops, prefix_is}
 use Rattle.semver_texts.specs.Means.Decimals.{is_number, digits_front}
 
 -- what makes a run a number
@@ -63,37 +64,21 @@ canonical_from_IsNumber run number = subst IsCanonical (sym number.2) (canonical
 
 -- ---- a number at the front of a text
 
-digits_end : (ds rest : List ℕ) → all_ascii_digits ds ≡ true → is_ascii_digit (slice_index rest 0) ≡ false
-    → prefix_len is_ascii_digit (ds ++ rest) ≡ length ds
-digits_end [] [] all ended = refl
-digits_end [] (b ∷ rest) all ended = rw ended
-digits_end (d ∷ ds) rest all ended =
-    let parts = and_parts (is_ascii_digit d) (all_ascii_digits ds) all in rw (parts.0, digits_end ds rest parts.1 ended, one-add)
+digits_all : (ds : List ℕ) → Passes is_ascii_digit ds → all_ascii_digits ds ≡ true
+digits_all [] all = refl
+digits_all (d ∷ ds) all = rw (all.0, digits_all ds all.1) refl
 
-front_digits : (text : List ℕ) → all_ascii_digits (digits_front text) ≡ true
-front_digits [] = refl
-front_digits (b ∷ text) = by (is_ascii_digit b) refl (front_digits text)
-  where
-    by : (e : Bool) → is_ascii_digit b ≡ e → all_ascii_digits (digits_front text) ≡ true
-        → all_ascii_digits (take (cond e (1 + prefix_len is_ascii_digit text) 0) (b ∷ text)) ≡ true
-    by true e more = rw (one-add, e, more)
-    by false e more = refl
-
-front_ended : (text : List ℕ) → is_ascii_digit (slice_index (drop (prefix_len is_ascii_digit text) text) 0) ≡ false
-front_ended [] = refl
-front_ended (b ∷ text) = by (is_ascii_digit b) refl (front_ended text)
-  where
-    by : (e : Bool) → is_ascii_digit b ≡ e → is_ascii_digit (slice_index (drop (prefix_len is_ascii_digit text) text) 0) ≡ false
-        → is_ascii_digit (slice_index (drop (cond e (1 + prefix_len is_ascii_digit text) 0) (b ∷ text)) 0) ≡ false
-    by true e more = rw one-add more
-    by false e more = e
+pub all_digits : (ds : List ℕ) → all_ascii_digits ds ≡ true → Passes is_ascii_digit ds
+all_digits [] all = tt
+all_digits (d ∷ ds) all = let parts = and_parts (is_ascii_digit d) (all_ascii_digits ds) all in (parts.0, all_digits ds parts.1)
 
 -- the digits at the front are the number's decimal
 front_is : (text : List ℕ) (n : ℕ) (rest : List ℕ) → BeginsWithNumber text n rest
     → (digits_front text ≡ decimal n) × (rest ≡ drop (length (digits_front text)) text)
 front_is text n rest w =
     let len : prefix_len is_ascii_digit text ≡ length (decimal n) =
-    ap (prefix_len is_ascii_digit) w.split ∙ digits_end (decimal n) rest (canonical_decimal n w.fits).digits w.ended in
+    ap (prefix_len is_ascii_digit) w.split
+    ∙ prefix_is is_ascii_digit (decimal n) rest (all_digits (decimal n) (canonical_decimal n w.fits).digits) refl w.ended in
     let front : digits_front text ≡ decimal n =
     (λ i. take (len i) (w.split i)) ∙ take_at (decimal n) rest (length (decimal n)) refl in (
       front,
@@ -104,7 +89,7 @@ front_canonical : (text : List ℕ) (n : ℕ) (rest : List ℕ) → BeginsWithNu
     → (0 < length (digits_front text)) × IsCanonical (digits_front text)
 front_canonical text n rest w =
     let front = (front_is text n rest w).0 in (
-      subst (λ (l : List ℕ). 0 < length l) (sym front) (decimal_nonempty n w.fits),
+      subst (λ l. 0 < length l) (sym front) (decimal_nonempty n w.fits),
       subst IsCanonical (sym front) (canonical_decimal n w.fits),
     )
 
@@ -114,25 +99,22 @@ front_begins : (text : List ℕ) → 0 < length (digits_front text) → (get_or 
     → BeginsWithNumber text (digits_value 10 (digits_front text)) (drop (length (digits_front text)) text)
 front_begins text some no_zero small = record {
   fits = small;
-  split = sym (ap (λ (l : List ℕ). l ++ drop (length (digits_front text)) text)
-      (decimal_canonical (digits_front text) some (record { digits = front_digits text; no_leading_zero = no_zero; small = small }))
-      ∙ ap (λ (k : ℕ). digits_front text ++ drop k text) (length-prefix_len is_ascii_digit text)
+  split = sym (ap (λ l. l ++ drop (length (digits_front text)) text)
+      (decimal_canonical (digits_front text) some (record { digits = digits_all _ (all_of_prefix is_ascii_digit text); no_leading_zero = no_zero; small = small }))
+      ∙ ap (λ k. digits_front text ++ drop k text) (length-prefix_len is_ascii_digit text)
       ∙ take-append-drop (prefix_len is_ascii_digit text) text);
-  ended = ap (λ (k : ℕ). is_ascii_digit (slice_index (drop k text) 0)) (length-prefix_len is_ascii_digit text) ∙ front_ended text;
+  ended = ap (λ k. is_ascii_digit (slice_index (drop k text) 0)) (length-prefix_len is_ascii_digit text)
+      ∙ prefix_stops is_ascii_digit text refl;
 }
 
 first_of_front : (text : List ℕ) → 0 < length (digits_front text) → get_or (digits_front text) 0 0 ≡ get_or text 0 0
 first_of_front [] some = refl
-first_of_front (b ∷ text) some = by (is_ascii_digit b) some
-  where
-    by : (e : Bool) → 0 < length (take (cond e (1 + prefix_len is_ascii_digit text) 0) (b ∷ text))
-        → get_or (take (cond e (1 + prefix_len is_ascii_digit text) 0) (b ∷ text)) 0 0 ≡ b
-    by true some = rw one-add refl
-    by false some = absurd (omega (arith, some))
+first_of_front (b ∷ text) some =
+    by_test (is_ascii_digit b) (λ h. rw (h, one-add) refl) (λ h. absurd (omega (arith, rw h at some)))
 
 -- what follows so many bytes
 behind : (text rest : List ℕ) (len : ℕ) → rest ≡ take (length text - len) (drop len text) → rest ≡ drop len text
-behind text rest len is = is ∙ ap (λ (k : ℕ). take k (drop len text)) (sym (length-drop len text)) ∙ take-length (drop len text)
+behind text rest len is = is ∙ ap (λ k. take k (drop len text)) (sym (length-drop len text)) ∙ take-length (drop len text)
 
 digit_some : (text : List ℕ) → is_ascii_digit (slice_index text 0) ≡ true → 0 < length text
 digit_some [] digit = cc
@@ -151,9 +133,9 @@ pub number_read : (text rest : List ℕ) (n len : ℕ) → is_ascii_digit (slice
     → BeginsWithNumber text n rest
 number_read text rest n len digit no_zero small is count left =
     let filled = front_some text digit in
-    subst (λ (l : List ℕ). BeginsWithNumber text n l) (sym (behind text rest len left ∙ ap (λ (k : ℕ). drop k text) count))
-    (subst (λ (m : ℕ). BeginsWithNumber text m (drop (length (digits_front text)) text)) (sym is)
-    (front_begins text filled (λ z. absurd (no_zero (sym (first_of_front text filled) ∙ z))) (subst (λ (m : ℕ). m < 2 ^ 64) is small)))
+    subst (λ l. BeginsWithNumber text n l) (sym (behind text rest len left ∙ ap (λ k. drop k text) count))
+    (subst (λ m. BeginsWithNumber text m (drop (length (digits_front text)) text)) (sym is)
+    (front_begins text filled (λ z. absurd (no_zero (sym (first_of_front text filled) ∙ z))) (subst (λ m. m < 2 ^ 64) is small)))
 
 -- and else there is none
 pub too_large : (text : List ℕ) → 2 ^ 64 ≤ digits_value 10 (digits_front text) → (n : ℕ) (rest : List ℕ) → ¬ (BeginsWithNumber text n rest)
@@ -173,7 +155,7 @@ pub leading_zero : (text rest : List ℕ) → rest ≡ take (length text - 1) (d
     → is_ascii_digit (slice_index rest 0) ≡ true → (n : ℕ) (more : List ℕ) → ¬ (BeginsWithNumber text n more)
 leading_zero [] rest is zero digit n more w = absurd (omega (arith, zero))
 leading_zero (b ∷ []) rest is zero digit n more w =
-    let e : false ≡ true = sym (ap (λ (t : List ℕ). is_ascii_digit (slice_index t 0)) (behind (b ∷ []) rest 1 is)) ∙ digit in cc
+    let e : false ≡ true = sym (ap (λ t. is_ascii_digit (slice_index t 0)) (behind (b ∷ []) rest 1 is)) ∙ digit in cc
 leading_zero (b ∷ c ∷ text) rest is zero digit n more w =
     let canonical = front_canonical (b ∷ c ∷ text) n more w in
     absurd (omega (
@@ -184,7 +166,7 @@ leading_zero (b ∷ c ∷ text) rest is zero digit n more w =
     ))
   where
     second : is_ascii_digit c ≡ true
-    second = sym (ap (λ (t : List ℕ). is_ascii_digit (slice_index t 0)) (behind (b ∷ c ∷ text) rest 1 is)) ∙ digit
+    second = sym (ap (λ t. is_ascii_digit (slice_index t 0)) (behind (b ∷ c ∷ text) rest 1 is)) ∙ digit
 
     two : prefix_len is_ascii_digit (b ∷ c ∷ text) ≡ 1 + (1 + prefix_len is_ascii_digit text)
     two = rw (zero, second) refl
@@ -196,7 +178,7 @@ one_digit (b ∷ text) rest is digit other n same_n =
     let range : (48 ≤ b) × (b ≤ 57) = grind arith in
     let same : 48 + (b - 48) ≡ b = omega (arith, range.0) in
     let alone : decimal (b - 48) ≡ b ∷ [] =
-    decimal_digit (b - 48) (omega (arith, range.1)) ∙ ap (λ (x : ℕ). x ∷ []) same in
+    decimal_digit (b - 48) (omega (arith, range.1)) ∙ ap (λ x. x ∷ []) same in
     record {
       fits = omega (arith, range.1, same_n);
       split = (λ i. sym (ap decimal same_n ∙ alone) i ++ sym (behind (b ∷ text) rest 1 is) i);
@@ -259,28 +241,28 @@ no_second text rest n first none major minor patch more w =
     let a = three_apart text major minor patch more w in
     none minor a.second (46 ∷ a.third) (sym (same_number text major n _ rest a.first_is first).1) a.second_is
 
-tails : {x y : ℕ} {xs ys : List ℕ} → x ∷ xs ≡ y ∷ ys → xs ≡ ys
-tails e = cc
-
 pub no_third : (text second rest : List ℕ) (n m : ℕ) → BeginsWithNumber text n (46 ∷ second) → BeginsWithNumber second m rest
     → NoneBehindDot rest → NotThree text
 no_third text second rest n m first next none major minor patch more w =
     let a = three_apart text major minor patch more w in
     let same : a.second ≡ second = tails (same_number text major n _ _ a.first_is first).1 in
     none patch a.third more
-    (sym (same_number second minor m _ rest (subst (λ (l : List ℕ). BeginsWithNumber l minor (46 ∷ a.third)) same a.second_is) next).1)
+    (sym (same_number second minor m _ rest (subst (λ l. BeginsWithNumber l minor (46 ∷ a.third)) same a.second_is) next).1)
     a.third_is
 
--- what follows the three is one text
-pub same_rest : (text : List ℕ) (major minor patch major' minor' patch' : ℕ) (rest more : List ℕ)
-    → BeginsWithNumbers text major minor patch rest → BeginsWithNumbers text major' minor' patch' more → rest ≡ more
-same_rest text major minor patch major' minor' patch' rest more v w =
+-- they are the same, and so is what follows them
+pub same_numbers : (text : List ℕ) (major minor patch major' minor' patch' : ℕ) (rest more : List ℕ)
+    → BeginsWithNumbers text major minor patch rest → BeginsWithNumbers text major' minor' patch' more
+    → (major ≡ major') × (minor ≡ minor') × (patch ≡ patch') × (rest ≡ more)
+same_numbers text major minor patch major' minor' patch' rest more v w =
     let a = three_apart text major minor patch rest v in
     let b = three_apart text major' minor' patch' more w in
-    let second : a.second ≡ b.second = tails (same_number text major major' _ _ a.first_is b.first_is).1 in
-    let third : a.third ≡ b.third = tails (same_number b.second minor minor' _ _
-    (subst (λ (l : List ℕ). BeginsWithNumber l minor (46 ∷ a.third)) second a.second_is) b.second_is).1 in
-    (same_number b.third patch patch' rest more (subst (λ (l : List ℕ). BeginsWithNumber l patch rest) third a.third_is) b.third_is).1
+    let first = same_number text major major' _ _ a.first_is b.first_is in
+    let second = same_number b.second minor minor' _ _
+    (subst (λ l. BeginsWithNumber l minor (46 ∷ a.third)) (tails first.1) a.second_is) b.second_is in
+    let third = same_number b.third patch patch' rest more
+    (subst (λ l. BeginsWithNumber l patch rest) (tails second.1) a.third_is) b.third_is in
+    (first.0, second.0, third.0, third.1)
 
 -- ---- digit by digit
 
@@ -294,7 +276,7 @@ pub front_read : (text : List ℕ) (at n : ℕ) → at ≤ length text → prefi
     → (n ≡ digits_value 10 (digits_front text)) × (at ≡ length (digits_front text))
 front_read text at n within none is on =
     let all : prefix_len is_ascii_digit text ≡ at = omega (arith, on, none) in (
-      is ∙ ap (λ (k : ℕ). digits_value 10 (take k text)) (sym all),
+      is ∙ ap (λ k. digits_value 10 (take k text)) (sym all),
       sym (length-prefix_len is_ascii_digit text ∙ all),
     )
 
@@ -313,6 +295,6 @@ goes_on text at within digit on = omega (arith, on, prefix_len-drop_yes is_ascii
 -- the digits before a place write no more than all at the front
 pub value_before : (text : List ℕ) (at : ℕ) → GoesOn text at → digits_value 10 (take at text) ≤ digits_value 10 (digits_front text)
 value_before text at on =
-    subst (λ (l : List ℕ). digits_value 10 l ≤ digits_value 10 (digits_front text))
+    subst (λ l. digits_value 10 l ≤ digits_value 10 (digits_front text))
     (take-take at (prefix_len is_ascii_digit text) text (omega (arith, on)))
     (digits_value-take-le 10 (digits_front text) at (omega arith))

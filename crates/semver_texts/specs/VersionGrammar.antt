@@ -29,22 +29,28 @@ pub record SpellsPart (mark : Text) (ids : List IdentifierValue) (text : Text) :
   pub each : AllZip SpellsIdentifier ids texts
   pub joined : text ≡ marked mark texts
 
--- the text spells the version: three numbers joined by dots, the pre-release behind `-`, the build
--- behind `+`, and white space on either side
-pub record SpellsVersion (v : VersionValue) (text : Text) : Type 0 where
-  pub before : Text
+-- the text is the version without white space round it: three numbers joined by dots, the
+-- pre-release behind `-`, the build behind `+`
+pub record SpellsCore (v : VersionValue) (text : Text) : Type 0 where
   pub pre_text : Text
   pub build_text : Text
-  pub after : Text
   pub major : v.plain.major < 2 ^ 64
   pub minor : v.plain.minor < 2 ^ 64
   pub patch : v.plain.patch < 2 ^ 64
   pub pre : SpellsPart (codes "-") v.plain.pre pre_text
   pub build : SpellsPart (codes "+") v.build build_text
+  pub spelled : text ≡ join_with_byte (code ".") (map decimal (numbers v.plain)) ++ pre_text
+      ++ build_text
+
+-- the text spells the version: its core, and white space on either side
+pub record SpellsVersion (v : VersionValue) (text : Text) : Type 0 where
+  pub before : Text
+  pub core : Text
+  pub after : Text
   pub spaces_before : AllByRecursion (λ b. IsTrue (is_space b)) before
   pub spaces_after : AllByRecursion (λ b. IsTrue (is_space b)) after
-  pub spelled : text ≡ before ++ join_with_byte (code ".") (map decimal (numbers v.plain))
-      ++ pre_text ++ build_text ++ after
+  pub spells : SpellsCore v core
+  pub whole : text ≡ before ++ core ++ after
 
 -- some version is spelled so
 abbrev pub IsVersionText : Text → Type 0

@@ -13,12 +13,8 @@ use Rattle.semver_tokens.specs.Tokens.{Numeric, AlphaNumeric, token_text, is_sig
 use Rattle.semver_tokens.specs.Means.Scanning.{component, sign, first_token}
 use Rattle.semver_texts.proofs.Numbers.{decimal_canonical, canonical_from_IsNumber}
 use Rattle.semver_tokens.proofs.Components.{component_cases}
+pub use Rattle.semver_texts.proofs.Lists.{by_test, all_of_prefix, prefix_stops}
 use Rattle.std.proofs.lemmas.List.Folds.{length-prefix_len}
-
--- either way a test goes
-pub by_test : {A : Type 0} (b : Bool) → (b ≡ true → A) → (b ≡ false → A) → A
-by_test true f g = f refl
-by_test false f g = g refl
 
 -- nothing, or some value
 pub option_cases : {A G : Type 0} (o : Option A) → (o ≡ None → G) → ((x : A) → o ≡ Some x → G) → G
@@ -57,6 +53,9 @@ space_is_no_eq b h = grind (arith, nat_tests)
 
 pub run_is_no_space : (b : ℕ) → is_ascii_alphanumeric b ≡ true → is_space b ≡ false
 run_is_no_space b h = grind (arith, nat_tests)
+
+pub run_is_part : (b : ℕ) → is_ascii_alphanumeric b ≡ true → is_part_byte b ≡ true
+run_is_part b h = rw h refl
 
 pub run_is_no_eq : (b : ℕ) → is_ascii_alphanumeric b ≡ true → eqb b 61 ≡ false
 run_is_no_eq b h = grind (arith, nat_tests)
@@ -140,16 +139,6 @@ IsTokenAt-component text place run is_run =
 
 pub continues-component : (run : List ℕ) (b : ℕ) → continues (component run) b ≡ is_ascii_alphanumeric b
 continues-component run b = component_cases run (λ t. continues t b ≡ is_ascii_alphanumeric b) (λ c. refl) (λ other. refl)
-
--- the front that passes a test passes it
-pub all_of_prefix : (p : ℕ → Bool) (xs : List ℕ) → AllByRecursion (λ b. IsTrue (p b)) (take (prefix_len p xs) xs)
-all_of_prefix p [] = tt
-all_of_prefix p (x ∷ xs) = by_test (p x) (λ h. rw (h, one-add) (h, all_of_prefix p xs)) (λ h. rw h tt)
-
--- what follows the longest front that passes a test fails it
-pub prefix_stops : (p : ℕ → Bool) (xs : List ℕ) → p 0 ≡ false → p (slice_index (drop (prefix_len p xs) xs) 0) ≡ false
-prefix_stops p [] past = past
-prefix_stops p (x ∷ xs) past = by_test (p x) (λ h. rw (h, one-add) (prefix_stops p xs past)) (λ h. rw h h)
 
 -- ---- what is found is the first token
 

@@ -19,7 +19,7 @@ state_of-items : (ts : List TokenValue) (pending : Option ℕ)
 state_of-items [] None = refl
 state_of-items [] (Some c) = refl
 state_of-items (t ∷ ts) pending =
-    ap (λ (s : ParserState). record { remaining = t ∷ s.remaining; pending = s.pending }) (state_of-items ts pending)
+    ap (λ s. record { remaining = t ∷ s.remaining; pending = s.pending }) (state_of-items ts pending)
 
 same_state : (s t : ParserState) → items_left s ≡ items_left t → s ≡ t
 same_state s t e = sym (state_of-items s.remaining s.pending) ∙ ap state_of e ∙ state_of-items t.remaining t.pending
@@ -40,9 +40,9 @@ state_at_error s u c e = sym (state_of-items s.remaining s.pending) ∙ ap state
 -- what isn't a token comes where none remains
 pub none_remains : (s u : ParserState) (r : Option (Result Token Error)) → YieldsFirstBy item_value items_left s r u
     → ((t : Token) → ¬ (r ≡ Some (Ok t))) → s.remaining ≡ []
-none_remains s u None gives other = ap (λ (z : ParserState). z.remaining) (state_at_none s u gives).0
+none_remains s u None gives other = ap (λ z. z.remaining) (state_at_none s u gives).0
 none_remains s u (Some (Ok t)) gives other = absurd (other t refl)
-none_remains s u (Some (Err (UnexpectedChar c))) gives other = ap (λ (z : ParserState). z.remaining) (state_at_error s u c gives)
+none_remains s u (Some (Err (UnexpectedChar c))) gives other = ap (λ z. z.remaining) (state_at_error s u c gives)
 
 pub ended_state : (s : ParserState) (p : Option ℕ) → s.remaining ≡ [] → s.pending ≡ p → s ≡ record { remaining = []; pending = p }
 ended_state s p none same = (λ i. record { remaining = none i; pending = same i })

@@ -36,7 +36,7 @@ state_after_error text place = record {
   rest = [];
   begins = refl;
   tokens = record { spelled = refl; in_place = tt; none_merge = tt; ended = inl refl };
-  pending = sym (ap (λ (cs : List ℕ). slice_get cs 0) chars-nil);
+  pending = sym (ap (λ cs. slice_get cs 0) chars-nil);
 }
 
 -- the state of a text is one from its first place on
@@ -53,14 +53,14 @@ module _ (text : List ℕ) (place : ℕ) where
       let all : scan (length text) text place ≡ (t ∷ (scan (length text) text (place + n)).0, (scan (length text) text (place + n)).1)
       = scan_is text (length text) place _ _ (tokens_cons text place t n _ _ f (scan_finds text (length text) (place + n) (omega arith)))
       (omega arith) in
-      ap (λ (p : List TokenValue × List ℕ). items_left (record { remaining = p.0; pending = slice_get (chars p.1) 0 })) all
+      ap (λ p. items_left (record { remaining = p.0; pending = slice_get (chars p.1) 0 })) all
 
   -- where no token begins
   pub items_left-rest : first_token place (drop place text) ≡ None
       → items_left (state_left text place false) ≡ items_left (record { remaining = []; pending = slice_get (chars (drop place text)) 0 })
   unfolding state_left state_from
   items_left-rest none =
-      ap (λ (p : List TokenValue × List ℕ). items_left (record { remaining = p.0; pending = slice_get (chars p.1) 0 }))
+      ap (λ p. items_left (record { remaining = p.0; pending = slice_get (chars p.1) 0 }))
       (scan-none text (length text) place none)
 
 -- after the bad character

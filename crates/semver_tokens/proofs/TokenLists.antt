@@ -15,7 +15,9 @@ use Rattle.semver_tokens.specs.Tokens.{TokenValue, Gt, Lt, Whitespace}
 use Rattle.semver_tokens.specs.Tokens.{Numeric, AlphaNumeric, token_text, tokens_text, is_sign, opens_token, IsTokenAt, IsBadStart}
 use Rattle.semver_tokens.specs.Tokens.{AreInPlace, is_component, is_whitespace, is_eq, merges, NoneMerge, AreTokensFrom}
 use Rattle.semver_tokens.specs.Means.Scanning.{component, sign, first_token, scan}
-use Rattle.semver_texts.proofs.Numbers.{canonical_decimal}
+pub use Rattle.semver_texts.proofs.Lists.{prefix_is}
+use Rattle.semver_texts.proofs.Lists.{all_more}
+use Rattle.semver_texts.proofs.Numbers.{canonical_decimal, all_digits}
 use Rattle.semver_tokens.proofs.Components.{component_decimal, component_text}
 use Rattle.semver_tokens.proofs.FirstToken.{never, option_cases, IsFront, IsFound, continues_into, continues, first_token-found}
 use Rattle.semver_tokens.proofs.FirstToken.{is_some-first_token, first_token-at_run, first_token-at_space, first_token-at_other}
@@ -23,20 +25,8 @@ use Rattle.semver_tokens.proofs.FirstToken.{space_is_no_run, space_is_no_eq, run
 
 -- ---- a front that is a token is what is found
 
--- the longest front that passes a test, where a list that passes is followed by what fails it
-pub prefix_is : (p : ℕ → Bool) (xs ys : List ℕ) → AllByRecursion (λ b. IsTrue (p b)) xs → p 0 ≡ false → p (slice_index ys 0) ≡ false
-    → prefix_len p (xs ++ ys) ≡ length xs
-prefix_is p [] [] all past stop = refl
-prefix_is p [] (y ∷ ys) all past stop = rw stop
-prefix_is p (x ∷ xs) ys all past stop = rw (all.0, prefix_is p xs ys all.1 past stop, one-add)
-
 digit_is_run : (b : ℕ) → is_ascii_digit b ≡ true → is_ascii_alphanumeric b ≡ true
 digit_is_run b h = grind (arith, nat_tests)
-
--- a decimal is a run
-digits_are_run : (ds : List ℕ) → all_ascii_digits ds ≡ true → AllByRecursion (λ b. IsTrue (is_ascii_alphanumeric b)) ds
-digits_are_run [] h = tt
-digits_are_run (d ∷ ds) h = let q = and_parts (is_ascii_digit d) (all_ascii_digits ds) h in (digit_is_run d q.0, digits_are_run ds q.1)
 
 pub first_token-empty : (place : ℕ) (bs : List ℕ) → slice_get bs 0 ≡ None → first_token place bs ≡ None
 unfolding first_token
@@ -68,8 +58,8 @@ pub first_token-run : (place : ℕ) (run more : List ℕ) → IsRun run → is_a
 first_token-run place [] more is_run stop = absurd (omega (arith, is_run.0))
 first_token-run place (b ∷ bs) more is_run stop =
     first_token-at_run place b (bs ++ more) is_run.1.0
-    ∙ ap (λ (n : ℕ). Some (component (take n (b ∷ (bs ++ more))), n)) (prefix_is is_ascii_alphanumeric (b ∷ bs) more is_run.1 refl stop)
-    ∙ ap (λ (r : List ℕ). Some (component r, length (b ∷ bs))) (take_at (b ∷ bs) more (length (b ∷ bs)) refl)
+    ∙ ap (λ n. Some (component (take n (b ∷ (bs ++ more))), n)) (prefix_is is_ascii_alphanumeric (b ∷ bs) more is_run.1 refl stop)
+    ∙ ap (λ r. Some (component r, length (b ∷ bs))) (take_at (b ∷ bs) more (length (b ∷ bs)) refl)
 
 pub first_token-space : (place : ℕ) (spaces more : List ℕ) → 0 < length spaces → AllByRecursion (λ b. IsTrue (is_space b)) spaces
     → is_space (slice_index more 0) ≡ false
@@ -77,10 +67,11 @@ pub first_token-space : (place : ℕ) (spaces more : List ℕ) → 0 < length sp
 first_token-space place [] more some all stop = absurd (omega (arith, some))
 first_token-space place (b ∷ bs) more some all stop =
     first_token-at_space place b (bs ++ more) all.0
-    ∙ ap (λ (n : ℕ). Some (Whitespace place (place + n), n)) (prefix_is is_space (b ∷ bs) more all refl stop)
+    ∙ ap (λ n. Some (Whitespace place (place + n), n)) (prefix_is is_space (b ∷ bs) more all refl stop)
 
 pub decimal_is_run : (n : ℕ) → n < 2 ^ 64 → IsRun (decimal n)
-decimal_is_run n small = (decimal_nonempty n small, digits_are_run (decimal n) ((canonical_decimal n small).digits))
+decimal_is_run n small =
+    (decimal_nonempty n small, all_more digit_is_run (decimal n) (all_digits (decimal n) (canonical_decimal n small).digits))
 
 -- a whitespace token within the text is as long as its places say
 length_slice : (text : List ℕ) (first after : ℕ) → first < after → after ≤ length text

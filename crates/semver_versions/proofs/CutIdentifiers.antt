@@ -1,9 +1,9 @@
 -- Identifiers as they are found byte by byte, and as they are cut at dots.
 use Rattle.std.proofs.Common.{◌≡◌, ℕ, ◌<◌, suc, ◌+◌, Bool, true, false, cond, List, [], ◌∷◌, ◌++◌, zero, length, take, drop}
 use Rattle.std.proofs.Common.{get_or, sym, refl, ap, ◌∙◌, subst, arith, append_assoc, append-nil, length-append, one-add}
-use Rattle.std.specs.Prelude.{IsTrue, ◌==◌, ◌||◌, ◌&&◌, slice_index, MatchOption}
+use Rattle.std.specs.Prelude.{◌==◌, ◌||◌, ◌&&◌, slice_index, MatchOption}
 use Rattle.std.specs.Bool.{then_some}
-use Rattle.std.specs.List.{All, AllByRecursion, AllZip, slice_split, join_with_byte, prefix_len}
+use Rattle.std.specs.List.{AllByRecursion, AllZip, slice_split, join_with_byte, prefix_len}
 use Rattle.std.specs.Char.{is_ascii_alphanumeric}
 use Rattle.std.proofs.Math.Seq.{take-suc}
 use Rattle.std.proofs.lemmas.Bool.{eqb-true, eq-eqb}
@@ -11,24 +11,22 @@ use Rattle.std.proofs.lemmas.Bool.Decides.{nat_tests}
 use Rattle.std.proofs.lemmas.List.Folds.{length-prefix_len}
 use Rattle.std.proofs.lemmas.List.{take-append-drop, drop_more, take_at, drop_at}
 use Rattle.std.proofs.lemmas.List.Sums.{prefix_len-drop_no}
-use Rattle.std.proofs.lemmas.List.Splits.{slice_split_none, slice_split_at, join_with_byte-slice_split, length-slice_split}
-use Rattle.std.proofs.lemmas.List.Elements.{All-nil, All-cons}
+use Rattle.std.proofs.lemmas.Slice.Zip.{all_zipped_more}
+use Rattle.std.proofs.lemmas.List.Splits.{join_with_byte-slice_split, length-slice_split}
 use Rattle.semver_texts.specs.Texts.{Text, marked, is_part_byte, IsRun, is_dot}
 use Rattle.semver_texts.specs.Versions.{IdentifierValue}
 use Rattle.semver_texts.specs.VersionGrammar.{IsIdentifierText, SpellsIdentifier}
 use Rattle.semver_versions.specs.Means.Cutting.{cut_at_dots, AreIdentifiers, is_inner_byte, BeginsWithIdentifiers, IsPart}
-use Rattle.semver_versions.proofs.OneVersion.{Passes, IsPartText, joined_runs, dotted_bytes}
+use Rattle.semver_texts.proofs.Lists.{tails, Passes, all_more, passes_append, dotted_pass}
+use Rattle.semver_versions.proofs.OneVersion.{IsPartText, joined_runs, joined_some, split_joined}
+use Rattle.semver_tokens.proofs.FirstToken.{never, prefix_stops}
 use Rattle.semver_tokens.proofs.TokenLists.{prefix_is}
 
 -- ---- one run more
 
-all_append : {X : Type 0} (P : X → Type 0) (xs ys : List X) → AllByRecursion P xs → AllByRecursion P ys → AllByRecursion P (xs ++ ys)
-all_append P [] ys a b = b
-all_append P (x ∷ xs) ys a b = (a.0, all_append P xs ys a.1 b)
-
 run_more : (run : Text) (b : ℕ) → IsRun run → is_ascii_alphanumeric b ≡ true → IsRun (run ++ b ∷ [])
 run_more run b is_run letter =
-    (omega (arith, length-append run (b ∷ [])), all_append (λ c. IsTrue (is_ascii_alphanumeric c)) run (b ∷ []) is_run.1 (letter, tt))
+    (omega (arith, length-append run (b ∷ [])), passes_append is_ascii_alphanumeric run (b ∷ []) is_run.1 (letter, tt))
 
 one_run : (b : ℕ) → is_ascii_alphanumeric b ≡ true → IsRun (b ∷ [])
 one_run b letter = (omega arith, (letter, tt))
@@ -45,7 +43,7 @@ run_in_front run text is w = record {
   runs = run ∷ w.runs;
   some = omega arith;
   each = (is, w.each);
-  joined = ap (λ (t : Text). run ++ (45 ∷ t)) w.joined ∙ sym (joined_behind 45 run w.runs w.some);
+  joined = ap (λ t. run ++ (45 ∷ t)) w.joined ∙ sym (joined_behind 45 run w.runs w.some);
 }
 
 -- one or more identifiers joined by dots
@@ -63,11 +61,11 @@ before_dot run text is w = record {
   texts = run ∷ w.texts;
   some = omega arith;
   each = (run_identifier run is, w.each);
-  joined = ap (λ (t : Text). run ++ (46 ∷ t)) w.joined ∙ sym (joined_behind 46 run w.texts w.some);
+  joined = ap (λ t. run ++ (46 ∷ t)) w.joined ∙ sym (joined_behind 46 run w.texts w.some);
 }
 
 before_hyphen : (run text : Text) → IsRun run → AreJoined text → AreJoined (run ++ (45 ∷ text))
-before_hyphen run text is w = subst (λ (t : Text). AreJoined (run ++ (45 ∷ t))) (sym w.joined) (go w.texts w.some w.each)
+before_hyphen run text is w = subst (λ t. AreJoined (run ++ (45 ∷ t))) (sym w.joined) (go w.texts w.some w.each)
   where
     go : (texts : List Text) → 0 < length texts → AllByRecursion IsIdentifierText texts
         → AreJoined (run ++ (45 ∷ join_with_byte 46 texts))
@@ -110,17 +108,17 @@ begun (b ∷ bytes) = by (is_ascii_alphanumeric b) (b == 45) (b == 46) refl refl
         → AreJoined (run ++ take (cond ((letter || hyphen) || dot) (1 + prefix_len is_inner_byte bytes) 0) (b ∷ bytes)))
     by true hyphen dot is h d more = (
       λ e. subst AreJoined (sym (one_taken _)) (more.1 (b ∷ []) (one_run b is) e),
-      λ run r e. subst AreJoined (append_assoc run (b ∷ []) (front bytes) ∙ ap (λ (t : Text). run ++ t) (sym (one_taken _)))
+      λ run r e. subst AreJoined (append_assoc run (b ∷ []) (front bytes) ∙ ap (λ t. run ++ t) (sym (one_taken _)))
           (more.1 (run ++ b ∷ []) (run_more run b r is) e),
     )
     by false true dot is h d more = (
       λ e. cc,
-      λ run r e. subst AreJoined ((λ i. run ++ (sym (eqb-true b 45 h) i ∷ front bytes)) ∙ ap (λ (t : Text). run ++ t) (sym (one_taken _)))
+      λ run r e. subst AreJoined ((λ i. run ++ (sym (eqb-true b 45 h) i ∷ front bytes)) ∙ ap (λ t. run ++ t) (sym (one_taken _)))
           (before_hyphen run (front bytes) r (more.0 e)),
     )
     by false false true is h d more = (
       λ e. cc,
-      λ run r e. subst AreJoined ((λ i. run ++ (sym (eqb-true b 46 d) i ∷ front bytes)) ∙ ap (λ (t : Text). run ++ t) (sym (one_taken _)))
+      λ run r e. subst AreJoined ((λ i. run ++ (sym (eqb-true b 46 d) i ∷ front bytes)) ∙ ap (λ t. run ++ t) (sym (one_taken _)))
           (before_dot run (front bytes) r (more.0 e)),
     )
     by false false false is h d more = (λ e. cc, λ run r e. subst AreJoined (sym (append-nil run)) (alone run r))
@@ -135,82 +133,62 @@ run_stands : (in_run : Bool) (run more : Text) → IsRun run → stands in_run (
 run_stands in_run [] more is = absurd (omega (arith, is.0))
 run_stands in_run (b ∷ run) more is = rw is.1.0 (letters_stand run more is.1.1)
 
-runs_stand : (in_run : Bool) (runs : List Text) (more : Text) → 0 < length runs → AllByRecursion IsRun runs
-    → stands in_run (join_with_byte 45 runs ++ more) ≡ stands true more
-runs_stand in_run [] more some each = absurd (omega (arith, some))
-runs_stand in_run (run ∷ []) more some each = run_stands in_run run more each.0
-runs_stand in_run (run ∷ next ∷ runs) more some each =
-    ap (stands in_run) (append_assoc run (45 ∷ join_with_byte 45 (next ∷ runs)) more)
-    ∙ run_stands in_run run (45 ∷ (join_with_byte 45 (next ∷ runs) ++ more)) each.0
-    ∙ runs_stand false (next ∷ runs) more (omega arith) each.1
+-- a text behind which a run is being read
+abbrev Stands : Text → Type 0
+Stands text = (in_run : Bool) (more : Text) → stands in_run (text ++ more) ≡ stands true more
 
-identifier_stands : (in_run : Bool) (text more : Text) → IsIdentifierText text → stands in_run (text ++ more) ≡ stands true more
-identifier_stands in_run text more w =
-    ap (λ (t : Text). stands in_run (t ++ more)) w.joined ∙ runs_stand in_run w.runs more w.some w.each
+joined_stand : (mark : ℕ) → ((more : Text) → stands true (mark ∷ more) ≡ stands false more) → (texts : List Text) → 0 < length texts
+    → AllByRecursion Stands texts → Stands (join_with_byte mark texts)
+joined_stand mark leads [] some each in_run more = absurd (omega (arith, some))
+joined_stand mark leads (t ∷ []) some each in_run more = each.0 in_run more
+joined_stand mark leads (t ∷ next ∷ texts) some each in_run more =
+    let others : Text = join_with_byte mark (next ∷ texts) in
+    ap (stands in_run) (append_assoc t (mark ∷ others) more) ∙ each.0 in_run (mark ∷ (others ++ more)) ∙ leads (others ++ more)
+    ∙ joined_stand mark leads (next ∷ texts) (omega arith) each.1 false more
+
+identifier_stands : (text : Text) → IsIdentifierText text → Stands text
+identifier_stands text w =
+    subst Stands (sym w.joined)
+    (joined_stand 45 (λ more. refl) w.runs w.some (all_more (λ run is in_run more. run_stands in_run run more is) w.runs w.each))
 
 identifiers_stand : (in_run : Bool) (texts : List Text) (more : Text) → 0 < length texts → AllByRecursion IsIdentifierText texts
     → stands in_run (join_with_byte 46 texts ++ more) ≡ stands true more
-identifiers_stand in_run [] more some each = absurd (omega (arith, some))
-identifiers_stand in_run (t ∷ []) more some each = identifier_stands in_run t more each.0
-identifiers_stand in_run (t ∷ next ∷ texts) more some each =
-    ap (stands in_run) (append_assoc t (46 ∷ join_with_byte 46 (next ∷ texts)) more)
-    ∙ identifier_stands in_run t (46 ∷ (join_with_byte 46 (next ∷ texts) ++ more)) each.0
-    ∙ identifiers_stand false (next ∷ texts) more (omega arith) each.1
+identifiers_stand in_run texts more some each =
+    joined_stand 46 (λ more. refl) texts some (all_more identifier_stands texts each) in_run more
 
 -- ---- where they end they are cut so
-
-no_dots : (bytes : Text) → Passes is_part_byte bytes → All (λ b. (b == 46) ≡ false) bytes
-no_dots [] all = All-nil (λ b. (b == 46) ≡ false)
-no_dots (b ∷ bytes) all = All-cons (λ b. (b == 46) ≡ false) b bytes (no_dot b all.0) (no_dots bytes all.1)
-  where
-    no_dot : (b : ℕ) → is_part_byte b ≡ true → (b == 46) ≡ false
-    no_dot b h = grind (arith, nat_tests)
 
 pub identifier_part : (text : Text) → IsIdentifierText text → IsPartText text
 identifier_part text w = subst IsPartText (sym w.joined) (joined_runs w.runs w.some w.each)
 
-cut_joined : (texts : List Text) → 0 < length texts → AllByRecursion IsIdentifierText texts
-    → slice_split is_dot (join_with_byte 46 texts) ≡ texts
-cut_joined [] some each = absurd (omega (arith, some))
-cut_joined (t ∷ []) some each = slice_split_none is_dot t (no_dots t (identifier_part t each.0).1)
-cut_joined (t ∷ next ∷ texts) some each =
-    slice_split_at is_dot t 46 (join_with_byte 46 (next ∷ texts)) (no_dots t (identifier_part t each.0).1) refl
-    ∙ ap (λ (ts : List Text). t ∷ ts) (cut_joined (next ∷ texts) (omega arith) each.1)
-
 some_joined : (texts : List Text) → 0 < length texts → AllByRecursion IsIdentifierText texts → 0 < length (join_with_byte 46 texts)
 some_joined [] some each = absurd (omega (arith, some))
-some_joined (t ∷ []) some each = (identifier_part t each.0).0
-some_joined (t ∷ next ∷ texts) some each =
-    omega (arith, (identifier_part t each.0).0, length-append t (46 ∷ join_with_byte 46 (next ∷ texts)))
+some_joined (t ∷ texts) some each = joined_some t texts (identifier_part t each.0).0
 
 pub some_cut : (text : Text) → 0 < length text → cut_at_dots text ≡ slice_split is_dot text
 some_cut [] some = absurd (omega (arith, some))
 some_cut (b ∷ text) some = refl
 
-pub cut_texts : (texts : List Text) → 0 < length texts → AllByRecursion IsIdentifierText texts
-    → cut_at_dots (join_with_byte 46 texts) ≡ texts
-cut_texts texts some each = some_cut (join_with_byte 46 texts) (some_joined texts some each) ∙ cut_joined texts some each
+pub cut_texts : (texts : List Text) → AllByRecursion IsIdentifierText texts → cut_at_dots (join_with_byte 46 texts) ≡ texts
+cut_texts [] each = refl
+cut_texts (t ∷ texts) each =
+    some_cut (join_with_byte 46 (t ∷ texts)) (some_joined (t ∷ texts) (omega arith) each)
+    ∙ split_joined t texts (all_more identifier_part (t ∷ texts) each)
 
 -- one of them alone
 pub is_identifiers : (text : Text) → IsIdentifierText text → AreIdentifiers text
-is_identifiers text is = subst (AllByRecursion IsIdentifierText) (sym (cut_texts (text ∷ []) (omega arith) (is, tt))) (is, tt)
+is_identifiers text is = subst (AllByRecursion IsIdentifierText) (sym (cut_texts (text ∷ []) (is, tt))) (is, tt)
 
 pub stand_found : (bytes : Text) → stands false bytes ≡ true → BeginsWithIdentifiers bytes
 stand_found bytes e =
     let w = (begun bytes).0 e in (
       omega (arith, some_joined w.texts w.some w.each, ap length w.joined, length-prefix_len is_inner_byte bytes),
-      subst AreIdentifiers (sym w.joined) (subst (AllByRecursion IsIdentifierText) (sym (cut_texts w.texts w.some w.each)) w.each),
+      subst AreIdentifiers (sym w.joined) (subst (AllByRecursion IsIdentifierText) (sym (cut_texts w.texts w.each)) w.each),
     )
 
 -- what follows the front begins with no byte of it
 pub ends_front : (p : ℕ → Bool) → p 0 ≡ false → (text : Text) → p (slice_index (drop (prefix_len p text) text) 0) ≡ false
-ends_front p past [] = past
-ends_front p past (b ∷ text) = by (p b) refl (ends_front p past text)
-  where
-    by : (e : Bool) → p b ≡ e → p (slice_index (drop (prefix_len p text) text) 0) ≡ false
-        → p (slice_index (drop (cond e (1 + prefix_len p text) 0) (b ∷ text)) 0) ≡ false
-    by true e more = rw one-add more
-    by false e more = e
+ends_front p past text = prefix_stops p text past
 
 other_stands : (more : Text) → is_inner_byte (slice_index more 0) ≡ false → stands true more ≡ true
 other_stands [] e = refl
@@ -227,7 +205,7 @@ found_stand bytes w =
     ap (join_with_byte 46) (some_cut (take n bytes) some) ∙ join_with_byte-slice_split 46 (take n bytes) in
     let count : 0 < length (cut_at_dots (take n bytes)) =
     omega (arith, ap length (some_cut (take n bytes) some), length-slice_split is_dot (take n bytes)) in
-    ap (stands false) (sym (take-append-drop n bytes) ∙ ap (λ (t : Text). t ++ drop n bytes) (sym is))
+    ap (stands false) (sym (take-append-drop n bytes) ∙ ap (λ t. t ++ drop n bytes) (sym is))
     ∙ identifiers_stand false (cut_at_dots (take n bytes)) (drop n bytes) count w.1
     ∙ other_stands (drop n bytes) (ends_front is_inner_byte refl bytes)
 
@@ -274,50 +252,43 @@ pub marked_cut : (mark : ℕ) (text : Text) → 0 < length text → marked (mark
 marked_cut mark text some =
     ap (marked (mark ∷ [])) (some_cut text some)
     ∙ marked_some (mark ∷ []) (slice_split is_dot text) (omega (arith, length-slice_split is_dot text))
-    ∙ ap (λ (t : Text). mark ∷ t) (join_with_byte-slice_split 46 text)
+    ∙ ap (λ t. mark ∷ t) (join_with_byte-slice_split 46 text)
 
 inner_passes : (inner : Text) → AreIdentifiers inner → Passes is_inner_byte inner
 inner_passes [] each = tt
 inner_passes (b ∷ inner) each =
     subst (Passes is_inner_byte) (join_with_byte-slice_split 46 (b ∷ inner))
-    (dotted_bytes is_inner_byte (λ c h. rw h refl) refl (cut_at_dots (b ∷ inner)) (part_texts (cut_at_dots (b ∷ inner)) each))
+    (dotted_pass is_inner_byte refl (cut_at_dots (b ∷ inner)) (all_more inner_text (cut_at_dots (b ∷ inner)) each))
   where
-    part_texts : (texts : List Text) → AllByRecursion IsIdentifierText texts → AllByRecursion IsPartText texts
-    part_texts [] each = tt
-    part_texts (t ∷ texts) each = (identifier_part t each.0, part_texts texts each.1)
+    part_is_inner : (b : ℕ) → is_part_byte b ≡ true → is_inner_byte b ≡ true
+    part_is_inner b h = rw h refl
+
+    inner_text : (t : Text) → IsIdentifierText t → Passes is_inner_byte t
+    inner_text t is = all_more part_is_inner t (identifier_part t is).1
 
 module _ (text behind : Text) (mark : ℕ) (apart : text ≡ mark ∷ behind) where
   -- the part that is found
   pub part_found : (inner rest : Text) (len : ℕ) → BeginsWithIdentifiers behind → len ≡ prefix_len is_inner_byte behind
       → inner ≡ take len behind → rest ≡ drop len behind → AreIdentifiers inner × (text ≡ marked (mark ∷ []) (cut_at_dots inner) ++ rest)
   part_found inner rest len begins is front back =
-      let same : inner ≡ take (prefix_len is_inner_byte behind) behind = front ∙ ap (λ (k : ℕ). take k behind) is in
+      let same : inner ≡ take (prefix_len is_inner_byte behind) behind = front ∙ ap (λ k. take k behind) is in
       let some : 0 < length inner = omega (arith, begins.0, ap length same, length-prefix_len is_inner_byte behind) in (
         subst AreIdentifiers (sym same) begins.1,
-        apart ∙ ap (λ (t : Text). mark ∷ t) (sym (take-append-drop len behind) ∙ (λ i. sym front i ++ sym back i))
-            ∙ ap (λ (t : Text). t ++ rest) (sym (marked_cut mark inner some)),
+        apart ∙ ap (λ t. mark ∷ t) (sym (take-append-drop len behind) ∙ (λ i. sym front i ++ sym back i))
+            ∙ ap (λ t. t ++ rest) (sym (marked_cut mark inner some)),
       )
 
   part_begins : (inner rest : Text) → IsPart mark text inner rest
       → (0 < length inner) × (behind ≡ inner ++ rest) × (prefix_len is_inner_byte behind ≡ length inner)
-  part_begins [] rest w = absurd (clash (sym (ap (λ (t : Text). slice_index t 0 == mark) (sym apart ∙ w.split)) ∙ same mark) w.no_mark)
-    where
-      same : (n : ℕ) → (n == n) ≡ true
-      same n = eq-eqb n n refl
-
-      clash : {b : Bool} → b ≡ true → b ≡ false → ⊥
-      clash e f = cc
+  part_begins [] rest w = absurd (never (sym (ap (λ t. slice_index t 0 == mark) (sym apart ∙ w.split)) ∙ eq-eqb mark mark refl) w.no_mark)
   part_begins (b ∷ inner) rest w =
       let behind_is : behind ≡ (b ∷ inner) ++ rest =
-      tails (sym apart ∙ w.split ∙ ap (λ (t : Text). t ++ rest) (marked_cut mark (b ∷ inner) (omega arith))) in (
+      tails (sym apart ∙ w.split ∙ ap (λ t. t ++ rest) (marked_cut mark (b ∷ inner) (omega arith))) in (
         omega arith,
         behind_is,
         ap (prefix_len is_inner_byte) behind_is
             ∙ prefix_is is_inner_byte (b ∷ inner) rest (inner_passes (b ∷ inner) w.each) refl w.ended,
       )
-    where
-      tails : {x y : ℕ} {xs ys : Text} → x ∷ xs ≡ y ∷ ys → xs ≡ ys
-      tails e = cc
 
   -- where there is a part, it is that
   pub part_not_found : ¬ (BeginsWithIdentifiers behind) → (inner rest : Text) → ¬ (IsPart mark text inner rest)
@@ -342,7 +313,7 @@ pub no_part : (text : Text) (mark : ℕ) → ((behind : Text) → ¬ (text ≡ m
     → IsPart mark text inner rest → ([] ≡ inner) × (text ≡ rest)
 no_part text mark other [] rest w = (refl, w.split)
 no_part text mark other (b ∷ inner) rest w =
-    absurd (other ((b ∷ inner) ++ rest) (w.split ∙ ap (λ (t : Text). t ++ rest) (marked_cut mark (b ∷ inner) (omega arith))))
+    absurd (other ((b ∷ inner) ++ rest) (w.split ∙ ap (λ t. t ++ rest) (marked_cut mark (b ∷ inner) (omega arith))))
 
 -- ---- identifiers one after the other
 
@@ -351,13 +322,6 @@ all_at P [] n d all inside = absurd (omega (arith, inside))
 all_at P (x ∷ xs) zero d all inside = all.0
 all_at P (x ∷ xs) (suc n) d all inside = all_at P xs n d all.1 (omega (arith, inside))
 
-zip_push : (ids : List IdentifierValue) (texts : List Text) (id : IdentifierValue) (t : Text)
-    → AllZip SpellsIdentifier ids texts → SpellsIdentifier id t → AllZip SpellsIdentifier (ids ++ id ∷ []) (texts ++ t ∷ [])
-zip_push [] [] id t zip spells = (spells, tt)
-zip_push [] (u ∷ texts) id t zip spells = absurd zip
-zip_push (i ∷ ids) [] id t zip spells = absurd zip
-zip_push (i ∷ ids) (u ∷ texts) id t zip spells = (zip.0, zip_push ids texts id t zip.1 spells)
-
 -- the first n texts are spelled by identifiers, and the next one is by one more
 pub one_more_spelled : (texts : List Text) (n : ℕ) (t : Text) (ids : List IdentifierValue) (id : IdentifierValue) → n < length texts
     → t ≡ get_or texts n t → SpellsIdentifier id t → AllZip SpellsIdentifier ids (take n texts)
@@ -365,5 +329,5 @@ pub one_more_spelled : (texts : List Text) (n : ℕ) (t : Text) (ids : List Iden
 one_more_spelled texts n t ids id inside here spells zip =
     let next : suc n ≡ n + 1 = omega arith in
     subst (AllZip SpellsIdentifier (ids ++ id ∷ []))
-    (ap (λ (u : Text). take n texts ++ u ∷ []) here ∙ sym (take-suc texts n t inside) ∙ ap (λ (k : ℕ). take k texts) next)
-    (zip_push ids (take n texts) id t zip spells)
+    (ap (λ u. take n texts ++ u ∷ []) here ∙ sym (take-suc texts n t inside) ∙ ap (λ k. take k texts) next)
+    (all_zipped_more SpellsIdentifier ids (take n texts) id t zip spells)

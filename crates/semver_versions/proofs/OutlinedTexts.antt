@@ -10,12 +10,11 @@ use Rattle.semver_texts.specs.Texts.{Text, marked, BeginsWithNumbers, is_space}
 use Rattle.semver_texts.specs.Versions.{IdentifierValue, VersionValue, numbers}
 use Rattle.semver_texts.specs.PrintedText.{identifier_text, plain_text}
 use Rattle.semver_texts.specs.VersionGrammar.{SpellsIdentifier, SpellsPart, SpellsVersion, IsVersionText, IsIdentifierText}
-use Rattle.semver_tokens.proofs.TokenLists.{prefix_is}
 use Rattle.semver_versions.specs.Outlines.{OutlineValue, dotted_text, behind_mark, outline_behind, IsOutlineOf, StandsAt}
 use Rattle.semver_versions.specs.Means.Cutting.{cut_at_dots, AreParts, AreSpaces, IsOutlineBehind, IsOutlined}
 use Rattle.semver_versions.proofs.CutIdentifiers.{cut_texts, marked_cut}
-use Rattle.semver_versions.proofs.OneVersion.{one_version, identifiers_bytes, joined_some, same_identifiers, no_space_follows}
-use Rattle.semver_versions.proofs.SpelledParts.{spell_some, spells_version, spaced, unspaced, spelled_are}
+use Rattle.semver_versions.proofs.OneVersion.{one_version, identifiers_bytes, joined_some, same_identifiers}
+use Rattle.semver_versions.proofs.SpelledParts.{spell_some, spells_version, spaced, unspaced, space_before, spelled_are}
 use Rattle.semver_versions.proofs.WholeText.{spelled_texts, part_text}
 
 -- ---- the text of identifiers
@@ -45,12 +44,9 @@ empty_text mark ids part w = (none ids w.texts w.each, λ e. ap dotted_text e)
 -- cut at its dots, it spells them again
 cut_dotted : (ids : List IdentifierValue) (texts : List Text) → AllZip SpellsIdentifier ids texts
     → AllZip SpellsIdentifier ids (cut_at_dots (dotted_text ids))
-cut_dotted [] texts each = tt
-cut_dotted (id ∷ ids) [] each = absurd each
-cut_dotted (id ∷ ids) (t ∷ texts) each =
-    subst (AllZip SpellsIdentifier (id ∷ ids))
-    (sym (ap (λ ts. cut_at_dots (join_with_byte 46 ts)) (sym (spelled_texts (id ∷ ids) (t ∷ texts) each))
-    ∙ cut_texts (t ∷ texts) (omega arith) (spelled_are (id ∷ ids) (t ∷ texts) each)))
+cut_dotted ids texts each =
+    subst (AllZip SpellsIdentifier ids)
+    (sym (ap (λ ts. cut_at_dots (join_with_byte 46 ts)) (sym (spelled_texts ids texts each)) ∙ cut_texts texts (spelled_are ids texts each)))
     each
 
 -- how many bytes a part has with its mark
@@ -201,14 +197,14 @@ module _ (text : Text) (v : VersionValue) (w : SpellsVersion v text) where
       → IfSome found (λ o. (o.pre ≡ []) ↔ (v.plain.pre ≡ []))
   no_pre_release None none = tt
   no_pre_release (Some o) is =
-      let empty = empty_text (codes "-") v.plain.pre w.pre_text w.pre in
+      let empty = empty_text (codes "-") v.plain.pre w.spells.pre_text w.spells.pre in
       (λ e. empty.0 (sym (its_pre o is) ∙ e), λ e. its_pre o is ∙ empty.1 e)
 
   pub no_build : (found : Option OutlineValue) → IsOutlined (prefix_len is_space text) text found
       → IfSome found (λ o. (o.build ≡ []) ↔ (v.build ≡ []))
   no_build None none = tt
   no_build (Some o) is =
-      let empty = empty_text (codes "+") v.build w.build_text w.build in
+      let empty = empty_text (codes "+") v.build w.spells.build_text w.spells.build in
       (λ e. empty.0 (sym (its_build o is) ∙ e), λ e. its_build o is ∙ empty.1 e)
 
   -- what is cut from them are its identifiers
@@ -216,50 +212,44 @@ module _ (text : Text) (v : VersionValue) (w : SpellsVersion v text) where
       → ids ≡ v.plain.pre
   cut_pre o is ids each =
       same_identifiers ids v.plain.pre (cut_at_dots o.pre) each
-      (subst (λ t. AllZip SpellsIdentifier v.plain.pre (cut_at_dots t)) (sym (its_pre o is)) (cut_dotted v.plain.pre w.pre.texts w.pre.each))
+      (subst (λ t. AllZip SpellsIdentifier v.plain.pre (cut_at_dots t)) (sym (its_pre o is)) (cut_dotted v.plain.pre w.spells.pre.texts w.spells.pre.each))
 
   pub cut_build : (o : OutlineValue) → IsOutlineOf text o → (ids : List IdentifierValue) → AllZip SpellsIdentifier ids (cut_at_dots o.build)
       → ids ≡ v.build
   cut_build o is ids each =
       same_identifiers ids v.build (cut_at_dots o.build) each
-      (subst (λ t. AllZip SpellsIdentifier v.build (cut_at_dots t)) (sym (its_build o is)) (cut_dotted v.build w.build.texts w.build.each))
+      (subst (λ t. AllZip SpellsIdentifier v.build (cut_at_dots t)) (sym (its_build o is)) (cut_dotted v.build w.spells.build.texts w.spells.build.each))
 
   -- and they stand at their offsets
   both_stand : (o : OutlineValue) → IsOutlineOf text o → StandsAt o.pre_offset o.pre text × StandsAt o.build_offset o.build text
   both_stand o is =
       let front : Text = join_with_byte 46 (map decimal (numbers v.plain)) in
-      let behind : Text = w.pre_text ++ (w.build_text ++ w.after) in
-      let whole : text ≡ w.before ++ (front ++ behind) = w.spelled ∙ regroup w.before front w.pre_text w.build_text w.after in
-      let space : prefix_len is_space text ≡ length w.before =
-      ap (prefix_len is_space) whole ∙ prefix_is is_space w.before (front ++ behind) w.spaces_before refl
-      (ap (λ t. is_space (slice_index t 0)) (dots (decimal v.plain.major) (decimal v.plain.minor) (decimal v.plain.patch) behind)
-      ∙ no_space_follows v text w (46 ∷ (decimal v.plain.minor ++ (46 ∷ (decimal v.plain.patch ++ behind))))) in
-      let plain : length (plain_text v.plain) ≡ length front + length w.pre_text =
+      let plain : length (plain_text v.plain) ≡ length front + length w.spells.pre_text =
       length-append front (marked (codes "-") (map identifier_text v.plain.pre))
-      ∙ ap (λ t. length front + length t) (sym (part_text (codes "-") v.plain.pre w.pre_text w.pre)) in
+      ∙ ap (λ t. length front + length t) (sym (part_text (codes "-") v.plain.pre w.spells.pre_text w.spells.pre)) in
       subst (λ (x : OutlineValue). StandsAt x.pre_offset x.pre text × StandsAt x.build_offset x.build text) (sym (its_outline o is)) (
-        part_stands 45 _ v.plain.pre w.pre_text (w.before ++ front) (w.build_text ++ w.after) text w.pre
-            (whole ∙ sym (append_assoc w.before front behind)) (omega (arith, space, length-append w.before front)),
-        part_stands 43 _ v.build w.build_text (w.before ++ (front ++ w.pre_text)) w.after text w.build
-            (whole ∙ at_build w.before front w.pre_text w.build_text w.after)
-            (omega (arith, space, plain, length-append w.before (front ++ w.pre_text), length-append front w.pre_text)),
+        part_stands 45 _ v.plain.pre w.spells.pre_text (w.before ++ front) (w.spells.build_text ++ w.after) text w.spells.pre
+            (whole ∙ simp append_assoc) (omega (arith, space_before w, length-append w.before front)),
+        part_stands 43 _ v.build w.spells.build_text (w.before ++ (front ++ w.spells.pre_text)) w.after text w.spells.build
+            (whole ∙ simp append_assoc)
+            (omega (
+              arith,
+              space_before w,
+              plain,
+              length-append w.before (front ++ w.spells.pre_text),
+              length-append front w.spells.pre_text,
+            )),
       )
     where
-      regroup : (a b c d e : Text) → a ++ b ++ c ++ d ++ e ≡ a ++ (b ++ (c ++ (d ++ e)))
-      regroup a b c d e = simp append_assoc
-
-      at_build : (a b c d e : Text) → a ++ (b ++ (c ++ (d ++ e))) ≡ (a ++ (b ++ c)) ++ (d ++ e)
-      at_build a b c d e = simp append_assoc
-
-      dots : (a b c d : Text) → (a ++ (46 ∷ (b ++ (46 ∷ c)))) ++ d ≡ a ++ (46 ∷ (b ++ (46 ∷ (c ++ d))))
-      dots a b c d = simp append_assoc
+      whole : text ≡ w.before ++ (join_with_byte 46 (map decimal (numbers v.plain)) ++ w.spells.pre_text ++ w.spells.build_text) ++ w.after
+      whole = w.whole ∙ ap (λ t. w.before ++ t ++ w.after) w.spells.spelled
 
 pub places : (text : Text) (found : Option OutlineValue) → IsOutlined (prefix_len is_space text) text found
     → IfSome found (λ o. StandsAt o.pre_offset o.pre text × StandsAt o.build_offset o.build text)
 places text None none = tt
 places text (Some o) is = both_stand text is.0 is.1 o is
 
--- ---- the version of an outline
+-- ---- what is answered of it
 
 pub if_ok_more : {A E : Type 0} {P Q : A → Type 0} (r : Result A E) → ((x : A) → P x → Q x) → IfOk r P → IfOk r Q
 if_ok_more (Ok x) more p = more x p
@@ -277,19 +267,6 @@ exactly text u spells v = (
   where
     same : {u w : VersionValue} → Some u ≡ Some w → u ≡ w
     same e = cc
-
-pub version_of : (text : Text) (o : OutlineValue) → IsOutlineOf text o → (pre build : List IdentifierValue)
-    → AllZip SpellsIdentifier pre (cut_at_dots o.pre) → AllZip SpellsIdentifier build (cut_at_dots o.build)
-    → SpellsVersion (record { plain = record { major = o.major; minor = o.minor; patch = o.patch; pre = pre }; build = build }) text
-version_of text o is pre build each every = subst (λ (v : VersionValue). SpellsVersion v text) (λ i. record {
-  plain = record {
-    major = (sym is.2 i).major;
-    minor = (sym is.2 i).minor;
-    patch = (sym is.2 i).patch;
-    pre = sym (cut_pre text is.0 is.1 o is pre each) i;
-  };
-  build = sym (cut_build text is.0 is.1 o is build every) i;
-}) is.1
 
 -- it has identifiers where a part isn't empty
 pub has_some : (text : Text) (o : OutlineValue) → IsOutlineOf text o → (0 < length o.pre) ⊎ (0 < length o.build)

@@ -4,7 +4,7 @@ use Rattle.std.proofs.Common.{◌↔◌}
 use Rattle.semver_tokens.specs.Tokens.{TokenValue}
 use Rattle.semver_texts.specs.Versions.{VersionValue}
 use Rattle.semver_texts.specs.PrintedText.{version_text}
-use Rattle.semver_texts.specs.VersionGrammar.{SpellsVersion, IsTrimmed, IsPrintableVersion}
+use Rattle.semver_texts.specs.VersionGrammar.{SpellsCore, SpellsVersion, IsTrimmed, IsPrintableVersion}
 use Rattle.semver_tokens.specs.ParserState as fault
 use Rattle.semver_tokens.specs.ParserState.{ParserState, Fault, IsStateOf}
 use Rattle.semver_steps.specs.ParserSteps.{Step, tail, tail_of}
@@ -21,41 +21,13 @@ use Rattle.semver_versions.proofs.WholeText.{trimmed, printable, printed_spells,
 
 -- ---- from the outcome to the clauses
 
-unless_map : {P Q : Type 0} (r : Result Version Error) → (P → Q) → UnlessOutOfMemory r P → UnlessOutOfMemory r Q
-unless_map (Ok v) f p = f p
-unless_map (Err error.OutOfMemory) f p = tt
-unless_map (Err _) f p = f p
-
-outcome_exact : (text : List ℕ) → IsUtf8 text → (x : Result VersionValue Fault) → IsOutcomeOf text x → (v : VersionValue)
-    → (x ≡ Ok v) ↔ SpellsVersion v text
-outcome_exact text utf8 x o v = (λ e. accepted_spells v text utf8 (subst (IsOutcomeOf text) e o), λ s. outcome_spelled v text s x o)
-
 module _ (text : List ℕ) (utf8 : IsUtf8 text) where
-  exact_of : (r : Result Version Error) → UnlessOutOfMemory r (IsOutcomeOf text (answer_of version_value r)) → (v : VersionValue)
-      → UnlessOutOfMemory r ((answer_of version_value r ≡ Ok v) ↔ SpellsVersion v text)
-  exact_of r o v = unless_map r (λ p. outcome_exact text utf8 (answer_of version_value r) p v) o
+  exact : (x : Result VersionValue Fault) → IsOutcomeOf text x → (v : VersionValue) → (x ≡ Ok v) ↔ SpellsVersion v text
+  exact x o v = (λ e. accepted_spells v text utf8 (subst (IsOutcomeOf text) e o), λ s. outcome_spelled v text s x o)
 
-  plain_of : (r : Result Version Error) → UnlessOutOfMemory r (IsOutcomeOf text (answer_of version_value r))
-      → IfOutOfMemory r (TextMayRunOut text) → (v : VersionValue) → SpellsVersion v text → v.plain.pre ≡ [] → v.build ≡ []
-      → answer_of version_value r ≡ Ok v
-  plain_of (Ok w) o m v s pre build = outcome_spelled v text s (Ok (version_value w)) o
-  plain_of (Err error.OutOfMemory) o m v s pre build = absurd (plain_has_memory v text s pre build m)
-  plain_of (Err e) o m v s pre build = outcome_spelled v text s (Err (fault_of e)) o
-
-  trimmed_of : (r : Result Version Error) → UnlessOutOfMemory r (IsOutcomeOf text (answer_of version_value r))
-      → IfOk r (λ v. IsTrimmed text (version_text (version_value v)))
-  trimmed_of (Ok w) o = trimmed (version_value w) text (accepted_spells (version_value w) text utf8 o)
-  trimmed_of (Err e) o = tt
-
-  printable_of : (r : Result Version Error) → UnlessOutOfMemory r (IsOutcomeOf text (answer_of version_value r))
-      → IfOk r (λ v. IsPrintableVersion (version_value v))
-  printable_of (Ok w) o = printable (version_value w) text (accepted_spells (version_value w) text utf8 o)
-  printable_of (Err e) o = tt
-
-  read_back_of : (r : Result Version Error) → UnlessOutOfMemory r (IsOutcomeOf text (answer_of version_value r)) → (v : VersionValue)
-      → IsPrintableVersion v → text ≡ version_text v → UnlessOutOfMemory r (answer_of version_value r ≡ Ok v)
-  read_back_of r o v can same =
-      unless_map r (λ p. outcome_spelled v text (subst (SpellsVersion v) (sym same) (printed_spells v can)) (answer_of version_value r) p) o
+  read_back : (x : Result VersionValue Fault) → IsOutcomeOf text x → (v : VersionValue) → IsPrintableVersion v → text ≡ version_text v
+      → x ≡ Ok v
+  read_back x o v can same = outcome_spelled v text (subst (SpellsVersion v) (sym same) (printed_spells v can)) x o
 
   pub all_of : (r : Result Version Error) → UnlessOutOfMemory r (IsOutcomeOf text (answer_of version_value r))
       → IfOutOfMemory r (TextMayRunOut text) → record {
@@ -68,13 +40,34 @@ module _ (text : List ℕ) (utf8 : IsUtf8 text) where
         outcome : UnlessOutOfMemory r (IsOutcomeOf text (answer_of version_value r));
         out_of_memory : IfOutOfMemory r (TextMayRunOut text);
       }
-  all_of r o m =
+  all_of (Ok w) o m =
+      let spelled = accepted_spells (version_value w) text utf8 o in
       record {
-        exact = exact_of r o;
-        plain = plain_of r o m;
-        trimmed = trimmed_of r o;
-        printable = printable_of r o;
-        read_back = read_back_of r o;
+        exact = exact (Ok (version_value w)) o;
+        plain = λ v s pre build. outcome_spelled v text s (Ok (version_value w)) o;
+        trimmed = trimmed (version_value w) text spelled;
+        printable = printable (version_value w) text spelled;
+        read_back = read_back (Ok (version_value w)) o;
+        outcome = o;
+        out_of_memory = m;
+      }
+  all_of (Err error.OutOfMemory) o m =
+      record {
+        exact = λ v. tt;
+        plain = λ v s pre build. absurd (plain_has_memory v text s pre build m);
+        trimmed = tt;
+        printable = tt;
+        read_back = λ v can same. tt;
+        outcome = o;
+        out_of_memory = m;
+      }
+  all_of (Err e) o m =
+      record {
+        exact = exact (Err (fault_of e)) o;
+        plain = λ v s pre build. outcome_spelled v text s (Err (fault_of e)) o;
+        trimmed = tt;
+        printable = tt;
+        read_back = read_back (Err (fault_of e)) o;
         outcome = o;
         out_of_memory = m;
       }
@@ -91,9 +84,9 @@ at_bad_start text e w = record {
   end = record { remaining = []; pending = Some w.0 };
   state = w.2;
   reads =
-      reads_stuck version_is_read SpellsVersion
+      reads_stuck version_is_read SpellsCore
       (none_taken version_is_read _) (at_nothing w.0) (inl refl);
-  whole = ap (λ (x : Fault). Err x) w.1;
+  whole = ap (λ x. Err x) w.1;
 }
 
 pub lexer_has_memory : (P : Type 0) (e : Error) (c : ℕ) → fault_of e ≡ fault.Lexer c → IfOutOfMemory {T = Unit {0}} (Err e) P
@@ -118,7 +111,7 @@ module _ (text : List ℕ) (s t : ParserState) (v : VersionValue) (state : IsSta
         state = state;
         reads = reads;
         whole = sym
-            (ap (λ (l : List TokenValue). whole_answer (Ok v) l t.pending) none);
+            (ap (λ l. whole_answer (Ok v) l t.pending) none);
       }
 
   -- the tail, where some token is left

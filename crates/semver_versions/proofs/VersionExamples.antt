@@ -16,17 +16,18 @@ use Rattle.semver_tokens.specs.Means.Scanning.{scan, first_token, component, sig
 use Rattle.semver_texts.proofs.Numbers.{is_number_true, canonical_from_IsNumber}
 use Rattle.semver_tokens.proofs.FirstToken.{never}
 use Rattle.semver_tokens.proofs.TokenLists.{scan_finds}
-use Rattle.semver_texts.specs.VersionGrammar.{SpellsIdentifier, IsPrintableIdentifier, SpellsVersion}
+use Rattle.semver_texts.specs.VersionGrammar.{SpellsIdentifier, IsPrintableIdentifier, SpellsCore, SpellsVersion}
 use Rattle.semver_steps.specs.VersionReading.{IsOutcomeOf}
 use Rattle.semver_steps.proofs.ReadingSteps.{at_last, none_taken, reads_stuck}
 use Rattle.semver_steps.proofs.VersionSteps.{version_is_read}
+use Rattle.semver_versions.proofs.OneVersion.{bare}
 
 -- ---- tokens and the state of a parser
 
 -- tokens that are found are the tokens
 tokens_found : (text : Text) (ts : List TokenValue) (rest : Text) → scan (length text) text 0 ≡ (ts, rest) → AreTokensOf text ts rest
 tokens_found text ts rest e =
-    subst (λ (p : List TokenValue × Text). AreTokensOf text p.0 p.1) e (scan_finds text (length text) 0 (omega arith))
+    subst (λ p. AreTokensOf text p.0 p.1) e (scan_finds text (length text) 0 (omega arith))
 
 word_space_slash : AreTokensOf (codes "foo / *") (token.AlphaNumeric (codes "foo") ∷ token.Whitespace 3 4 ∷ []) (codes "/ *")
 unfolding scan first_token component sign
@@ -71,20 +72,16 @@ zero_one = record { plain = record { major = 1; minor = 2; patch = 3; pre = alph
 
 pub zero_one_spelled : SpellsVersion zero_one (codes "1.2.3-01")
 unfolding digits
-zero_one_spelled = record {
-  before = [];
+zero_one_spelled = bare (record {
   pre_text = codes "-01";
   build_text = [];
-  after = [];
   major = omega arith;
   minor = omega arith;
   patch = omega arith;
   pre = record { texts = codes "01" ∷ []; each = (zero_one_is_kept, tt); joined = refl };
   build = record { texts = []; each = tt; joined = refl };
-  spaces_before = tt;
-  spaces_after = tt;
   spelled = refl;
-}
+})
 
 zero_one_prints : version_text zero_one ≡ codes "1.2.3-01"
 unfolding digits
@@ -101,7 +98,7 @@ slash_behind_word = record {
   end = record { remaining = token.AlphaNumeric (codes "a") ∷ []; pending = Some 47 };
   state = (codes "/", tokens_found _ (token.AlphaNumeric (codes "a") ∷ []) _ refl, refl);
   reads =
-      reads_stuck version_is_read SpellsVersion
+      reads_stuck version_is_read SpellsCore
       (none_taken version_is_read _) (at_last _ 47) (inl refl);
   whole = refl;
 }

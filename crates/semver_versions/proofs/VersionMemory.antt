@@ -1,60 +1,39 @@
 -- A text that spells a version with identifiers has tokens that hold a run of one, so reading it may run out of memory.
-use Rattle.std.proofs.Common.{◌≡◌, ℕ, ◌<◌, ◌+◌, Bool, true, false, not, arith, eqb, ◌||◌, List, [], ◌∷◌, ◌++◌, length, map, Some, None}
-use Rattle.std.proofs.Common.{Option, sym, refl, ap, ◌∙◌, subst, inl, inr, ⊎_elim, ◌⊎◌, append_assoc, decimal}
-use Rattle.std.specs.Prelude.{option_and_then}
+use Rattle.std.proofs.Common.{◌≡◌, ℕ, ◌<◌, ◌+◌, Bool, true, false, arith, List, [], ◌∷◌, length, map, Some}
+use Rattle.std.proofs.Common.{sym, refl, ap, ◌∙◌, subst, inl, inr, ⊎_elim, ◌⊎◌, decimal}
 use Rattle.std.specs.List.{AllZip, join_with_byte}
-use Rattle.std.specs.Char.{is_ascii_alphanumeric}
-use Rattle.std.proofs.lemmas.Option.{none-some}
-use Rattle.std.proofs.lemmas.Bool.Decides.{nat_tests}
+use Rattle.std.proofs.lemmas.Option.{option_and_then_some}
 use Rattle.semver_texts.specs.Texts.{Text, marked}
 use Rattle.semver_texts.specs.Versions.{IdentifierValue, VersionValue, numbers}
 use Rattle.semver_tokens.specs.Tokens.{TokenValue, LtEq, GtEq, Or, Hyphen, Plus, Whitespace, Numeric, AlphaNumeric, IsTokenAt, AreInPlace}
 use Rattle.semver_tokens.specs.Tokens.{token_text}
-use Rattle.semver_texts.specs.VersionGrammar.{SpellsIdentifier, SpellsPart, SpellsVersion}
+use Rattle.semver_texts.specs.VersionGrammar.{SpellsIdentifier, SpellsPart, SpellsCore, SpellsVersion}
 use Rattle.semver_steps.specs.VersionReading.{HoldsIdentifierRun, TextMayRunOut, inner_text, inner_texts}
 use Rattle.semver_steps.specs.Means.Taking.{run, Part, pre_release, build, Place, start, behind_number, patch, at_run, behind_run, step}
 use Rattle.semver_steps.specs.Means.Taking.{accepts}
 use Rattle.semver_tokens.proofs.TokenLists.{decimal_is_run}
-use Rattle.semver_versions.proofs.OneVersion.{Passes, passes_more, passes_append}
+use Rattle.semver_texts.proofs.Lists.{Passes, all_more, passes_append, passes_apart}
 use Rattle.semver_steps.proofs.VersionSteps.{version_is_read}
-use Rattle.semver_steps.proofs.VersionTaking.{holds_later, sign_holds}
-use Rattle.semver_versions.proofs.WholeText.{has, behind, spelled_may_run_out}
-
--- a byte that is no mark of a pre-release or a build
-abbrev is_no_mark : ℕ → Bool
-is_no_mark b = not (eqb b 45 || eqb b 43)
+use Rattle.semver_steps.proofs.VersionTaking.{holds_later, mark_of, sign_holds}
+use Rattle.semver_versions.proofs.WholeText.{is_no_mark, letter_no_mark, has, spelled_may_run_out}
 
 -- ---- behind a mark comes a run
 
-mark_leads : (mark : TokenValue) → (mark ≡ Hyphen) ⊎ (mark ≡ Plus) → (p q : Place) → step p mark ≡ Some q
-    → (part : Part) × (q ≡ at_run part)
-mark_leads mark is p q e =
-    ⊎_elim (λ hyphen. hyphen_leads p q (ap (step p) (sym hyphen) ∙ e)) (λ plus. plus_leads p q (ap (step p) (sym plus) ∙ e)) is
+mark_leads : (mark : Part) (p q : Place) → step p (mark_of mark) ≡ Some q → (part : Part) × (q ≡ at_run part)
+mark_leads pre_release (behind_number patch) q e = (pre_release, cc)
+mark_leads pre_release (behind_run part) q e = (part, cc)
+mark_leads build (behind_number patch) q e = (build, cc)
+mark_leads build (behind_run pre_release) q e = (build, cc)
+mark_leads _ _ q e = cc
+
+mark_holds : (mark : Part) (p q : Place) → step p (mark_of mark) ≡ Some q → (ts : List TokenValue) (last : Place)
+    → run step q ts ≡ Some last → accepts last ≡ true → HoldsIdentifierRun (mark_of mark ∷ ts)
+mark_holds mark p q leads ts last e ok =
+    let to = mark_leads mark p q leads in sign_holds (mark_of mark) (is_sign mark) to.0 ts last (ap (λ r. run step r ts) (sym to.1) ∙ e) ok
   where
-    hyphen_leads : (p q : Place) → step p Hyphen ≡ Some q → (part : Part) × (q ≡ at_run part)
-    hyphen_leads (behind_number patch) q e = (pre_release, cc)
-    hyphen_leads (behind_run part) q e = (part, cc)
-    hyphen_leads _ q e = absurd (none-some q e)
-
-    plus_leads : (p q : Place) → step p Plus ≡ Some q → (part : Part) × (q ≡ at_run part)
-    plus_leads (behind_number patch) q e = (build, cc)
-    plus_leads (behind_run pre_release) q e = (build, cc)
-    plus_leads _ q e = absurd (none-some q e)
-
-mark_holds : (mark : TokenValue) → (mark ≡ Hyphen) ⊎ (mark ≡ Plus) → (p q : Place) → step p mark ≡ Some q
-    → (ts : List TokenValue) (last : Place) → run step q ts ≡ Some last → accepts last ≡ true → HoldsIdentifierRun (mark ∷ ts)
-mark_holds mark is p q leads ts last e ok =
-    let to = mark_leads mark is p q leads in sign_holds mark is to.0 ts last (ap (λ (r : Place). run step r ts) (sym to.1) ∙ e) ok
-
--- where a token leads on
-led : (p : Place) (t : TokenValue) (ts : List TokenValue) (last : Place) → run step p (t ∷ ts) ≡ Some last
-    → (q : Place) × (step p t ≡ Some q) × (run step q ts ≡ Some last)
-led p t ts last e = go (step p t) refl e
-  where
-    go : (o : Option Place) → step p t ≡ o → option_and_then (λ u. run step u ts) o ≡ Some last
-        → (q : Place) × (step p t ≡ Some q) × (run step q ts ≡ Some last)
-    go None here e = absurd (none-some last e)
-    go (Some q) here e = (q, here, e)
+    is_sign : (mark : Part) → (mark_of mark ≡ Hyphen) ⊎ (mark_of mark ≡ Plus)
+    is_sign pre_release = inl refl
+    is_sign build = inr refl
 
 -- ---- tokens without a mark have a text without one
 
@@ -63,14 +42,11 @@ is_mark Hyphen = true
 is_mark Plus = true
 is_mark _ = false
 
-letter_no_mark : (b : ℕ) → is_ascii_alphanumeric b ≡ true → is_no_mark b ≡ true
-letter_no_mark b h = grind (arith, nat_tests)
-
 no_mark_inside : (text : List ℕ) (place : ℕ) (t : TokenValue) → is_mark t ≡ false → IsTokenAt text place t
     → Passes is_no_mark (inner_text t)
 no_mark_inside text place (Numeric n) other w =
-    passes_more is_ascii_alphanumeric is_no_mark letter_no_mark (decimal n) (decimal_is_run n w).1
-no_mark_inside text place (AlphaNumeric s) other w = passes_more is_ascii_alphanumeric is_no_mark letter_no_mark s w.0.1
+    all_more letter_no_mark (decimal n) (decimal_is_run n w).1
+no_mark_inside text place (AlphaNumeric s) other w = all_more letter_no_mark s w.0.1
 no_mark_inside text place (Whitespace a b) other w = tt
 no_mark_inside text place LtEq other w = (refl, (refl, tt))
 no_mark_inside text place GtEq other w = (refl, (refl, tt))
@@ -84,26 +60,27 @@ holds_or_none : (text : List ℕ) (place : ℕ) (p last : Place) (ts : List Toke
     → accepts last ≡ true → HoldsIdentifierRun ts ⊎ Passes is_no_mark (inner_texts ts)
 holds_or_none text place p last [] placed leads ok = inr tt
 holds_or_none text place p last (Hyphen ∷ ts) placed leads ok =
-    let to = led p Hyphen ts last leads in inl (mark_holds Hyphen (inl refl) p to.0 to.1 ts last to.2 ok)
+    option_and_then_some _ (step p Hyphen) last leads (λ q here on. inl (mark_holds pre_release p q here ts last on ok))
 holds_or_none text place p last (Plus ∷ ts) placed leads ok =
-    let to = led p Plus ts last leads in inl (mark_holds Plus (inr refl) p to.0 to.1 ts last to.2 ok)
+    option_and_then_some _ (step p Plus) last leads (λ q here on. inl (mark_holds build p q here ts last on ok))
 holds_or_none text place p last (t ∷ ts) placed leads ok =
-    let to = led p t ts last leads in
+    option_and_then_some _ (step p t) last leads (λ q here on.
     ⊎_elim (λ holds. inl (holds_later t ts holds)) (λ none. inr
     (passes_append is_no_mark (inner_text t) (inner_texts ts) (no_mark_inside text place t refl placed.0) none))
-    (holds_or_none text (place + length (token_text text t)) to.0 last ts placed.1 to.2 ok)
+    (holds_or_none text (place + length (token_text text t)) q last ts placed.1 on ok))
 
 -- ---- a version with identifiers
 
-part_marked : (mark : ℕ) (ids : List IdentifierValue) (text : Text) → SpellsPart (mark ∷ []) ids text → 0 < length ids
-    → (rest : Text) × (text ≡ mark ∷ rest)
-part_marked mark ids text w some = go ids w.texts w.each some w.joined
+-- a part with identifiers has its mark
+no_ids : (mark : ℕ) (ids : List IdentifierValue) (text : Text) → SpellsPart (mark ∷ []) ids text → is_no_mark mark ≡ false
+    → Passes is_no_mark text → ¬ (0 < length ids)
+no_ids mark ids text w marks all some = go ids w.texts w.each some (subst (Passes is_no_mark) w.joined all)
   where
     go : (ids : List IdentifierValue) (texts : List Text) → AllZip SpellsIdentifier ids texts → 0 < length ids
-        → text ≡ marked (mark ∷ []) texts → (rest : Text) × (text ≡ mark ∷ rest)
-    go [] texts each some e = absurd (omega (arith, some))
-    go (id ∷ ids) [] each some e = absurd each
-    go (id ∷ ids) (t ∷ texts) each some e = (join_with_byte 46 (t ∷ texts), e)
+        → Passes is_no_mark (marked (mark ∷ []) texts) → ⊥
+    go [] texts each some all = absurd (omega (arith, some))
+    go (id ∷ ids) [] each some all = absurd each
+    go (id ∷ ids) (t ∷ texts) each some all = cc (all.0)
 
 pub may_run_out : (v : VersionValue) (text : Text) → SpellsVersion v text → (0 < length v.plain.pre) ⊎ (0 < length v.build)
     → TextMayRunOut text
@@ -113,28 +90,10 @@ may_run_out v text spells some =
     ⊎_elim (λ holds. spelled_may_run_out v text spells holds) (λ none. absurd (marked_text tokens.spells none))
     (holds_or_none text 0 start leads.0 tokens.ts tokens.tokens.in_place leads.1 leads.2)
   where
-    regroup_pre : (a b c d e : Text) → a ++ b ++ (45 ∷ c) ++ d ++ e ≡ (a ++ b) ++ (45 ∷ (c ++ (d ++ e)))
-    regroup_pre a b c d e = simp append_assoc
-
-    regroup_build : (a b c d e : Text) → a ++ b ++ c ++ (43 ∷ d) ++ e ≡ (a ++ (b ++ c)) ++ (43 ∷ (d ++ e))
-    regroup_build a b c d e = simp append_assoc
-
-    marked_text : {inner : Text} → SpellsVersion v inner → Passes is_no_mark inner → ⊥
-    marked_text {inner} w none =
-        let three : Text = join_with_byte 46 (map decimal (numbers v.plain)) in
+    marked_text : {inner : Text} → SpellsCore v inner → Passes is_no_mark inner → ⊥
+    marked_text w none =
+        let both = passes_apart is_no_mark _ w.build_text (subst (Passes is_no_mark) w.spelled none) in
         ⊎_elim
-        (λ pre.
-        let here = part_marked 45 v.plain.pre w.pre_text w.pre pre in
-        let whole : inner ≡ (w.before ++ three) ++ (45 ∷ (here.0 ++ (w.build_text ++ w.after))) =
-        w.spelled ∙ ap (λ (t : Text). w.before ++ three ++ t ++ w.build_text ++ w.after) here.1
-        ∙ regroup_pre w.before three here.0 w.build_text w.after in
-        let no_mark : is_no_mark 45 ≡ true = behind is_no_mark (w.before ++ three) 45 (here.0 ++ (w.build_text ++ w.after))
-        (subst (Passes is_no_mark) whole none) in cc)
-        (λ build.
-        let here = part_marked 43 v.build w.build_text w.build build in
-        let whole : inner ≡ (w.before ++ (three ++ w.pre_text)) ++ (43 ∷ (here.0 ++ w.after)) =
-        w.spelled ∙ ap (λ (t : Text). w.before ++ three ++ w.pre_text ++ t ++ w.after) here.1
-        ∙ regroup_build w.before three w.pre_text here.0 w.after in
-        let no_mark : is_no_mark 43 ≡ true = behind is_no_mark (w.before ++ (three ++ w.pre_text)) 43 (here.0 ++ w.after)
-        (subst (Passes is_no_mark) whole none) in cc)
-        some
+        (no_ids 45 v.plain.pre w.pre_text w.pre refl
+        (passes_apart is_no_mark (join_with_byte 46 (map decimal (numbers v.plain))) w.pre_text both.0).1)
+        (no_ids 43 v.build w.build_text w.build refl both.1) some

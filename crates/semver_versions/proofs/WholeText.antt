@@ -1,14 +1,14 @@
 -- What reading a whole text answers, by the texts and the grammar.
-use Rattle.std.proofs.Common.{◌≡◌, ℕ, zero, suc, ◌+◌, ◌-◌, ◌<◌, ◌^◌, Bool, true, false, eqb, ◌||◌, List, [], ◌∷◌, ◌++◌, length, drop, map}
+use Rattle.std.proofs.Common.{◌≡◌, ℕ, zero, suc, ◌+◌, ◌-◌, ◌<◌, ◌^◌, Bool, true, false, eqb, ◌||◌, List, [], ◌∷◌, ◌++◌, length, map}
 use Rattle.std.proofs.Common.{Some, None, Option, Result, Ok, Err, sym, refl, ap, ◌∙◌, subst, inr, inl, ⊎_elim, arith, append_assoc}
 use Rattle.std.proofs.Common.{append-nil, length-append, codes, decimal, IsUtf8}
-use Rattle.std.specs.Prelude.{slice_index, slice_get, chars, flat_map, encode_utf8_all}
-use Rattle.std.specs.Str.{IsAscii, IsCharBoundary}
+use Rattle.std.specs.Prelude.{slice_index, slice_get, chars, flat_map, encode_utf8_all, not}
+use Rattle.std.specs.Str.{IsAscii}
 use Rattle.std.specs.List.{AllByRecursion, AllZip, join_by, join_with_byte}
 use Rattle.std.specs.Char.{is_ascii_alphanumeric}
-use Rattle.std.proofs.lemmas.Str.{chars-nil, encodes-chars, IsAscii-append, IsUtf8-drop}
+use Rattle.std.proofs.lemmas.Str.{chars-nil, chars-append, encodes-chars, IsAscii-append, IsUtf8-from_ascii}
 use Rattle.std.proofs.lemmas.Str.Ascii.{IsAscii-nil}
-use Rattle.std.proofs.lemmas.List.{drop_at}
+use Rattle.std.proofs.lemmas.List.{append_cancel_left}
 use Rattle.std.proofs.lemmas.Option.{none-some}
 use Rattle.std.proofs.lemmas.Grind.{flat_map-append}
 use Rattle.std.proofs.lemmas.Bool.Decides.{nat_tests}
@@ -17,17 +17,19 @@ use Rattle.semver_tokens.specs.Tokens.{TokenValue, Dot, Hyphen, Plus, Whitespace
 use Rattle.semver_tokens.specs.Tokens.{AreTokensOf}
 use Rattle.semver_texts.specs.Versions.{IdentifierValue, numeric, alphanumeric, VersionValue, numbers}
 use Rattle.semver_texts.specs.PrintedText.{identifier_text, version_text}
-use Rattle.semver_texts.specs.VersionGrammar.{SpellsIdentifier, SpellsPart, SpellsVersion, IsTrimmed, IsPrintableIdentifier}
+use Rattle.semver_texts.specs.VersionGrammar.{SpellsIdentifier, SpellsPart, SpellsCore, SpellsVersion, IsTrimmed, IsPrintableIdentifier}
 use Rattle.semver_texts.specs.VersionGrammar.{IsPrintableVersion}
 use Rattle.semver_tokens.specs.ParserState.{ParserState, Fault, IsStateOf}
 use Rattle.semver_steps.specs.VersionReading.{IsIdentifierShape, IsPartShape, IsOuterShape, IsVersionShape, IsLongestFront, ReadsVersion}
 use Rattle.semver_steps.specs.VersionReading.{IsOutcomeOf, whole_answer, HoldsIdentifierRun, TextMayRunOut, inner_text, inner_texts}
-use Rattle.semver_tokens.proofs.Cuts.{IsAscii-token_text, cut_after_ascii}
+use Rattle.semver_tokens.proofs.Cuts.{IsAscii-token_text}
 use Rattle.semver_tokens.proofs.TokenLists.{same_tokens, decimal_is_run}
 use Rattle.semver_steps.proofs.ReadingSteps.{same_front, reads_once}
 use Rattle.semver_steps.proofs.IdentifierSteps.{identifier_is_read}
-use Rattle.semver_steps.proofs.IdentifierTexts.{pieces, pieces_text, behind_in_place}
-use Rattle.semver_versions.proofs.OneVersion.{Passes, passes_more, passes_append, run_passes, part_passes, one_version}
+use Rattle.semver_steps.proofs.IdentifierTexts.{pieces, pieces_text, IsPlaced, each_placed}
+use Rattle.semver_texts.proofs.Lists.{Passes, all_more, all_apart, passes_append, passes_apart, dotted_pass}
+use Rattle.semver_tokens.proofs.FirstToken.{run_is_part}
+use Rattle.semver_versions.proofs.OneVersion.{part_passes, bare, one_core}
 use Rattle.semver_versions.proofs.VersionTokens.{HasTokens, version_tokens}
 
 -- ---- printed texts
@@ -47,11 +49,24 @@ pub part_text : (mark : List ℕ) (ids : List IdentifierValue) (text : List ℕ)
     → text ≡ marked mark (map identifier_text ids)
 part_text mark ids text w = w.joined ∙ ap (marked mark) (spelled_texts ids w.texts w.each)
 
-core_printed : (v : VersionValue) (text : List ℕ) (w : SpellsVersion v text)
-    → join_with_byte 46 (map decimal (numbers v.plain)) ++ w.pre_text ++ w.build_text ≡ version_text v
-core_printed v text w =
-    (λ i. join_with_byte 46 (map decimal (numbers v.plain)) ++ part_text (codes "-") v.plain.pre w.pre_text w.pre i
+core_printed : (v : VersionValue) (core : List ℕ) → SpellsCore v core → core ≡ version_text v
+core_printed v core w =
+    w.spelled ∙ (λ i. join_with_byte 46 (map decimal (numbers v.plain)) ++ part_text (codes "-") v.plain.pre w.pre_text w.pre i
     ++ part_text (codes "+") v.build w.build_text w.build i)
+
+-- the bytes of a core, where those of numbers pass, dots, and those of its parts
+core_passes : (p : ℕ → Bool) → ((b : ℕ) → is_ascii_alphanumeric b ≡ true → p b ≡ true) → p 46 ≡ true → (v : VersionValue) (core : List ℕ)
+    (w : SpellsCore v core) → Passes p w.pre_text → Passes p w.build_text → Passes p core
+core_passes p letters dot v core w pre build =
+    subst (Passes p) (sym w.spelled)
+    (passes_append p (three ++ w.pre_text) w.build_text (passes_append p three w.pre_text
+    (dotted_pass p dot (map decimal (numbers v.plain)) (number _ w.major, (number _ w.minor, (number _ w.patch, tt)))) pre) build)
+  where
+    three : List ℕ
+    three = join_with_byte 46 (map decimal (numbers v.plain))
+
+    number : (n : ℕ) → n < 2 ^ 64 → Passes p (decimal n)
+    number n small = all_more letters (decimal n) (decimal_is_run n small).1
 
 -- bytes of a version
 abbrev is_version_byte : ℕ → Bool
@@ -63,25 +78,10 @@ no_space_byte b h = grind (arith, nat_tests)
 part_is_version : (b : ℕ) → is_part_byte b ≡ true → is_version_byte b ≡ true
 part_is_version b h = rw h refl
 
-number_passes : (n : ℕ) → n < 2 ^ 64 → Passes is_version_byte (decimal n)
-number_passes n small =
-    passes_more is_part_byte is_version_byte part_is_version (decimal n) (run_passes (decimal n) (decimal_is_run n small).1)
-
-core_bytes : (v : VersionValue) (text : List ℕ) (w : SpellsVersion v text)
-    → Passes is_version_byte (join_with_byte 46 (map decimal (numbers v.plain)) ++ w.pre_text ++ w.build_text)
-core_bytes v text w =
-    let major = decimal v.plain.major in
-    let minor = decimal v.plain.minor in
-    let patch = decimal v.plain.patch in
-    let three : Passes is_version_byte (major ++ (46 ∷ (minor ++ (46 ∷ patch)))) =
-    passes_append is_version_byte major (46 ∷ (minor ++ (46 ∷ patch))) (number_passes v.plain.major w.major) (
-      refl,
-      passes_append is_version_byte minor (46 ∷ patch) (number_passes v.plain.minor w.minor)
-          (refl, number_passes v.plain.patch w.patch),
-    ) in
-    passes_append is_version_byte (join_with_byte 46 (map decimal (numbers v.plain)) ++ w.pre_text) w.build_text
-    (passes_append is_version_byte (join_with_byte 46 (map decimal (numbers v.plain))) w.pre_text three
-    (part_passes is_version_byte part_is_version refl 45 refl v.plain.pre w.pre_text w.pre))
+core_bytes : (v : VersionValue) (core : List ℕ) → SpellsCore v core → Passes is_version_byte core
+core_bytes v core w =
+    core_passes is_version_byte (λ b h. part_is_version b (run_is_part b h)) refl v core w
+    (part_passes is_version_byte part_is_version refl 45 refl v.plain.pre w.pre_text w.pre)
     (part_passes is_version_byte part_is_version refl 43 refl v.build w.build_text w.build)
 
 no_space_at : (bs : List ℕ) → Passes is_version_byte bs → (k : ℕ) → is_space (slice_index bs k) ≡ false
@@ -91,23 +91,16 @@ no_space_at (b ∷ bs) all (suc k) = no_space_at bs all.1 k
 
 pub trimmed : (v : VersionValue) (text : List ℕ) → SpellsVersion v text → IsTrimmed text (version_text v)
 trimmed v text w =
-    let core : List ℕ = join_with_byte 46 (map decimal (numbers v.plain)) ++ w.pre_text ++ w.build_text in
-    let no_space : (k : ℕ) → is_space (slice_index (version_text v) k)
-    ≡ false = λ k. ap (λ (l : List ℕ). is_space (slice_index l k)) (sym (core_printed v text w))
-    ∙ no_space_at core (core_bytes v text w) k in
-    record {
+    let no_space = no_space_at w.core (core_bytes v w.core w.spells) in
+    subst (IsTrimmed text) (core_printed v w.core w.spells) (record {
       before = w.before;
       after = w.after;
       spaces_before = w.spaces_before;
       spaces_after = w.spaces_after;
-      whole = w.spelled ∙ around w.before (join_with_byte 46 (map decimal (numbers v.plain))) w.pre_text w.build_text w.after
-          ∙ ap (λ (l : List ℕ). w.before ++ l ++ w.after) (core_printed v text w);
+      whole = w.whole;
       first = no_space 0;
-      last = no_space (length (version_text v) - 1);
-    }
-  where
-    around : (a b c d e : List ℕ) → a ++ b ++ c ++ d ++ e ≡ a ++ (b ++ c ++ d) ++ e
-    around a b c d e = simp append_assoc
+      last = no_space (length w.core - 1);
+    })
 
 printable_identifier : (id : IdentifierValue) (text : List ℕ) → SpellsIdentifier id text → IsPrintableIdentifier id
 printable_identifier (numeric n) text w = (w.0, refl)
@@ -115,19 +108,18 @@ printable_identifier (alphanumeric kept) text w = (refl, w.1, w.2)
 
 printable_identifiers : (ids : List IdentifierValue) (texts : List (List ℕ)) → AllZip SpellsIdentifier ids texts
     → AllByRecursion IsPrintableIdentifier ids
-printable_identifiers [] [] all = tt
-printable_identifiers [] (t ∷ texts) all = absurd all
+printable_identifiers [] texts all = tt
 printable_identifiers (id ∷ ids) [] all = absurd all
 printable_identifiers (id ∷ ids) (t ∷ texts) all = (printable_identifier id t all.0, printable_identifiers ids texts all.1)
 
 pub printable : (v : VersionValue) (text : List ℕ) → SpellsVersion v text → IsPrintableVersion v
 printable v text w =
     record {
-      major = w.major;
-      minor = w.minor;
-      patch = w.patch;
-      pre = printable_identifiers v.plain.pre w.pre.texts w.pre.each;
-      build = printable_identifiers v.build w.build.texts w.build.each;
+      major = w.spells.major;
+      minor = w.spells.minor;
+      patch = w.spells.patch;
+      pre = printable_identifiers v.plain.pre w.spells.pre.texts w.spells.pre.each;
+      build = printable_identifiers v.build w.spells.build.texts w.spells.build.each;
     }
 
 prints_each : (ids : List IdentifierValue) → AllByRecursion IsPrintableIdentifier ids
@@ -137,36 +129,26 @@ prints_each (id ∷ ids) all = (all.0, prints_each ids all.1)
 
 -- the printed text of a printable version spells it
 pub printed_spells : (v : VersionValue) → IsPrintableVersion v → SpellsVersion v (version_text v)
-printed_spells v w = record {
-  before = [];
+printed_spells v w = bare (record {
   pre_text = marked (codes "-") (map identifier_text v.plain.pre);
   build_text = marked (codes "+") (map identifier_text v.build);
-  after = [];
   major = w.major;
   minor = w.minor;
   patch = w.patch;
   pre = record { texts = map identifier_text v.plain.pre; each = prints_each v.plain.pre w.pre; joined = refl };
   build = record { texts = map identifier_text v.build; each = prints_each v.build w.build; joined = refl };
-  spaces_before = tt;
-  spaces_after = tt;
-  spelled = sym (append-nil (version_text v));
-}
+  spelled = refl;
+})
 
 -- ---- from tokens to the text
 
-outer_inner : (ts : List TokenValue) → IsOuterShape ts → inner_texts ts ≡ []
-outer_inner [] w = refl
-outer_inner ((Whitespace a b) ∷ []) w = refl
-outer_inner (t ∷ []) w = cc (w.1.0)
-outer_inner (t ∷ u ∷ ts) w = absurd (omega (arith, w.0))
-
-outer_spaces : (text : List ℕ) (ts : List TokenValue) → IsOuterShape ts
-    → ((t : TokenValue) (us : List TokenValue) → ts ≡ t ∷ us → (at : ℕ) × IsTokenAt text at t) → Passes is_space (tokens_text text ts)
-outer_spaces text [] w here = tt
-outer_spaces text ((Whitespace a b) ∷ []) w here =
-    let h = here (Whitespace a b) [] refl in subst (Passes is_space) (sym (append-nil (token_text text (Whitespace a b)))) h.1.3
-outer_spaces text (t ∷ []) w here = cc (w.1.0)
-outer_spaces text (t ∷ u ∷ ts) w here = absurd (omega (arith, w.0))
+outer_texts : (text : List ℕ) (ts : List TokenValue) → IsOuterShape ts → AllByRecursion (IsPlaced text) ts
+    → (inner_texts ts ≡ []) × Passes is_space (tokens_text text ts)
+outer_texts text [] w placed = (refl, tt)
+outer_texts text ((Whitespace a b) ∷ []) w placed =
+    (refl, subst (Passes is_space) (sym (append-nil (token_text text (Whitespace a b)))) placed.0.1.3)
+outer_texts text (t ∷ []) w placed = cc (w.1.0)
+outer_texts text (t ∷ u ∷ ts) w placed = absurd (omega (arith, w.0))
 
 identifier_same : (text : List ℕ) (id : List TokenValue) → IsIdentifierShape id → tokens_text text id ≡ inner_texts id
 identifier_same text id w = let whole = identifier_is_read.read id w in pieces_text text id (pieces false whole.0 id whole.1)
@@ -182,7 +164,7 @@ identifiers_same text (id ∷ ids) all =
         → tokens_text text (flat_map (λ id. Dot ∷ id) ids) ≡ inner_texts (flat_map (λ id. Dot ∷ id) ids)
     others [] all = refl
     others (id ∷ ids) all =
-        ap (λ (l : List ℕ). 46 ∷ l) (flat_map-append (token_text text) id _ ∙ (λ i. identifier_same text id all.0 i ++ others ids all.1 i)
+        ap (λ l. 46 ∷ l) (flat_map-append (token_text text) id _ ∙ (λ i. identifier_same text id all.0 i ++ others ids all.1 i)
         ∙ sym (flat_map-append inner_text id _))
 
 part_same : (text : List ℕ) (mark : TokenValue) (ts : List TokenValue) → token_text text mark ≡ inner_text mark → IsPartShape mark ts
@@ -194,65 +176,38 @@ part_same text mark ts same w =
 
 -- what the tokens spell without white space, the text spells with it
 pub whole_spelled : (v : VersionValue) (text : List ℕ) (ts : List TokenValue) → AreTokensOf text ts [] → IsVersionShape ts
-    → SpellsVersion v (inner_texts ts) → SpellsVersion v text
+    → SpellsCore v (inner_texts ts) → SpellsVersion v text
 whole_spelled v text ts tokens shape w =
     let three : List TokenValue = join_by (λ n. Numeric n ∷ []) (Dot ∷ []) (shape.major ∷ shape.minor ∷ shape.patch ∷ []) in
-    let before : List ℕ = tokens_text text shape.before in
-    let after : List ℕ = tokens_text text shape.after in
     let mid : List ℕ = inner_texts three ++ inner_texts shape.pre ++ inner_texts shape.build in
-    let in_place : AreInPlace text 0 (shape.before ++ three ++ shape.pre ++ shape.build ++ shape.after) = subst
-    (AreInPlace text 0) shape.joined tokens.in_place in
-    let text_is : text ≡ before ++ mid ++ after =
-    tokens.spelled ∙ append-nil (tokens_text text ts) ∙ ap (tokens_text text) shape.joined
-    ∙ split5 (token_text text) shape.before three shape.pre shape.build shape.after
-    ∙ (λ i. before ++ (inner_texts three ++ part_same text Hyphen shape.pre refl shape.pre_shape i
-    ++ part_same text Plus shape.build refl shape.build_shape i) ++ after) in
+    let placed : AllByRecursion (IsPlaced text) (shape.before ++ ((three ++ shape.pre ++ shape.build) ++ shape.after)) = subst
+    (AllByRecursion (IsPlaced text)) (shape.joined ∙ simp append_assoc) (each_placed text 0 ts tokens.in_place) in
+    let parts = all_apart (IsPlaced text) shape.before _ placed in
+    let first = outer_texts text shape.before shape.space_before parts.0 in
+    let last = outer_texts text shape.after shape.space_after
+    (all_apart (IsPlaced text) (three ++ shape.pre ++ shape.build) shape.after parts.1).1 in
     let inner_is : inner_texts ts ≡ mid =
     ap inner_texts shape.joined ∙ split5 inner_text shape.before three shape.pre shape.build shape.after
-    ∙ (λ i. outer_inner shape.before shape.space_before i ++ mid ++ outer_inner shape.after shape.space_after i) ∙ append-nil mid in
-    let spaces_first : Passes is_space before = outer_spaces text shape.before shape.space_before
-    (λ t us e. first_place t us shape.before (three ++ shape.pre ++ shape.build ++ shape.after) e
-    (subst (AreInPlace text 0) (simp append_assoc) in_place)) in
-    let spaces_last : Passes is_space after = outer_spaces text shape.after shape.space_after
-    (λ t us e. behind_in_place text 0 (shape.before ++ three ++ shape.pre ++ shape.build) t us
-    (subst (λ (l : List TokenValue). AreInPlace text 0 (shape.before ++ three ++ shape.pre ++ shape.build ++ l)) e in_place)) in
+    ∙ (λ i. first.0 i ++ mid ++ last.0 i) ∙ append-nil mid in
     record {
-      before = before ++ w.before;
-      pre_text = w.pre_text;
-      build_text = w.build_text;
-      after = w.after ++ after;
-      major = w.major;
-      minor = w.minor;
-      patch = w.patch;
-      pre = w.pre;
-      build = w.build;
-      spaces_before = passes_append is_space before w.before spaces_first w.spaces_before;
-      spaces_after = passes_append is_space w.after after w.spaces_after spaces_last;
-      spelled = text_is ∙ ap (λ (l : List ℕ). before ++ l ++ after) (sym inner_is ∙ w.spelled)
-          ∙ regroup7 before w.before (join_with_byte 46 (map decimal (numbers v.plain))) w.pre_text w.build_text w.after after;
+      before = tokens_text text shape.before;
+      core = inner_texts ts;
+      after = tokens_text text shape.after;
+      spaces_before = first.1;
+      spaces_after = last.1;
+      spells = w;
+      whole = tokens.spelled ∙ append-nil (tokens_text text ts) ∙ ap (tokens_text text) shape.joined
+          ∙ split5 (token_text text) shape.before three shape.pre shape.build shape.after
+          ∙ (λ i. tokens_text text shape.before ++ (inner_texts three ++ part_same text Hyphen shape.pre refl shape.pre_shape i
+          ++ part_same text Plus shape.build refl shape.build_shape i) ++ tokens_text text shape.after)
+          ∙ ap (λ l. tokens_text text shape.before ++ l ++ tokens_text text shape.after) (sym inner_is);
     }
   where
     split5 : (f : TokenValue → List ℕ) (a b c d e : List TokenValue)
         → flat_map f (a ++ b ++ c ++ d ++ e) ≡ flat_map f a ++ (flat_map f b ++ flat_map f c ++ flat_map f d) ++ flat_map f e
     split5 f a b c d e = simp (flat_map-append, append_assoc)
 
-    regroup7 : (a b c d e f g : List ℕ) → a ++ (b ++ c ++ d ++ e ++ f) ++ g ≡ (a ++ b) ++ c ++ d ++ e ++ (f ++ g)
-    regroup7 a b c d e f g = simp append_assoc
-
-    first_place : (t : TokenValue) (us ts more : List TokenValue) → ts ≡ t ∷ us → AreInPlace text 0 (ts ++ more)
-        → (at : ℕ) × IsTokenAt text at t
-    first_place t us ts more e a = (0, (subst (λ (l : List TokenValue). AreInPlace text 0 (l ++ more)) e a).0)
-
 -- ---- an accepted text
-
--- behind ASCII a text is UTF-8 too
-utf8_behind : (text xs ys : List ℕ) → IsUtf8 text → text ≡ xs ++ ys → IsAscii xs → IsUtf8 ys
-utf8_behind text [] ys utf8 e ascii = subst IsUtf8 e utf8
-utf8_behind text (x ∷ xs) ys utf8 e ascii =
-    let cut : IsCharBoundary text (0 + length (x ∷ xs)) = cut_after_ascii text 0 (x ∷ xs) ys utf8 e (omega arith) ascii in
-    let here : drop (0 + length (x ∷ xs)) text ≡ ys = ap (drop (0 + length (x ∷ xs))) e
-    ∙ drop_at (x ∷ xs) ys (0 + length (x ∷ xs)) (omega arith) in
-    subst IsUtf8 here (IsUtf8-drop text (0 + length (x ∷ xs)) utf8 cut)
 
 tokens_ascii : (text : List ℕ) (place : ℕ) (ts : List TokenValue) → AreInPlace text place ts → IsAscii (tokens_text text ts)
 tokens_ascii text place [] w = IsAscii-nil
@@ -260,20 +215,23 @@ tokens_ascii text place (t ∷ ts) w =
     IsAscii-append (token_text text t) (tokens_text text ts) (IsAscii-token_text text place t w.0)
     (tokens_ascii text (place + length (token_text text t)) ts w.1)
 
-no_char : (cs bs : List ℕ) → encode_utf8_all cs ≡ bs → slice_get cs 0 ≡ None → bs ≡ []
-no_char [] bs e none = sym e
-no_char (c ∷ cs) bs e none = absurd (none-some c (sym none))
+none_first : (cs : List ℕ) → slice_get cs 0 ≡ None → cs ≡ []
+none_first [] none = refl
+none_first (c ∷ cs) none = absurd (none-some c (sym none))
 
 -- where no character is pending, the tokens are all of the text
 no_rest : (text : List ℕ) (s : ParserState) → IsUtf8 text → (w : IsStateOf text s) → s.pending ≡ None → w.0 ≡ []
 no_rest text s utf8 w none =
-    let rest_utf8 : IsUtf8 w.0 = utf8_behind text (tokens_text text s.remaining) w.0 utf8 w.1.spelled
-    (tokens_ascii text 0 s.remaining w.1.in_place) in
-    no_char (chars w.0) w.0 (encodes-chars w.0 rest_utf8) (sym w.2 ∙ none)
+    let front : List ℕ = tokens_text text s.remaining in
+    let front_utf8 : IsUtf8 front = IsUtf8-from_ascii front (tokens_ascii text 0 s.remaining w.1.in_place) in
+    let same : chars text ≡ chars front = ap chars w.1.spelled ∙ chars-append front w.0 front_utf8
+    ∙ ap (λ cs. chars front ++ cs) (none_first (chars w.0) (sym w.2 ∙ none)) ∙ append-nil (chars front) in
+    append_cancel_left front w.0 [] (sym w.1.spelled ∙ sym (encodes-chars text utf8) ∙ ap encode_utf8_all same
+    ∙ encodes-chars front front_utf8 ∙ sym (append-nil front))
 
 -- and where they are, none is
 no_pending : (text : List ℕ) (s : ParserState) → (w : IsStateOf text s) → w.0 ≡ [] → s.pending ≡ None
-no_pending text s w empty = w.2 ∙ ap (λ (l : List ℕ). slice_get (chars l) 0) empty ∙ ap (λ (cs : List ℕ). slice_get cs 0) chars-nil
+no_pending text s w empty = w.2 ∙ ap (λ l. slice_get (chars l) 0) empty ∙ ap (λ cs. slice_get cs 0) chars-nil
 
 ok_whole : (v : VersionValue) (r : Result VersionValue Fault) (left : List TokenValue) (pending : Option ℕ)
     → Ok v ≡ whole_answer r left pending → (r ≡ Ok v) × (left ≡ [])
@@ -285,43 +243,29 @@ ok_whole v (Ok w) (t ∷ left) (Some c) d = cc
 pub accepted_spells : (v : VersionValue) (text : List ℕ) → IsUtf8 text → IsOutcomeOf text (Ok v) → SpellsVersion v text
 accepted_spells v text utf8 o =
     let q = ok_whole v o.answer o.end.remaining o.end.pending o.whole in
-    let w : ReadsVersion o.start (Ok v) o.end = subst (λ (r : Result VersionValue Fault). ReadsVersion o.start r o.end) q.0 o.reads in
+    let w : ReadsVersion o.start (Ok v) o.end = subst (λ r. ReadsVersion o.start r o.end) q.0 o.reads in
     let empty : w.rest ≡ [] = sym w.answer.leaves ∙ q.1 in
-    let all : w.front ≡ o.start.remaining = sym (w.longest.split ∙ ap (λ (l : List TokenValue). w.front ++ l) empty ∙ append-nil w.front) in
+    let all : w.front ≡ o.start.remaining = sym (w.longest.split ∙ ap (λ l. w.front ++ l) empty ∙ append-nil w.front) in
     let none : o.start.pending ≡ None = ⊎_elim (λ some. absurd (omega (arith, some, ap length empty))) (λ n. n) w.answer.whole.known in
     let tokens : AreTokensOf text o.start.remaining [] = subst (AreTokensOf text o.start.remaining)
     (no_rest text o.start utf8 o.state none) o.state.1 in
     whole_spelled v text o.start.remaining tokens (subst IsVersionShape all w.answer.whole.shape)
-    (subst (λ (l : List TokenValue). SpellsVersion v (inner_texts l)) all w.answer.spelled)
+    (subst (λ l. SpellsCore v (inner_texts l)) all w.answer.spelled)
 
 -- ---- a text that spells a version
 
--- bytes of a version without pre-release and build, with white space
-abbrev is_plain_byte : ℕ → Bool
-is_plain_byte b = (is_ascii_alphanumeric b || eqb b 46) || is_space b
+-- a byte that is no mark of a pre-release or a build
+abbrev pub is_no_mark : ℕ → Bool
+is_no_mark b = not (eqb b 45 || eqb b 43)
 
-no_part : (mark : List ℕ) (ids : List IdentifierValue) (part : List ℕ) → ids ≡ [] → SpellsPart mark ids part → part ≡ []
-no_part mark ids part none w = part_text mark ids part w ∙ ap (λ (l : List IdentifierValue). marked mark (map identifier_text l)) none
+pub letter_no_mark : (b : ℕ) → is_ascii_alphanumeric b ≡ true → is_no_mark b ≡ true
+letter_no_mark b h = grind (arith, nat_tests)
 
-run_plain : (b : ℕ) → is_ascii_alphanumeric b ≡ true → is_plain_byte b ≡ true
-run_plain b h = rw h refl
-
-space_plain : (b : ℕ) → is_space b ≡ true → is_plain_byte b ≡ true
-space_plain b h = rw h (or_true (is_ascii_alphanumeric b || eqb b 46))
-  where
-    or_true : (a : Bool) → (a || true) ≡ true
-    or_true true = refl
-    or_true false = refl
-
-number_plain : (n : ℕ) → n < 2 ^ 64 → Passes is_plain_byte (decimal n)
-number_plain n small = passes_more is_ascii_alphanumeric is_plain_byte run_plain (decimal n) (decimal_is_run n small).1
-
-pub behind : (p : ℕ → Bool) (xs : List ℕ) (y : ℕ) (ys : List ℕ) → Passes p (xs ++ y ∷ ys) → p y ≡ true
-behind p [] y ys all = all.0
-behind p (x ∷ xs) y ys all = behind p xs y ys all.1
-
-without : (a b c : List ℕ) → a ++ b ++ [] ++ [] ++ c ≡ a ++ (b ++ c)
-without a b c = simp (append_assoc, append-nil)
+-- so are all bytes of a part without identifiers
+no_part : (mark : List ℕ) (ids : List IdentifierValue) (part : List ℕ) → ids ≡ [] → SpellsPart mark ids part → Passes is_no_mark part
+no_part mark ids part none w =
+    subst (Passes is_no_mark)
+    (sym (part_text mark ids part w ∙ ap (λ l. marked mark (map identifier_text l)) none)) tt
 
 module _ (v : VersionValue) (text : List ℕ) (spells : SpellsVersion v text) where
   pub has : HasTokens v text
@@ -342,7 +286,7 @@ module _ (v : VersionValue) (text : List ℕ) (spells : SpellsVersion v text) wh
       → (has.ts ≡ front) × ([] ≡ rest)
   front_is s w front rest longest =
       same_front IsVersionShape has.ts has.ts front [] rest all_longest
-      (subst (λ (l : List TokenValue). IsLongestFront IsVersionShape l front rest) (sym (state_is s w).0) longest)
+      (subst (λ l. IsLongestFront IsVersionShape l front rest) (sym (state_is s w).0) longest)
 
   pub outcome_spelled : (x : Result VersionValue Fault) → IsOutcomeOf text x → x ≡ Ok v
   outcome_spelled x o = o.whole ∙ go o.answer o.reads
@@ -350,10 +294,10 @@ module _ (v : VersionValue) (text : List ℕ) (spells : SpellsVersion v text) wh
       go : (r : Result VersionValue Fault) → ReadsVersion o.start r o.end → whole_answer r o.end.remaining o.end.pending ≡ Ok v
       go (Ok u) w =
           let same = front_is o.start o.state w.front w.rest w.longest in
-          let value : u ≡ v = one_version u v (inner_texts has.ts)
-          (subst (λ (l : List TokenValue). SpellsVersion u (inner_texts l)) (sym same.0) w.answer.spelled) has.spells in
-          ap (λ (l : List TokenValue). whole_answer (Ok u) l o.end.pending) (w.answer.leaves ∙ sym same.1)
-          ∙ ap (λ (z : VersionValue). Ok z) value
+          let value : u ≡ v = one_core u v (inner_texts has.ts)
+          (subst (λ l. SpellsCore u (inner_texts l)) (sym same.0) w.answer.spelled) has.spells in
+          ap (λ l. whole_answer (Ok u) l o.end.pending) (w.answer.leaves ∙ sym same.1)
+          ∙ ap (λ z. Ok z) value
       go (Err e) w =
           let same = front_is o.start o.state w.front w.rest w.longest in
           absurd (w.answer.broken (record {
@@ -366,7 +310,7 @@ module _ (v : VersionValue) (text : List ℕ) (spells : SpellsVersion v text) wh
   at_start = record { remaining = has.ts; pending = None }
 
   is_start : IsStateOf text at_start
-  is_start = ([], has.tokens, ap (λ (cs : List ℕ). slice_get cs 0) (sym chars-nil))
+  is_start = ([], has.tokens, ap (λ cs. slice_get cs 0) (sym chars-nil))
 
   pub spelled_outcome : IsOutcomeOf text (Ok v)
   spelled_outcome = record {
@@ -393,46 +337,27 @@ module _ (v : VersionValue) (text : List ℕ) (spells : SpellsVersion v text) wh
   pub plain_has_memory : v.plain.pre ≡ [] → v.build ≡ [] → ¬ (TextMayRunOut text)
   plain_has_memory no_pre no_build m =
       ⊎_elim
-      (λ holds. no_sign plain_bytes (subst HoldsIdentifierRun (sym (front_is m.start m.state m.front m.rest m.longest).0) holds))
+      (λ holds. no_sign (subst HoldsIdentifierRun (sym (front_is m.start m.state m.front m.rest m.longest).0) holds))
       (λ left. let e = outcome_spelled _ left.1 in cc)
       m.why
     where
-      plain_bytes : Passes is_plain_byte (inner_texts has.ts)
-      plain_bytes =
+      no_marks : Passes is_no_mark (inner_texts has.ts)
+      no_marks =
           let w = has.spells in
-          let major = decimal v.plain.major in
-          let minor = decimal v.plain.minor in
-          let patch = decimal v.plain.patch in
-          let three : Passes is_plain_byte (major ++ (46 ∷ (minor ++ (46 ∷ patch)))) =
-          passes_append is_plain_byte major (46 ∷ (minor ++ (46 ∷ patch))) (number_plain v.plain.major w.major) (
-            refl,
-            passes_append is_plain_byte minor (46 ∷ patch) (number_plain v.plain.minor w.minor)
-                (refl, number_plain v.plain.patch w.patch),
-          ) in
-          let is : inner_texts has.ts ≡ w.before ++ (major ++ (46 ∷ (minor ++ (46 ∷ patch)))) ++ [] ++ [] ++ w.after =
-          w.spelled ∙ (λ i. w.before ++ join_with_byte 46 (map decimal (numbers v.plain))
-          ++ no_part (codes "-") v.plain.pre w.pre_text no_pre w.pre i ++ no_part (codes "+") v.build w.build_text no_build w.build i
-          ++ w.after) in
-          subst (Passes is_plain_byte) (sym (is ∙ without w.before (major ++ (46 ∷ (minor ++ (46 ∷ patch)))) w.after))
-          (passes_append is_plain_byte w.before ((major ++ (46 ∷ (minor ++ (46 ∷ patch)))) ++ w.after)
-          (passes_more is_space is_plain_byte space_plain w.before w.spaces_before)
-          (passes_append is_plain_byte (major ++ (46 ∷ (minor ++ (46 ∷ patch)))) w.after three
-          (passes_more is_space is_plain_byte space_plain w.after w.spaces_after)))
+          core_passes is_no_mark letter_no_mark refl v (inner_texts has.ts) w
+          (no_part (codes "-") v.plain.pre w.pre_text no_pre w.pre) (no_part (codes "+") v.build w.build_text no_build w.build)
 
-      no_sign : Passes is_plain_byte (inner_texts has.ts) → HoldsIdentifierRun has.ts → ⊥
-      no_sign all h =
+      no_sign : HoldsIdentifierRun has.ts → ⊥
+      no_sign h =
           let split : inner_texts has.ts ≡ inner_texts h.before ++ (inner_text h.sign ++ inner_texts (h.component ∷ h.after)) = ap
           inner_texts h.split
           ∙ flat_map-append inner_text h.before (h.sign ∷ h.component ∷ h.after) in
-          let passes : Passes is_plain_byte (inner_texts h.before ++ (inner_text h.sign ++ inner_texts (h.component ∷ h.after))) = subst
-          (Passes is_plain_byte) split all in
+          let at_sign : Passes is_no_mark (inner_text h.sign) =
+          (passes_apart is_no_mark (inner_text h.sign) _
+          (passes_apart is_no_mark (inner_texts h.before) _ (subst (Passes is_no_mark) split no_marks)).1).0 in
           ⊎_elim
-          (λ hyphen. let e : is_plain_byte 45 ≡ true = behind is_plain_byte (inner_texts h.before) 45 (inner_texts (h.component ∷ h.after))
-          (subst (λ (x : TokenValue). Passes is_plain_byte (inner_texts h.before
-          ++ (inner_text x ++ inner_texts (h.component ∷ h.after)))) hyphen passes) in cc)
-          (λ plus. let e : is_plain_byte 43 ≡ true = behind is_plain_byte (inner_texts h.before) 43 (inner_texts (h.component ∷ h.after))
-          (subst (λ (x : TokenValue). Passes is_plain_byte (inner_texts h.before
-          ++ (inner_text x ++ inner_texts (h.component ∷ h.after)))) plus passes) in cc)
+          (λ hyphen. let e = subst (λ x. Passes is_no_mark (inner_text x)) hyphen at_sign in cc (e.0))
+          (λ plus. let e = subst (λ x. Passes is_no_mark (inner_text x)) plus at_sign in cc (e.0))
           h.is_sign
 
 -- ---- the outcome is one
@@ -440,8 +365,8 @@ module _ (v : VersionValue) (text : List ℕ) (spells : SpellsVersion v text) wh
 pub one_outcome : (text : List ℕ) (x y : Result VersionValue Fault) → IsOutcomeOf text x → IsOutcomeOf text y → x ≡ y
 one_outcome text x y a b =
     let same = same_tokens text 0 a.start.remaining b.start.remaining a.state.0 b.state.0 a.state.1 b.state.1 in
-    let pending : a.start.pending ≡ b.start.pending = a.state.2 ∙ ap (λ (l : List ℕ). slice_get (chars l) 0) same.1 ∙ sym b.state.2 in
+    let pending : a.start.pending ≡ b.start.pending = a.state.2 ∙ ap (λ l. slice_get (chars l) 0) same.1 ∙ sym b.state.2 in
     let begin : a.start ≡ b.start = (λ i. record { remaining = same.0 i; pending = pending i }) in
-    let once = reads_once IsVersionShape SpellsVersion one_version b.start a.answer b.answer a.end b.end
-    (subst (λ (s : ParserState). ReadsVersion s a.answer a.end) begin a.reads) b.reads in
+    let once = reads_once IsVersionShape SpellsCore one_core b.start a.answer b.answer a.end b.end
+    (subst (λ s. ReadsVersion s a.answer a.end) begin a.reads) b.reads in
     a.whole ∙ (λ i. whole_answer (once.0 i) (once.1 i).remaining (once.1 i).pending) ∙ sym b.whole

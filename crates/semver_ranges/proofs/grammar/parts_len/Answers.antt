@@ -10,7 +10,7 @@ returns-then-not-begun c =
     let t : Text = c.args.bytes.now in
     let i : ℕ = c.loop-at.at in
     sym (run_decides t) ∙ c.loop-at.invariant.0 ∙ run-dot c.loop-at.begun t i c.loop-at-test.true c.if-byte-eq46.true
-    ∙ ap (λ (b : Bool). b && run_pass false (drop (i + 1) t)) c.if-not-begun.true
+    ∙ ap (λ b. b && run_pass false (drop (i + 1) t)) c.if-not-begun.true
 
 pub returns-else-is_part_byte : goal.returns-else-is_part_byte
 returns-else-is_part_byte c =

@@ -32,10 +32,10 @@ loop-part-preserved c =
     let n : ℕ = length c.loop-part.yielded in
     ap (map identifier_of) c.in_ok-push.ensures.items
     ∙ map_push identifier_of c.loop-part.identifiers.items c.in_ok-read_identifier.field-0
-    ∙ ap (λ (l : List IdentifierValue). l ++ identifier_of c.in_ok-read_identifier.field-0 ∷ []) c.loop-part.invariant
-    ∙ ap (λ (i : IdentifierValue). take n (map kept all) ++ i ∷ []) c.in_ok-read_identifier.ensures
+    ∙ ap (λ l. l ++ identifier_of c.in_ok-read_identifier.field-0 ∷ []) c.loop-part.invariant
+    ∙ ap (λ i. take n (map kept all) ++ i ∷ []) c.in_ok-read_identifier.ensures
     ∙ mapped_more kept all n c.in-Some.part.now here.0 here.1
-    ∙ ap (λ (k : ℕ). take k (map kept all)) (sym (length_push c.loop-part.yielded c.in-Some.part))
+    ∙ ap (λ k. take k (map kept all)) (sym (length_push c.loop-part.yielded c.in-Some.part))
 
 pub returns : goal.returns
 returns c =

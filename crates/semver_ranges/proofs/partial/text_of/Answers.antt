@@ -14,5 +14,5 @@ found P t (Err e) other h text = absurd (h.0 text)
 
 pub returns : goal.returns
 returns c =
-    ap (λ (s : Bor Text). s.now) c.unwrap_or.ensures
+    ap (λ s. s.now) c.unwrap_or.ensures
     ∙ found _ c.args.pre.now c.from_utf8.result _ c.from_utf8.ensures.cases (parts_are_text c.args.pre.now c.requires)

@@ -31,5 +31,5 @@ loop-at-preserved c =
       more.2,
       so_far.5,
       more.3,
-      ap (λ (l : List PlainRange). l ++ map (range_for (pre_of c.args.raised) c.args.compat) more.0) pushed ∙ more.4,
+      ap (λ l. l ++ map (range_for (pre_of c.args.raised) c.args.compat) more.0) pushed ∙ more.4,
     )

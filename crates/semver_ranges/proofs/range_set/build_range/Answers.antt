@@ -44,9 +44,9 @@ loop-simple-preserved c = λ es has fits.
       first.has,
       fit.1,
       sym (ap range_others first.whole) ∙ so_far.3,
-      ap (λ (l : List PlainComparator). l ++ behind) (c.in_ok-push.ensures
-          ∙ ap (λ (l : List PlainComparator). before ++ l) (row.2 (row.1 ∙ fit.0) c.args.raised))
+      ap (λ l. l ++ behind) (c.in_ok-push.ensures
+          ∙ ap (λ l. before ++ l) (row.2 (row.1 ∙ fit.0) c.args.raised))
           ∙ append_assoc before here behind
-          ∙ sym (ap (λ (l : List Event). before ++ flat_map (written_simple (pre_of c.args.raised) c.args.compat) (range_simples l))
+          ∙ sym (ap (λ l. before ++ flat_map (written_simple (pre_of c.args.raised) c.args.compat) (range_simples l))
           first.whole) ∙ so_far.4,
     )

@@ -17,7 +17,7 @@ use Rattle.semver_tokens.proofs.lexer.front_token.Goals.{In_ok-first, After-run_
 
 -- the first byte of the text
 first_byte : (c : In_ok-first) → slice_get c.args.rest.now 0 ≡ Some c.in_ok-first.field-0.now
-first_byte c = ap (λ (bs : List ℕ). slice_get bs 0) (sym c.as_bytes-bytes.ensures.value) ∙ sym c.in_ok-first.ensures.value
+first_byte c = ap (λ bs. slice_get bs 0) (sym c.as_bytes-bytes.ensures.value) ∙ sym c.in_ok-first.ensures.value
 
 -- the length of the run
 run_len_is : (c : After-run_len-len) → c.run_len-len.result ≡ prefix_len is_ascii_alphanumeric c.args.rest.now
@@ -26,7 +26,7 @@ run_len_is c = c.run_len-len.ensures ∙ ap (prefix_len is_ascii_alphanumeric) c
 pub returns-in_err-first : goal.returns-in_err-first
 returns-in_err-first c =
     rw c.from_residual.ensures (sym (first_token-empty c.args.start c.args.rest.now
-    (ap (λ (bs : List ℕ). slice_get bs 0) (sym c.as_bytes-bytes.ensures.value) ∙ sym c.in_err-first.ensures.value)))
+    (ap (λ bs. slice_get bs 0) (sym c.as_bytes-bytes.ensures.value) ∙ sym c.in_err-first.ensures.value)))
 
 pub overflow_add-result : goal.overflow_add-result
 overflow_add-result c =
@@ -42,7 +42,7 @@ pub returns-then-is_space : goal.returns-then-is_space
 returns-then-is_space c =
     let len : c.space_len-len.result ≡ prefix_len is_space c.args.rest.now = c.space_len-len.ensures
     ∙ ap (prefix_len is_space) c.as_bytes-bytes.ensures.value in
-    ap (λ (n : ℕ). Some (Whitespace c.args.start (c.args.start + n), n)) len
+    ap (λ n. Some (Whitespace c.args.start (c.args.start + n), n)) len
     ∙ sym (front_space c.args.start c.args.rest.now _ (first_byte (goal.at.returns-then-is_space c).In_ok-first)
     (sym c.if-is_space.ensures))
 
@@ -81,9 +81,9 @@ returns-then-is_ascii_alphanumeric c =
 pub returns : goal.returns
 returns c =
     let second : c.if-bytes-gt1.second ≡ slice_index c.args.rest.now 1 = elim c.if-bytes-gt1.branch [
-      | then-bytes-gt1 w ↦ w.second-is ∙ ap (λ (bs : List ℕ). slice_index bs 1) c.as_bytes-bytes.ensures.value
+      | then-bytes-gt1 w ↦ w.second-is ∙ ap (λ bs. slice_index bs 1) c.as_bytes-bytes.ensures.value
       | else-bytes-gt1 w ↦ w.second-is
-          ∙ sym (ap (λ (bs : List ℕ). slice_index bs 1) (sym c.as_bytes-bytes.ensures.value)
+          ∙ sym (ap (λ bs. slice_index bs 1) (sym c.as_bytes-bytes.ensures.value)
           ∙ get_or_past c.as_bytes-bytes.result.now 1 0 w.if-bytes-gt1.false)
     ] in
     c.sign.ensures ∙ ap (sign c.in_ok-first.field-0.now) second

@@ -20,5 +20,5 @@ returns-clause-writes g c = λ plain ok.
     let numbers : Text = join_with_byte 46 (map decimal (s.major ∷ s.minor ∷ s.patch ∷ [])) in
     let whole = append_assoc (op_text s.op) numbers (marked (codes "-")
     (map (λ (i : Identifier). identifier_text (identifier_of i)) s.pre.items))
-    ∙ ap (λ (l : List Text). op_text s.op ++ (numbers ++ marked (codes "-") l)) (map_view identifier_text identifier_of s.pre.items) in
+    ∙ ap (λ l. op_text s.op ++ (numbers ++ marked (codes "-") l)) (map_view identifier_text identifier_of s.pre.items) in
     has_written_of_eq _ _ _ _ _ whole (has_written_append _ _ _ _ _ _ triple pre)

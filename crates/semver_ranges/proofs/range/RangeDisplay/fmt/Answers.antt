@@ -12,5 +12,5 @@ pub returns-clause-writes : goal.returns-clause-writes
 returns-clause-writes g c = λ plain ok.
     let all = (rw c.deref.ensures.value at (c.write_joined.ensures (λ (x : Comparator). comparator_text (comparator_of x)) (λ _. refl)))
     plain ok in
-    has_written_of_eq _ _ _ _ _ (ap (λ (l : List Text). joined (codes " ") l)
+    has_written_of_eq _ _ _ _ _ (ap (λ l. joined (codes " ") l)
     (map_view comparator_text comparator_of c.args.self.now.comparator_set.items)) all

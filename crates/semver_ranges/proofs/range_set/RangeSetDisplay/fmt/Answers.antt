@@ -11,5 +11,5 @@ use Rattle.semver_ranges.proofs.range_set.RangeSetDisplay.fmt.Goals as goal
 pub returns-clause-writes : goal.returns-clause-writes
 returns-clause-writes g c = λ plain ok.
     let all = (rw c.deref.ensures.value at (c.write_joined.ensures (λ (x : Range). range_text (range_of x)) (λ _. refl))) plain ok in
-    has_written_of_eq _ _ _ _ _ (ap (λ (l : List Text). joined (codes " || ") l)
+    has_written_of_eq _ _ _ _ _ (ap (λ l. joined (codes " || ") l)
     (map_view range_text range_of c.args.self.now.ranges.items)) all

@@ -1,4 +1,4 @@
-use Rattle.std.proofs.Common.{rules, ◌<◌, ◌^◌, map}
+use Rattle.std.proofs.Common.{rules, map, refl}
 use Rattle.std.proofs.lemmas.Result.{err_from_is_err_and}
 use Rattle.semver_texts.specs.VersionViews.{identifier_value, version_value}
 use Rattle.semver_texts.specs.Versions.{VersionValue}
@@ -6,7 +6,6 @@ use Rattle.semver_steps.specs.Means.Taking.{pre_release}
 use Rattle.semver_steps.proofs.IdentifierTexts.{unless_out_of_memory, unless_err, if_err}
 use Rattle.semver_steps.proofs.VersionTaking.{numbers_text, numbers_given, HasNumbers, IsPart, pre_given}
 use Rattle.semver_steps.proofs.VersionTaking.{pre_out, build_given, build_out, end_given}
-use Rattle.semver_steps.proofs.VersionTaking.{spells_whole}
 use Rattle.semver_steps.proofs.parser.Parser.version.Goals as goal
 use Rattle.semver_steps.proofs.parser.Parser.version.Goals.{In_ok-major, In_ok-pre}
 
@@ -83,8 +82,13 @@ returns-clause-answer c =
       pre = c.in_ok-pre.pre;
       build = c.in_ok-build.build;
     }) in
-    let major : c.in_ok-major.major < 2 ^ 64 = search rules in
-    let minor : c.in_ok-major.minor < 2 ^ 64 = search rules in
-    let patch : c.in_ok-major.patch < 2 ^ 64 = search rules in
-    end_given d.behind _ c.in_ok-skip_whitespace.ensures v
-    (spells_whole v b.part_text d.part_text major minor patch b.spells d.spells)
+    end_given d.behind _ c.in_ok-skip_whitespace.ensures v (record {
+      pre_text = b.part_text;
+      build_text = d.part_text;
+      major = search rules;
+      minor = search rules;
+      patch = search rules;
+      pre = b.spells;
+      build = d.spells;
+      spelled = refl;
+    })

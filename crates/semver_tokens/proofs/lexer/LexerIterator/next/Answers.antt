@@ -52,13 +52,13 @@ rest_here : (c : In_default) (o : Option ℕ) → o ≡ slice_get (chars c.range
 rest_here c o e =
     let none = ap (first_token c.self.inside.position) (sym c.range_from-rest.ensures.value) ∙ sym c.in_default.ensures in
     rw (← c.self.view_is, c.if-self.false)
-    (items_left-rest _ _ none ∙ ap (λ (p : Option ℕ). items_left (record { remaining = []; pending = p }))
-    (ap (λ (bs : List ℕ). slice_get (chars bs) 0) (sym c.range_from-rest.ensures.value) ∙ sym e))
+    (items_left-rest _ _ none ∙ ap (λ p. items_left (record { remaining = []; pending = p }))
+    (ap (λ bs. slice_get (chars bs) 0) (sym c.range_from-rest.ensures.value) ∙ sym e))
 
 pub returns-in_err-character-clause-steps : goal.returns-in_err-character-clause-steps
 returns-in_err-character-clause-steps c =
     let none = rest_here (goal.at.returns-in_err-character-clause-steps c).In_default None
-    (c.in_err-character.ensures.steps.2 ∙ ap (λ (bs : List ℕ). slice_get (chars bs) 0) c.chars.ensures.rest) in
+    (c.in_err-character.ensures.steps.2 ∙ ap (λ bs. slice_get (chars bs) 0) c.chars.ensures.rest) in
     rw c.from_residual.ensures (none, none)
 
 -- it is the one item, and nothing is left behind it
@@ -67,7 +67,7 @@ bad_here : (c : goal.After-self-2-1)
     ∷ items_left (state_left c.self.inside.input.now c.self.inside.position true)
 bad_here c =
     rest_here (goal.at.returns-clause-steps c).In_default (Some c.in_ok-character.character)
-    (c.in_ok-character.ensures.steps.2 ∙ ap (λ (bs : List ℕ). slice_get (chars bs) 0) c.chars.ensures.rest)
+    (c.in_ok-character.ensures.steps.2 ∙ ap (λ bs. slice_get (chars bs) 0) c.chars.ensures.rest)
     ∙ ap (λ (items : List (Result TokenValue Error)). Err (UnexpectedChar c.in_ok-character.character) ∷ items)
     (sym (items_left-failed c.self.inside.input.now c.self.inside.position))
 

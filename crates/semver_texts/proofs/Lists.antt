@@ -1,0 +1,71 @@
+-- Lists, and what holds of each of their elements.
+use Rattle.std.proofs.Common.{◌≡◌, ℕ, Bool, true, false, List, [], ◌∷◌, ◌++◌, length, take, drop, refl, one-add}
+use Rattle.std.specs.Prelude.{IsTrue, slice_index}
+use Rattle.std.specs.List.{AllByRecursion, AllZip, prefix_len, join_with_byte}
+use Rattle.semver_texts.specs.Texts.{marked}
+
+pub tails : {x y : ℕ} {xs ys : List ℕ} → x ∷ xs ≡ y ∷ ys → xs ≡ ys
+tails e = cc
+
+pub all_more : {X : Type 0} {P Q : X → Type 0} → ((x : X) → P x → Q x) → (xs : List X) → AllByRecursion P xs → AllByRecursion Q xs
+all_more more [] all = tt
+all_more more (x ∷ xs) all = (more x all.0, all_more more xs all.1)
+
+pub all_apart : {X : Type 0} (P : X → Type 0) (xs ys : List X) → AllByRecursion P (xs ++ ys) → AllByRecursion P xs × AllByRecursion P ys
+all_apart P [] ys all = (tt, all)
+all_apart P (x ∷ xs) ys all = let both = all_apart P xs ys all.1 in ((all.0, both.0), both.1)
+
+-- from two lists, place by place
+pub all_zipped : {A B : Type 0} {R : A → B → Type 0} {P : B → Type 0} → ((a : A) (b : B) → R a b → P b) → (xs : List A) (ys : List B)
+    → AllZip R xs ys → AllByRecursion P ys
+all_zipped each [] [] all = tt
+all_zipped each [] (y ∷ ys) all = absurd all
+all_zipped each (x ∷ xs) [] all = absurd all
+all_zipped each (x ∷ xs) (y ∷ ys) all = (each x y all.0, all_zipped each xs ys all.1)
+
+-- ---- bytes
+
+-- either way a test goes
+pub by_test : {A : Type 0} (b : Bool) → (b ≡ true → A) → (b ≡ false → A) → A
+by_test true f g = f refl
+by_test false f g = g refl
+
+-- each byte passes the test
+abbrev pub Passes : (ℕ → Bool) → List ℕ → Type 0
+Passes p bs = AllByRecursion (λ b. IsTrue (p b)) bs
+
+pub passes_append : (p : ℕ → Bool) (xs ys : List ℕ) → Passes p xs → Passes p ys → Passes p (xs ++ ys)
+passes_append p [] ys a b = b
+passes_append p (x ∷ xs) ys a b = (a.0, passes_append p xs ys a.1 b)
+
+pub passes_apart : (p : ℕ → Bool) (xs ys : List ℕ) → Passes p (xs ++ ys) → Passes p xs × Passes p ys
+passes_apart p = all_apart (λ b. IsTrue (p b))
+
+-- the front that passes a test passes it
+pub all_of_prefix : (p : ℕ → Bool) (xs : List ℕ) → Passes p (take (prefix_len p xs) xs)
+all_of_prefix p [] = tt
+all_of_prefix p (x ∷ xs) = by_test (p x) (λ h. rw (h, one-add) (h, all_of_prefix p xs)) (λ h. rw h tt)
+
+-- what follows the longest front that passes a test fails it
+pub prefix_stops : (p : ℕ → Bool) (xs : List ℕ) → p 0 ≡ false → p (slice_index (drop (prefix_len p xs) xs) 0) ≡ false
+prefix_stops p [] past = past
+prefix_stops p (x ∷ xs) past = by_test (p x) (λ h. rw (h, one-add) (prefix_stops p xs past)) (λ h. rw h h)
+
+-- the longest front that passes a test, where a list that passes is followed by what fails it
+pub prefix_is : (p : ℕ → Bool) (xs ys : List ℕ) → Passes p xs → p 0 ≡ false → p (slice_index ys 0) ≡ false
+    → prefix_len p (xs ++ ys) ≡ length xs
+prefix_is p [] [] all past stop = refl
+prefix_is p [] (y ∷ ys) all past stop = rw stop
+prefix_is p (x ∷ xs) ys all past stop = rw (all.0, prefix_is p xs ys all.1 past stop, one-add)
+
+-- texts that pass, joined by dots, and behind a mark
+pub dotted_pass : (p : ℕ → Bool) → p 46 ≡ true → (xs : List (List ℕ)) → AllByRecursion (Passes p) xs → Passes p (join_with_byte 46 xs)
+dotted_pass p dot [] all = tt
+dotted_pass p dot (x ∷ []) all = all.0
+dotted_pass p dot (x ∷ y ∷ xs) all =
+    passes_append p x (46 ∷ join_with_byte 46 (y ∷ xs)) all.0 (dot, dotted_pass p dot (y ∷ xs) all.1)
+
+pub marked_passes : (p : ℕ → Bool) → p 46 ≡ true → (mark : ℕ) → p mark ≡ true → (xs : List (List ℕ)) → AllByRecursion (Passes p) xs
+    → Passes p (marked (mark ∷ []) xs)
+marked_passes p dot mark here [] all = tt
+marked_passes p dot mark here (x ∷ xs) all = (here, dotted_pass p dot (x ∷ xs) all)
