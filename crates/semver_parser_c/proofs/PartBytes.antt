@@ -1,13 +1,10 @@
 -- The bytes at the place of a part are what stands behind its mark.
-use Rattle.std.proofs.Common.{◌≡◌, ℕ, suc, ◌+◌, List, [], ◌∷◌, ◌++◌, length, take, drop, map, sym, refl, ap, ◌∙◌, arith, append_assoc}
-use Rattle.std.proofs.Common.{length-append, decimal}
-use Rattle.std.specs.List.{AllZip, join_with_byte}
+use Rattle.std.proofs.Common.{◌≡◌, ℕ, suc, ◌+◌, List, [], ◌∷◌, ◌++◌, length, take, drop, ap, refl, ◌∙◌, arith, append_assoc}
+use Rattle.std.proofs.Common.{length-append}
+use Rattle.std.specs.List.{join_with_byte}
 use Rattle.std.proofs.lemmas.List.{take_at, drop_at}
 use Rattle.semver_parser.specs.Texts.{marked}
-use Rattle.semver_parser.specs.Versions.{IdentifierValue, numeric, alphanumeric, VersionValue, numbers}
-use Rattle.semver_parser.specs.PrintedText.{identifier_text}
-use Rattle.semver_parser.specs.VersionGrammar.{SpellsIdentifier, SpellsPart, SpellsVersion}
-use Rattle.semver_parser_c.specs.Places.{behind_mark, bytes_at, dotted, numbers_end, told}
+use Rattle.semver_parser_c.specs.Places.{behind_mark, bytes_at}
 
 module _ (text lead part rest : List ℕ) (mark at : ℕ) (whole : text ≡ lead ++ (part ++ rest)) (place : at ≡ length lead) where
   pub marked_bytes : (texts : List (List ℕ)) → part ≡ marked (mark ∷ []) texts

@@ -1,6 +1,6 @@
 -- The numbers of what reading a version text or a range text answers.
 use Rattle.std.proofs.Common.{◌≡◌, ◌≢◌, ◌⊎◌, ◌↔◌, ℕ, ℤ, Bool, true, false, List, [], ◌∷◌, Option, Some, None, Result, Ok, Err, refl, sym}
-use Rattle.std.proofs.Common.{arith, pos, ◌<◌, ap, ◌∙◌, inl, inr, ⊎_elim, subst, IsUtf8, w32, to_z, of_z}
+use Rattle.std.proofs.Common.{arith, length, pos, ◌<◌, ap, ◌∙◌, inl, inr, ⊎_elim, subst, IsUtf8, w32, to_z, of_z}
 use Rattle.std.specs.Prelude.{⊤}
 use Rattle.std.specs.List.{AllByRecursion}
 use Rattle.semver_parser.specs.Texts.{Text}
@@ -12,19 +12,22 @@ use Rattle.semver_parser.specs.declared.lexer.Error.TheVariants as lexer_error
 use Rattle.semver_parser.specs.declared.RangeError.{RangeError}
 use Rattle.semver_parser.specs.declared.RangeError.TheVariants as range_error
 use Rattle.semver_parser.specs.Versions.{VersionValue}
-use Rattle.semver_parser.specs.VersionGrammar.{SpellsVersion}
-use Rattle.semver_parser.specs.VersionReading.{Refuses, ReadsVersion, IsOutcomeOf, whole_answer}
+use Rattle.semver_parser.specs.VersionGrammar.{SpellsVersion, IsVersionText}
+use Rattle.semver_parser.specs.VersionReading.{Refuses, ReadsVersion, IsOutcomeOf, TextMayRunOut, whole_answer}
 use Rattle.semver_parser.specs.ParserState as fault
 use Rattle.semver_parser.specs.ParserState.{ParserState, Fault}
-use Rattle.semver_parser.specs.ParserViews.{fault_of, answer_of, UnlessOutOfMemory}
+use Rattle.semver_parser.specs.ParserViews.{fault_of, answer_of, UnlessOutOfMemory, IfOutOfMemory}
 use Rattle.semver_parser.specs.VersionViews.{version_value}
 use Rattle.semver_parser.specs.declared.Compat.{Compat}
+use Rattle.semver_parser.specs.RangeTexts.{HasSet}
 use Rattle.semver_parser.specs.RewritingTable.{fits}
 use Rattle.semver_parser.proofs.ReadingComplete.{same_tree}
-use Rattle.semver_parser_c.specs.Numbers.{ok, no_room, version_out_of_memory, no_such_rule}
+use Rattle.semver_parser.proofs.VersionMemory.{may_run_out}
+use Rattle.release_filter.specs.declared.PreReleases.{PreReleases}
+use Rattle.semver_parser_c.specs.Numbers.{ok, no_room, version_not_utf8, version_out_of_memory, no_such_rule}
 use Rattle.semver_parser_c.specs.Faults.{IsOneOf, RangeIsRead, fault_number, range_fault_number, outcome_number, version_faults}
-use Rattle.semver_parser_c.specs.Faults.{range_faults, RefusesRange}
-use Rattle.semver_parser_c.specs.Rules.{IsMeeting, IsRule}
+use Rattle.semver_parser_c.specs.Faults.{range_faults, RefusesRange, RefusesVersion}
+use Rattle.semver_parser_c.specs.Rules.{IsAnswer, IsMeeting, IsRule}
 
 -- ---- the faults that a version text has
 
@@ -81,53 +84,79 @@ range_number range_error.OutOfMemory z is = inr (inr (inr (inl is)))
 
 -- ---- what a refused version text is
 
--- unless memory ran out, P
-unless_full : (e : Error) (P : Type 0) → UnlessOutOfMemory {T = Version} (Err e) P → (fault_number (fault_of e) ≡ version_out_of_memory) ⊎ P
-unless_full error.OutOfMemory P h = inl refl
-unless_full error.UnexpectedEnd P h = inr h
-unless_full (error.UnexpectedToken t) P h = inr h
-unless_full (error.Lexer x) P h = inr h
-unless_full (error.MoreInput ts) P h = inr h
-unless_full error.EmptyPredicate P h = inr h
-unless_full error.EmptyRange P h = inr h
-
-pub no_answer : (e : Error) (v : VersionValue) → answer_of version_value (Err e) ≡ Ok v → ⊥
-no_answer e v h = cc
-
--- a text that spells a version is refused for want of memory alone
-pub refused : (text : Text) (e : Error) (z : ℤ) → z ≡ fault_number (fault_of e)
-    → ((v : VersionValue) → UnlessOutOfMemory {T = Version} (Err e) ((answer_of version_value (Err e) ≡ Ok v) ↔ SpellsVersion v text))
-    → (v : VersionValue) → SpellsVersion v text → (z ≡ ok) ⊎ (z ≡ version_out_of_memory)
-refused text e z is exact v spelled =
-    elim (unless_full e _ (exact v)) [
-      | inl full ↦ inr (is ∙ full)
-      | inr iff ↦ absurd (no_answer e v (iff.1 spelled))
-    ]
-
--- any other refusal is a fault that is the text's outcome
-pub has_fault : (text : Text) (e : Error) (z : ℤ) → z ≡ fault_number (fault_of e)
-    → UnlessOutOfMemory {T = Version} (Err e) (IsOutcomeOf text (answer_of version_value (Err e)))
-    → z ≢ version_out_of_memory → (f : Fault) × IsOutcomeOf text (Err f) × (z ≡ fault_number f)
-has_fault text e z is outcome other =
-    elim (unless_full e _ outcome) [
-      | inl full ↦ absurd (other (is ∙ full))
-      | inr h ↦ (fault_of e, h, is)
-    ]
-
--- so it has the number of the text's outcome
-pub has_outcome : (text : Text) (e : Error) (z : ℤ) → z ≡ fault_number (fault_of e)
-    → UnlessOutOfMemory {T = Version} (Err e) (IsOutcomeOf text (answer_of version_value (Err e)))
-    → z ≢ version_out_of_memory → (r : Result VersionValue Fault) × IsOutcomeOf text r × (z ≡ outcome_number r)
-has_outcome text e z is outcome other =
-    let h = has_fault text e z is outcome other in
-    (Err h.0, h.1, h.2)
-
--- ---- whether a version meets a range
-
 -- what is so of each number of a list is so of one of them
 among : (P : ℤ → Type 0) (ms : List ℤ) → AllByRecursion P ms → (n : ℤ) → IsOneOf ms n → P n
 among P [] all n one = absurd one
 among P (m ∷ ms) all n one = ⊎_elim (λ is. subst P (sym is) all.0) (λ later. among P ms all.1 n later) one
+
+pub differ : (m n : ℕ) → ¬ (m ≡ n) → pos m ≡ pos n → ⊥
+differ m n other is = let same : m ≡ n = cc in other same
+
+-- no fault of a text is that it is no UTF-8
+of_utf8 : (f : Fault) → fault_number f ≡ version_not_utf8 → ⊥
+of_utf8 fault.UnexpectedEnd = differ 3 2 (λ e. omega (arith, e))
+of_utf8 (fault.UnexpectedToken t) = differ 4 2 (λ e. omega (arith, e))
+of_utf8 (fault.Lexer c) = differ 5 2 (λ e. omega (arith, e))
+of_utf8 (fault.MoreInput ts) = differ 6 2 (λ e. omega (arith, e))
+of_utf8 fault.EmptyPredicate = differ 7 2 (λ e. omega (arith, e))
+of_utf8 fault.EmptyRange = differ 8 2 (λ e. omega (arith, e))
+of_utf8 fault.OutOfMemory = differ 9 2 (λ e. omega (arith, e))
+
+-- what is told of want of memory and of other faults, by the number
+by_memory : (e : Error) (P Q : Type 0) → UnlessOutOfMemory {T = Version} (Err e) P → IfOutOfMemory {T = Version} (Err e) Q
+    → (fault_number (fault_of e) ≢ version_out_of_memory → P) × (fault_number (fault_of e) ≡ version_out_of_memory → Q)
+by_memory error.OutOfMemory P Q p q = (λ other. absurd (other refl), λ is. q)
+by_memory error.UnexpectedEnd P Q p q = (λ other. p, λ is. absurd (differ 3 9 (λ e. omega (arith, e)) is))
+by_memory (error.UnexpectedToken t) P Q p q = (λ other. p, λ is. absurd (differ 4 9 (λ e. omega (arith, e)) is))
+by_memory (error.Lexer (lexer_error.UnexpectedChar c)) P Q p q = (λ other. p, λ is. absurd (differ 5 9 (λ e. omega (arith, e)) is))
+by_memory (error.MoreInput ts) P Q p q = (λ other. p, λ is. absurd (differ 6 9 (λ e. omega (arith, e)) is))
+by_memory error.EmptyPredicate P Q p q = (λ other. p, λ is. absurd (differ 7 9 (λ e. omega (arith, e)) is))
+by_memory error.EmptyRange P Q p q = (λ other. p, λ is. absurd (differ 8 9 (λ e. omega (arith, e)) is))
+
+-- a text that spells no version, and was refused by its tokens
+pub refused_text : (text : Text) (e : Error) → IsUtf8 text → ¬ (IsVersionText text)
+    → UnlessOutOfMemory {T = Version} (Err e) (IsOutcomeOf text (answer_of version_value (Err e)))
+    → IfOutOfMemory {T = Version} (Err e) (TextMayRunOut text) → RefusesVersion text (fault_number (fault_of e))
+refused_text text e utf8 none outcome memory =
+    let told = by_memory e _ _ outcome memory in
+    record {
+      one = version_number text e _ refl outcome;
+      not_utf8 = (λ is. absurd (of_utf8 (fault_of e) is), λ bad. absurd (bad utf8));
+      accepted = λ v _ spelled. absurd (none (v, spelled));
+      refused = λ _ other. (fault_of e, told.0 other, refl);
+      out_of_memory = told.1;
+    }
+
+-- its fault, and its outcome, by the number that C gets
+module _ (text : Text) (z n : ℤ) (same : z ≡ n) (refused : RefusesVersion text n) (utf8 : IsUtf8 text) (other : z ≢ version_out_of_memory)
+  where
+  pub refused_fault : (e : Fault) × IsOutcomeOf text (Err e) × (z ≡ fault_number e)
+  refused_fault =
+      let h = refused.refused utf8 (λ full. other (same ∙ full)) in
+      (h.0, h.1, same ∙ h.2)
+
+  pub refused_outcome : (r : Result VersionValue Fault) × IsOutcomeOf text r × (z ≡ outcome_number r)
+  refused_outcome =
+      let h = refused_fault in
+      (Err h.0, h.1, h.2)
+
+-- a version whose memory wasn't found
+pub refused_memory : (text : Text) → IsUtf8 text → (v : VersionValue) → SpellsVersion v text → 0 < length v.plain.pre
+    → RefusesVersion text version_out_of_memory
+refused_memory text utf8 v spells some = record {
+  one = inr (inr (inr (inr (inr (inl refl)))));
+  not_utf8 = (λ is. absurd (differ 9 2 (λ e. omega (arith, e)) is), λ bad. absurd (bad utf8));
+  accepted = λ _ _ _. refl;
+  refused = λ _ other. absurd (other refl);
+  out_of_memory = λ _. may_run_out v text spells (inl some);
+}
+
+-- the number that C gets of a fault is that number
+pub told_version : (text : Text) (n : ℤ) → RefusesVersion text n → to_z w32 (of_z w32 n) ≡ n
+told_version text n refused =
+    among (λ m. to_z w32 (of_z w32 m) ≡ m) version_faults (refl, (refl, (refl, (refl, (refl, (refl, tt)))))) n refused.one
+
+-- ---- whether a version meets a range
 
 far : (m : ℕ) → 0 < m → m < 14 → (pos m ≡ ok) ⊎ (pos m ≡ no_room) → ⊥
 far m some less put = ⊎_elim (λ (is : pos m ≡ pos 0). let same : m ≡ 0 = cc in omega (arith, same, some))
@@ -180,6 +209,35 @@ isnt_read Asked mode text z n same one asked refused read = ⊎_elim
     clash : false ≡ true → ⊥
     clash h = cc
 
+-- a range that was read isn't refused where the version is
+pub range_stands : (Asked : Type 0) (mode : Compat) (range : Text) (n : ℤ) → IsOneOf version_faults n → IsUtf8 range → HasSet mode range
+    → RefusesRange Asked mode range n
+range_stands Asked mode range n one utf8 (tree, spells, fit) =
+    let (bytes, text, large, memory) = among IsNone version_faults (
+      none 2 (omega arith),
+      (none 3 (omega arith), (none 4 (omega arith), (none 5 (omega arith), (none 6 (omega arith), (none 9 (omega arith), tt))))),
+    ) n one in
+    record {
+      not_utf8 = λ _. (λ is. absurd (bytes is), λ bad. absurd (bad utf8));
+      not_a_range = λ _ _. (λ is. absurd (text is), λ bad. absurd (bad (tree, spells)));
+      too_large = λ _ _. (λ is. absurd (large is), λ h. clash (sym h.2 ∙ ap (fits mode) (same_tree h.0 tree range h.1 spells) ∙ fit));
+      out_of_memory = λ is. absurd (memory is);
+    }
+  where
+    clash : {P : Type 0} → false ≡ true → P
+    clash h = cc
+
+    IsNone : ℤ → Type 0
+    IsNone m = ((m ≡ pos 10) → ⊥) × ((m ≡ pos 11) → ⊥) × ((m ≡ pos 12) → ⊥) × ((m ≡ pos 13) → ⊥)
+
+    none : (m : ℕ) → m < 10 → IsNone (pos m)
+    none m small = (
+      differ m 10 (λ e. omega (arith, e, small)),
+      differ m 11 (λ e. omega (arith, e, small)),
+      differ m 12 (λ e. omega (arith, e, small)),
+      differ m 13 (λ e. omega (arith, e, small)),
+    )
+
 -- and one that was refused for the rule or the range isn't
 pub isnt_read_by : (rule : ℤ) (mode : Compat) (text : Text) (z n : ℤ) → z ≡ n → IsOneOf (no_such_rule ∷ range_faults) n
     → IsRule rule → ((n ≡ no_such_rule) ↔ ¬ (IsRule rule)) → RefusesRange (IsRule rule) mode text n
@@ -203,3 +261,16 @@ no_meeting byte one meeting = ⊎_elim (λ is. apart byte 2 is (omega arith) mee
     (⊎_elim (λ is. apart byte 6 is (omega arith) meeting)
     (⊎_elim (λ is. apart byte 9 is (omega arith) meeting) (λ none. none))))))
     one
+
+-- so the byte for it is what there is to say of the text
+pub fault_answer : (rule : PreReleases) (mode : Compat) (range text : Text) (byte : ℕ) → RefusesVersion text (pos byte)
+    → IsAnswer rule mode range text byte
+fault_answer rule mode range text byte r = record {
+  one = inr r.one;
+  meaning = λ meeting. absurd (no_meeting byte r.one meeting);
+  read = λ meeting. absurd (no_meeting byte r.one meeting);
+  accepted = λ v utf8 spelled. inr (r.accepted v utf8 spelled);
+  not_utf8 = r.not_utf8;
+  refused = λ utf8 none other. r.refused utf8 other;
+  out_of_memory = r.out_of_memory;
+}

@@ -62,6 +62,7 @@ pub fn judge(alloc: Global, filter: &Filter, version: &[u8]) -> Result<bool, i32
     ensures met { IfOk result (λ met. (v : VersionValue) → SpellsVersion v version.now
         → met ≡ passes filter.now v) }
     ensures read { IfOk result (λ met. IsVersionText version.now) }
+    ensures utf8 { IfOk result (λ met. IsUtf8 version.now) }
     ensures refused { IfErr result (RefusesVersion version.now) }
 {
     let Ok(text) = std::str::from_utf8(version) else {

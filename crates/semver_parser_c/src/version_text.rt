@@ -14,6 +14,7 @@ use std::alloc::Global;
 /// The outline of a text, or the number of its fault.
 pub fn outline(alloc: Global, text: &[u8]) -> Result<Outline<'_>, i32>
     ensures outlined { IfOk result (λ o. IsOutlineOf text.now o) }
+    ensures utf8 { IfOk result (λ _. IsUtf8 text.now) }
     ensures places { IfOk result (λ o. StandsAt o.pre_offset o.pre text.now
         × StandsAt o.build_offset o.build text.now) }
     ensures refused { IfErr result (RefusesVersion text.now) }
@@ -33,10 +34,10 @@ pub fn fault(alloc: Global, text: &str) -> i32
     requires { ¬ (IsVersionText text.now) }
     ensures { RefusesVersion text.now result }
 {
-    match version::parse(alloc, text) {
-        Ok(_) => unreachable!(),
-        Err(error) => fault_number(&error),
-    }
+    let Err(error) = version::parse(alloc, text) else {
+        unreachable!();
+    };
+    fault_number(&error)
 }
 
 /// The number of a fault.

@@ -1,10 +1,7 @@
-use Rattle.std.proofs.Common.{rules, ◌≡◌, ◌≢◌, Err, sym, ◌∙◌, inl, inr, ⊎_elim, subst, w32, to_z, of_z}
-use Rattle.semver_parser.specs.VersionReading.{IsOutcomeOf}
-use Rattle.semver_parser.specs.ParserState.{Fault}
-use Rattle.semver_parser_c.specs.Numbers as number
-use Rattle.semver_parser_c.specs.Faults.{fault_number, mode_of, RangeIsRead}
+use Rattle.std.proofs.Common.{rules, ◌≡◌, sym, ◌∙◌, inl, inr, subst, w32, to_z, of_z}
+use Rattle.semver_parser_c.specs.Faults.{IsOneOf, mode_of, version_faults, RangeIsRead}
 use Rattle.semver_parser_c.specs.Rules.{IsRule}
-use Rattle.semver_parser_c.proofs.Steps.{isnt_read_by, refused_alike}
+use Rattle.semver_parser_c.proofs.Steps.{isnt_read_by, refused_alike, told_version, range_stands, refused_fault}
 use Rattle.semver_parser_c.proofs.semver_parser_proved_meets.Goals as goal
 use Rattle.semver_parser_c.proofs.semver_parser_proved_meets.Goals.{In-Err}
 
@@ -33,15 +30,18 @@ pub returns-in-Err-clause-version_refused : goal.returns-in-Err-clause-version_r
 returns-in-Err-clause-version_refused c = λ is read. absurd (refused (goal.at.returns-in-Err-clause-version_refused c).In-Err is read)
 
 -- where the version was refused
+pub returns-clause-refusals : goal.returns-clause-refusals
+returns-clause-refusals c =
+    let read = c.in-Ok.ensures.accepted in
+    let same = told_version c.args.version.now c.in-Err-judge.fault c.in-Err-judge.ensures.refused in
+    range_stands _ _ c.args.range.now _ (subst (IsOneOf version_faults) (sym same) c.in-Err-judge.ensures.refused.one) read.1 read.2
+
 pub returns-clause-accepted : goal.returns-clause-accepted
-returns-clause-accepted c =
-    let same : to_z w32 (of_z w32 c.in-Err-judge.fault) ≡ c.in-Err-judge.fault = search rules in
-    λ is read v utf8 spelled. ⊎_elim (λ done. inl (same ∙ done)) (λ full. inr (inl (same ∙ full)))
-    (c.in-Err-judge.ensures.accepted v utf8 spelled)
+returns-clause-accepted c = λ is read v utf8 spelled.
+    inr (inl (told_version c.args.version.now c.in-Err-judge.fault c.in-Err-judge.ensures.refused
+    ∙ c.in-Err-judge.ensures.refused.accepted v utf8 spelled))
 
 pub returns-clause-version_refused : goal.returns-clause-version_refused
-returns-clause-version_refused c =
-    let same : to_z w32 (of_z w32 c.in-Err-judge.fault) ≡ c.in-Err-judge.fault = search rules in
-    λ is read utf8 none other.
-    subst (λ z. (e : Fault) × IsOutcomeOf c.args.version.now (Err e) × (z ≡ fault_number e)) (sym same)
-    (c.in-Err-judge.ensures.refused utf8 (subst (λ z. z ≢ number.version_out_of_memory) same other))
+returns-clause-version_refused c = λ is read utf8 none other.
+    refused_fault c.args.version.now _ _ (told_version c.args.version.now c.in-Err-judge.fault c.in-Err-judge.ensures.refused)
+    c.in-Err-judge.ensures.refused utf8 other

@@ -1,0 +1,27 @@
+use Rattle.std.proofs.Common.{ap, refl, ◌∙◌, length, take, drop, Ok}
+use Rattle.semver_parser.specs.Outlines.{OutlineValue, dotted_text}
+use Rattle.semver_parser.specs.Versions.{VersionValue}
+use Rattle.semver_parser.proofs.OneVersion.{one_version}
+use Rattle.semver_parser.proofs.WholeText.{spelled_outcome}
+use Rattle.semver_parser_c.proofs.Steps.{told_version, refused_outcome}
+use Rattle.semver_parser_c.proofs.semver_parser_proved_parse_version.Goals as goal
+
+pub returns-in-Ok-clause-parts : goal.returns-in-Ok-clause-parts
+returns-in-Ok-clause-parts c = λ _ v spells.
+    let text = c.args.text.now in
+    let (u, spelled, is) = c.in-Ok.ensures.outlined in
+    let same = one_version u v text spelled spells in (
+      (λ i. take (length (c.pre.ensures i)) (drop (c.pre_offset.ensures i) text)) ∙ c.in-Ok.ensures.places.0
+          ∙ ap (λ (o : OutlineValue). o.pre) is ∙ ap (λ (x : VersionValue). dotted_text x.plain.pre) same,
+      (λ i. take (length (c.build.ensures i)) (drop (c.build_offset.ensures i) text)) ∙ c.in-Ok.ensures.places.1
+          ∙ ap (λ (o : OutlineValue). o.build) is ∙ ap (λ (x : VersionValue). dotted_text x.build) same,
+    )
+
+pub returns-in-Ok-clause-outcome : goal.returns-in-Ok-clause-outcome
+returns-in-Ok-clause-outcome c = λ utf8 other.
+    let (v, spells, _) = c.in-Ok.ensures.outlined in
+    (Ok v, spelled_outcome v c.args.text.now spells, refl)
+
+pub returns-in-Err-clause-outcome : goal.returns-in-Err-clause-outcome
+returns-in-Err-clause-outcome c =
+    refused_outcome c.args.text.now _ _ (told_version c.args.text.now c.in-Err.number c.in-Err.ensures.refused) c.in-Err.ensures.refused
