@@ -17,7 +17,7 @@ use Rattle.semver_texts.specs.Texts.{Text, marked, is_part_byte, IsRun, is_dot}
 use Rattle.semver_texts.specs.Versions.{IdentifierValue}
 use Rattle.semver_texts.specs.VersionGrammar.{IsIdentifierText, SpellsIdentifier}
 use Rattle.semver_versions.specs.Means.Cutting.{cut_at_dots, AreIdentifiers, is_inner_byte, BeginsWithIdentifiers, IsPart}
-use Rattle.semver_texts.proofs.Lists.{tails, Passes, all_more, passes_append, dotted_pass}
+use Rattle.semver_texts.proofs.Lists.{tails, Passes, all_more, passes_append, joined_pass}
 use Rattle.semver_versions.proofs.OneVersion.{IsPartText, joined_runs, joined_some, split_joined}
 use Rattle.semver_tokens.proofs.FirstToken.{never, prefix_stops}
 use Rattle.semver_tokens.proofs.TokenLists.{prefix_is}
@@ -163,7 +163,7 @@ identifier_part text w = subst IsPartText (sym w.joined) (joined_runs w.runs w.s
 
 some_joined : (texts : List Text) → 0 < length texts → AllByRecursion IsIdentifierText texts → 0 < length (join_with_byte 46 texts)
 some_joined [] some each = absurd (omega (arith, some))
-some_joined (t ∷ texts) some each = joined_some t texts (identifier_part t each.0).0
+some_joined (t ∷ texts) some each = joined_some 46 t texts (identifier_part t each.0).0
 
 pub some_cut : (text : Text) → 0 < length text → cut_at_dots text ≡ slice_split is_dot text
 some_cut [] some = absurd (omega (arith, some))
@@ -254,11 +254,11 @@ marked_cut mark text some =
     ∙ marked_some (mark ∷ []) (slice_split is_dot text) (omega (arith, length-slice_split is_dot text))
     ∙ ap (λ t. mark ∷ t) (join_with_byte-slice_split 46 text)
 
-inner_passes : (inner : Text) → AreIdentifiers inner → Passes is_inner_byte inner
+pub inner_passes : (inner : Text) → AreIdentifiers inner → Passes is_inner_byte inner
 inner_passes [] each = tt
 inner_passes (b ∷ inner) each =
     subst (Passes is_inner_byte) (join_with_byte-slice_split 46 (b ∷ inner))
-    (dotted_pass is_inner_byte refl (cut_at_dots (b ∷ inner)) (all_more inner_text (cut_at_dots (b ∷ inner)) each))
+    (joined_pass is_inner_byte 46 refl (cut_at_dots (b ∷ inner)) (all_more inner_text (cut_at_dots (b ∷ inner)) each))
   where
     part_is_inner : (b : ℕ) → is_part_byte b ≡ true → is_inner_byte b ≡ true
     part_is_inner b h = rw h refl

@@ -27,7 +27,7 @@ use Rattle.semver_tokens.proofs.TokenLists.{same_tokens, decimal_is_run}
 use Rattle.semver_steps.proofs.ReadingSteps.{same_front, reads_once}
 use Rattle.semver_steps.proofs.IdentifierSteps.{identifier_is_read}
 use Rattle.semver_steps.proofs.IdentifierTexts.{pieces, pieces_text, IsPlaced, each_placed}
-use Rattle.semver_texts.proofs.Lists.{Passes, all_more, all_apart, passes_append, passes_apart, dotted_pass}
+use Rattle.semver_texts.proofs.Lists.{Passes, all_more, all_apart, passes_append, passes_apart, joined_pass}
 use Rattle.semver_tokens.proofs.FirstToken.{run_is_part}
 use Rattle.semver_versions.proofs.OneVersion.{part_passes, bare, one_core}
 use Rattle.semver_versions.proofs.VersionTokens.{HasTokens, version_tokens}
@@ -60,7 +60,7 @@ core_passes : (p : ℕ → Bool) → ((b : ℕ) → is_ascii_alphanumeric b ≡ 
 core_passes p letters dot v core w pre build =
     subst (Passes p) (sym w.spelled)
     (passes_append p (three ++ w.pre_text) w.build_text (passes_append p three w.pre_text
-    (dotted_pass p dot (map decimal (numbers v.plain)) (number _ w.major, (number _ w.minor, (number _ w.patch, tt)))) pre) build)
+    (joined_pass p 46 dot (map decimal (numbers v.plain)) (number _ w.major, (number _ w.minor, (number _ w.patch, tt)))) pre) build)
   where
     three : List ℕ
     three = join_with_byte 46 (map decimal (numbers v.plain))
