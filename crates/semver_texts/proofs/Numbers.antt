@@ -1,5 +1,5 @@
 -- Texts, and the numbers that they spell.
-use Rattle.std.proofs.Common.{◌≡◌, ℕ, ◌^◌, ◌<◌, ◌≢◌, Bool, true, false, cond, eqb, List, [], ◌∷◌, ◌++◌, length, take, drop, map, get_or}
+use Rattle.std.proofs.Common.{◌≡◌, ℕ, ◌^◌, ◌<◌, ◌≢◌, true, false, eqb, List, [], ◌∷◌, ◌++◌, length, take, drop, map, get_or}
 use Rattle.std.proofs.Common.{sym, refl, ap, ◌∙◌, subst, ⊎_elim}
 use Rattle.std.proofs.Common.{arith, decimal, ◌⊎◌, ◌+◌, ◌-◌, ◌*◌, ◌≤◌, one-add, append_assoc, append-nil, length-drop}
 use Rattle.std.proofs.Math.Seq.{take-length}
