@@ -13,7 +13,7 @@ use Rattle.std.proofs.lemmas.Option.{none-some}
 use Rattle.std.proofs.lemmas.Grind.{flat_map-append}
 use Rattle.std.proofs.lemmas.Bool.Decides.{nat_tests}
 use Rattle.semver_texts.specs.Texts.{marked, is_part_byte, is_space}
-use Rattle.semver_tokens.specs.Tokens.{TokenValue, Dot, Hyphen, Plus, Whitespace, Numeric, token_text, tokens_text, IsTokenAt, AreInPlace}
+use Rattle.semver_tokens.specs.Tokens.{TokenValue, Dot, Hyphen, Plus, Whitespace, Numeric, token_text, tokens_text, AreInPlace}
 use Rattle.semver_tokens.specs.Tokens.{AreTokensOf}
 use Rattle.semver_texts.specs.Versions.{IdentifierValue, numeric, alphanumeric, VersionValue, numbers}
 use Rattle.semver_texts.specs.PrintedText.{identifier_text, version_text}
