@@ -1,10 +1,11 @@
 -- Components, as they are read byte by byte.
 use Rattle.std.proofs.Common.{◌≡◌, ℕ, suc, ◌+◌, ◌-◌, ◌*◌, ◌<◌, ◌≤◌, true, false, ◌||◌, ◌==◌, [], ◌∷◌, ◌++◌, length, get_or, take, drop}
-use Rattle.std.proofs.Common.{Option, Some, refl, sym, ap, ◌∙◌, subst, arith, inl, inr}
+use Rattle.std.proofs.Common.{Option, Some, refl, sym, ap, ◌∙◌, subst, arith}
 use Rattle.std.specs.Char.{is_ascii_digit, digit_value}
 use Rattle.std.specs.Str.Parse.{digits_value}
 use Rattle.std.proofs.Math.Seq.{take-length, take-suc}
-use Rattle.std.proofs.lemmas.Bool.{cases_Bool, or_cases, or_left, eqb-true}
+use Rattle.std.proofs.lemmas.Bool.{or_left}
+use Rattle.std.proofs.lemmas.Bool.Decides.{nat_tests}
 use Rattle.std.proofs.lemmas.Str.{digit_value_digit}
 use Rattle.std.proofs.lemmas.Int.Digits.{digits_value_push}
 use Rattle.semver_ranges.specs.RangeTree.{is_wildcard}
@@ -50,16 +51,7 @@ digit_bounds : (b : ℕ) → is_ascii_digit b ≡ true → (48 ≤ b) × (b ≤ 
 digit_bounds b e = grind arith
 
 no_wildcard : (b : ℕ) (t : Text) → is_ascii_digit b ≡ true → is_wildcard (b ∷ t) ≡ false
-no_wildcard b [] e = elim (cases_Bool (is_wildcard (b ∷ []))) [
-  | inl y ↦ let range = digit_bounds b e in elim (or_cases ((b == 120) || (b == 88)) (b == 42) y) [
-    | inl h ↦ elim (or_cases (b == 120) (b == 88) h) [
-      | inl x ↦ let same : b ≡ 120 = eqb-true b 120 x in absurd (omega (arith, same, range.1))
-      | inr x ↦ let same : b ≡ 88 = eqb-true b 88 x in absurd (omega (arith, same, range.1))
-    ]
-    | inr x ↦ let same : b ≡ 42 = eqb-true b 42 x in absurd (omega (arith, same, range.0))
-  ]
-  | inr n ↦ n
-]
+no_wildcard b [] e = grind (arith, nat_tests)
 no_wildcard b (c ∷ t) e = refl
 
 digit_component : (b : ℕ) (t : Text) → is_ascii_digit b ≡ true → (b == 48) ≡ false

@@ -10,7 +10,7 @@ use Rattle.semver_texts.specs.Texts.{is_empty}
 use Rattle.semver_texts.specs.Versions.{IdentifierValue}
 use Rattle.semver_ranges.specs.Partials.{stated, states_nothing, zero_version}
 use Rattle.semver_ranges.specs.Terms.{of_simple, left_side, right_side, terms}
-use Rattle.semver_ranges.specs.RewritingTable.{PlainComparator, comparator, term_fits, written_simple, written_range, fits}
+use Rattle.semver_ranges.specs.RewritingTable.{comparator, term_fits, written_simple, written_range, fits}
 use Rattle.semver_ranges.specs.Means.RangeEvents.{Event, next_range, yielded, in_front, events_of, range_simples, range_others, bars}
 use Rattle.semver_ranges.specs.Means.RangeEvents.{simple_fits, event_fits}
 use Rattle.semver_ranges.specs.Means.BoundsViews.{range_of_simples, range_for}

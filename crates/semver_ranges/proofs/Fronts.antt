@@ -1,5 +1,6 @@
 -- The longest front of a text whose bytes pass, as a loop over its places finds it.
-use Rattle.std.proofs.Common.{◌≡◌, ℕ, zero, suc, ◌+◌, ◌<◌, ◌≤◌, Bool, true, false, [], ◌∷◌, ◌++◌, length, get_or, take, drop, refl, sym, ap}
+use Rattle.std.proofs.lemmas.List.{drop_all, drop_more}
+use Rattle.std.proofs.Common.{◌≡◌, ℕ, suc, ◌+◌, ◌<◌, ◌≤◌, Bool, true, false, [], ◌∷◌, ◌++◌, length, get_or, take, drop, refl, sym, ap}
 use Rattle.std.proofs.Common.{◌∙◌, arith, append-nil, append_assoc}
 use Rattle.std.proofs.Math.Seq.{take-suc}
 use Rattle.semver_texts.specs.Texts.{Text}
@@ -7,37 +8,23 @@ use Rattle.semver_ranges.specs.Means.Reading.{front, back}
 
 -- a byte that passes, one that doesn't, and the end
 pub back_more : (p : ℕ → Bool) (t : Text) (i : ℕ) → i < length t → p (get_or t i 0) ≡ true → back p (drop i t) ≡ back p (drop (i + 1) t)
-back_more p [] i within e = absurd (omega arith)
-back_more p (b ∷ t) zero within e = rw e refl
-back_more p (b ∷ t) (suc i) within e = let next : suc i + 1 ≡ suc (i + 1) = omega arith in rw next (back_more p t i (omega arith) e)
+back_more p t i within e = rw (drop_more t i 0 within, e) refl
 
 pub back_stops : (p : ℕ → Bool) (t : Text) (i : ℕ) → i < length t → p (get_or t i 0) ≡ false → back p (drop i t) ≡ drop i t
-back_stops p [] i within e = absurd (omega arith)
-back_stops p (b ∷ t) zero within e = rw e refl
-back_stops p (b ∷ t) (suc i) within e = back_stops p t i (omega arith) e
+back_stops p t i within e = rw (drop_more t i 0 within, e) refl
 
 pub back_ends : (p : ℕ → Bool) (t : Text) (i : ℕ) → length t ≤ i → back p (drop i t) ≡ drop i t
-back_ends p [] zero within = refl
-back_ends p [] (suc i) within = refl
-back_ends p (b ∷ t) zero within = absurd (omega arith)
-back_ends p (b ∷ t) (suc i) within = back_ends p t i (omega arith)
+back_ends p t i within = rw (drop_all i t within) refl
 
 front_more : (p : ℕ → Bool) (t : Text) (i : ℕ) → i < length t → p (get_or t i 0) ≡ true
     → front p (drop i t) ≡ get_or t i 0 ∷ front p (drop (i + 1) t)
-front_more p [] i within e = absurd (omega arith)
-front_more p (b ∷ t) zero within e = rw e refl
-front_more p (b ∷ t) (suc i) within e = let next : suc i + 1 ≡ suc (i + 1) = omega arith in rw next (front_more p t i (omega arith) e)
+front_more p t i within e = rw (drop_more t i 0 within, e) refl
 
 front_stops : (p : ℕ → Bool) (t : Text) (i : ℕ) → i < length t → p (get_or t i 0) ≡ false → front p (drop i t) ≡ []
-front_stops p [] i within e = absurd (omega arith)
-front_stops p (b ∷ t) zero within e = rw e refl
-front_stops p (b ∷ t) (suc i) within e = front_stops p t i (omega arith) e
+front_stops p t i within e = rw (drop_more t i 0 within, e) refl
 
 front_ends : (p : ℕ → Bool) (t : Text) (i : ℕ) → length t ≤ i → front p (drop i t) ≡ []
-front_ends p [] zero within = refl
-front_ends p [] (suc i) within = refl
-front_ends p (b ∷ t) zero within = absurd (omega arith)
-front_ends p (b ∷ t) (suc i) within = front_ends p t i (omega arith)
+front_ends p t i within = rw (drop_all i t within) refl
 
 -- the front so far, as a loop keeps it
 pub taken_more : (p : ℕ → Bool) (t : Text) (i : ℕ) → i < length t → p (get_or t i 0) ≡ true → front p t ≡ take i t ++ front p (drop i t)

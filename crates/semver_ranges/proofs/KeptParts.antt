@@ -1,5 +1,5 @@
 -- Numbers and parts, as `parse` of a `u64` reads them.
-use Rattle.std.proofs.Common.{◌≡◌, ℕ, ◌^◌, ◌<◌, Bool, true, ◌&&◌, [], ◌∷◌, length, get_or, Ok, Err, if◌then◌else◌, inl, inr, sym, ap, ◌∙◌}
+use Rattle.std.proofs.Common.{◌≡◌, ℕ, ◌^◌, ◌<◌, true, ◌&&◌, [], ◌∷◌, length, get_or, Ok, Err, if◌then◌else◌, inl, inr, sym, ap, ◌∙◌}
 use Rattle.std.proofs.Common.{arith}
 use Rattle.std.specs.Str.{all_ascii_digits}
 use Rattle.std.specs.Str.Parse.{digits_value, ParsesUnsigned}

@@ -1,7 +1,8 @@
 -- Parts and dots at the front of a text, byte by byte.
+use Rattle.std.proofs.lemmas.List.{drop_all, drop_more}
 use Rattle.std.specs.Prelude.{MatchOption}
-use Rattle.std.proofs.Common.{◌≡◌, ℕ, zero, suc, ◌+◌, ◌<◌, ◌≤◌, Bool, true, false, ◌&&◌, ◌==◌, Option, Some, None, List, [], ◌∷◌, length}
-use Rattle.std.proofs.Common.{get_or, take, drop, if◌then◌else◌, refl, sym, ◌∙◌, arith, inl, inr}
+use Rattle.std.proofs.Common.{◌≡◌, ℕ, ◌+◌, ◌<◌, ◌≤◌, Bool, true, false, ◌&&◌, ◌==◌, Option, Some, None, List, [], ◌∷◌, length}
+use Rattle.std.proofs.Common.{get_or, take, drop, if◌then◌else◌, refl, sym, ◌∙◌, inl, inr}
 use Rattle.std.specs.List.{list_all, slice_split}
 use Rattle.std.proofs.lemmas.Bool.{cases_Bool, eqb-true, false_from_ne_true}
 use Rattle.semver_ranges.specs.RangeTree.{is_part}
@@ -66,35 +67,25 @@ in_dot b e = rw e (refl, refl)
 
 pub run-dot : (begun : Bool) (t : Text) (i : ℕ) → i < length t → get_or t i 0 ≡ 46
     → run_pass begun (drop i t) ≡ (begun && run_pass false (drop (i + 1) t))
-run-dot begun [] i within e = absurd (omega arith)
-run-dot begun (b ∷ t) zero within e = let h = in_dot b e in rw h.1 (rw h.0 refl)
-run-dot begun (b ∷ t) (suc i) within e = let next : suc i + 1 ≡ suc (i + 1) = omega arith in rw next (run-dot begun t i (omega arith) e)
+run-dot begun t i within e = let h = in_dot (get_or t i 0) e in rw (drop_more t i 0 within, h.1) (rw h.0 refl)
 
 in_byte : (b : ℕ) → is_part_byte b ≡ true → in_parts b ≡ true
 in_byte b e = rw e refl
 
 pub run-byte : (begun : Bool) (t : Text) (i : ℕ) → i < length t → (get_or t i 0 ≡ 46 → ⊥) → is_part_byte (get_or t i 0) ≡ true
     → run_pass begun (drop i t) ≡ run_pass true (drop (i + 1) t)
-run-byte begun [] i within other e = absurd (omega arith)
-run-byte begun (b ∷ t) zero within other e =
-    let no : is_dot b ≡ false = false_from_ne_true (b == 46) (λ h. other (eqb-true b 46 h)) in
-    rw (in_byte b e) (rw no (rw e refl))
-run-byte begun (b ∷ t) (suc i) within other e =
-    let next : suc i + 1 ≡ suc (i + 1) = omega arith in rw next (run-byte begun t i (omega arith) other e)
+run-byte begun t i within other e =
+    let no : is_dot (get_or t i 0) ≡ false = false_from_ne_true (get_or t i 0 == 46) (λ h. other (eqb-true (get_or t i 0) 46 h)) in
+    rw (drop_more t i 0 within, in_byte (get_or t i 0) e) (rw no (rw e refl))
 
 pub in_parts-not : (b : ℕ) → (b ≡ 46 → ⊥) → is_part_byte b ≡ false → in_parts b ≡ false
 in_parts-not b other e = let no : is_dot b ≡ false = false_from_ne_true (b == 46) (λ h. other (eqb-true b 46 h)) in rw (e, no) refl
 
 pub run-stop : (begun : Bool) (t : Text) (i : ℕ) → i < length t → in_parts (get_or t i 0) ≡ false → run_pass begun (drop i t) ≡ begun
-run-stop begun [] i within e = absurd (omega arith)
-run-stop begun (b ∷ t) zero within e = rw e refl
-run-stop begun (b ∷ t) (suc i) within e = run-stop begun t i (omega arith) e
+run-stop begun t i within e = rw (drop_more t i 0 within, e) refl
 
 pub run-end : (begun : Bool) (t : Text) (i : ℕ) → length t ≤ i → run_pass begun (drop i t) ≡ begun
-run-end begun [] zero within = refl
-run-end begun [] (suc i) within = refl
-run-end begun (b ∷ t) zero within = absurd (omega arith)
-run-end begun (b ∷ t) (suc i) within = run-end begun t i (omega arith)
+run-end begun t i within = rw (drop_all i t within) refl
 
 -- what a loop answers at the end of the run
 pub run_length : (t : Text) (i : ℕ) (begun : Bool) (o : Option ℕ) → (if begun then Some i else None) ≡ o → run_pass false t ≡ begun

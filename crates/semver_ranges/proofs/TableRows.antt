@@ -1,9 +1,8 @@
 -- The comparators of a simple that was read, by the columns of the table.
-use Rattle.std.proofs.Common.{◌≡◌, ℕ, Bool, true, false, ◌&&◌, ◌⊎◌, inl, inr, List, [], refl, sym, ap, ◌∙◌}
+use Rattle.std.proofs.Common.{◌≡◌, true, false, ◌&&◌, ◌⊎◌, inl, inr, List, [], refl, sym, ap, ◌∙◌}
 use Rattle.std.specs.List.{list_all}
 use Rattle.std.proofs.lemmas.Bool.{cases_Bool, and_parts, and_left, true≢false}
 use Rattle.semver_ranges.specs.declared.partial.Partial.{Partial}
-use Rattle.semver_ranges.specs.declared.partial.PartialKind.{PartialKind}
 use Rattle.semver_ranges.specs.declared.partial.PartialKind.TheVariants.{XRangeOnly}
 use Rattle.semver_ranges.specs.declared.partial.RaisedBounds.{RaisedBounds}
 use Rattle.semver_ranges.specs.declared.grammar.Simple as read
@@ -13,7 +12,7 @@ use Rattle.semver_ranges.specs.declared.rewriting.Bounds.TheVariants.{Against, B
 use Rattle.semver_ranges.specs.RangeTree.{Form, bare, Simple}
 use Rattle.semver_texts.specs.Versions.{IdentifierValue}
 use Rattle.semver_ranges.specs.Partials.{stated, zero_filled, zero_version, fits_u64}
-use Rattle.semver_ranges.specs.RewritingTable.{Cell, cell, nothing_stated, cell_raised, written_cell, bound_fits, written_simple}
+use Rattle.semver_ranges.specs.RewritingTable.{cell, nothing_stated, cell_raised, written_cell, bound_fits, written_simple}
 use Rattle.semver_ranges.specs.Means.PartialViews.{stated_at, stated_of, version_of, states_none, pre_of}
 use Rattle.semver_ranges.specs.Means.CursorViews.{form_of, IsSimpleOf}
 use Rattle.semver_ranges.specs.Means.RangeEvents.{simple_fits}

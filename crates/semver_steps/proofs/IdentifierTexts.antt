@@ -6,6 +6,7 @@ use Rattle.std.specs.List.{AllByRecursion, prefix_len}
 use Rattle.std.specs.Char.{is_ascii_alphanumeric}
 use Rattle.std.proofs.lemmas.List.{take_at, get_or_append_left}
 use Rattle.std.proofs.lemmas.Grind.{flat_map-append}
+use Rattle.std.proofs.lemmas.Option.{option_and_then_some}
 use Rattle.std.proofs.lemmas.Bool.{not-true}
 use Rattle.std.proofs.lemmas.Bool.Decides.{nat_tests}
 use Rattle.semver_texts.specs.Texts.{is_part_byte}
@@ -116,11 +117,8 @@ no_run_follows false (AlphaNumeric b ∷ []) t us some e none = not-true (is_com
 no_run_follows false (x ∷ []) t us some e none = cc
 no_run_follows true (Hyphen ∷ []) t us some e none = cc
 no_run_follows true (x ∷ []) t us some e none = cc
-no_run_follows false (Numeric n ∷ y ∷ ts) t us some e none = no_run_follows true (y ∷ ts) t us (omega arith) e none.1
-no_run_follows false (AlphaNumeric b ∷ y ∷ ts) t us some e none = no_run_follows true (y ∷ ts) t us (omega arith) e none.1
-no_run_follows false (x ∷ y ∷ ts) t us some e none = cc
-no_run_follows true (Hyphen ∷ y ∷ ts) t us some e none = no_run_follows false (y ∷ ts) t us (omega arith) e none.1
-no_run_follows true (x ∷ y ∷ ts) t us some e none = cc
+no_run_follows s (x ∷ y ∷ ts) t us some e none =
+    option_and_then_some _ (id_step s x) true e (λ q here on. no_run_follows q (y ∷ ts) t us (omega arith) on none.1)
 
 -- what follows begins with none of these bytes
 follows : (text : List ℕ) (place : ℕ) (ts rest : List TokenValue) (end : List ℕ) → 0 < length ts → run id_step false ts ≡ Some true

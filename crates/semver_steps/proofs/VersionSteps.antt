@@ -111,55 +111,36 @@ outer_rest u _ _ (nothing part) is = (omega arith, tt)
 outer_rest u _ _ (space part a b ts e) is = space_rest u a b ts e
 outer_rest u _ _ (plus ts e) is = cc
 
--- the build, if it is there, and white space
-record IsBuildRest (ts : List TokenValue) : Type 0 where
-  build_part : List TokenValue
-  after : List TokenValue
-  build_shape : IsPartShape Plus build_part
-  outer : IsOuterShape after
-  is : ts ≡ build_part ++ after
+-- a part, if it is there, and what stands behind it
+record IsParted (sign : TokenValue) (Rest : List TokenValue → Type 0) (ts : List TokenValue) : Type 0 where
+  part : List TokenValue
+  rest : List TokenValue
+  shape : IsPartShape sign part
+  behind : Rest rest
+  is : ts ≡ part ++ rest
 
-no_build : (ts : List TokenValue) → IsOuterShape ts → IsBuildRest ts
-no_build ts outer = record { build_part = []; after = ts; build_shape = no_part Plus; outer = outer; is = refl }
+none_there : {sign : TokenValue} {Rest : List TokenValue → Type 0} {ts : List TokenValue} → Rest ts → IsParted sign Rest ts
+none_there {sign} {Rest} {ts} behind = record { part = []; rest = ts; shape = no_part sign; behind = behind; is = refl }
 
-build_rest : (u : Place) → accepts u ≡ true → (part : Part) (ts : List TokenValue) → Follows u part ts → IsBuildRest ts
-build_rest u ok _ _ (nothing part) = no_build [] (omega arith, tt)
-build_rest u ok _ _ (space part a b ts e) = no_build _ (space_rest u a b ts e)
+one_there : {u : Place} {part : Part} {Rest : List TokenValue → Type 0} {ts : List TokenValue} (sign : TokenValue)
+    (r : IsPartRest u part false ts) → Rest r.rest → IsParted sign Rest (sign ∷ ts)
+one_there sign r behind =
+    record { part = sign ∷ r.ids; rest = r.rest; shape = ids_part sign r.ids r.on; behind = behind; is = ap (λ l. sign ∷ l) r.is }
+
+-- the build and white space, and before them the pre-release
+build_rest : (u : Place) → accepts u ≡ true → (part : Part) (ts : List TokenValue) → Follows u part ts → IsParted Plus IsOuterShape ts
+build_rest u ok _ _ (nothing part) = none_there (omega arith, tt)
+build_rest u ok _ _ (space part a b ts e) = none_there (space_rest u a b ts e)
 build_rest u ok _ _ (plus ts e) =
-    let r = part_rest build false ts u ok e in
-    record {
-      build_part = Plus ∷ r.ids;
-      after = r.rest;
-      build_shape = ids_part Plus r.ids r.on;
-      outer = outer_rest u build r.rest r.follows refl;
-      is = ap (λ l. Plus ∷ l) r.is;
-    }
+    let r = part_rest build false ts u ok e in one_there Plus r (outer_rest u build r.rest r.follows refl)
 
--- what stands behind the third number
-record IsPatchRest (ts : List TokenValue) : Type 0 where
-  pre : List TokenValue
-  behind : List TokenValue
-  pre_shape : IsPartShape Hyphen pre
-  rest : IsBuildRest behind
-  is : ts ≡ pre ++ behind
-
-no_pre : {ts : List TokenValue} (u : Place) → accepts u ≡ true → Follows u pre_release ts → IsPatchRest ts
-no_pre {ts} u ok follows =
-    record { pre = []; behind = ts; pre_shape = no_part Hyphen; rest = build_rest u ok pre_release ts follows; is = refl }
-
-patch_rest : (ts : List TokenValue) (u : Place) → accepts u ≡ true → run step (behind_number patch) ts ≡ Some u → IsPatchRest ts
+patch_rest : (ts : List TokenValue) (u : Place) → accepts u ≡ true → run step (behind_number patch) ts ≡ Some u
+    → IsParted Hyphen (IsParted Plus IsOuterShape) ts
 patch_rest (Hyphen ∷ ts) u ok e =
-    let r = part_rest pre_release false ts u ok e in
-    record {
-      pre = Hyphen ∷ r.ids;
-      behind = r.rest;
-      pre_shape = ids_part Hyphen r.ids r.on;
-      rest = build_rest u ok pre_release r.rest r.follows;
-      is = ap (λ l. Hyphen ∷ l) r.is;
-    }
-patch_rest [] u ok e = no_pre u ok (nothing pre_release)
-patch_rest (Plus ∷ ts) u ok e = no_pre u ok (plus ts e)
-patch_rest (Whitespace a b ∷ ts) u ok e = no_pre u ok (space pre_release a b ts e)
+    let r = part_rest pre_release false ts u ok e in one_there Hyphen r (build_rest u ok pre_release r.rest r.follows)
+patch_rest [] u ok e = none_there (build_rest u ok pre_release [] (nothing pre_release))
+patch_rest (Plus ∷ ts) u ok e = none_there (build_rest u ok pre_release _ (plus ts e))
+patch_rest (Whitespace a b ∷ ts) u ok e = none_there (build_rest u ok pre_release _ (space pre_release a b ts e))
 patch_rest (_ ∷ ts) u ok e = cc
 
 -- three numbers, and what stands behind them
@@ -182,14 +163,14 @@ major_rest before outer ts u ok e =
       major = n.0;
       minor = n.1;
       patch = n.2;
-      pre = r.pre;
-      build = r.rest.build_part;
-      after = r.rest.after;
+      pre = r.part;
+      build = r.behind.part;
+      after = r.behind.rest;
       space_before = outer;
-      pre_shape = r.pre_shape;
-      build_shape = r.rest.build_shape;
-      space_after = r.rest.outer;
-      joined = cc (regroup before (Numeric n.0 ∷ Dot ∷ Numeric n.1 ∷ Dot ∷ Numeric n.2 ∷ []) r.pre r.rest.build_part r.rest.after);
+      pre_shape = r.shape;
+      build_shape = r.behind.shape;
+      space_after = r.behind.behind;
+      joined = cc (regroup before (Numeric n.0 ∷ Dot ∷ Numeric n.1 ∷ Dot ∷ Numeric n.2 ∷ []) r.part r.behind.part r.behind.rest);
     }
 
 -- what is accepted has the shape

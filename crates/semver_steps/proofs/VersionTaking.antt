@@ -456,34 +456,26 @@ passed_part s t part text ids w = record {
     run_leads part _ hyphen dot = refl
 
 module _ {s t : ParserState} {from : Place} {text : Text} (k : IsTakenTo s from text t) (part : Part)
-    (leads : look t ≡ Some (mark_of part) → step from (mark_of part) ≡ Some (at_run part)) (there : Bool)
-    (here : IsTrue there ↔ (look t ≡ Some (mark_of part))) where
-  at_mark : there ≡ true → IsAtMark s part (text ++ inner_text (mark_of part)) t
-  at_mark is =
-      let looked = here.0 is in
+    (leads : look t ≡ Some (mark_of part) → step from (mark_of part) ≡ Some (at_run part)) where
+  at_mark : look t ≡ Some (mark_of part) → IsAtMark s part (text ++ inner_text (mark_of part)) t
+  at_mark looked =
       record { from = from; mark = mark_of part; before = text; taken = k; next = looked; leads = leads looked; text_is = refl }
 
-  part_given : (d : Step (List IdentifierValue)) → TakesPart there t d → (¬ (look t ≡ Some (mark_of part)) → IsBehind s part text t)
-      → Gives (RefusesVersion s) (IsPart s part text) d
-  part_given d takes none = at_test there refl d takes
-    where
-      at_test : (b : Bool) → there ≡ b → (d : Step (List IdentifierValue)) → TakesPart b t d
-          → Gives (RefusesVersion s) (IsPart s part text) d
-      at_test true is (Ok ids, u) w = passed_part s u part text ids (w s part (text ++ inner_text (mark_of part)) (at_mark is))
-      at_test true is (Err e, u) w = w s part (text ++ inner_text (mark_of part)) (at_mark is)
-      at_test false is d w =
-          rw w (record {
-            part_text = [];
-            spells = record { texts = []; each = tt; joined = refl };
-            behind = rw append-nil (none (λ looked. let there_is = here.1 looked in cc));
-          })
+  part_given : (there : Bool) → IsTrue there ↔ (look t ≡ Some (mark_of part)) → (d : Step (List IdentifierValue)) → TakesPart there t d
+      → (¬ (look t ≡ Some (mark_of part)) → IsBehind s part text t) → Gives (RefusesVersion s) (IsPart s part text) d
+  part_given true here (Ok ids, u) w none = passed_part s u part text ids (w s part (text ++ inner_text (mark_of part)) (at_mark (here.0 refl)))
+  part_given true here (Err e, u) w none = w s part (text ++ inner_text (mark_of part)) (at_mark (here.0 refl))
+  part_given false here d w none =
+      rw w (record {
+        part_text = [];
+        spells = record { texts = []; each = tt; joined = refl };
+        behind = rw append-nil (none (λ looked. let there_is = here.1 looked in cc));
+      })
 
-  part_out : (u : ParserState) → PartMayRunOut there t u → MayRunOutInVersion s u
-  part_out u out = at_test there refl out
-    where
-      at_test : (b : Bool) → there ≡ b → PartMayRunOut b t u → MayRunOutInVersion s u
-      at_test true is w = w s part (text ++ inner_text (mark_of part)) (at_mark is)
-      at_test false is w = absurd w
+  part_out : (there : Bool) → IsTrue there ↔ (look t ≡ Some (mark_of part)) → (u : ParserState) → PartMayRunOut there t u
+      → MayRunOutInVersion s u
+  part_out true here u w = w s part (text ++ inner_text (mark_of part)) (at_mark (here.0 refl))
+  part_out false here u w = absurd w
 
 module _ {s t : ParserState} {text : Text} where
   module _ (k : IsTakenTo s (behind_number patch) text t) (there : Bool) (here : IsTrue there ↔ (look t ≡ Some Hyphen)) where

@@ -58,14 +58,15 @@ prefix_is p [] [] all past stop = refl
 prefix_is p [] (y ∷ ys) all past stop = rw stop
 prefix_is p (x ∷ xs) ys all past stop = rw (all.0, prefix_is p xs ys all.1 past stop, one-add)
 
--- texts that pass, joined by dots, and behind a mark
-pub dotted_pass : (p : ℕ → Bool) → p 46 ≡ true → (xs : List (List ℕ)) → AllByRecursion (Passes p) xs → Passes p (join_with_byte 46 xs)
-dotted_pass p dot [] all = tt
-dotted_pass p dot (x ∷ []) all = all.0
-dotted_pass p dot (x ∷ y ∷ xs) all =
-    passes_append p x (46 ∷ join_with_byte 46 (y ∷ xs)) all.0 (dot, dotted_pass p dot (y ∷ xs) all.1)
+-- texts that pass, joined by a byte that does, and behind a mark
+pub joined_pass : (p : ℕ → Bool) (between : ℕ) → p between ≡ true → (xs : List (List ℕ)) → AllByRecursion (Passes p) xs
+    → Passes p (join_with_byte between xs)
+joined_pass p between here [] all = tt
+joined_pass p between here (x ∷ []) all = all.0
+joined_pass p between here (x ∷ y ∷ xs) all =
+    passes_append p x (between ∷ join_with_byte between (y ∷ xs)) all.0 (here, joined_pass p between here (y ∷ xs) all.1)
 
 pub marked_passes : (p : ℕ → Bool) → p 46 ≡ true → (mark : ℕ) → p mark ≡ true → (xs : List (List ℕ)) → AllByRecursion (Passes p) xs
     → Passes p (marked (mark ∷ []) xs)
 marked_passes p dot mark here [] all = tt
-marked_passes p dot mark here (x ∷ xs) all = (here, dotted_pass p dot (x ∷ xs) all)
+marked_passes p dot mark here (x ∷ xs) all = (here, joined_pass p 46 dot (x ∷ xs) all)

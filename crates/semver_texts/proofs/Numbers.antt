@@ -1,5 +1,5 @@
 -- Texts, and the numbers that they spell.
-use Rattle.std.proofs.Common.{◌≡◌, ℕ, ◌^◌, ◌<◌, ◌≢◌, Bool, true, false, cond, eqb, List, [], ◌∷◌, ◌++◌, length, take, drop, map, get_or}
+use Rattle.std.proofs.Common.{◌≡◌, ℕ, ◌^◌, ◌<◌, ◌≢◌, true, false, eqb, List, [], ◌∷◌, ◌++◌, length, take, drop, map, get_or}
 use Rattle.std.proofs.Common.{sym, refl, ap, ◌∙◌, subst, ⊎_elim}
 use Rattle.std.proofs.Common.{arith, decimal, ◌⊎◌, ◌+◌, ◌-◌, ◌*◌, ◌≤◌, one-add, append_assoc, append-nil, length-drop}
 use Rattle.std.proofs.Math.Seq.{take-length}
@@ -100,7 +100,8 @@ front_begins : (text : List ℕ) → 0 < length (digits_front text) → (get_or 
 front_begins text some no_zero small = record {
   fits = small;
   split = sym (ap (λ l. l ++ drop (length (digits_front text)) text)
-      (decimal_canonical (digits_front text) some (record { digits = digits_all _ (all_of_prefix is_ascii_digit text); no_leading_zero = no_zero; small = small }))
+      (decimal_canonical (digits_front text) some
+      (record { digits = digits_all _ (all_of_prefix is_ascii_digit text); no_leading_zero = no_zero; small = small }))
       ∙ ap (λ k. digits_front text ++ drop k text) (length-prefix_len is_ascii_digit text)
       ∙ take-append-drop (prefix_len is_ascii_digit text) text);
   ended = ap (λ k. is_ascii_digit (slice_index (drop k text) 0)) (length-prefix_len is_ascii_digit text)

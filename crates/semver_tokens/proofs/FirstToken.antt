@@ -1,8 +1,8 @@
 -- The first token of a text, and what stands behind it.
 use Rattle.std.proofs.Common.{◌≡◌, ℕ, ◌+◌, ◌-◌, ◌<◌, ◌≤◌, Bool, true, false, eqb, ◌&&◌, ◌||◌, List, [], ◌∷◌, ◌++◌, length, take, drop}
-use Rattle.std.proofs.Common.{Option, Some, None, sym, refl, ap, ◌∙◌, arith, one-add, length-drop, take-append-drop}
-use Rattle.std.specs.Prelude.{is_some, IsTrue, slice_range, slice_index, take_while}
-use Rattle.std.specs.List.{prefix_len, AllByRecursion}
+use Rattle.std.proofs.Common.{Option, Some, None, sym, refl, ap, ◌∙◌, arith, length-drop, take-append-drop}
+use Rattle.std.specs.Prelude.{is_some, slice_range, slice_index, take_while}
+use Rattle.std.specs.List.{prefix_len}
 use Rattle.std.specs.Char.{is_ascii_alphanumeric}
 use Rattle.std.proofs.lemmas.List.Sums.{prefix_len-le-length}
 use Rattle.std.proofs.lemmas.Option.{some_pair_parts, none-some}
@@ -104,21 +104,14 @@ unfolding sign
 sign_text text b [] t n e = grind (arith, nat_tests)
 sign_text text b (c ∷ bs) t n e = grind (arith, nat_tests)
 
-sign_len : (text : List ℕ) (b c : ℕ) (t : TokenValue) (n : ℕ) → sign b c ≡ Some (t, n) → length (token_text text t) ≡ n
+sign_is : (text : List ℕ) (b c : ℕ) (t : TokenValue) (n : ℕ) → sign b c ≡ Some (t, n)
+    → (length (token_text text t) ≡ n) × (0 < n) × ((is_whitespace t || is_component t) ≡ false)
 unfolding sign
-sign_len text b c t n e = grind (arith, nat_tests)
+sign_is text b c t n e = (grind (arith, nat_tests), grind (arith, nat_tests), grind (arith, nat_tests))
 
 sign_stops : (b c x : ℕ) (t : TokenValue) (n : ℕ) → sign b c ≡ Some (t, n) → (n ≡ 1 → x ≡ c) → continues t x ≡ false
 unfolding sign
 sign_stops b c x t n e same = grind (arith, nat_tests)
-
-sign_some : (b c : ℕ) (t : TokenValue) (n : ℕ) → sign b c ≡ Some (t, n) → 0 < n
-unfolding sign
-sign_some b c t n e = grind (arith, nat_tests)
-
-sign_plain : (b c : ℕ) (t : TokenValue) (n : ℕ) → sign b c ≡ Some (t, n) → (is_whitespace t || is_component t) ≡ false
-unfolding sign
-sign_plain b c t n e = grind (arith, nat_tests)
 
 plain_token : (text : List ℕ) (place : ℕ) (t : TokenValue) → (is_whitespace t || is_component t) ≡ false → IsTokenAt text place t
 plain_token text place (Whitespace first after) e = cc
@@ -149,15 +142,17 @@ pub record IsFound (text : List ℕ) (place : ℕ) (bs : List ℕ) (t : TokenVal
 
 module _ (text : List ℕ) (place : ℕ) where
   found_sign : (b : ℕ) (bs : List ℕ) (t : TokenValue) (n : ℕ) → sign b (slice_index bs 0) ≡ Some (t, n) → IsFound text place (b ∷ bs) t n
-  found_sign b bs t n e = record {
-    front = record {
-      spelled = rw (sign_text text b bs t n e) (sym (take-append-drop n (b ∷ bs)));
-      is_token = plain_token text place t (sign_plain b (slice_index bs 0) t n e);
-      stops = sign_stops b (slice_index bs 0) _ t n e (λ one. rw one refl);
-    };
-    len = sign_len text b (slice_index bs 0) t n e;
-    positive = sign_some b (slice_index bs 0) t n e;
-  }
+  found_sign b bs t n e =
+      let is = sign_is text b (slice_index bs 0) t n e in
+      record {
+        front = record {
+          spelled = rw (sign_text text b bs t n e) (sym (take-append-drop n (b ∷ bs)));
+          is_token = plain_token text place t is.2;
+          stops = sign_stops b (slice_index bs 0) _ t n e (λ one. rw one refl);
+        };
+        len = is.0;
+        positive = is.1;
+      }
 
   -- a token of all bytes in front that pass a test
   found_prefix : (p : ℕ → Bool) (b : ℕ) (bs : List ℕ) (t : TokenValue) → p 0 ≡ false → p b ≡ true

@@ -17,7 +17,7 @@ use Rattle.semver_texts.specs.Texts.{Text, marked, is_part_byte, IsRun, is_dot}
 use Rattle.semver_texts.specs.Versions.{IdentifierValue}
 use Rattle.semver_texts.specs.VersionGrammar.{IsIdentifierText, SpellsIdentifier}
 use Rattle.semver_versions.specs.Means.Cutting.{cut_at_dots, AreIdentifiers, is_inner_byte, BeginsWithIdentifiers, IsPart}
-use Rattle.semver_texts.proofs.Lists.{tails, Passes, all_more, passes_append, dotted_pass}
+use Rattle.semver_texts.proofs.Lists.{tails, Passes, all_more, passes_append, joined_pass}
 use Rattle.semver_versions.proofs.OneVersion.{IsPartText, joined_runs, joined_some, split_joined}
 use Rattle.semver_tokens.proofs.FirstToken.{never, prefix_stops}
 use Rattle.semver_tokens.proofs.TokenLists.{prefix_is}
@@ -31,10 +31,6 @@ run_more run b is_run letter =
 one_run : (b : ℕ) → is_ascii_alphanumeric b ≡ true → IsRun (b ∷ [])
 one_run b letter = (omega arith, (letter, tt))
 
-joined_behind : (mark : ℕ) (t : Text) (ts : List Text) → 0 < length ts → join_with_byte mark (t ∷ ts) ≡ t ++ (mark ∷ join_with_byte mark ts)
-joined_behind mark t [] some = absurd (omega (arith, some))
-joined_behind mark t (next ∷ ts) some = refl
-
 pub run_identifier : (run : Text) → IsRun run → IsIdentifierText run
 run_identifier run is = record { runs = run ∷ []; some = omega arith; each = (is, tt); joined = refl }
 
@@ -43,41 +39,43 @@ run_in_front run text is w = record {
   runs = run ∷ w.runs;
   some = omega arith;
   each = (is, w.each);
-  joined = ap (λ t. run ++ (45 ∷ t)) w.joined ∙ sym (joined_behind 45 run w.runs w.some);
+  joined = ap (λ t. run ++ (45 ∷ t)) w.joined ∙ onto_runs w.runs w.some;
 }
+  where
+    onto_runs : (runs : List Text) → 0 < length runs → run ++ (45 ∷ join_with_byte 45 runs) ≡ join_with_byte 45 (run ∷ runs)
+    onto_runs [] some = absurd (omega (arith, some))
+    onto_runs (next ∷ runs) some = refl
 
 -- one or more identifiers joined by dots
 record AreJoined (text : Text) : Type 0 where
-  texts : List Text
-  some : 0 < length texts
-  each : AllByRecursion IsIdentifierText texts
-  joined : text ≡ join_with_byte 46 texts
+  first : Text
+  others : List Text
+  each : AllByRecursion IsIdentifierText (first ∷ others)
+  joined : text ≡ join_with_byte 46 (first ∷ others)
 
 alone : (run : Text) → IsRun run → AreJoined run
-alone run is = record { texts = run ∷ []; some = omega arith; each = (run_identifier run is, tt); joined = refl }
+alone run is = record { first = run; others = []; each = (run_identifier run is, tt); joined = refl }
 
 before_dot : (run text : Text) → IsRun run → AreJoined text → AreJoined (run ++ (46 ∷ text))
 before_dot run text is w = record {
-  texts = run ∷ w.texts;
-  some = omega arith;
+  first = run;
+  others = w.first ∷ w.others;
   each = (run_identifier run is, w.each);
-  joined = ap (λ t. run ++ (46 ∷ t)) w.joined ∙ sym (joined_behind 46 run w.texts w.some);
+  joined = ap (λ t. run ++ (46 ∷ t)) w.joined;
 }
 
 before_hyphen : (run text : Text) → IsRun run → AreJoined text → AreJoined (run ++ (45 ∷ text))
-before_hyphen run text is w = subst (λ t. AreJoined (run ++ (45 ∷ t))) (sym w.joined) (go w.texts w.some w.each)
+before_hyphen run text is w = record {
+  first = run ++ (45 ∷ w.first);
+  others = w.others;
+  each = (run_in_front run w.first is w.each.0, w.each.1);
+  joined = ap (λ t. run ++ (45 ∷ t)) w.joined ∙ onto_first w.others;
+}
   where
-    go : (texts : List Text) → 0 < length texts → AllByRecursion IsIdentifierText texts
-        → AreJoined (run ++ (45 ∷ join_with_byte 46 texts))
-    go [] some each = absurd (omega (arith, some))
-    go (t ∷ []) some each =
-        record { texts = (run ++ (45 ∷ t)) ∷ []; some = omega arith; each = (run_in_front run t is each.0, tt); joined = refl }
-    go (t ∷ next ∷ texts) some each = record {
-      texts = (run ++ (45 ∷ t)) ∷ next ∷ texts;
-      some = omega arith;
-      each = (run_in_front run t is each.0, each.1);
-      joined = sym (append_assoc run (45 ∷ t) (46 ∷ join_with_byte 46 (next ∷ texts)));
-    }
+    onto_first : (others : List Text)
+        → run ++ (45 ∷ join_with_byte 46 (w.first ∷ others)) ≡ join_with_byte 46 ((run ++ (45 ∷ w.first)) ∷ others)
+    onto_first [] = refl
+    onto_first (next ∷ others) = sym (append_assoc run (45 ∷ w.first) (46 ∷ join_with_byte 46 (next ∷ others)))
 
 -- ---- byte by byte
 
@@ -161,10 +159,6 @@ identifiers_stand in_run texts more some each =
 pub identifier_part : (text : Text) → IsIdentifierText text → IsPartText text
 identifier_part text w = subst IsPartText (sym w.joined) (joined_runs w.runs w.some w.each)
 
-some_joined : (texts : List Text) → 0 < length texts → AllByRecursion IsIdentifierText texts → 0 < length (join_with_byte 46 texts)
-some_joined [] some each = absurd (omega (arith, some))
-some_joined (t ∷ texts) some each = joined_some t texts (identifier_part t each.0).0
-
 pub some_cut : (text : Text) → 0 < length text → cut_at_dots text ≡ slice_split is_dot text
 some_cut [] some = absurd (omega (arith, some))
 some_cut (b ∷ text) some = refl
@@ -172,7 +166,7 @@ some_cut (b ∷ text) some = refl
 pub cut_texts : (texts : List Text) → AllByRecursion IsIdentifierText texts → cut_at_dots (join_with_byte 46 texts) ≡ texts
 cut_texts [] each = refl
 cut_texts (t ∷ texts) each =
-    some_cut (join_with_byte 46 (t ∷ texts)) (some_joined (t ∷ texts) (omega arith) each)
+    some_cut (join_with_byte 46 (t ∷ texts)) (joined_some 46 t texts (identifier_part t each.0).0)
     ∙ split_joined t texts (all_more identifier_part (t ∷ texts) each)
 
 -- one of them alone
@@ -182,8 +176,8 @@ is_identifiers text is = subst (AllByRecursion IsIdentifierText) (sym (cut_texts
 pub stand_found : (bytes : Text) → stands false bytes ≡ true → BeginsWithIdentifiers bytes
 stand_found bytes e =
     let w = (begun bytes).0 e in (
-      omega (arith, some_joined w.texts w.some w.each, ap length w.joined, length-prefix_len is_inner_byte bytes),
-      subst AreIdentifiers (sym w.joined) (subst (AllByRecursion IsIdentifierText) (sym (cut_texts w.texts w.each)) w.each),
+      omega (arith, joined_some 46 w.first w.others (identifier_part w.first w.each.0).0, ap length w.joined, length-prefix_len is_inner_byte bytes),
+      subst AreIdentifiers (sym w.joined) (subst (AllByRecursion IsIdentifierText) (sym (cut_texts (w.first ∷ w.others) w.each)) w.each),
     )
 
 -- what follows the front begins with no byte of it
@@ -254,11 +248,11 @@ marked_cut mark text some =
     ∙ marked_some (mark ∷ []) (slice_split is_dot text) (omega (arith, length-slice_split is_dot text))
     ∙ ap (λ t. mark ∷ t) (join_with_byte-slice_split 46 text)
 
-inner_passes : (inner : Text) → AreIdentifiers inner → Passes is_inner_byte inner
+pub inner_passes : (inner : Text) → AreIdentifiers inner → Passes is_inner_byte inner
 inner_passes [] each = tt
 inner_passes (b ∷ inner) each =
     subst (Passes is_inner_byte) (join_with_byte-slice_split 46 (b ∷ inner))
-    (dotted_pass is_inner_byte refl (cut_at_dots (b ∷ inner)) (all_more inner_text (cut_at_dots (b ∷ inner)) each))
+    (joined_pass is_inner_byte 46 refl (cut_at_dots (b ∷ inner)) (all_more inner_text (cut_at_dots (b ∷ inner)) each))
   where
     part_is_inner : (b : ℕ) → is_part_byte b ≡ true → is_inner_byte b ≡ true
     part_is_inner b h = rw h refl

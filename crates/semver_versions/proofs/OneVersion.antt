@@ -12,7 +12,7 @@ use Rattle.std.proofs.lemmas.Bool.Decides.{nat_tests}
 use Rattle.semver_texts.specs.Texts.{marked, is_part_byte, IsRun, is_space, is_dot, BeginsWithNumbers}
 use Rattle.semver_texts.specs.Versions.{IdentifierValue, numeric, alphanumeric, VersionValue}
 use Rattle.semver_texts.specs.VersionGrammar.{SpellsIdentifier, SpellsPart, SpellsCore, SpellsVersion}
-use Rattle.semver_texts.proofs.Lists.{tails, Passes, all_more, all_zipped, passes_append, marked_passes}
+use Rattle.semver_texts.proofs.Lists.{tails, Passes, all_more, all_zipped, joined_pass, marked_passes}
 use Rattle.semver_texts.proofs.Numbers.{same_numbers}
 use Rattle.semver_tokens.proofs.FirstToken.{run_is_no_space, run_is_part}
 use Rattle.semver_tokens.proofs.TokenLists.{prefix_is, decimal_is_run}
@@ -32,20 +32,20 @@ peel p xs zs ys ws past all all_z stop stop_w e =
 abbrev pub IsPartText : List ℕ → Type 0
 IsPartText text = (0 < length text) × Passes is_part_byte text
 
-run_part : (run : List ℕ) → IsRun run → IsPartText run
-run_part run w = (w.0, all_more run_is_part run w.1)
+run_passes : (run : List ℕ) → IsRun run → Passes is_part_byte run
+run_passes run w = all_more run_is_part run w.1
+
+pub joined_some : (between : ℕ) (x : List ℕ) (xs : List (List ℕ)) → 0 < length x → 0 < length (join_with_byte between (x ∷ xs))
+joined_some between x [] some = some
+joined_some between x (y ∷ xs) some = omega (arith, some, length-append x (between ∷ join_with_byte between (y ∷ xs)))
 
 pub joined_runs : (runs : List (List ℕ)) → 0 < length runs → AllByRecursion IsRun runs → IsPartText (join_with_byte 45 runs)
 joined_runs [] some each = absurd (omega (arith, some))
-joined_runs (r ∷ []) some each = run_part r each.0
-joined_runs (r ∷ next ∷ runs) some each =
-    let more = joined_runs (next ∷ runs) (omega arith) each.1 in (
-      omega (arith, each.0.0, length-append r (45 ∷ join_with_byte 45 (next ∷ runs))),
-      passes_append is_part_byte r (45 ∷ join_with_byte 45 (next ∷ runs)) (run_part r each.0).1 (refl, more.1),
-    )
+joined_runs (r ∷ runs) some each =
+    (joined_some 45 r runs each.0.0, joined_pass is_part_byte 45 refl (r ∷ runs) (all_more run_passes (r ∷ runs) each))
 
 pub identifier_bytes : (id : IdentifierValue) (text : List ℕ) → SpellsIdentifier id text → IsPartText text
-identifier_bytes (numeric n) text w = subst IsPartText (sym w.1) (run_part (decimal n) (decimal_is_run n w.0))
+identifier_bytes (numeric n) text w = let run = decimal_is_run n w.0 in subst IsPartText (sym w.1) (run.0, run_passes (decimal n) run)
 identifier_bytes (alphanumeric kept) text w = subst IsPartText (sym (w.0 ∙ w.1.joined)) (joined_runs w.1.runs w.1.some w.1.each)
 
 pub identifiers_bytes : (ids : List IdentifierValue) (texts : List (List ℕ)) → AllZip SpellsIdentifier ids texts
@@ -69,10 +69,6 @@ same_identifiers (id ∷ ids) (o ∷ others) (t ∷ texts) a b =
     (λ i. same_identifier id o t a.0 b.0 i ∷ same_identifiers ids others texts a.1 b.1 i)
 
 -- ---- parts
-
-pub joined_some : (x : List ℕ) (xs : List (List ℕ)) → 0 < length x → 0 < length (join_with_byte 46 (x ∷ xs))
-joined_some x [] some = some
-joined_some x (y ∷ xs) some = omega (arith, some, length-append x (46 ∷ join_with_byte 46 (y ∷ xs)))
 
 no_dots : (bytes : List ℕ) → Passes is_part_byte bytes → All (λ b. (b == 46) ≡ false) bytes
 no_dots [] all = All-nil (λ b. (b == 46) ≡ false)

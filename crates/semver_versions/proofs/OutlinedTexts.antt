@@ -37,7 +37,7 @@ empty_text mark ids part w = (none ids w.texts w.each, λ e. ap dotted_text e)
     none (id ∷ ids) (t ∷ texts) all e =
         absurd (omega (
           arith,
-          joined_some t texts (identifiers_bytes (id ∷ ids) (t ∷ texts) all).0.0,
+          joined_some 46 t texts (identifiers_bytes (id ∷ ids) (t ∷ texts) all).0.0,
           ap length (ap (join_with_byte 46) (spelled_texts (id ∷ ids) (t ∷ texts) all) ∙ e),
         ))
 

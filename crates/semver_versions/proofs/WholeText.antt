@@ -13,7 +13,7 @@ use Rattle.std.proofs.lemmas.Option.{none-some}
 use Rattle.std.proofs.lemmas.Grind.{flat_map-append}
 use Rattle.std.proofs.lemmas.Bool.Decides.{nat_tests}
 use Rattle.semver_texts.specs.Texts.{marked, is_part_byte, is_space}
-use Rattle.semver_tokens.specs.Tokens.{TokenValue, Dot, Hyphen, Plus, Whitespace, Numeric, token_text, tokens_text, IsTokenAt, AreInPlace}
+use Rattle.semver_tokens.specs.Tokens.{TokenValue, Dot, Hyphen, Plus, Whitespace, Numeric, token_text, tokens_text, AreInPlace}
 use Rattle.semver_tokens.specs.Tokens.{AreTokensOf}
 use Rattle.semver_texts.specs.Versions.{IdentifierValue, numeric, alphanumeric, VersionValue, numbers}
 use Rattle.semver_texts.specs.PrintedText.{identifier_text, version_text}
@@ -27,7 +27,7 @@ use Rattle.semver_tokens.proofs.TokenLists.{same_tokens, decimal_is_run}
 use Rattle.semver_steps.proofs.ReadingSteps.{same_front, reads_once}
 use Rattle.semver_steps.proofs.IdentifierSteps.{identifier_is_read}
 use Rattle.semver_steps.proofs.IdentifierTexts.{pieces, pieces_text, IsPlaced, each_placed}
-use Rattle.semver_texts.proofs.Lists.{Passes, all_more, all_apart, passes_append, passes_apart, dotted_pass}
+use Rattle.semver_texts.proofs.Lists.{Passes, all_more, all_apart, passes_append, passes_apart, joined_pass}
 use Rattle.semver_tokens.proofs.FirstToken.{run_is_part}
 use Rattle.semver_versions.proofs.OneVersion.{part_passes, bare, one_core}
 use Rattle.semver_versions.proofs.VersionTokens.{HasTokens, version_tokens}
@@ -60,7 +60,7 @@ core_passes : (p : ℕ → Bool) → ((b : ℕ) → is_ascii_alphanumeric b ≡ 
 core_passes p letters dot v core w pre build =
     subst (Passes p) (sym w.spelled)
     (passes_append p (three ++ w.pre_text) w.build_text (passes_append p three w.pre_text
-    (dotted_pass p dot (map decimal (numbers v.plain)) (number _ w.major, (number _ w.minor, (number _ w.patch, tt)))) pre) build)
+    (joined_pass p 46 dot (map decimal (numbers v.plain)) (number _ w.major, (number _ w.minor, (number _ w.patch, tt)))) pre) build)
   where
     three : List ℕ
     three = join_with_byte 46 (map decimal (numbers v.plain))
@@ -150,45 +150,51 @@ outer_texts text ((Whitespace a b) ∷ []) w placed =
 outer_texts text (t ∷ []) w placed = cc (w.1.0)
 outer_texts text (t ∷ u ∷ ts) w placed = absurd (omega (arith, w.0))
 
-identifier_same : (text : List ℕ) (id : List TokenValue) → IsIdentifierShape id → tokens_text text id ≡ inner_texts id
+-- they have the same text whatever text they are of
+abbrev AreSame : List ℕ → List TokenValue → Type 0
+AreSame text ts = tokens_text text ts ≡ inner_texts ts
+
+same_append : (text : List ℕ) (ts us : List TokenValue) → AreSame text ts → AreSame text us → AreSame text (ts ++ us)
+same_append text ts us a b =
+    flat_map-append (token_text text) ts us ∙ (λ i. a i ++ b i) ∙ sym (flat_map-append inner_text ts us)
+
+identifier_same : (text : List ℕ) (id : List TokenValue) → IsIdentifierShape id → AreSame text id
 identifier_same text id w = let whole = identifier_is_read.read id w in pieces_text text id (pieces false whole.0 id whole.1)
 
 identifiers_same : (text : List ℕ) (ids : List (List TokenValue)) → AllByRecursion IsIdentifierShape ids
-    → tokens_text text (join_by (λ id. id) (Dot ∷ []) ids) ≡ inner_texts (join_by (λ id. id) (Dot ∷ []) ids)
+    → AreSame text (join_by (λ id. id) (Dot ∷ []) ids)
 identifiers_same text [] all = refl
 identifiers_same text (id ∷ ids) all =
-    flat_map-append (token_text text) id _ ∙ (λ i. identifier_same text id all.0 i ++ others ids all.1 i)
-    ∙ sym (flat_map-append inner_text id _)
+    same_append text id (flat_map (λ id. Dot ∷ id) ids) (identifier_same text id all.0) (others ids all.1)
   where
-    others : (ids : List (List TokenValue)) → AllByRecursion IsIdentifierShape ids
-        → tokens_text text (flat_map (λ id. Dot ∷ id) ids) ≡ inner_texts (flat_map (λ id. Dot ∷ id) ids)
+    others : (ids : List (List TokenValue)) → AllByRecursion IsIdentifierShape ids → AreSame text (flat_map (λ id. Dot ∷ id) ids)
     others [] all = refl
     others (id ∷ ids) all =
-        ap (λ l. 46 ∷ l) (flat_map-append (token_text text) id _ ∙ (λ i. identifier_same text id all.0 i ++ others ids all.1 i)
-        ∙ sym (flat_map-append inner_text id _))
+        ap (λ l. 46 ∷ l)
+        (same_append text id (flat_map (λ id. Dot ∷ id) ids) (identifier_same text id all.0) (others ids all.1))
 
 part_same : (text : List ℕ) (mark : TokenValue) (ts : List TokenValue) → token_text text mark ≡ inner_text mark → IsPartShape mark ts
-    → tokens_text text ts ≡ inner_texts ts
+    → AreSame text ts
 part_same text mark ts same w =
-    ⊎_elim (λ none. ap (tokens_text text) none.1 ∙ sym (ap inner_texts none.1))
-    (λ some. ap (tokens_text text) some.1 ∙ (λ i. same i ++ identifiers_same text w.ids w.each i) ∙ sym (ap inner_texts some.1))
-    w.parted
+    ⊎_elim (λ none. rw none.1 refl) (λ some. rw some.1 (λ i. same i ++ identifiers_same text w.ids w.each i)) w.parted
 
 -- what the tokens spell without white space, the text spells with it
 pub whole_spelled : (v : VersionValue) (text : List ℕ) (ts : List TokenValue) → AreTokensOf text ts [] → IsVersionShape ts
     → SpellsCore v (inner_texts ts) → SpellsVersion v text
 whole_spelled v text ts tokens shape w =
     let three : List TokenValue = join_by (λ n. Numeric n ∷ []) (Dot ∷ []) (shape.major ∷ shape.minor ∷ shape.patch ∷ []) in
-    let mid : List ℕ = inner_texts three ++ inner_texts shape.pre ++ inner_texts shape.build in
-    let placed : AllByRecursion (IsPlaced text) (shape.before ++ ((three ++ shape.pre ++ shape.build) ++ shape.after)) = subst
-    (AllByRecursion (IsPlaced text)) (shape.joined ∙ simp append_assoc) (each_placed text 0 ts tokens.in_place) in
-    let parts = all_apart (IsPlaced text) shape.before _ placed in
+    let core : List TokenValue = three ++ shape.pre ++ shape.build in
+    let joined : ts ≡ shape.before ++ (core ++ shape.after) = shape.joined ∙ simp append_assoc in
+    let same : AreSame text core = same_append text (three ++ shape.pre) shape.build
+    (same_append text three shape.pre refl (part_same text Hyphen shape.pre refl shape.pre_shape))
+    (part_same text Plus shape.build refl shape.build_shape) in
+    let parts = all_apart (IsPlaced text) shape.before (core ++ shape.after)
+    (subst (AllByRecursion (IsPlaced text)) joined (each_placed text 0 ts tokens.in_place)) in
     let first = outer_texts text shape.before shape.space_before parts.0 in
-    let last = outer_texts text shape.after shape.space_after
-    (all_apart (IsPlaced text) (three ++ shape.pre ++ shape.build) shape.after parts.1).1 in
-    let inner_is : inner_texts ts ≡ mid =
-    ap inner_texts shape.joined ∙ split5 inner_text shape.before three shape.pre shape.build shape.after
-    ∙ (λ i. first.0 i ++ mid ++ last.0 i) ∙ append-nil mid in
+    let last = outer_texts text shape.after shape.space_after (all_apart (IsPlaced text) core shape.after parts.1).1 in
+    let inner_is : inner_texts ts ≡ inner_texts core =
+    ap inner_texts joined ∙ split3 inner_text shape.before core shape.after
+    ∙ (λ i. first.0 i ++ inner_texts core ++ last.0 i) ∙ append-nil (inner_texts core) in
     record {
       before = tokens_text text shape.before;
       core = inner_texts ts;
@@ -196,16 +202,14 @@ whole_spelled v text ts tokens shape w =
       spaces_before = first.1;
       spaces_after = last.1;
       spells = w;
-      whole = tokens.spelled ∙ append-nil (tokens_text text ts) ∙ ap (tokens_text text) shape.joined
-          ∙ split5 (token_text text) shape.before three shape.pre shape.build shape.after
-          ∙ (λ i. tokens_text text shape.before ++ (inner_texts three ++ part_same text Hyphen shape.pre refl shape.pre_shape i
-          ++ part_same text Plus shape.build refl shape.build_shape i) ++ tokens_text text shape.after)
-          ∙ ap (λ l. tokens_text text shape.before ++ l ++ tokens_text text shape.after) (sym inner_is);
+      whole = tokens.spelled ∙ append-nil (tokens_text text ts) ∙ ap (tokens_text text) joined
+          ∙ split3 (token_text text) shape.before core shape.after
+          ∙ ap (λ l. tokens_text text shape.before ++ l ++ tokens_text text shape.after) (same ∙ sym inner_is);
     }
   where
-    split5 : (f : TokenValue → List ℕ) (a b c d e : List TokenValue)
-        → flat_map f (a ++ b ++ c ++ d ++ e) ≡ flat_map f a ++ (flat_map f b ++ flat_map f c ++ flat_map f d) ++ flat_map f e
-    split5 f a b c d e = simp (flat_map-append, append_assoc)
+    split3 : (f : TokenValue → List ℕ) (a b c : List TokenValue)
+        → flat_map f (a ++ (b ++ c)) ≡ flat_map f a ++ flat_map f b ++ flat_map f c
+    split3 f a b c = simp (flat_map-append, append_assoc)
 
 -- ---- an accepted text
 

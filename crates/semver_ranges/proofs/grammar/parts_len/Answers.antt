@@ -1,4 +1,4 @@
-use Rattle.std.proofs.Common.{rules, ◌≡◌, ℕ, ◌+◌, ◌≤◌, Bool, false, ◌&&◌, length, get_or, drop, sym, ap, ◌∙◌, arith}
+use Rattle.std.proofs.Common.{rules, ◌≡◌, ℕ, ◌+◌, ◌≤◌, false, ◌&&◌, length, get_or, drop, sym, ap, ◌∙◌, arith}
 use Rattle.semver_texts.specs.Texts.{Text}
 use Rattle.semver_ranges.specs.Means.Reading.{in_parts}
 use Rattle.semver_ranges.proofs.Fronts.{back_stops, back_ends, taken_stops, taken_ends}

@@ -6,7 +6,6 @@ use Rattle.std.proofs.lemmas.Iterator.Consumers.{YieldsList-turn, YieldsList-end
 use Rattle.std.proofs.lemmas.List.{length_push, map_push}
 use Rattle.semver_ranges.specs.RangeTree.{is_part}
 use Rattle.semver_texts.specs.Texts.{Text, is_dot}
-use Rattle.semver_texts.specs.Versions.{IdentifierValue}
 use Rattle.semver_ranges.specs.Partials.{kept}
 use Rattle.semver_ranges.specs.RangeViews.{identifier_of}
 use Rattle.semver_ranges.proofs.KeptLists.{all_at, mapped_more, mapped_all}

@@ -1,6 +1,5 @@
-use Rattle.std.proofs.Common.{◌≡◌, ◌++◌, ◌∷◌, [], ◌∙◌, ◌<◌, length, List, ap, arith}
+use Rattle.std.proofs.Common.{◌≡◌, ◌++◌, ◌∷◌, [], ◌∙◌, ◌<◌, length, ap, arith}
 use Rattle.std.specs.Prelude.{map}
-use Rattle.semver_ranges.specs.RewritingTable.{PlainRange}
 use Rattle.semver_ranges.specs.RangeViews.{range_of}
 use Rattle.semver_ranges.specs.Means.PartialViews.{pre_of}
 use Rattle.semver_ranges.specs.Means.BoundsViews.{range_for}

@@ -1,4 +1,4 @@
-use Rattle.std.proofs.Common.{◌++◌, ◌∙◌, ◌∷◌, [], List, refl, ap, append_assoc, rules}
+use Rattle.std.proofs.Common.{◌++◌, ◌∙◌, ◌∷◌, [], refl, ap, append_assoc, rules}
 use Rattle.std.specs.Prelude.{map, codes}
 use Rattle.std.specs.Fmt.{decimal}
 use Rattle.std.specs.List.{join_with_byte}

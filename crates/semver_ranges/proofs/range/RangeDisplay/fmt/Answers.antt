@@ -1,8 +1,8 @@
-use Rattle.std.proofs.Common.{List, refl, ap}
+use Rattle.std.proofs.Common.{refl, ap}
 use Rattle.std.specs.Prelude.{codes}
 use Rattle.std.proofs.Output.{has_written_of_eq}
 use Rattle.semver_ranges.specs.declared.range.Comparator.{Comparator}
-use Rattle.semver_texts.specs.Texts.{Text, joined}
+use Rattle.semver_texts.specs.Texts.{joined}
 use Rattle.semver_ranges.specs.PrintedRanges.{comparator_text}
 use Rattle.semver_ranges.specs.RangeViews.{comparator_of}
 use Rattle.semver_texts.proofs.Joins.{map_view}
