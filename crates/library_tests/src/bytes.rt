@@ -21,11 +21,26 @@ const BYTES: [(&[u8], Option<&str>); 14] = [
     (b"\xc2\xa01.2.3", None),
 ];
 
+/// Texts, and their parts, each with how many bytes stand in front of it.
+const PARTS: [(&str, (&str, usize), (&str, usize)); 6] = [
+    ("1.2.3", ("", 0), ("", 0)),
+    ("1.2.3-rc.1+b5", ("rc.1", 6), ("b5", 11)),
+    (" 1.2.3-rc.4+b5\n", ("rc.4", 7), ("b5", 12)),
+    ("1.2.3+b5", ("", 0), ("b5", 6)),
+    ("\t 10.20.30-a-b ", ("a-b", 11), ("", 0)),
+    ("1.0.0-1+1", ("1", 6), ("1", 8)),
+];
+
 /// Writes the places of the bytes that are read as something else, and how many there were.
 pub fn write_bytes(rt: &impl Print, alloc: Global) -> io::Result<()> {
     for (place, (bytes, wanted)) in BYTES.iter().enumerate() {
-        if !are_read_as(alloc, bytes, *wanted)? || !are_outlined_as(bytes, *wanted) {
+        if !are_read_as(alloc, bytes, *wanted)? || !are_outlined_as(alloc, bytes, *wanted)? {
             println!(rt; "bytes: wrong at {place}")?;
+        }
+    }
+    for (text, pre, build) in PARTS.iter() {
+        if !has_parts(text, *pre, *build) {
+            println!(rt; "parts: wrong of {text}")?;
         }
     }
     println!(rt; "bytes: {} texts and others", BYTES.len())
@@ -40,11 +55,25 @@ fn are_read_as(alloc: Global, bytes: &[u8], wanted: Option<&str>) -> Result<bool
     }
 }
 
-/// Whether the bytes have the outline of the version that prints so, or none.
-fn are_outlined_as(bytes: &[u8], wanted: Option<&str>) -> bool {
+/// Whether the bytes have an outline of which the version can be made that prints so, or none.
+fn are_outlined_as(alloc: Global, bytes: &[u8], wanted: Option<&str>) -> Result<bool, AllocError> {
     match (version::outline_bytes(bytes), wanted) {
-        (Some(outline), Some(wanted)) => version::outline(wanted) == Some(outline),
-        (None, None) => true,
-        _ => false,
+        (Some(outline), Some(wanted)) => {
+            let version = outline.version(alloc)?;
+            Ok(version.to_string(alloc)?.as_str() == wanted)
+        }
+        (None, None) => Ok(true),
+        _ => Ok(false),
     }
+}
+
+/// Whether a text has these parts, and tells where they begin.
+fn has_parts(text: &str, pre: (&str, usize), build: (&str, usize)) -> bool {
+    let Some(outline) = version::outline(text) else {
+        return false;
+    };
+    outline.pre() == pre.0
+        && outline.pre_offset() == pre.1
+        && outline.build() == build.0
+        && outline.build_offset() == build.1
 }

@@ -1,5 +1,5 @@
 //! Versions that a filter reads from their texts.
-use release_filter::{Filter, PreReleases};
+use release_filter::{Filter, Judged, PreReleases};
 use semver_parser::Compat;
 use std::alloc::Global;
 use std::io::{self, ErrorKind};
@@ -55,6 +55,18 @@ const TEXTS: [(&str, PreReleases, &str, Option<&str>); 21] = [
     ("<0.1 || >=2", PreReleases::Included, "1.0.0", None),
 ];
 
+/// A text, and what a filter of `^1.2` says of it, releases alone: the printed version without its
+/// build, or why none passes.
+const JUDGED: [(&[u8], &str); 7] = [
+    (b"1.2", "no version"),
+    (b"", "no version"),
+    (b"1.9.0\xff", "no version"),
+    (b"2.0.0+b5", "one that doesn't pass"),
+    (b"1.3.0-rc", "one that doesn't pass"),
+    (b"1.9.0", "1.9.0"),
+    (b" 1.9.0+b5\n", "1.9.0"),
+];
+
 /// Writes the places of the texts that are read as something else, and how many there were.
 pub fn write_reading(rt: &impl Print, alloc: Global) -> io::Result<()> {
     for (place, (range, rule, text, wanted)) in TEXTS.iter().enumerate() {
@@ -62,7 +74,26 @@ pub fn write_reading(rt: &impl Print, alloc: Global) -> io::Result<()> {
             println!(rt; "reading: wrong at {place}")?;
         }
     }
+    for (place, (text, wanted)) in JUDGED.iter().enumerate() {
+        if !is_judged_as(alloc, text, wanted)? {
+            println!(rt; "judging: wrong at {place}")?;
+        }
+    }
     println!(rt; "reading: {} texts", TEXTS.len())
+}
+
+/// Whether the filter says this of the text.
+fn is_judged_as(alloc: Global, text: &[u8], wanted: &str) -> io::Result<bool> {
+    let Ok(filter) = Filter::new(alloc, "^1.2", Compat::Cargo, PreReleases::Excluded) else {
+        return Err(io::Error::from(ErrorKind::InvalidInput));
+    };
+    match filter.judge(alloc, text)? {
+        Judged::NoVersion => Ok(wanted == "no version"),
+        Judged::DoesNotPass => Ok(wanted == "one that doesn't pass"),
+        Judged::Passes(version, outline) => {
+            Ok(version.to_string(alloc)?.as_str() == wanted && outline.minor() == version.minor)
+        }
+    }
 }
 
 /// Whether a filter reads the text as the version that prints so, or as none.

@@ -85,13 +85,7 @@ impl Filter {
 
     /// The release of these numbers, if it passes.
     #[inline(always)]
-    fn passing_release(
-        &self,
-        alloc: Global,
-        major: u64,
-        minor: u64,
-        patch: u64,
-    ) -> Option<Version>
+    fn passing_release(&self, alloc: Global, major: u64, minor: u64, patch: u64) -> Option<Version>
         ensures { IsTested (passes self.now) (release major minor patch) result }
     {
         let pre = Vec::new(alloc);

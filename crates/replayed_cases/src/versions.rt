@@ -30,8 +30,8 @@ pub fn write_outline<W: Write>(text: &str, out: &mut W) -> io::Result<()> {
     let Some(outline) = version::outline(text) else {
         return write!(out, "none");
     };
-    let (major, minor, patch) = (outline.major, outline.minor, outline.patch);
-    let (pre, build) = (outline.pre, outline.build);
+    let (major, minor, patch) = (outline.major(), outline.minor(), outline.patch());
+    let (pre, build) = (outline.pre(), outline.build());
     write!(out, "{major} {minor} {patch} pre[{pre}] build[{build}]")
 }
 

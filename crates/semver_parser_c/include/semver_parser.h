@@ -174,16 +174,16 @@ const char *semver_parser_fault_text(int32_t answer);
  * and carriage returns may stand before the version and behind it; the offsets count from the start of the text all the same.
  *
  * Answers
- * - SEMVER_PARSER_OK exactly where the text spells a version, want of memory aside. Then `out` has its numbers and parts.
+ * - SEMVER_PARSER_OK exactly where the text spells a version. Then `out` has its numbers and parts.
  * - SEMVER_PARSER_VERSION_NOT_UTF8 exactly where the bytes aren't UTF-8.
  * - SEMVER_PARSER_UNEXPECTED_END, _UNEXPECTED_TOKEN, _UNEXPECTED_CHAR or _MORE_INPUT: the one fault that any other text has, want of memory aside.
- * - SEMVER_PARSER_VERSION_OUT_OF_MEMORY only where the text has an identifier of a pre-release or a build, or in place of _MORE_INPUT. So a version
- *   without pre-release and build is always answered.
+ * - SEMVER_PARSER_VERSION_OUT_OF_MEMORY never for a version: only in place of one of these four, where the text has an identifier of a pre-release or a
+ *   build, or in place of _MORE_INPUT.
  *
  * After any answer but SEMVER_PARSER_OK `out` is as it was.
  *
- * Memory: none but for the identifiers, of which those of one byte took most, 17 bytes for each byte of the text; or, where a version is followed by
- * something else, for the tokens behind it that tell SEMVER_PARSER_MORE_INPUT, 24 for each byte.
+ * Memory: none for a version. To tell the fault of another text, none but for the identifiers in front of it; or, where a version is followed by
+ * something else, for the tokens behind it that tell SEMVER_PARSER_MORE_INPUT, 24 bytes for each byte.
  */
 int32_t semver_parser_parse_version(const uint8_t *text, size_t text_length, semver_parser_version *out);
 
@@ -259,7 +259,8 @@ int32_t semver_parser_rewrite_with_comparators(const uint8_t *text, size_t text_
  *
  * After any answer but SEMVER_PARSER_OK `meets` is as it was.
  *
- * Memory: 74 bytes for each byte of the range, of `1 1 1 ..`, and while it is held that of reading the version.
+ * Memory: 74 bytes for each byte of the range, of `1 1 1 ..`, and while it is held the identifiers of a pre-release that can meet by the first number
+ * and by the rule, or that of telling a fault of the version.
  */
 int32_t semver_parser_meets(const uint8_t *range, size_t range_length, bool npm, int32_t pre_releases, const uint8_t *version, size_t version_length,
                             bool *meets);

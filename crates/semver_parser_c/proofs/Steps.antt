@@ -130,15 +130,15 @@ refused_text text e utf8 none outcome memory =
 -- its fault, and its outcome, by the number that C gets
 module _ (text : Text) (z n : ℤ) (same : z ≡ n) (refused : RefusesVersion text n) (utf8 : IsUtf8 text) (other : z ≢ version_out_of_memory)
   where
-  pub refused_fault : (e : Fault) × IsOutcomeOf text (Err e) × (z ≡ fault_number e)
-  refused_fault =
-      let h = refused.refused utf8 (λ full. other (same ∙ full)) in
-      (h.0, h.1, same ∙ h.2)
+    pub refused_fault : (e : Fault) × IsOutcomeOf text (Err e) × (z ≡ fault_number e)
+    refused_fault =
+        let h = refused.refused utf8 (λ full. other (same ∙ full)) in
+        (h.0, h.1, same ∙ h.2)
 
-  pub refused_outcome : (r : Result VersionValue Fault) × IsOutcomeOf text r × (z ≡ outcome_number r)
-  refused_outcome =
-      let h = refused_fault in
-      (Err h.0, h.1, h.2)
+    pub refused_outcome : (r : Result VersionValue Fault) × IsOutcomeOf text r × (z ≡ outcome_number r)
+    refused_outcome =
+        let h = refused_fault in
+        (Err h.0, h.1, h.2)
 
 -- a version whose memory wasn't found
 pub refused_memory : (text : Text) → IsUtf8 text → (v : VersionValue) → SpellsVersion v text → 0 < length v.plain.pre

@@ -147,7 +147,7 @@ module _ (text : Text) where
   outlined_spaced None none = λ v. none (v.0, unspaced v.0 text v.1)
   outlined_spaced (Some o) w = outline_spaced o w
 
--- ---- what is answered
+  -- ---- what is answered
 
   pub exactly_outlined : (found : Option OutlineValue) → IsOutlined (prefix_len is_space text) text found → (o : OutlineValue)
       → (found ≡ Some o) ↔ IsOutlineOf text o

@@ -143,8 +143,8 @@ fn with_parts(
         patch,
         pre: text_of_identifiers(pre),
         build: text_of_identifiers(build),
-        pre_offset: behind_mark_at(numbers_end, pre),
-        build_offset: behind_mark_at(pre_end, build),
+        before_pre: behind_mark_at(numbers_end, pre),
+        before_build: behind_mark_at(pre_end, build),
     })
 }
 
@@ -173,8 +173,8 @@ pub(crate) fn outline(input: &[u8]) -> Option<Outline<'_>>
             patch,
             pre: "",
             build: "",
-            pre_offset: 0,
-            build_offset: 0,
+            before_pre: 0,
+            before_build: 0,
         });
     }
     with_parts(major, minor, patch, input.len() - rest.len(), rest)

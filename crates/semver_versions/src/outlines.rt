@@ -21,8 +21,8 @@ pub struct Outline<'t> {
     pub(crate) patch: u64,
     pub(crate) pre: &'t str,
     pub(crate) build: &'t str,
-    pub(crate) pre_offset: usize,
-    pub(crate) build_offset: usize,
+    pub(crate) before_pre: usize,
+    pub(crate) before_build: usize,
 }
 
 impl<'t> Model for Outline<'t> {
@@ -37,8 +37,8 @@ impl<'t> Model for Outline<'t> {
       patch = o.patch;
       pre = o.pre.now;
       build = o.build.now;
-      pre_offset = o.pre_offset;
-      build_offset = o.build_offset;
+      pre_offset = o.before_pre;
+      build_offset = o.before_build;
     } };
 
     ghost invariant = { λ o. AreIdentifiers o.pre.now × AreIdentifiers o.build.now };
@@ -93,7 +93,7 @@ impl<'t> Outline<'t> {
     pub fn pre_offset(&self) -> usize
         ensures { result ≡ self.now.pre_offset }
     {
-        self.pre_offset
+        self.before_pre
     }
 
     /// How many bytes of the text that was read stand in front of the identifiers of the build: 11
@@ -102,7 +102,7 @@ impl<'t> Outline<'t> {
     pub fn build_offset(&self) -> usize
         ensures { result ≡ self.now.build_offset }
     {
-        self.build_offset
+        self.before_build
     }
 
     /// The identifiers of the pre-release: `"rc"` and 4 of `1.2.3-rc.4+5aedf`.

@@ -68,8 +68,8 @@ pub fn read_bytes(alloc: Global, input: &[u8]) -> Result<Option<Version>, AllocE
 }
 
 /// The version that the text spells in outline, if it spells one: `" 1.2.3-rc.4+b5\n"` gives the
-/// numbers 1, 2 and 3, the pre-release `rc.4` and the build `b5`, and `1.2` and `1.2.3 a` give
-/// `None`.
+/// numbers 1, 2 and 3, the pre-release `rc.4` behind 7 bytes and the build `b5` behind 12, and `1.2`
+/// and `1.2.3 a` give `None`.
 ///
 /// It takes no memory: the texts are slices of the input.
 #[inline(always)]
