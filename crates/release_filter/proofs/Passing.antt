@@ -1,5 +1,5 @@
 -- What passes a filter meets its comparators, whatever its rule for pre-releases is.
-use Rattle.std.proofs.Common.{◌≡◌, ◌<◌, ◌==◌, ◌∷◌, arith, length, ℕ, List, [], Option, Some, None, MatchOption, IfSome, IfOk, IfErr, Result, Ok, Err}
+use Rattle.std.proofs.Common.{◌≡◌, ◌<◌, ◌==◌, ◌∷◌, arith, length, ℕ, List, [], Option, Some, None, MatchOption, IfErr, Result, Ok, Err}
 use Rattle.std.proofs.Common.{◌↔◌, subst, option_map, IsTrue, Bool, true, false, refl, sym, ap, ◌∙◌, rules}
 use Rattle.std.specs.Prelude.{◌&&◌}
 use Rattle.semver_parser.specs.Texts.{Text, is_empty}
@@ -92,9 +92,11 @@ module _ (filter : FilterValue) where
       (sym (same_plain filter (version_value made) v (ap (λ (u : VersionValue). u.plain) same)) ∙ passed, ap version_value is ∙ same)
 
 -- a version of these numbers and this pre-release
-pub made_is : (text : Text) (v : VersionValue) (o : OutlineValue) → IsReadAs text v o → (major minor patch : ℕ) (pre build : List IdentifierValue)
+pub made_is : (text : Text) (v : VersionValue) (o : OutlineValue) → IsReadAs text v o → (major minor patch : ℕ)
+    (pre build : List IdentifierValue)
     → major ≡ o.major → minor ≡ o.minor → patch ≡ o.patch → pre ≡ v.plain.pre → build ≡ []
-    → ◌≡◌ {A = VersionValue} (record { plain = record { major = major; minor = minor; patch = patch; pre = pre }; build = build }) (without_build v)
+    → ◌≡◌ {A = VersionValue} (record { plain = record { major = major; minor = minor; patch = patch; pre = pre }; build = build })
+    (without_build v)
 made_is text v o read major minor patch pre build at_major at_minor at_patch at_pre none = λ i. record {
   plain = record {
     major = (at_major ∙ ap (λ (x : OutlineValue). x.major) read.outline) i;

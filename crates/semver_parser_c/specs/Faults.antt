@@ -81,8 +81,8 @@ pub record RefusesRange (Asked : Type 0) (mode : Compat) (text : Text) (n : ℤ)
   pub out_of_memory : n ≡ range_out_of_memory → HasSet mode text
 
 -- what a call refuses of a version text by the number that it answers: bytes that are no UTF-8,
--- exactly; of a text that spells no version the fault that is its outcome; and a version for want of
--- memory alone. Memory runs out only where it may
+-- exactly; of a text that spells no version the fault that is its outcome; and a version for want
+-- of memory alone. Memory runs out only where it may
 pub record RefusesVersion (text : Text) (n : ℤ) : Type 0 where
   pub one : IsOneOf version_faults n
   pub not_utf8 : (n ≡ number.version_not_utf8) ↔ ¬ (IsUtf8 text)

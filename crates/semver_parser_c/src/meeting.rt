@@ -15,7 +15,8 @@ ghost use Rattle.release_filter.specs.Filters.{passes};
 ghost use Rattle.release_filter.specs.declared.PreReleases.{PreReleases as Rule};
 ghost use Rattle.semver_parser_c.specs.Numbers as number;
 ghost use Rattle.semver_parser_c.specs.Faults.{IsOneOf, fault_number, mode_of, number_of};
-ghost use Rattle.semver_parser_c.specs.Faults.{RefusesRange, RefusesVersion, range_faults, version_faults};
+ghost use Rattle.semver_parser_c.specs.Faults.{RefusesRange, RefusesVersion};
+ghost use Rattle.semver_parser_c.specs.Faults.{range_faults, version_faults};
 ghost use Rattle.semver_parser_c.specs.Rules.{IsAnswer, IsFilterOf, IsRule, rule_number};
 
 use crate::{numbers, range_text, version_text};

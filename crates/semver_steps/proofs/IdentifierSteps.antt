@@ -52,7 +52,8 @@ identifier_of w = record { runs = w.first ∷ w.runs; some = omega arith; each =
 pub one_run : (t : TokenValue) → IsTrue (is_component t) → IsIdentifierShape (t ∷ [])
 one_run t h = record { runs = t ∷ []; some = omega arith; each = (h, tt); joined = refl }
 
-pub run_more : {ts : List TokenValue} (t : TokenValue) → IsTrue (is_component t) → IsIdentifierShape ts → IsIdentifierShape (t ∷ Hyphen ∷ ts)
+pub run_more : {ts : List TokenValue} (t : TokenValue) → IsTrue (is_component t) → IsIdentifierShape ts
+    → IsIdentifierShape (t ∷ Hyphen ∷ ts)
 run_more {ts} t h w =
     let f = first_run_of ts w in
     record {

@@ -463,7 +463,8 @@ module _ {s t : ParserState} {from : Place} {text : Text} (k : IsTakenTo s from 
 
   part_given : (there : Bool) → IsTrue there ↔ (look t ≡ Some (mark_of part)) → (d : Step (List IdentifierValue)) → TakesPart there t d
       → (¬ (look t ≡ Some (mark_of part)) → IsBehind s part text t) → Gives (RefusesVersion s) (IsPart s part text) d
-  part_given true here (Ok ids, u) w none = passed_part s u part text ids (w s part (text ++ inner_text (mark_of part)) (at_mark (here.0 refl)))
+  part_given true here (Ok ids, u) w none =
+      passed_part s u part text ids (w s part (text ++ inner_text (mark_of part)) (at_mark (here.0 refl)))
   part_given true here (Err e, u) w none = w s part (text ++ inner_text (mark_of part)) (at_mark (here.0 refl))
   part_given false here d w none =
       rw w (record {

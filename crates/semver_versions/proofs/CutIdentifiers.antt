@@ -176,7 +176,12 @@ is_identifiers text is = subst (AllByRecursion IsIdentifierText) (sym (cut_texts
 pub stand_found : (bytes : Text) → stands false bytes ≡ true → BeginsWithIdentifiers bytes
 stand_found bytes e =
     let w = (begun bytes).0 e in (
-      omega (arith, joined_some 46 w.first w.others (identifier_part w.first w.each.0).0, ap length w.joined, length-prefix_len is_inner_byte bytes),
+      omega (
+        arith,
+        joined_some 46 w.first w.others (identifier_part w.first w.each.0).0,
+        ap length w.joined,
+        length-prefix_len is_inner_byte bytes,
+      ),
       subst AreIdentifiers (sym w.joined) (subst (AllByRecursion IsIdentifierText) (sym (cut_texts (w.first ∷ w.others) w.each)) w.each),
     )
 

@@ -46,7 +46,8 @@ cut_dotted : (ids : List IdentifierValue) (texts : List Text) → AllZip SpellsI
     → AllZip SpellsIdentifier ids (cut_at_dots (dotted_text ids))
 cut_dotted ids texts each =
     subst (AllZip SpellsIdentifier ids)
-    (sym (ap (λ ts. cut_at_dots (join_with_byte 46 ts)) (sym (spelled_texts ids texts each)) ∙ cut_texts texts (spelled_are ids texts each)))
+    (sym (ap (λ ts. cut_at_dots (join_with_byte 46 ts)) (sym (spelled_texts ids texts each))
+    ∙ cut_texts texts (spelled_are ids texts each)))
     each
 
 -- how many bytes a part has with its mark
@@ -212,13 +213,15 @@ module _ (text : Text) (v : VersionValue) (w : SpellsVersion v text) where
       → ids ≡ v.plain.pre
   cut_pre o is ids each =
       same_identifiers ids v.plain.pre (cut_at_dots o.pre) each
-      (subst (λ t. AllZip SpellsIdentifier v.plain.pre (cut_at_dots t)) (sym (its_pre o is)) (cut_dotted v.plain.pre w.spells.pre.texts w.spells.pre.each))
+      (subst (λ t. AllZip SpellsIdentifier v.plain.pre (cut_at_dots t)) (sym (its_pre o is))
+      (cut_dotted v.plain.pre w.spells.pre.texts w.spells.pre.each))
 
   pub cut_build : (o : OutlineValue) → IsOutlineOf text o → (ids : List IdentifierValue) → AllZip SpellsIdentifier ids (cut_at_dots o.build)
       → ids ≡ v.build
   cut_build o is ids each =
       same_identifiers ids v.build (cut_at_dots o.build) each
-      (subst (λ t. AllZip SpellsIdentifier v.build (cut_at_dots t)) (sym (its_build o is)) (cut_dotted v.build w.spells.build.texts w.spells.build.each))
+      (subst (λ t. AllZip SpellsIdentifier v.build (cut_at_dots t)) (sym (its_build o is))
+      (cut_dotted v.build w.spells.build.texts w.spells.build.each))
 
   -- and they stand at their offsets
   both_stand : (o : OutlineValue) → IsOutlineOf text o → StandsAt o.pre_offset o.pre text × StandsAt o.build_offset o.build text

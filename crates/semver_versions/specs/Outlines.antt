@@ -1,5 +1,5 @@
--- Versions in outline: three numbers, the texts of the pre-release and of the build, and where these
--- begin in the text of the version.
+-- Versions in outline: three numbers, the texts of the pre-release and of the build, and where
+-- these begin in the text of the version.
 use Prim.Native.Char.{code}
 use Rattle.std.specs.Prelude.{◌≡◌, ℕ, suc, ◌+◌, List, [], ◌∷◌, length, map, take, drop, decimal}
 use Rattle.std.specs.List.{join_with_byte, prefix_len}

@@ -45,11 +45,11 @@ pub fn read(alloc: Global, input: &str) -> Result<Option<Version>, AllocError>
     read_bytes(alloc, input.as_bytes())
 }
 
-/// What [`read`] answers of a text, of bytes that needn't be UTF-8: `1.2.3-rc.4` gives that version,
-/// and `1.2.3` with a byte 255 behind it gives `None`, as all bytes that are no UTF-8.
+/// What [`read`] answers of a text, of bytes that needn't be UTF-8: `1.2.3-rc.4` gives that
+/// version, and `1.2.3` with a byte 255 behind it gives `None`, as all bytes that are no UTF-8.
 ///
-/// The bytes aren't checked for UTF-8, since each byte of a version is ASCII. So for lines of a file
-/// this is quicker than such a check and [`read`].
+/// The bytes aren't checked for UTF-8, since each byte of a version is ASCII. So for lines of a
+/// file this is quicker than such a check and [`read`].
 #[inline(always)]
 pub fn read_bytes(alloc: Global, input: &[u8]) -> Result<Option<Version>, AllocError>
     // Unless memory ran out, a version is answered exactly where the bytes spell it.
@@ -68,8 +68,8 @@ pub fn read_bytes(alloc: Global, input: &[u8]) -> Result<Option<Version>, AllocE
 }
 
 /// The version that the text spells in outline, if it spells one: `" 1.2.3-rc.4+b5\n"` gives the
-/// numbers 1, 2 and 3, the pre-release `rc.4` behind 7 bytes and the build `b5` behind 12, and `1.2`
-/// and `1.2.3 a` give `None`.
+/// numbers 1, 2 and 3, the pre-release `rc.4` behind 7 bytes and the build `b5` behind 12, and
+/// `1.2` and `1.2.3 a` give `None`.
 ///
 /// It takes no memory: the texts are slices of the input.
 #[inline(always)]

@@ -6,4 +6,5 @@ use Rattle.semver_parser_c.proofs.meeting.byte_for.Goals as goal
 pub returns-in-Err : goal.returns-in-Err
 returns-in-Err c = λ rule mode range filter.
     let is = c.byte_of.ensures ∙ told_version c.args.version.now c.in-Err.number c.in-Err.ensures.refused in
-    fault_answer rule mode range c.args.version.now c.byte_of.result (subst (RefusesVersion c.args.version.now) (sym is) c.in-Err.ensures.refused)
+    fault_answer rule mode range c.args.version.now c.byte_of.result
+    (subst (RefusesVersion c.args.version.now) (sym is) c.in-Err.ensures.refused)

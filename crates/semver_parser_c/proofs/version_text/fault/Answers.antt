@@ -11,6 +11,7 @@ unreachable-requires c =
 
 pub returns : goal.returns
 returns c =
-    let refused = refused_text c.args.text.now c.in-Err.error c.utf8.text c.requires c.in-Err.ensures.outcome c.in-Err.ensures.out_of_memory in
+    let told = c.in-Err.ensures in
+    let refused = refused_text c.args.text.now c.in-Err.error c.utf8.text c.requires told.outcome told.out_of_memory in
     subst (λ n. RefusesVersion c.args.text.now (to_z w32 (of_z w32 n))) (sym c.fault_number.ensures)
     (subst (RefusesVersion c.args.text.now) (sym (told_version c.args.text.now _ refused)) refused)

@@ -9,8 +9,8 @@ use Rattle.semver_versions.proofs.from_bytes.outline.Goals as goal
 use Rattle.semver_versions.proofs.from_bytes.outline.Goals.{In_ok-major}
 
 -- the numbers stand behind the white space
-begins : (c : In_ok-major) → BeginsWithNumbers (drop (prefix_len is_space c.args.input.now) c.args.input.now) c.in_ok-major.major c.in_ok-major.minor
-    c.in_ok-major.patch c.in_ok-major.rest.now
+begins : (c : In_ok-major) → BeginsWithNumbers (drop (prefix_len is_space c.args.input.now) c.args.input.now) c.in_ok-major.major
+    c.in_ok-major.minor c.in_ok-major.patch c.in_ok-major.rest.now
 begins c =
     subst (λ (t : Text). BeginsWithNumbers t c.in_ok-major.major c.in_ok-major.minor c.in_ok-major.patch c.in_ok-major.rest.now)
     c.behind_spaces.ensures c.in_ok-major.ensures

@@ -13,7 +13,12 @@ behind_mark_at-requires c =
 
 pub behind_mark_at-requires-2 : goal.behind_mark_at-requires-2
 behind_mark_at-requires-2 c =
-    omega (arith, c.requires, c.marked_len.ensures 45, parts_fit c.args.rest.now c.in_ok-pre.pre.now c.in_ok-pre.build.now c.in_ok-pre.ensures)
+    omega (
+      arith,
+      c.requires,
+      c.marked_len.ensures 45,
+      parts_fit c.args.rest.now c.in_ok-pre.pre.now c.in_ok-pre.build.now c.in_ok-pre.ensures,
+    )
 
 pub returns : goal.returns
 returns c = λ text before n at.

@@ -16,7 +16,8 @@ use Rattle.semver_versions.proofs.identifiers.cut_identifiers.Goals.{In-Some}
 text_here : (c : In-Some) → (length c.loop-part.yielded < length (slice_split is_dot c.args.bytes.now))
     × (c.in-Some.part.now ≡ get_or (slice_split is_dot c.args.bytes.now) (length c.loop-part.yielded) c.in-Some.part.now)
 text_here c =
-    YieldsList-turn (YieldsList-from_slice_split _ is_dot c.args.bytes.now (cc) (cc) (cc) (λ x r q k. search (rules, tests))) c.loop-part.yielded _ c.loop-part.yielded_by _ _
+    YieldsList-turn (YieldsList-from_slice_split _ is_dot c.args.bytes.now (cc) (cc) (cc) (λ x r q k. search (rules, tests)))
+    c.loop-part.yielded _ c.loop-part.yielded_by _ _
     c.in-Some.part c.in-Some.is c.next.ensures.steps
 
 pub identifier-requires : goal.identifier-requires
@@ -39,7 +40,8 @@ loop-part-preserved c =
 pub returns : goal.returns
 returns c =
     let all : List Text = slice_split is_dot c.args.bytes.now in
-    let end = YieldsList-end (YieldsList-from_slice_split _ is_dot c.args.bytes.now (cc) (cc) (cc) (λ x r q k. search (rules, tests))) c.loop-part.yielded _
+    let end = YieldsList-end (YieldsList-from_slice_split _ is_dot c.args.bytes.now (cc) (cc) (cc) (λ x r q k. search (rules, tests)))
+    c.loop-part.yielded _
     c.loop-part.yielded_by _ _
     c.in-None.is c.next.ensures.steps in
     subst (AllZip SpellsIdentifier (map identifier_value c.loop-part.identifiers.items)) (ap (λ n. take n all) end.1 ∙ take-length all)
