@@ -1,6 +1,5 @@
 use Rattle.std.proofs.Common.{◌∷◌, [], List, ◌++◌, ◌∙◌, ap, sym}
 use Rattle.std.specs.Prelude.{map}
-use Rattle.semver_ranges.specs.declared.partial.RaisedBounds.{RaisedBounds}
 use Rattle.semver_ranges.specs.declared.range.Identifier.{Identifier}
 use Rattle.semver_ranges.specs.declared.range.Identifier.TheVariants.{Numeric}
 use Rattle.semver_ranges.specs.RangeViews.{identifier_of}
