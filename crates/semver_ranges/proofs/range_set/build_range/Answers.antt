@@ -1,13 +1,14 @@
-use Rattle.std.proofs.Common.{◌++◌, ◌∙◌, List, Some, sym, ap, append_assoc}
+use Rattle.std.proofs.Common.{rules, ◌++◌, ◌∙◌, List, Some, sym, ap, subst, append-nil, append_assoc}
 use Rattle.std.specs.Prelude.{map}
 use Rattle.std.specs.List.{list_all, flat_map}
 use Rattle.std.proofs.lemmas.Bool.{and_parts}
+use Rattle.semver_ranges.specs.RangeTree.{Simple}
 use Rattle.semver_ranges.specs.RewritingTable.{PlainComparator, written_simple}
 use Rattle.semver_ranges.specs.RangeViews.{comparator_of}
 use Rattle.semver_ranges.specs.Means.PartialViews.{pre_of}
 use Rattle.semver_ranges.specs.Means.RangeEvents.{Event, simple_fits, event_fits, range_simples, range_others}
 use Rattle.semver_ranges.specs.Means.CursorViews.{HasLeft}
-use Rattle.semver_ranges.proofs.FoundEvents.{NextSimple, next_simple}
+use Rattle.semver_ranges.proofs.FoundEvents.{NextSimple, next_simple, RangeEnd, range_end}
 use Rattle.semver_ranges.proofs.range_set.build_range.Goals as goal
 use Rattle.semver_ranges.proofs.range_set.build_range.Goals.{In-Some-Ok-Simple}
 
@@ -49,4 +50,15 @@ loop-simple-preserved c = λ es has fits.
           ∙ append_assoc before here behind
           ∙ sym (ap (λ l. before ++ flat_map (written_simple (pre_of c.args.raised) c.args.compat) (range_simples l))
           first.whole) ∙ so_far.4,
+    )
+
+pub returns : goal.returns
+returns c = λ es has fits.
+    let so_far = c.loop-simple.invariant es has fits in
+    let end : RangeEnd so_far.0 c.next.new.self = search (rules, range_end) in
+    let items : List PlainComparator = map comparator_of c.loop-simple.comparator_set.items in
+    let made : List Simple → List PlainComparator = flat_map (written_simple (pre_of c.args.raised) c.args.compat) in (
+      ap (λ (l : List PlainComparator). record { comparators = l; compat = c.args.compat })
+          (sym (append-nil items) ∙ ap (λ (ss : List Simple). items ++ made ss) (sym end.simples) ∙ so_far.4),
+      subst (λ (l : List Event). HasLeft c.next.new.self (Some l)) so_far.3 end.has,
     )

@@ -3,8 +3,9 @@ use Rattle.std.specs.String.{string_bytes}
 use Rattle.std.proofs.lemmas.Result.{err_from_is_err_and}
 use Rattle.semver_tokens.specs.ParserState.{IsStateFrom}
 use Rattle.semver_texts.specs.VersionGrammar.{SpellsIdentifier}
-use Rattle.semver_steps.proofs.ReadingSteps.{reads_refused}
-use Rattle.semver_steps.proofs.IdentifierTexts.{unless_out_of_memory, read_may_run_out, reads_text}
+use Rattle.semver_texts.specs.Versions.{numeric}
+use Rattle.semver_steps.proofs.ReadingSteps.{reads_refused, reads_other}
+use Rattle.semver_steps.proofs.IdentifierTexts.{unless_out_of_memory, read_may_run_out, front_has_value, reads_text}
 use Rattle.semver_steps.proofs.parser.Parser.identifier.Goals as goal
 
 pub returns-in_err-number-clause-answer : goal.returns-in_err-number-clause-answer
@@ -31,3 +32,11 @@ returns-clause-answer c =
     let from : IsStateFrom text c.args.self.now = subst (IsStateFrom text) c.self.view_is c.self.invariant.spelled in
     reads_text text (string_bytes c.in-Ok.kept) _ _ c.in_ok-number.field-0 from c.in_ok-number.ensures c.in_default.is
     (c.in-Ok.ensures.ok ∙ c.identifier_front.ensures)
+
+pub returns-in-Some-clause-answer : goal.returns-in-Some-clause-answer
+returns-in-Some-clause-answer c =
+    let text : List ℕ = c.self.inside.rest.now in
+    let from : IsStateFrom text c.args.self.now = subst (IsStateFrom text) c.self.view_is c.self.invariant.spelled in
+    let passes = c.in_ok-number.ensures.passes in
+    let value = front_has_value text _ _ c.in_ok-number.field-0 from passes c.in_ok-number.ensures.number in
+    reads_other SpellsIdentifier _ _ _ (numeric c.in-Some.number) passes (rw c.in-Some.is at value)

@@ -1,4 +1,4 @@
-use Rattle.std.proofs.Common.{◌≡◌, length, arith, ap, sym, ◌∙◌, [], ◌∷◌, ◌++◌, None, append-nil, rules}
+use Rattle.std.proofs.Common.{◌≡◌, length, arith, ap, refl, sym, ◌∙◌, [], ◌∷◌, ◌++◌, None, append-nil, rules}
 use Rattle.std.specs.Prelude.{map}
 use Rattle.semver_tokens.specs.Views.{token_value}
 use Rattle.semver_tokens.proofs.LexerItems.{none_remains, state_at_token}
@@ -57,3 +57,6 @@ returns-clause-answer c =
     tail_gives c.args.self.now _ c.take.new.self c.count_tokens-count.result.1 all
     (sym (ap (λ s. s.pending) c.self.view_is) ∙ no_pending c) c.take.ensures.after
     (c.count_tokens-count.ensures.end ∙ ap (λ p. record { remaining = []; pending = p }) (no_pending c))
+
+pub returns-in_default-with_capacity-clause-out_of_memory : goal.returns-in_default-with_capacity-clause-out_of_memory
+returns-in_default-with_capacity-clause-out_of_memory c = (refl, search rules, search rules)
