@@ -1,5 +1,5 @@
 -- What stands behind the prefix of a line, and what that says of the line.
-use Rattle.std.proofs.Common.{Bor, ◌+◌, Option, Some, None, Result, Ok, Err, IfOk, MatchOption, ◌≡◌, ℕ, ◌++◌}
+use Rattle.std.proofs.Common.{Bor, ◌+◌, Option, Some, None, MatchOption, ◌≡◌, ℕ, ◌++◌}
 use Rattle.std.proofs.Common.{Bool, true, false, List, ap, sym, subst, ◌∙◌, ◌⊎◌, ⊎_elim, take, drop, length, eqb}
 use Rattle.std.specs.Cmp.Lexicographic.{pointwise, bytes_decides}
 use Rattle.std.proofs.Math.Seq.{take-append_seam}

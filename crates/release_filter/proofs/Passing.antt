@@ -1,6 +1,6 @@
 -- What passes a filter meets its comparators, whatever its rule for pre-releases is.
 use Rattle.std.proofs.Common.{◌≡◌, ◌<◌, ◌==◌, ◌∷◌, arith, length, ℕ, List, [], Option, Some, None, MatchOption, IfErr, Result, Ok, Err}
-use Rattle.std.proofs.Common.{◌↔◌, subst, option_map, IsTrue, Bool, true, false, refl, sym, ap, ◌∙◌, rules}
+use Rattle.std.proofs.Common.{◌↔◌, subst, IsTrue, Bool, true, false, refl, sym, ap, ◌∙◌, rules}
 use Rattle.std.specs.Prelude.{◌&&◌}
 use Rattle.semver_parser.specs.Texts.{Text, is_empty}
 use Rattle.semver_parser.specs.Versions.{IdentifierValue, PlainVersion, VersionValue}
@@ -11,12 +11,11 @@ use Rattle.semver_parser.specs.declared.version.Version.{Version}
 use Rattle.semver_parser.specs.RewritingTable.{PlainSet}
 use Rattle.semver_parser.specs.Meeting.{meets_range, meets_set}
 use Rattle.semver_parser.specs.StatedPreReleases.{counts_beside, meets_set_as_stated}
-use Rattle.std.specs.declared.alloc.AllocError.{AllocError}
 use Rattle.release_filter.specs.Filters.{meets_with, FilterValue, passes}
 use Rattle.release_filter.specs.KeptReleases.{is_release}
 use Rattle.release_filter.specs.Judging.{IsJudged, without_build}
 use Rattle.release_filter.specs.Means.Tested.{IsReadAs, IsTested}
-use Rattle.release_filter.specs.declared.judging.Judged.TheVariants.{NoVersion, DoesNotPass, Passes}
+use Rattle.release_filter.specs.declared.judging.Judged.TheVariants.{DoesNotPass}
 use Rattle.release_filter.specs.declared.rules.PreReleases.{PreReleases}
 use Rattle.release_filter.specs.declared.rules.PreReleases.TheVariants.{Excluded, Stated, Included}
 use Rattle.release_filter.proofs.Tests.{first_of_both}

@@ -4,7 +4,7 @@ use Rattle.std.proofs.Common.{arith, append_assoc, append-nil, length-append, de
 use Rattle.std.specs.Prelude.{flat_map}
 use Rattle.std.specs.List.{AllZip, join_with_byte}
 use Rattle.std.proofs.lemmas.List.{take_at}
-use Rattle.semver_parser.specs.Texts.{Text, joined, marked}
+use Rattle.semver_parser.specs.Texts.{Text, joined}
 use Rattle.semver_parser.specs.Versions.{numbers}
 use Rattle.semver_parser.specs.PrintedText.{identifier_text}
 use Rattle.semver_parser.specs.PrintedRanges.{op_text, comparator_text, range_text, set_text}
@@ -24,9 +24,12 @@ allzip_append R [] us (y ∷ ys) vs front back = absurd front
 allzip_append R (x ∷ xs) us [] vs front back = absurd front
 allzip_append R (x ∷ xs) us (y ∷ ys) vs front back = (front.0, allzip_append R xs us ys vs front.1 back)
 
-joined_more : (separator first next : Text) (others : List Text)
-    → joined separator (first ∷ next ∷ others) ≡ first ++ (separator ++ joined separator (next ∷ others))
-joined_more separator first next others = append_assoc first separator (joined separator (next ∷ others))
+-- the first of some items, and those behind the separator
+here : (a b c d e : Text) → a ++ (((b ++ c) ++ d) ++ e) ≡ a ++ (b ++ (c ++ (d ++ e)))
+here a b c d e = simp append_assoc
+
+there : (a b c d e : Text) → a ++ (((b ++ c) ++ d) ++ e) ≡ (a ++ (b ++ c)) ++ (d ++ e)
+there a b c d e = simp append_assoc
 
 module _ (text : Text) where
   abbrev HasPre : PrintedComparator → PlainComparator → Type 0
@@ -35,14 +38,9 @@ module _ (text : Text) where
   comparator_has : (n at : ℕ) (before after : Text) (c : PlainComparator) → text ≡ before ++ (comparator_text c ++ after)
       → at ≡ length before → HasPre (told_comparator n at c) c
   comparator_has n at before after c whole place =
-      let three : Text = join_with_byte 46 (map decimal (numbers c.version)) in
-      let front : Text = op_text c.op ++ three in
-      let pre : Text = marked (codes "-") (map identifier_text c.version.pre) in
-      marked_bytes text (before ++ front) pre after 45 (at + length front) (whole ∙ regroup before (op_text c.op) three pre after)
+      let front : Text = op_text c.op ++ join_with_byte 46 (map decimal (numbers c.version)) in
+      marked_bytes text (before ++ front) _ after 45 (at + length front) (whole ∙ simp append_assoc)
       (ap (λ m. m + length front) place ∙ sym (length-append before front)) (map identifier_text c.version.pre) refl
-    where
-      regroup : (a b c d e : Text) → a ++ ((b ++ (c ++ d)) ++ e) ≡ (a ++ (b ++ c)) ++ (d ++ e)
-      regroup a b c d e = simp append_assoc
 
   range_has : (n at : ℕ) (before after : Text) (cs : List PlainComparator)
       → text ≡ before ++ (joined (codes " ") (map comparator_text cs) ++ after) → at ≡ length before → AllZip HasPre (told_range n at cs) cs
@@ -50,20 +48,12 @@ module _ (text : Text) where
   range_has n at before after (c ∷ []) whole place = (comparator_has n at before after c whole place, tt)
   range_has n at before after (c ∷ next ∷ others) whole place =
       let first : Text = comparator_text c in
-      let rest : Text = joined (codes " ") (map comparator_text (next ∷ others)) in
-      let split : text ≡ before ++ ((first ++ (codes " " ++ rest)) ++ after) = whole
-      ∙ ap (λ t. before ++ (t ++ after)) (joined_more (codes " ") first (comparator_text next) (map comparator_text others)) in (
-        comparator_has n at before (codes " " ++ (rest ++ after)) c (split ∙ here before first (codes " ") rest after) place,
+      let rest : Text = joined (codes " ") (map comparator_text (next ∷ others)) in (
+        comparator_has n at before (codes " " ++ (rest ++ after)) c (whole ∙ here before first (codes " ") rest after) place,
         range_has n (at + length first + 1) (before ++ (first ++ codes " ")) after (next ∷ others)
-            (split ∙ there before first (codes " ") rest after)
+            (whole ∙ there before first (codes " ") rest after)
             (omega (arith, place, length-append before (first ++ codes " "), length-append first (codes " "))),
       )
-    where
-      here : (a b c d e : Text) → a ++ ((b ++ (c ++ d)) ++ e) ≡ a ++ (b ++ (c ++ (d ++ e)))
-      here a b c d e = simp append_assoc
-
-      there : (a b c d e : Text) → a ++ ((b ++ (c ++ d)) ++ e) ≡ (a ++ (b ++ c)) ++ (d ++ e)
-      there a b c d e = simp append_assoc
 
   ranges_have : (n at : ℕ) (before after : Text) (rs : List PlainRange)
       → text ≡ before ++ (joined (codes " || ") (map range_text rs) ++ after) → at ≡ length before
@@ -74,21 +64,12 @@ module _ (text : Text) where
   ranges_have n at before after (r ∷ next ∷ others) whole place =
       let first : Text = range_text r in
       let rest : Text = joined (codes " || ") (map range_text (next ∷ others)) in
-      let split : text ≡ before ++ ((first ++ (codes " || " ++ rest)) ++ after) = whole
-      ∙ ap (λ t. before ++ (t ++ after)) (joined_more (codes " || ") first (range_text next) (map range_text others)) in
       allzip_append HasPre (told_range n at r.comparators) (told_ranges (n + 1) (at + length first + 4) (next ∷ others)) r.comparators
       (flat_map (λ (r : PlainRange). r.comparators) (next ∷ others))
-      (range_has n at before (codes " || " ++ (rest ++ after)) r.comparators (split ∙ here before first (codes " || ") rest after) place)
+      (range_has n at before (codes " || " ++ (rest ++ after)) r.comparators (whole ∙ here before first (codes " || ") rest after) place)
       (ranges_have (n + 1) (at + length first + 4) (before ++ (first ++ codes " || ")) after (next ∷ others)
-      (split ∙ there before first (codes " || ") rest after)
+      (whole ∙ there before first (codes " || ") rest after)
       (omega (arith, place, length-append before (first ++ codes " || "), length-append first (codes " || "))))
-    where
-      here : (a b c d e : Text) → a ++ ((b ++ (c ++ d)) ++ e) ≡ a ++ (b ++ (c ++ (d ++ e)))
-      here a b c d e = simp append_assoc
-
-      there : (a b c d e : Text) → a ++ ((b ++ (c ++ d)) ++ e) ≡ (a ++ (b ++ c)) ++ (d ++ e)
-      there a b c d e = simp append_assoc
-
 set_has : (s : PlainSet) → HasPreReleases (set_text s) (told_set s) s
 set_has s = ranges_have (set_text s) 0 0 [] [] s.ranges (sym (append-nil (set_text s))) refl
 

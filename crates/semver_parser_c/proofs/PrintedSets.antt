@@ -22,13 +22,9 @@ pub text_step : {X : Type 0} (f : X → Text) (separator start now spaced after 
     → i < length xs → x ≡ get_or xs i x → now ≡ start ++ flat_map (λ y. separator ++ f y) (take i xs) → spaced ≡ now ++ separator
     → after ≡ spaced ++ f x → after ≡ start ++ flat_map (λ y. separator ++ f y) (take (i + 1) xs)
 text_step f separator start now spaced after xs i x within is so_far spaced_is after_is =
-    let front : Text = flat_map (λ y. separator ++ f y) (take i xs) in
     after_is ∙ ap (λ t. t ++ f x) (spaced_is ∙ ap (λ t. t ++ separator) so_far)
-    ∙ regroup start front separator (f x)
+    ∙ (simp append_assoc)
     ∙ ap (λ t. start ++ t) (flat_map_step (λ y. separator ++ f y) xs i x within is)
-  where
-    regroup : (a b c d : Text) → ((a ++ b) ++ c) ++ d ≡ a ++ (b ++ (c ++ d))
-    regroup a b c d = simp append_assoc
 
 -- all items joined
 pub text_end : {X : Type 0} (f : X → Text) (separator start now end : Text) (xs : List X) (first : X) (rest : List X) (i : ℕ)
@@ -52,10 +48,7 @@ module _ (before middle whole : Text) (c : PlainComparator) where
   printed_comparator front_is pre_is =
       let pre : Text = marked (codes "-") (map identifier_text c.version.pre) in
       pre_is ∙ ap (λ t. t ++ pre) front_is
-      ∙ regroup before (op_text c.op) (join_with_byte 46 (map decimal (numbers c.version))) pre
-    where
-      regroup : (a b c d : Text) → (a ++ (b ++ c)) ++ d ≡ a ++ (b ++ (c ++ d))
-      regroup a b c d = simp append_assoc
+      ∙ simp append_assoc
 
   pub place_is : (place : Part) → FrontIs → PreIs
       → ((part : Text) → length middle + length part ≡ length whole → place ≡ behind_mark (length middle) part)
@@ -78,8 +71,7 @@ pub range_step : (n : ℕ) (before after whole : List PrintedComparator) (at pla
     → all ≡ c ∷ cs → before ++ told_range n at all ≡ whole → after ≡ before ++ told_comparator n place c ∷ [] → place ≡ at
     → end ≡ place + length (comparator_text c) → after ++ told_range n (end + 1) cs ≡ whole
 range_step n before after whole at place end c cs all is so_far after_is place_is end_is =
-    let at_end : end + 1 ≡ at + length (comparator_text c) + 1 =
-    ap (λ m. m + 1) (end_is ∙ ap (λ m. m + length (comparator_text c)) place_is) in
+    let at_end = ap (λ m. m + 1) (end_is ∙ ap (λ m. m + length (comparator_text c)) place_is) in
     ap (λ l. l ++ told_range n (end + 1) cs) after_is
     ∙ append_assoc before (told_comparator n place c ∷ []) (told_range n (end + 1) cs)
     ∙ (λ i. before ++ told_comparator n (place_is i) c ∷ told_range n (at_end i) cs)
@@ -99,13 +91,10 @@ pub ranges_step : (n : ℕ) (before after whole : List PrintedComparator) (at pl
     → all ≡ r ∷ rs → before ++ told_ranges n at all ≡ whole → after ≡ before ++ told_range n place r.comparators → place ≡ at
     → end ≡ place + length (range_text r) → after ++ told_ranges (n + 1) (end + 4) rs ≡ whole
 ranges_step n before after whole at place end r rs all is so_far after_is at_is end_is =
-    let at_end : end + 4 ≡ at + length (range_text r) + 4 = ap (λ m. m + 4) (end_is ∙ ap (λ m. m + length (range_text r)) at_is) in
-    let others : List PrintedComparator = told_ranges (n + 1) (at + length (range_text r) + 4) rs in
-    let joined_is : after ++ told_ranges (n + 1) (end + 4) rs ≡ (before ++ told_range n at r.comparators) ++ others =
-    (λ i. (after_is ∙ ap (λ m. before ++ told_range n m r.comparators) at_is) i ++ told_ranges (n + 1) (at_end i) rs) in
-    let apart : (before ++ told_range n at r.comparators) ++ others ≡ before ++ told_ranges n at (r ∷ rs) =
-    append_assoc before (told_range n at r.comparators) others in
-    joined_is ∙ apart ∙ ap (λ l. before ++ told_ranges n at l) (sym is) ∙ so_far
+    let at_end = ap (λ m. m + 4) (end_is ∙ ap (λ m. m + length (range_text r)) at_is) in
+    (λ i. (after_is ∙ ap (λ m. before ++ told_range n m r.comparators) at_is) i ++ told_ranges (n + 1) (at_end i) rs)
+    ∙ append_assoc before (told_range n at r.comparators) (told_ranges (n + 1) (at + length (range_text r) + 4) rs)
+    ∙ ap (λ l. before ++ told_ranges n at l) (sym is) ∙ so_far
 
 -- the first range of a set, and then the others
 pub ranges_end : (first told : List PrintedComparator) (end past n : ℕ) (r : PlainRange) (rs all left : List PlainRange)

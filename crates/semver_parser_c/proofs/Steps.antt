@@ -62,8 +62,8 @@ read_is s t (Err e) reads = refused_is s.remaining s.pending reads.rest e t.rema
 outcome_is : (text : Text) (e : Fault) → IsOutcomeOf text (Err e) → is_of_text e ≡ true
 outcome_is text e w = ap answer_is_of_text w.whole ∙ read_is w.start w.end w.answer w.reads
 
-no_such : {P : Type 0} → false ≡ true → P
-no_such h = cc
+clash : {P : Type 0} → false ≡ true → P
+clash h = cc
 
 -- a refused version text has the number of one of these
 pub version_number : (text : Text) (e : Error) (z : ℤ) → z ≡ fault_number (fault_of e)
@@ -72,8 +72,8 @@ version_number text error.UnexpectedEnd z is w = inr (inl is)
 version_number text (error.UnexpectedToken t) z is w = inr (inr (inl is))
 version_number text (error.Lexer (lexer_error.UnexpectedChar c)) z is w = inr (inr (inr (inl is)))
 version_number text (error.MoreInput ts) z is w = inr (inr (inr (inr (inl is))))
-version_number text error.EmptyPredicate z is w = no_such (outcome_is text fault.EmptyPredicate w)
-version_number text error.EmptyRange z is w = no_such (outcome_is text fault.EmptyRange w)
+version_number text error.EmptyPredicate z is w = clash (outcome_is text fault.EmptyPredicate w)
+version_number text error.EmptyRange z is w = clash (outcome_is text fault.EmptyRange w)
 version_number text error.OutOfMemory z is w = inr (inr (inr (inr (inr (inl is)))))
 
 -- a refused range text has the number of one of these
@@ -83,6 +83,11 @@ range_number range_error.NumberTooLarge z is = inr (inr (inl is))
 range_number range_error.OutOfMemory z is = inr (inr (inr (inl is)))
 
 -- ---- what a refused version text is
+
+-- a number that is none of a list isn't one of it
+not_among : (ms : List ℤ) (n : ℤ) → IsOneOf ms n → AllByRecursion (λ m. n ≡ m → ⊥) ms → ⊥
+not_among [] n one none = one
+not_among (m ∷ ms) n one none = ⊎_elim none.0 (λ later. not_among ms n later none.1) one
 
 -- what is so of each number of a list is so of one of them
 among : (P : ℤ → Type 0) (ms : List ℤ) → AllByRecursion P ms → (n : ℤ) → IsOneOf ms n → P n
@@ -194,20 +199,17 @@ refused_alike rule rule' mode text z n same told refused =
 -- a text that was refused with the number of a fault of ranges isn't read
 isnt_read : (Asked : Type 0) (mode : Compat) (text : Text) (z n : ℤ) → z ≡ n → IsOneOf range_faults n
     → Asked → RefusesRange Asked mode text n → RangeIsRead mode text z → ⊥
-isnt_read Asked mode text z n same one asked refused read = ⊎_elim
-    (λ is. (refused.not_utf8 asked).0 is read.utf8)
-    (λ others. ⊎_elim
-    (λ is. (refused.not_a_range asked read.utf8).0 is (read.tree, read.spells))
-    (λ others. ⊎_elim
-    (λ is. let h = (refused.too_large asked read.utf8).0 is in
-    clash (sym h.2 ∙ ap (fits mode) (same_tree h.0 read.tree text h.1 read.spells) ∙ read.fit))
-    (λ others. ⊎_elim (λ is. read.memory (same ∙ is)) (λ none. none) others)
-    others)
-    others)
-    one
-  where
-    clash : false ≡ true → ⊥
-    clash h = cc
+isnt_read Asked mode text z n same one asked refused read = not_among range_faults n one (
+  λ is. (refused.not_utf8 asked).0 is read.utf8,
+  (
+    λ is. (refused.not_a_range asked read.utf8).0 is (read.tree, read.spells),
+    (
+      λ is. let h = (refused.too_large asked read.utf8).0 is in
+          clash (sym h.2 ∙ ap (fits mode) (same_tree h.0 read.tree text h.1 read.spells) ∙ read.fit),
+      (λ is. read.memory (same ∙ is), tt),
+    ),
+  ),
+)
 
 -- a range that was read isn't refused where the version is
 pub range_stands : (Asked : Type 0) (mode : Compat) (range : Text) (n : ℤ) → IsOneOf version_faults n → IsUtf8 range → HasSet mode range
@@ -224,9 +226,6 @@ range_stands Asked mode range n one utf8 (tree, spells, fit) =
       out_of_memory = λ is. absurd (memory is);
     }
   where
-    clash : {P : Type 0} → false ≡ true → P
-    clash h = cc
-
     IsNone : ℤ → Type 0
     IsNone m = ((m ≡ pos 10) → ⊥) × ((m ≡ pos 11) → ⊥) × ((m ≡ pos 12) → ⊥) × ((m ≡ pos 13) → ⊥)
 
@@ -254,13 +253,13 @@ apart byte n is above meeting =
 
 -- the number of a fault of a version says of no version whether it meets
 pub no_meeting : (byte : ℕ) → IsOneOf version_faults (pos byte) → IsMeeting byte → ⊥
-no_meeting byte one meeting = ⊎_elim (λ is. apart byte 2 is (omega arith) meeting)
-    (⊎_elim (λ is. apart byte 3 is (omega arith) meeting)
-    (⊎_elim (λ is. apart byte 4 is (omega arith) meeting)
-    (⊎_elim (λ is. apart byte 5 is (omega arith) meeting)
-    (⊎_elim (λ is. apart byte 6 is (omega arith) meeting)
-    (⊎_elim (λ is. apart byte 9 is (omega arith) meeting) (λ none. none))))))
-    one
+no_meeting byte one meeting = not_among version_faults (pos byte) one (
+  above 2 (omega arith),
+  (above 3 (omega arith), (above 4 (omega arith), (above 5 (omega arith), (above 6 (omega arith), (above 9 (omega arith), tt))))),
+)
+  where
+    above : (n : ℕ) → 1 < n → pos byte ≡ pos n → ⊥
+    above n some is = apart byte n is some meeting
 
 -- so the byte for it is what there is to say of the text
 pub fault_answer : (rule : PreReleases) (mode : Compat) (range text : Text) (byte : ℕ) → RefusesVersion text (pos byte)

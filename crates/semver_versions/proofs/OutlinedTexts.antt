@@ -1,15 +1,15 @@
 -- The outline of a version, from the numbers and the parts of a text that spells it, and its parts back.
 use Rattle.std.proofs.Common.{◌≡◌, ◌<◌, ℕ, suc, ◌+◌, List, [], ◌∷◌, ◌++◌, length, take, drop, map, sym, refl, ap, ◌∙◌, subst, arith}
 use Rattle.std.proofs.Common.{⊎_elim, ◌⊎◌, inl, inr, append_assoc, length-append, length-drop, decimal, codes, ◌≤◌}
-use Rattle.std.specs.Prelude.{Option, Some, None, Result, Ok, Err, IfOk, IfErr, false, ◌==◌, ◌↔◌, IfSome, slice_index}
-use Rattle.std.specs.List.{AllByRecursion, AllZip, join_with_byte, prefix_len}
+use Rattle.std.specs.Prelude.{Option, Some, None, Result, Ok, Err, IfOk, IfErr, false, ◌==◌, ◌↔◌, IfSome}
+use Rattle.std.specs.List.{AllZip, join_with_byte, prefix_len}
 use Rattle.std.proofs.lemmas.List.{take_at, drop_at}
 use Rattle.std.proofs.lemmas.List.Sums.{prefix_len-le-length}
 use Rattle.std.proofs.lemmas.List.Splits.{join_with_byte-slice_split}
 use Rattle.semver_texts.specs.Texts.{Text, marked, BeginsWithNumbers, is_space}
 use Rattle.semver_texts.specs.Versions.{IdentifierValue, VersionValue, numbers}
 use Rattle.semver_texts.specs.PrintedText.{identifier_text, plain_text}
-use Rattle.semver_texts.specs.VersionGrammar.{SpellsIdentifier, SpellsPart, SpellsVersion, IsVersionText, IsIdentifierText}
+use Rattle.semver_texts.specs.VersionGrammar.{SpellsIdentifier, SpellsPart, SpellsVersion}
 use Rattle.semver_versions.specs.Outlines.{OutlineValue, dotted_text, behind_mark, outline_behind, IsOutlineOf, StandsAt}
 use Rattle.semver_versions.specs.Means.Cutting.{cut_at_dots, AreParts, AreSpaces, IsOutlineBehind, IsOutlined}
 use Rattle.semver_versions.proofs.CutIdentifiers.{cut_texts, marked_cut}

@@ -1,13 +1,12 @@
 -- A text of three numbers, and of identifiers behind their marks, spells a version, and any other text spells none.
-use Rattle.std.proofs.Common.{◌≡◌, ℕ, ◌<◌, true, false, List, [], ◌∷◌, ◌++◌, length, take, drop, map, sym, refl, ap, ◌∙◌, subst, inl, inr}
+use Rattle.std.proofs.Common.{◌≡◌, ℕ, true, false, List, [], ◌∷◌, ◌++◌, length, take, drop, map, sym, refl, ap, ◌∙◌, subst}
 use Rattle.std.proofs.Common.{⊎_elim, ◌⊎◌, arith, append_assoc, codes, decimal}
-use Rattle.std.specs.Prelude.{◌==◌, slice_index, IfOk, IfErr, Result, Ok, Err, Option, Some, None, option_map, ◌↔◌}
+use Rattle.std.specs.Prelude.{◌==◌, slice_index}
 use Rattle.std.specs.List.{AllByRecursion, AllZip, join_with_byte, prefix_len}
 use Rattle.std.proofs.lemmas.List.{drop_at, take-append-drop}
-use Rattle.std.proofs.lemmas.List.Splits.{length-slice_split}
 use Rattle.std.proofs.lemmas.Bool.{cases_Bool}
 use Rattle.std.proofs.lemmas.Bool.Decides.{nat_tests}
-use Rattle.semver_texts.specs.Texts.{Text, marked, is_dot, is_space, BeginsWithNumbers}
+use Rattle.semver_texts.specs.Texts.{Text, marked, is_space, BeginsWithNumbers}
 use Rattle.semver_texts.specs.Versions.{IdentifierValue, numeric, alphanumeric, VersionValue}
 use Rattle.semver_texts.specs.Means.Decimals.{is_number}
 use Rattle.semver_texts.specs.VersionGrammar.{IsIdentifierText, SpellsIdentifier, SpellsPart, SpellsVersion, IsVersionText}
@@ -18,8 +17,8 @@ use Rattle.semver_texts.proofs.Lists.{all_zipped, passes_append}
 use Rattle.semver_tokens.proofs.FirstToken.{all_of_prefix, never}
 use Rattle.semver_tokens.proofs.TokenLists.{prefix_is, decimal_is_run}
 use Rattle.semver_versions.proofs.OneVersion.{begins_marked, space_begins, numbers_first, at_numbers, behind_numbers, behind_spaces}
-use Rattle.semver_versions.proofs.OneVersion.{core_begins, one_version}
-use Rattle.semver_versions.proofs.CutIdentifiers.{identifier_part, some_cut, cut_texts, run_identifier}
+use Rattle.semver_versions.proofs.OneVersion.{core_begins}
+use Rattle.semver_versions.proofs.CutIdentifiers.{identifier_part, cut_texts, run_identifier}
 
 -- ---- what white space isn't
 

@@ -1,4 +1,4 @@
-use Rattle.std.proofs.Common.{rules, ◌≡◌, sym, ◌∙◌, subst, pos}
+use Rattle.std.proofs.Common.{sym, ◌∙◌, subst}
 use Rattle.semver_parser_c.specs.Faults.{RefusesVersion}
 use Rattle.semver_parser_c.proofs.Steps.{fault_answer, told_version}
 use Rattle.semver_parser_c.proofs.meeting.byte_for.Goals as goal

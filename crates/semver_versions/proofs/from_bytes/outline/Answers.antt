@@ -1,6 +1,5 @@
-use Rattle.std.proofs.Common.{ℕ, subst, refl, None, drop, arith, length, ap, length-append, length-drop}
-use Rattle.std.specs.List.{prefix_len, join_with_byte}
-use Rattle.std.proofs.lemmas.List.Sums.{prefix_len-le-length}
+use Rattle.std.proofs.Common.{ℕ, subst, refl, None, drop, arith}
+use Rattle.std.specs.List.{prefix_len}
 use Rattle.semver_texts.specs.Texts.{Text, is_space, BeginsWithNumbers}
 use Rattle.semver_versions.proofs.CutIdentifiers.{ends_front}
 use Rattle.semver_versions.proofs.SpelledParts.{no_numbers}
