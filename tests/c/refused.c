@@ -155,8 +155,9 @@ static void many_take(const char *range, bool at_null, int32_t wanted) {
 
 int main(void) {
     version_takes("1.2.3", 0, SEMVER_PARSER_OK);
-    version_takes("1.2.3-rc.1+b", 4, SEMVER_PARSER_OK);
-    version_takes("1.2.3-1", 1, SEMVER_PARSER_OK);
+    version_takes("1.2.3-rc.1+b", 0, SEMVER_PARSER_OK);
+    version_takes("1.2.3-1", 0, SEMVER_PARSER_OK);
+    version_takes("1.2.3-rc.1/", 2, SEMVER_PARSER_UNEXPECTED_CHAR);
     version_takes("1.2.3 a", 1, SEMVER_PARSER_MORE_INPUT);
     version_takes("1.2", 0, SEMVER_PARSER_UNEXPECTED_END);
     for (int modes = 0; modes < 4; modes++) {
@@ -173,6 +174,8 @@ int main(void) {
     }
     both_take("1.2.3", true, "1.2.3", 0, SEMVER_PARSER_OK, true);
     both_take("1.2.3", true, "1.2.3-rc", 2, SEMVER_PARSER_OK, false);
+    both_take("1.2.3", true, "1.2.3+b.rc", 0, SEMVER_PARSER_OK, true);
+    both_take("1.2.3", true, "2.0.0-rc", 0, SEMVER_PARSER_OK, false);
     both_take("v1", false, "1.2.3-rc", 0, SEMVER_PARSER_NOT_A_RANGE, false);
     for (int at_null = 0; at_null < 2; at_null++) {
         many_take("1.2.3", at_null != 0, SEMVER_PARSER_OK);

@@ -70,6 +70,7 @@ module _ (text : Text) where
       (ranges_have (n + 1) (at + length first + 4) (before ++ (first ++ codes " || ")) after (next ∷ others)
       (whole ∙ there before first (codes " || ") rest after)
       (omega (arith, place, length-append before (first ++ codes " || "), length-append first (codes " || "))))
+
 set_has : (s : PlainSet) → HasPreReleases (set_text s) (told_set s) s
 set_has s = ranges_have (set_text s) 0 0 [] [] s.ranges (sym (append-nil (set_text s))) refl
 
