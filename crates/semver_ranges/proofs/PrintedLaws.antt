@@ -1,5 +1,5 @@
 -- Printed sets read back, and what is answered is printable.
-use Rattle.std.proofs.Common.{◌≡◌, ℕ, zero, suc, length, ◌<◌, ◌^◌, true, false, not, ◌&&◌, ◌||◌, ◌==◌, if◌then◌else◌, List, [], ◌∷◌, ◌++◌}
+use Rattle.std.proofs.Common.{◌≡◌, ℕ, zero, suc, length, ◌<◌, ◌^◌, true, false, not, ◌&&◌, ◌==◌, if◌then◌else◌, List, [], ◌∷◌, ◌++◌}
 use Rattle.std.proofs.Common.{map, codes, refl, sym, ap, ◌∙◌, None, All, append_assoc, append-nil, decimal, get_or, arith}
 use Rattle.std.proofs.lemmas.Bool.{and_parts, and_from, or_right, ltb-true, ne_eqb, not-true, not_from_false}
 use Rattle.std.proofs.lemmas.List.Elements.{All-head, All-tail}
@@ -43,7 +43,7 @@ decimal_value n e = digits_value-decimal own n (fits_below n e)
 no_zero_first : (t : Text) → all_ascii_digits t ≡ true → 48 < get_or t 0 0 → is_number t ≡ true
 no_zero_first [] e h = absurd (omega arith)
 no_zero_first (c ∷ t) e h =
-    and_from _ _ e (or_right (is_empty t) (not (c == 48)) (not_from_false (c == 48) (ne_eqb c 48 (λ same. omega arith))))
+    and_from _ _ e (or_right _ _ (not_from_false _ (ne_eqb c 48 (λ same. omega arith))))
 
 decimal_number : (n : ℕ) → fits_u64 n ≡ true → is_number (decimal n) ≡ true
 decimal_number zero e = rw (decimal_digit 0 (omega arith)) refl
@@ -54,7 +54,7 @@ decimal_number (suc n) e =
 digits_no_wildcard : (t : Text) → all_ascii_digits t ≡ true → is_wildcard t ≡ false
 digits_no_wildcard [] e = refl
 digits_no_wildcard (b ∷ []) e =
-    let digit : is_ascii_digit b ≡ true = (and_parts (is_ascii_digit b) true e).0 in
+    let digit : is_ascii_digit b ≡ true = (and_parts _ _ e).0 in
     rw (apart is_ascii_digit b 120 digit refl, apart is_ascii_digit b 88 digit refl, apart is_ascii_digit b 42 digit refl) refl
 digits_no_wildcard (b ∷ c ∷ t) e = refl
 
@@ -67,12 +67,12 @@ digit_part_bytes (b ∷ t) e =
 
 number_part : (t : Text) → is_number t ≡ true → is_part t ≡ true
 number_part [] e = cc
-number_part (b ∷ t) e = digit_part_bytes (b ∷ t) (and_parts (all_ascii_digits (b ∷ t)) (is_empty t || not (b == 48)) e).0
+number_part (b ∷ t) e = digit_part_bytes (b ∷ t) (and_parts _ _ e).0
 
 -- an identifier's text is a part that is kept as the identifier
 identifier_part : (i : IdentifierValue) → is_kept i ≡ true → is_part (identifier_text i) ≡ true
 identifier_part (numeric n) e = number_part (decimal n) (decimal_number n e)
-identifier_part (alphanumeric t) e = (and_parts (is_part t) _ e).0
+identifier_part (alphanumeric t) e = (and_parts _ _ e).0
 
 identifier_kept : (i : IdentifierValue) → is_kept i ≡ true → kept (identifier_text i) ≡ i
 identifier_kept (numeric n) e = rw (decimal_digits n e, decimal_value n e, e) refl
@@ -83,12 +83,12 @@ identifier_kept (alphanumeric t) e =
 identifiers_parts : (is : List IdentifierValue) → list_all is_kept is ≡ true → list_all is_part (map identifier_text is) ≡ true
 identifiers_parts [] e = refl
 identifiers_parts (i ∷ is) e =
-    let parts = and_parts (is_kept i) (list_all is_kept is) e in and_from _ _ (identifier_part i parts.0) (identifiers_parts is parts.1)
+    let parts = and_parts _ _ e in and_from _ _ (identifier_part i parts.0) (identifiers_parts is parts.1)
 
 identifiers_kept : (is : List IdentifierValue) → list_all is_kept is ≡ true → map kept (map identifier_text is) ≡ is
 identifiers_kept [] e = refl
 identifiers_kept (i ∷ is) e =
-    let parts = and_parts (is_kept i) (list_all is_kept is) e in
+    let parts = and_parts _ _ e in
     rw (identifier_kept i parts.0, identifiers_kept is parts.1) refl
 
 -- a version as a partial of three numbers
@@ -103,10 +103,10 @@ record Printable (v : PlainVersion) : Type 0 where
 
 printable : (v : PlainVersion) → is_printable_version v ≡ true → Printable v
 printable v e =
-    let parts = and_parts (list_all fits_u64 (numbers v)) (list_all is_kept v.pre) e in
-    let first = and_parts (fits_u64 v.major) (fits_u64 v.minor && (fits_u64 v.patch && true)) parts.0 in
-    let second = and_parts (fits_u64 v.minor) (fits_u64 v.patch && true) first.1 in
-    record { major = first.0; minor = second.0; patch = (and_parts (fits_u64 v.patch) true second.1).0; pre = parts.1 }
+    let parts = and_parts _ _ e in
+    let first = and_parts _ _ parts.0 in
+    let second = and_parts _ _ first.1 in
+    record { major = first.0; minor = second.0; patch = (and_parts _ _ second.1).0; pre = parts.1 }
 
 stated_numbers : (v : PlainVersion) → Printable v → stated (version_tree v) ≡ numbers v
 stated_numbers v h = rw (
@@ -123,7 +123,7 @@ stated_pre v h = ap (λ s. if length s == 3 then map kept (map identifier_text v
     ∙ identifiers_kept v.pre h.pre
 
 decimal_component : (n : ℕ) → fits_u64 n ≡ true → is_component (decimal n) ≡ true
-decimal_component n e = or_right (is_wildcard (decimal n)) (is_number (decimal n)) (decimal_number n e)
+decimal_component n e = or_right _ _ (decimal_number n e)
 
 version_spells : (v : PlainVersion) → Printable v → SpellsPartial (version_tree v) (plain_text v)
 version_spells v h = (
@@ -179,9 +179,9 @@ comparator_fits mode c h =
 -- comparators as simples
 simples_spell : (c : PlainComparator) (cs : List PlainComparator) → list_all (λ c. is_printable_version c.version) (c ∷ cs) ≡ true
     → SpellsSimples (simple_of c) (map simple_of cs) (joined (codes " ") (map comparator_text (c ∷ cs)))
-simples_spell c [] e = comparator_spells c (printable c.version (and_parts (is_printable_version c.version) true e).0)
+simples_spell c [] e = comparator_spells c (printable c.version (and_parts _ _ e).0)
 simples_spell c (next ∷ cs) e =
-    let parts = and_parts (is_printable_version c.version) (list_all (λ c. is_printable_version c.version) (next ∷ cs)) e in (
+    let parts = and_parts _ _ e in (
       comparator_text c,
       codes " ",
       joined (codes " ") (map comparator_text (next ∷ cs)),
@@ -195,7 +195,7 @@ comparators_again : (bound_pre : List IdentifierValue) (mode : Compat) (cs : Lis
     → list_all (λ c. is_printable_version c.version) cs ≡ true → flat_map (written_simple bound_pre mode) (map simple_of cs) ≡ cs
 comparators_again bound_pre mode [] e = refl
 comparators_again bound_pre mode (c ∷ cs) e =
-    let parts = and_parts (is_printable_version c.version) (list_all (λ c. is_printable_version c.version) cs) e in
+    let parts = and_parts _ _ e in
     ap (λ x. x ++ flat_map (written_simple bound_pre mode) (map simple_of cs))
     (comparator_again bound_pre mode c (printable c.version parts.0))
     ∙ ap (λ x. c ∷ x) (comparators_again bound_pre mode cs parts.1)
@@ -204,7 +204,7 @@ comparators_fit : (mode : Compat) (cs : List PlainComparator) → list_all (λ c
     → list_all (term_fits mode) (map of_simple (map simple_of cs)) ≡ true
 comparators_fit mode [] e = refl
 comparators_fit mode (c ∷ cs) e =
-    let parts = and_parts (is_printable_version c.version) (list_all (λ c. is_printable_version c.version) cs) e in
+    let parts = and_parts _ _ e in
     and_from _ _ (comparator_fits mode c (printable c.version parts.0)) (comparators_fit mode cs parts.1)
 
 -- a range of comparators as a range of simples

@@ -1,6 +1,5 @@
 -- From simples to ranges and sets: however raised bounds are written, and whatever is asked of a comparator and of a term.
-use Rattle.std.proofs.Common.{◌≡◌, ℕ, Bool, true, false, ◌&&◌, List, [], ◌∷◌, map, refl, sym, ap, ◌∙◌, inl, inr}
-use Rattle.std.proofs.lemmas.Bool.{cases_Bool}
+use Rattle.std.proofs.Common.{◌≡◌, ℕ, Bool, true, false, ◌&&◌, List, [], ◌∷◌, map, refl, sym, ap, ◌∙◌}
 use Rattle.std.proofs.lemmas.List.Folds.{list_all-append}
 use Rattle.std.specs.List.{list_all, list_any, flat_map}
 use Rattle.std.specs.Ordering.{is_ge}
@@ -17,30 +16,19 @@ use Rattle.semver_ranges.specs.RewritingTable.{PlainComparator, comparator, cell
 use Rattle.semver_ranges.specs.Meeting.{meets_comparator, meets_set}
 use Rattle.semver_ranges.proofs.Rows.{Shape}
 use Rattle.semver_ranges.proofs.Tests.{list_any-mapped}
+use Rattle.semver_texts.proofs.Lists.{by_test}
 
 -- a partial states none to three numbers
 pub stated_shape : (p : PartialTree) → Shape (stated p)
-stated_shape (one a) = elim (cases_Bool (is_wildcard a)) [
-  | inl w ↦ rw w Shape.none
-  | inr n ↦ rw n (Shape.one _)
-]
-stated_shape (two a b) = elim (cases_Bool (is_wildcard a)) [
-  | inl w ↦ rw w Shape.none
-  | inr n ↦ elim (cases_Bool (is_wildcard b)) [
-    | inl w ↦ rw (n, w) (Shape.one _)
-    | inr n' ↦ rw (n, n') (Shape.two _ _)
-  ]
-]
-stated_shape (three a b c pre build) = elim (cases_Bool (is_wildcard a)) [
-  | inl w ↦ rw w Shape.none
-  | inr n ↦ elim (cases_Bool (is_wildcard b)) [
-    | inl w ↦ rw (n, w) (Shape.one _)
-    | inr n' ↦ elim (cases_Bool (is_wildcard c)) [
-      | inl w ↦ rw (n, n', w) (Shape.two _ _)
-      | inr n'' ↦ rw (n, n', n'') (Shape.three _ _ _)
-    ]
-  ]
-]
+stated_shape (one a) = by_test (is_wildcard a) (λ w. rw w Shape.none) (λ n. rw n (Shape.one _))
+stated_shape (two a b) = by_test (is_wildcard a)
+    (λ w. rw w Shape.none)
+    (λ n. by_test (is_wildcard b) (λ w. rw (n, w) (Shape.one _)) (λ n'. rw (n, n') (Shape.two _ _)))
+stated_shape (three a b c pre build) = by_test (is_wildcard a)
+    (λ w. rw w Shape.none)
+    (λ n. by_test (is_wildcard b)
+    (λ w. rw (n, w) (Shape.one _))
+    (λ n'. by_test (is_wildcard c) (λ w. rw (n, n', w) (Shape.two _ _)) (λ n''. rw (n, n', n'') (Shape.three _ _ _))))
 
 -- one comparator `>=0.0.0` says what two of them say
 twice : (b : Bool) → (b && true) ≡ ((b && true) && ((b && true) && true))
@@ -74,22 +62,18 @@ module _ (bound_pre : List IdentifierValue) (mode : Compat) (test : PlainCompara
     pub range_holds : (r : RangeTree) → list_all test (written_range bound_pre mode r) ≡ list_all holds (terms r)
     range_holds empty = ap (λ b. b && true) nothing_holds
     range_holds (simples first others) = simples_hold (first ∷ others)
-    range_holds (hyphen left right) = elim (cases_Bool (states_nothing left)) [
-      | inl l ↦ elim (cases_Bool (states_nothing right)) [
-        | inr r ↦ rw (l, r) (simples_hold (right_side right ∷ []))
-        | inl r ↦
-            let lower : any ≡ holds (of_simple (left_side left)) = sym (at_least_any (stated left) (zero_filled left) l)
-            ∙ simple_holds (left_side left) in
-            let upper : any ≡ holds (of_simple (right_side right)) = sym (at_most_any (stated right) (zero_filled right) r)
-            ∙ simple_holds (right_side right) in
-            rw (l, r) (twice (test (comparator Gte zero_version)) ∙ ap (λ b. b && (any && true)) lower
-            ∙ ap (λ b. holds (of_simple (left_side left)) && (b && true)) upper)
-      ]
-      | inr l ↦ elim (cases_Bool (states_nothing right)) [
-        | inl r ↦ rw (l, r) (simples_hold (left_side left ∷ []))
-        | inr r ↦ rw (l, r) (simples_hold (left_side left ∷ right_side right ∷ []))
-      ]
-    ]
+    range_holds (hyphen left right) = by_test (states_nothing left)
+        (λ l. by_test (states_nothing right)
+        (λ r. let lower : any ≡ holds (of_simple (left_side left)) = sym (at_least_any (stated left) (zero_filled left) l)
+        ∙ simple_holds (left_side left) in
+        let upper : any ≡ holds (of_simple (right_side right)) = sym (at_most_any (stated right) (zero_filled right) r)
+        ∙ simple_holds (right_side right) in
+        rw (l, r) (twice (test (comparator Gte zero_version)) ∙ ap (λ b. b && (any && true)) lower
+        ∙ ap (λ b. holds (of_simple (left_side left)) && (b && true)) upper))
+        (λ r. rw (l, r) (simples_hold (right_side right ∷ []))))
+        (λ l. by_test (states_nothing right)
+        (λ r. rw (l, r) (simples_hold (left_side left ∷ [])))
+        (λ r. rw (l, r) (simples_hold (left_side left ∷ right_side right ∷ []))))
 
 -- a version meets a set exactly if some range has each term met
 pub set_meets : (bound_pre : List IdentifierValue) (mode : Compat) (v : PlainVersion) (meets : Term → Bool)
