@@ -1,7 +1,7 @@
 -- What a tree that fits is rewritten to is printable.
-use Rattle.std.proofs.Common.{◌≡◌, ℕ, Bool, true, false, not, ◌&&◌, ◌==◌, if◌then◌else◌, List, [], ◌∷◌, ◌++◌, length, map, refl, ◌∙◌}
+use Rattle.std.proofs.Common.{◌≡◌, ℕ, Bool, true, false, not, ◌&&◌, ◌==◌, if◌then◌else◌, List, [], ◌∷◌, ◌++◌, length, map, refl, ◌∙◌, inl, inr}
 use Rattle.std.proofs.Common.{IsTrue, All}
-use Rattle.std.proofs.lemmas.Bool.{and_parts, and_from, not_from_false}
+use Rattle.std.proofs.lemmas.Bool.{cases_Bool, and_parts, and_from, not_from_false}
 use Rattle.std.proofs.lemmas.List.Elements.{All-nil, All-cons}
 use Rattle.std.proofs.lemmas.List.Folds.{list_all-append}
 use Rattle.std.specs.List.{list_all, flat_map}
@@ -19,11 +19,9 @@ use Rattle.semver_ranges.specs.RewritingTable.{cell_raised, bound_fits, written_
 use Rattle.semver_ranges.specs.RewritingTable.{term_fits}
 use Rattle.semver_ranges.specs.PrintedRanges.{is_kept, is_printable_version, IsPrintableRange, IsPrintableSet}
 use Rattle.semver_ranges.proofs.Rows.{Shape}
+use Rattle.semver_ranges.proofs.PrintedLaws.{are_printable}
 use Rattle.semver_ranges.proofs.SetMeanings.{stated_shape}
 use Rattle.semver_texts.proofs.Lists.{by_test}
-
-abbrev are_printable : List PlainComparator → Bool
-are_printable cs = list_all (λ c. is_printable_version c.version) cs
 
 -- a part is kept as an identifier that is kept
 part_kept : (part : Text) → is_part part ≡ true → is_kept (kept part) ≡ true
@@ -118,17 +116,17 @@ module _ (bound_pre : List IdentifierValue) (keeps : list_all is_kept bound_pre 
     not_from_false _ (simples_some first others),
     simples_printable (first ∷ others) (simples_parts first others t h) e,
   )
-  range_printable (hyphen left right) t (l, gap, gap', r, h, g, g', h', eq) e = by_test (states_nothing left)
-      (λ a. by_test (states_nothing right)
-      (λ b. rw (a, b) (refl, refl))
-      (λ b. rw (a, b) (made (right_side right) [] (h'.1, tt) (rw (a, b) at e))))
-      (λ a. by_test (states_nothing right)
-      (λ b. rw (a, b) (made (left_side left) [] (h.1, tt) (rw (a, b) at e)))
-      (λ b. rw (a, b) (made (left_side left) (right_side right ∷ []) (h.1, (h'.1, tt)) (rw (a, b) at e)))) where
-        made : (s : Simple) (ss : List Simple) → HaveParts (s ∷ ss) → list_all (term_fits mode) (map of_simple (s ∷ ss)) ≡ true
-            → ArePrintable (flat_map (written_simple bound_pre mode) (s ∷ ss))
-        made s ss h e =
-            (not_from_false _ (simples_some s ss), simples_printable (s ∷ ss) h e)
+  range_printable (hyphen left right) t (l, gap, gap', r, h, g, g', h', eq) e = elim (cases_Bool (states_nothing left)) [
+    | inl a ↦ by_test (states_nothing right)
+        (λ b. rw (a, b) (refl, refl))
+        (λ b. rw (a, b) (made (right_side right) [] (h'.1, tt) (rw (a, b) at e)))
+    | inr a ↦ by_test (states_nothing right)
+        (λ b. rw (a, b) (made (left_side left) [] (h.1, tt) (rw (a, b) at e)))
+        (λ b. rw (a, b) (made (left_side left) (right_side right ∷ []) (h.1, (h'.1, tt)) (rw (a, b) at e)))
+  ] where
+    made : (s : Simple) (ss : List Simple) → HaveParts (s ∷ ss) → list_all (term_fits mode) (map of_simple (s ∷ ss)) ≡ true
+        → ArePrintable (flat_map (written_simple bound_pre mode) (s ∷ ss))
+    made s ss h e = (not_from_false _ (simples_some s ss), simples_printable (s ∷ ss) h e)
 
   padded_printable : (r : RangeTree) (t : Text) → SpellsPadded r t → list_all (term_fits mode) (terms r) ≡ true
       → IsPrintableRange mode (record { comparators = written_range bound_pre mode r; compat = mode })

@@ -1,6 +1,7 @@
 -- The events of a range set: they fit as it does, and tell its ranges.
-use Rattle.std.proofs.Common.{◌≡◌, ℕ, ◌+◌, Bool, true, false, ◌&&◌, List, [], ◌∷◌, length, refl, sym, ap, ◌∙◌, arith}
+use Rattle.std.proofs.Common.{◌≡◌, ℕ, ◌+◌, Bool, true, false, ◌&&◌, List, [], ◌∷◌, length, refl, sym, ap, ◌∙◌, inl, inr, arith}
 use Rattle.std.specs.List.{list_all, flat_map}
+use Rattle.std.proofs.lemmas.Bool.{cases_Bool}
 use Rattle.std.proofs.lemmas.List.Folds.{list_all-map}
 use Rattle.semver_ranges.specs.declared.range.Compat.{Compat}
 use Rattle.semver_ranges.specs.declared.range.Op.TheVariants.{Gte}
@@ -32,14 +33,15 @@ fits_nothing : (mode : Compat) (p : PartialTree) → stated p ≡ [] → true �
 fits_nothing mode p e = rw e refl
 
 made_of_sides : (l r : PartialTree) → IsMadeOf (hyphen l r) (yielded (hyphen l r))
-made_of_sides l r = λ mode. by_test (states_nothing r)
-    (λ y. by_test (states_nothing l)
-    (λ x. rw (y, x) (
-      ap (λ b. term_fits mode (of_simple (left_side l)) && (b && true)) (fits_nothing mode r (nothing_is (stated r) y)),
-      λ bound_pre. from_zero bound_pre mode l (nothing_is (stated l) x),
-    ))
-    (λ n. rw (y, n) (refl, λ bound_pre. refl)))
-    (λ n. by_test (states_nothing l) (λ y. rw (n, y) (refl, λ bound_pre. refl)) (λ m. rw (n, m) (refl, λ bound_pre. refl)))
+made_of_sides l r = λ mode. elim (cases_Bool (states_nothing r)) [
+  | inl y ↦ by_test (states_nothing l)
+      (λ x. rw (y, x) (
+        ap (λ b. term_fits mode (of_simple (left_side l)) && (b && true)) (fits_nothing mode r (nothing_is (stated r) y)),
+        λ bound_pre. from_zero bound_pre mode l (nothing_is (stated l) x),
+      ))
+      (λ n. rw (y, n) (refl, λ bound_pre. refl))
+  | inr n ↦ by_test (states_nothing l) (λ y. rw (n, y) (refl, λ bound_pre. refl)) (λ m. rw (n, m) (refl, λ bound_pre. refl))
+]
 
 made_of : (r : RangeTree) → IsMadeOf r (yielded r)
 made_of empty = λ mode. (refl, λ bound_pre. refl)

@@ -1,6 +1,6 @@
 -- What comparators with exact bounds mean, and what is below such a bound.
-use Rattle.std.proofs.Common.{◌≡◌, Bool, true, false, not, ◌&&◌, List, [], ◌∷◌, refl, sym, subst, Some}
-use Rattle.std.specs.Ordering.{nat_cmp, is_lt}
+use Rattle.std.proofs.Common.{◌≡◌, Bool, true, false, not, ◌&&◌, List, [], ◌∷◌, refl, Some}
+use Rattle.std.specs.Ordering.{is_lt}
 use Rattle.std.specs.declared.cmp.Ordering.{Ordering}
 use Rattle.std.specs.declared.cmp.Ordering.TheVariants.{Less, Equal, Greater}
 use Rattle.semver_ranges.specs.declared.range.Compat.{Compat}
@@ -12,7 +12,7 @@ use Rattle.semver_ranges.specs.Partials.{pre_release}
 use Rattle.semver_ranges.specs.OwnMeaning.{meets_term, meets_tree}
 use Rattle.semver_ranges.specs.ExactBounds.{lowest_pre_release, exact_bound, rewritten_exactly}
 use Rattle.semver_ranges.specs.Meeting.{meets_set, is_pre_release_of}
-use Rattle.semver_ranges.proofs.Rows.{Step, numbers_step, Tail, same, past, floor, compared, exact_row}
+use Rattle.semver_ranges.proofs.Rows.{Step, numbers_step, Tail, same, past, floor, exact_row}
 use Rattle.semver_ranges.proofs.SetMeanings.{stated_shape, set_meets}
 
 -- a version meets the comparators of a set with exact bounds exactly if it meets what its tree means
@@ -47,8 +47,4 @@ below_exact Step.higher a = refl
 
 pub below_bound : (bound v : PlainVersion) → bound.pre ≡ []
     → is_lt (precedence v (exact_bound bound)) ≡ (is_lt (precedence v bound) && not (is_pre_release_of v (Some bound)))
-below_bound bound v none =
-    let at : List IdentifierValue → Type 0 = λ q. is_lt (precedence v (exact_bound bound))
-    ≡ (is_lt (compared (nat_cmp v.major bound.major) (nat_cmp v.minor bound.minor) (nat_cmp v.patch bound.patch) (pre_cmp v.pre q))
-    && not (is_pre_release_of v (Some bound))) in
-    subst at (sym none) (below_exact (numbers_step v bound) (against v.pre))
+below_bound bound v none = rw none (below_exact (numbers_step v bound) (against v.pre))

@@ -109,7 +109,8 @@ module _ {i : Bool} where
     | inr apart ↦ elim apart [
       | inl low ↦ rw (lt-ltb a x low, lt-ltb a (x + 1) (omega arith), ne_eqb x a (λ e. omega arith), ne_eqb a (x + 1) (λ e. omega arith))
           beneath
-      | inr above ↦ rw (le-ltb a x (omega arith), ne_eqb a x (λ e. omega arith), ne_eqb x a (λ e. omega arith), le-ltb a (x + 1) (omega arith))
+      | inr above ↦ rw
+          (le-ltb a x (omega arith), ne_eqb a x (λ e. omega arith), ne_eqb x a (λ e. omega arith), le-ltb a (x + 1) (omega arith))
           (elim (cases_order a (x + 1)) [
             | inl one ↦ rw (eq-eqb a (x + 1) one) (beyond behind)
             | inr more ↦ rw (ne_eqb a (x + 1) (λ e. elim more [ inl less_far ↦ omega arith | inr far ↦ omega arith ])) above_bound

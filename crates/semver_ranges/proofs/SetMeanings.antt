@@ -1,18 +1,19 @@
 -- From simples to ranges and sets: however raised bounds are written, and whatever is asked of a comparator and of a term.
-use Rattle.std.proofs.Common.{◌≡◌, ℕ, Bool, true, false, ◌&&◌, List, [], ◌∷◌, map, refl, sym, ap, ◌∙◌}
+use Rattle.std.proofs.Common.{◌≡◌, ℕ, Bool, true, false, ◌&&◌, List, [], ◌∷◌, map, refl, sym, ap, ◌∙◌, inl, inr}
+use Rattle.std.proofs.lemmas.Bool.{cases_Bool}
 use Rattle.std.proofs.lemmas.List.Folds.{list_all-append}
 use Rattle.std.specs.List.{list_all, list_any, flat_map}
 use Rattle.std.specs.Ordering.{is_ge}
 use Rattle.semver_ranges.specs.declared.range.Op.TheVariants.{Gte}
 use Rattle.semver_ranges.specs.declared.range.Compat.{Compat}
-use Rattle.semver_ranges.specs.RangeTree.{is_wildcard, PartialTree, one, two, three, at_most, at_least, Simple, RangeTree, empty}
+use Rattle.semver_ranges.specs.RangeTree.{is_wildcard, PartialTree, Form, one, two, three, at_most, at_least, Simple, RangeTree, empty}
 use Rattle.semver_ranges.specs.RangeTree.{hyphen, simples, SetTree}
 use Rattle.semver_texts.specs.Texts.{is_empty}
 use Rattle.semver_ranges.specs.Precedence.{precedence}
 use Rattle.semver_texts.specs.Versions.{IdentifierValue, PlainVersion}
 use Rattle.semver_ranges.specs.Partials.{stated, states_nothing, zero_filled, zero_version}
 use Rattle.semver_ranges.specs.Terms.{Term, of_simple, of_nothing, left_side, right_side, terms}
-use Rattle.semver_ranges.specs.RewritingTable.{PlainComparator, comparator, cell, written_cell, written_simple, written_range, written_set}
+use Rattle.semver_ranges.specs.RewritingTable.{PlainComparator, comparator, from_zero, nothing_stated, cell, written_cell, written_simple, written_range, written_set}
 use Rattle.semver_ranges.specs.Meeting.{meets_comparator, meets_set}
 use Rattle.semver_ranges.proofs.Rows.{Shape}
 use Rattle.semver_ranges.proofs.Tests.{list_any-mapped}
@@ -41,39 +42,31 @@ module _ (bound_pre : List IdentifierValue) (mode : Compat) (test : PlainCompara
   any = test (comparator Gte zero_version) && true
 
   -- the comparators of a side that states nothing
-  at_least_any : (s : List ℕ) (z : PlainVersion) → is_empty s ≡ true
-      → list_all test (written_cell bound_pre (cell mode at_least s) s z) ≡ any
-  at_least_any [] z e = refl
-  at_least_any (x ∷ xs) z e = cc e
-
-  at_most_any : (s : List ℕ) (z : PlainVersion) → is_empty s ≡ true
-      → list_all test (written_cell bound_pre (cell mode at_most s) s z) ≡ any
-  at_most_any [] z e = refl
-  at_most_any (x ∷ xs) z e = cc e
+  side_any : (form : Form) → nothing_stated form ≡ from_zero → (s : List ℕ) (z : PlainVersion) → is_empty s ≡ true
+      → list_all test (written_cell bound_pre (cell mode form s) s z) ≡ any
+  side_any form zero [] z e = rw zero refl
+  side_any form zero (x ∷ xs) z e = cc e
 
   module _ (holds : Term → Bool) (simple_holds : (s : Simple) → list_all test (written_simple bound_pre mode s) ≡ holds (of_simple s))
       (nothing_holds : test (comparator Gte zero_version) ≡ holds of_nothing) where
     simples_hold : (ss : List Simple) → list_all test (flat_map (written_simple bound_pre mode) ss) ≡ list_all holds (map of_simple ss)
     simples_hold [] = refl
     simples_hold (s ∷ ss) = list_all-append test (written_simple bound_pre mode s) (flat_map (written_simple bound_pre mode) ss)
-        ∙ ap (λ b. b && list_all test (flat_map (written_simple bound_pre mode) ss)) (simple_holds s)
-        ∙ ap (λ b. holds (of_simple s) && b) (simples_hold ss)
+        ∙ (λ i. simple_holds s i && simples_hold ss i)
 
     pub range_holds : (r : RangeTree) → list_all test (written_range bound_pre mode r) ≡ list_all holds (terms r)
     range_holds empty = ap (λ b. b && true) nothing_holds
     range_holds (simples first others) = simples_hold (first ∷ others)
-    range_holds (hyphen left right) = by_test (states_nothing left)
-        (λ l. by_test (states_nothing right)
-        (λ r. let lower : any ≡ holds (of_simple (left_side left)) = sym (at_least_any (stated left) (zero_filled left) l)
-        ∙ simple_holds (left_side left) in
-        let upper : any ≡ holds (of_simple (right_side right)) = sym (at_most_any (stated right) (zero_filled right) r)
-        ∙ simple_holds (right_side right) in
-        rw (l, r) (twice (test (comparator Gte zero_version)) ∙ ap (λ b. b && (any && true)) lower
-        ∙ ap (λ b. holds (of_simple (left_side left)) && (b && true)) upper))
-        (λ r. rw (l, r) (simples_hold (right_side right ∷ []))))
-        (λ l. by_test (states_nothing right)
-        (λ r. rw (l, r) (simples_hold (left_side left ∷ [])))
-        (λ r. rw (l, r) (simples_hold (left_side left ∷ right_side right ∷ []))))
+    range_holds (hyphen left right) = elim (cases_Bool (states_nothing left)) [
+      | inl l ↦ by_test (states_nothing right)
+          (λ r. let lower = sym (side_any at_least refl (stated left) (zero_filled left) l) ∙ simple_holds (left_side left) in
+          let upper = sym (side_any at_most refl (stated right) (zero_filled right) r) ∙ simple_holds (right_side right) in
+          rw (l, r) (twice (test (comparator Gte zero_version)) ∙ (λ i. lower i && (upper i && true))))
+          (λ r. rw (l, r) (simples_hold (right_side right ∷ [])))
+      | inr l ↦ by_test (states_nothing right)
+          (λ r. rw (l, r) (simples_hold (left_side left ∷ [])))
+          (λ r. rw (l, r) (simples_hold (left_side left ∷ right_side right ∷ [])))
+    ]
 
 -- a version meets a set exactly if some range has each term met
 pub set_meets : (bound_pre : List IdentifierValue) (mode : Compat) (v : PlainVersion) (meets : Term → Bool)
