@@ -89,8 +89,7 @@ set_fits mode [] = refl
 set_fits mode (r ∷ []) = front_fits mode (yielded r) [] ∙ ap (λ b. b && true) (made_of r mode).0
 set_fits mode (r ∷ next ∷ others) =
     front_fits mode (yielded r) (next_range ∷ events_of (next ∷ others))
-    ∙ ap (λ b. b && list_all (event_fits mode) (events_of (next ∷ others))) (made_of r mode).0
-    ∙ ap (λ b. list_all (term_fits mode) (terms r) && b) (set_fits mode (next ∷ others))
+    ∙ (λ i. (made_of r mode).0 i && set_fits mode (next ∷ others) i)
 
 pub set_bars : (r : RangeTree) (others : SetTree) → bars (events_of (r ∷ others)) ≡ length others
 set_bars r [] = front_bars (yielded r) []

@@ -158,10 +158,9 @@ of_three bound_pre mode _ v = refl
 comparator_again : (bound_pre : List IdentifierValue) (mode : Compat) (c : PlainComparator) → Printable c.version
     → written_simple bound_pre mode (simple_of c) ≡ c ∷ []
 comparator_again bound_pre mode c h =
-    let cell_of = cell mode (form_of c.op) in
-    ap (λ s. written_cell bound_pre (cell_of s) s (filled s (pre_release (version_tree c.version)))) (stated_numbers c.version h)
-    ∙ ap (λ p. written_cell bound_pre (cell_of (numbers c.version)) (numbers c.version) (filled (numbers c.version) p))
-    (stated_pre c.version h)
+    let numbers_are = stated_numbers c.version h in
+    (λ i. written_cell bound_pre (cell mode (form_of c.op) (numbers_are i)) (numbers_are i)
+    (filled (numbers_are i) (stated_pre c.version h i)))
     ∙ of_three bound_pre mode c.op c.version
 
 no_bound : (mode : Compat) (op : Op) (v : PlainVersion) → cell_raised (cell mode (form_of op) (numbers v)) (numbers v) ≡ None
