@@ -13,7 +13,8 @@ use Rattle.semver_ranges.specs.Precedence.{precedence}
 use Rattle.semver_texts.specs.Versions.{IdentifierValue, PlainVersion}
 use Rattle.semver_ranges.specs.Partials.{stated, states_nothing, zero_filled, zero_version}
 use Rattle.semver_ranges.specs.Terms.{Term, of_simple, of_nothing, left_side, right_side, terms}
-use Rattle.semver_ranges.specs.RewritingTable.{PlainComparator, comparator, from_zero, nothing_stated, cell, written_cell, written_simple, written_range, written_set}
+use Rattle.semver_ranges.specs.RewritingTable.{PlainComparator, comparator, from_zero, nothing_stated, cell, written_cell}
+use Rattle.semver_ranges.specs.RewritingTable.{written_simple, written_range, written_set}
 use Rattle.semver_ranges.specs.Meeting.{meets_comparator, meets_set}
 use Rattle.semver_ranges.proofs.Rows.{Shape}
 use Rattle.semver_ranges.proofs.Tests.{list_any-mapped}
