@@ -14,7 +14,7 @@ use Rattle.semver_texts.specs.Texts.{Text}
 use Rattle.semver_texts.specs.Versions.{IdentifierValue, PlainVersion}
 use Rattle.semver_ranges.specs.OwnMeaning.{meets_tree}
 use Rattle.semver_ranges.specs.RewritingTable.{PlainSet, fits, written_set, rewritten}
-use Rattle.semver_ranges.specs.ExactBounds.{lowest_pre_release, rewritten_exactly}
+use Rattle.semver_ranges.specs.ExactBounds.{lowest_pre_release}
 use Rattle.semver_ranges.specs.Meeting.{meets_set, meets_tree_or_bounds}
 use Rattle.semver_ranges.specs.PrintedRanges.{is_kept, IsPrintableSet, set_text}
 use Rattle.semver_ranges.specs.Means.Reading.{read}
@@ -35,16 +35,19 @@ none_read : (t : Text) (tree : SetTree) → read t ≡ None → Spells tree t �
 none_read t tree e h = let same : None ≡ Some tree = sym e ∙ tree_read tree t h in cc
 
 unfit : (t : Text) (mode : Compat) (tree : SetTree) → read t ≡ Some tree → fits mode tree ≡ true → IsTooLarge mode t → ⊥
-unfit t mode tree e f (tree', s, large) = both_ways (fits mode tree') large (sym (ap (fits mode) (read_one t tree tree' e s)) ∙ f)
+unfit t mode tree e f (tree', s, large) = both_ways _ large (sym (ap (fits mode) (read_one t tree tree' e s)) ∙ f)
+
+-- what each answer says of its set, where it has one
+abbrev EachSet : List IdentifierValue → Text → Compat → (RangeSet → Type 0) → Type 0
+EachSet bound_pre t mode Says = (r : Result RangeSet RangeError) → IsAnswer bound_pre t mode r → IfOk r Says
 
 -- what an answer says, however raised bounds are written
 module _ (bound_pre : List IdentifierValue) (t : Text) (mode : Compat) where
-  accepted : (r : Result RangeSet RangeError) → IsAnswer bound_pre t mode r → IfOk r (λ set. HasSet mode t)
+  accepted : EachSet bound_pre t mode (λ set. HasSet mode t)
   accepted (Ok set) h = (h.0, read_sound t h.0 h.1, h.2)
   accepted (Err e) h = tt
 
-  pub as_rewritten : (r : Result RangeSet RangeError) → IsAnswer bound_pre t mode r
-      → IfOk r (λ set. (tree : SetTree) → Spells tree t → set_of set ≡ written_set bound_pre mode tree)
+  pub as_rewritten : EachSet bound_pre t mode (λ set. (tree : SetTree) → Spells tree t → set_of set ≡ written_set bound_pre mode tree)
   as_rewritten (Ok set) h = λ tree s. h.3 ∙ ap (written_set bound_pre mode) (read_one t h.0 tree h.1 s)
   as_rewritten (Err e) h = tt
 
@@ -78,49 +81,46 @@ module _ (bound_pre : List IdentifierValue) (t : Text) (mode : Compat) where
       go r h found.0 spelled fit again where
         go : (r : Result RangeSet RangeError) → IsAnswer bound_pre t mode r → (tree : SetTree) → Spells tree t → fits mode tree ≡ true
             → written_set bound_pre mode tree ≡ s → (r ≡ Err OutOfMemory) ⊎ IsOkAnd r (λ set. set_of set ≡ s)
-        go (Ok set) h tree spelled fit again = inr (h.3 ∙ ap (written_set bound_pre mode) (read_one t h.0 tree h.1 spelled) ∙ again)
+        go (Ok set) h tree spelled fit again = inr (as_rewritten (Ok set) h tree spelled ∙ again)
         go (Err NotARange) h tree spelled fit again = absurd (none_read t tree h spelled)
         go (Err NumberTooLarge) h tree spelled fit again =
-            absurd (both_ways (fits mode tree) (sym (ap (fits mode) (read_one t h.0 tree h.1 spelled)) ∙ h.2) fit)
+            absurd (both_ways _ (sym (ap (fits mode) (read_one t h.0 tree h.1 spelled)) ∙ h.2) fit)
         go (Err OutOfMemory) h tree spelled fit again = inl refl
 
-  pub printable : list_all is_kept bound_pre ≡ true → (r : Result RangeSet RangeError) → IsAnswer bound_pre t mode r
-      → IfOk r (λ set. IsPrintableSet (set_of set))
+  pub printable : list_all is_kept bound_pre ≡ true → EachSet bound_pre t mode (λ set. IsPrintableSet (set_of set))
   printable keeps (Ok set) h = subst IsPrintableSet (sym h.3) (written_printable bound_pre keeps mode h.0 t (read_sound t h.0 h.1) h.2)
   printable keeps (Err e) h = tt
 
 module _ (t : Text) (mode : Compat) where
-  pub meaning : (r : Result RangeSet RangeError) → IsAnswer [] t mode r
-      → IfOk r (λ set. (tree : SetTree) (v : PlainVersion) → Spells tree t → meets_set v (set_of set) ≡ meets_tree_or_bounds mode tree v)
-  meaning (Ok set) h = λ tree v s. ap (meets_set v) (h.3 ∙ ap (rewritten mode) (read_one t h.0 tree h.1 s)) ∙ some_agrees mode tree v
+  pub meaning : EachSet [] t mode
+      (λ set. (tree : SetTree) (v : PlainVersion) → Spells tree t → meets_set v (set_of set) ≡ meets_tree_or_bounds mode tree v)
+  meaning (Ok set) h = λ tree v s. ap (meets_set v) (as_rewritten [] t mode (Ok set) h tree s) ∙ some_agrees mode tree v
   meaning (Err e) h = tt
 
-  pub releases : (r : Result RangeSet RangeError) → IsAnswer [] t mode r
-      → IfOk r (λ set. (tree : SetTree) (v : PlainVersion) → Spells tree t → v.pre ≡ [] → meets_set v (set_of set) ≡ meets_tree mode tree v)
-  releases (Ok set) h = λ tree v s e. ap (meets_set v) (h.3 ∙ ap (rewritten mode) (read_one t h.0 tree h.1 s))
+  pub releases : EachSet [] t mode
+      (λ set. (tree : SetTree) (v : PlainVersion) → Spells tree t → v.pre ≡ [] → meets_set v (set_of set) ≡ meets_tree mode tree v)
+  releases (Ok set) h = λ tree v s e. ap (meets_set v) (as_rewritten [] t mode (Ok set) h tree s)
       ∙ agree_on_releases mode tree v e
   releases (Err e) h = tt
 
-  pub implied : (r : Result RangeSet RangeError) → IsAnswer [] t mode r
-      → IfOk r (λ set. (tree : SetTree) (v : PlainVersion) → Spells tree t → IsTrue (meets_tree mode tree v)
+  pub implied : EachSet [] t mode (λ set. (tree : SetTree) (v : PlainVersion) → Spells tree t → IsTrue (meets_tree mode tree v)
       → IsTrue (meets_set v (set_of set)))
-  implied (Ok set) h = λ tree v s own. ap (meets_set v) (h.3 ∙ ap (rewritten mode) (read_one t h.0 tree h.1 s))
+  implied (Ok set) h = λ tree v s own. ap (meets_set v) (as_rewritten [] t mode (Ok set) h tree s)
       ∙ own_meaning_meets mode tree v own
   implied (Err e) h = tt
 
   -- with exact bounds
-  pub exact_meaning : (r : Result RangeSet RangeError) → IsAnswer lowest_pre_release t mode r
-      → IfOk r (λ set. (tree : SetTree) (v : PlainVersion) → Spells tree t → meets_set v (set_of set) ≡ meets_tree mode tree v)
-  exact_meaning (Ok set) h = λ tree v s. ap (meets_set v) (h.3 ∙ ap (rewritten_exactly mode) (read_one t h.0 tree h.1 s))
+  pub exact_meaning : EachSet lowest_pre_release t mode
+      (λ set. (tree : SetTree) (v : PlainVersion) → Spells tree t → meets_set v (set_of set) ≡ meets_tree mode tree v)
+  exact_meaning (Ok set) h = λ tree v s. ap (meets_set v) (as_rewritten _ t mode (Ok set) h tree s)
       ∙ some_means mode tree v
   exact_meaning (Err e) h = tt
 
-  pub exact_printable : (r : Result RangeSet RangeError) → IsAnswer lowest_pre_release t mode r
-      → IfOk r (λ set. IsPrintableSet (set_of set))
+  pub exact_printable : EachSet lowest_pre_release t mode (λ set. IsPrintableSet (set_of set))
   exact_printable r h = printable lowest_pre_release t mode refl r h
 
-  pub printed_back : (r : Result RangeSet RangeError) → IsAnswer lowest_pre_release t mode r
-      → IfOk r (λ set. (tree : SetTree) × Spells tree (set_text (set_of set)) × IsTrue (fits mode tree)
+  pub printed_back : EachSet lowest_pre_release t mode
+      (λ set. (tree : SetTree) × Spells tree (set_text (set_of set)) × IsTrue (fits mode tree)
       × (rewritten mode tree ≡ set_of set))
   printed_back (Ok set) h =
       let found = printed_again [] (set_of set) (exact_printable (Ok set) h) in

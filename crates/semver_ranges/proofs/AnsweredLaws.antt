@@ -1,6 +1,6 @@
 -- What a tree that fits is rewritten to is printable.
-use Rattle.std.proofs.Common.{◌≡◌, ℕ, Bool, true, false, not, ◌&&◌, ◌==◌, if◌then◌else◌, List, [], ◌∷◌, ◌++◌, length, map, refl, ◌∙◌, inl}
-use Rattle.std.proofs.Common.{inr, IsTrue, All}
+use Rattle.std.proofs.Common.{◌≡◌, ℕ, Bool, true, false, not, ◌&&◌, ◌==◌, if◌then◌else◌, List, [], ◌∷◌, ◌++◌, length, map, refl, ◌∙◌}
+use Rattle.std.proofs.Common.{inl, inr, IsTrue, All}
 use Rattle.std.proofs.lemmas.Bool.{cases_Bool, and_parts, and_from, not_from_false}
 use Rattle.std.proofs.lemmas.List.Elements.{All-nil, All-cons}
 use Rattle.std.proofs.lemmas.List.Folds.{list_all-append}
@@ -19,22 +19,20 @@ use Rattle.semver_ranges.specs.RewritingTable.{cell_raised, bound_fits, written_
 use Rattle.semver_ranges.specs.RewritingTable.{term_fits}
 use Rattle.semver_ranges.specs.PrintedRanges.{is_kept, is_printable_version, IsPrintableRange, IsPrintableSet}
 use Rattle.semver_ranges.proofs.Rows.{Shape}
+use Rattle.semver_ranges.proofs.PrintedLaws.{are_printable}
 use Rattle.semver_ranges.proofs.SetMeanings.{stated_shape}
-
-abbrev are_printable : List PlainComparator → Bool
-are_printable cs = list_all (λ c. is_printable_version c.version) cs
+use Rattle.semver_texts.proofs.Lists.{by_test}
 
 -- a part is kept as an identifier that is kept
 part_kept : (part : Text) → is_part part ≡ true → is_kept (kept part) ≡ true
-part_kept part e = elim (cases_Bool (all_ascii_digits part && fits_u64 (digits_value 10 part))) [
-  | inl number ↦ rw number (and_parts (all_ascii_digits part) (fits_u64 (digits_value 10 part)) number).1
-  | inr text ↦ rw text (and_from _ _ e (not_from_false (all_ascii_digits part && fits_u64 (digits_value 10 part)) text))
-]
+part_kept part e = by_test (all_ascii_digits part && fits_u64 (digits_value 10 part))
+    (λ number. rw number (and_parts _ _ number).1)
+    (λ text. rw text (and_from _ _ e (not_from_false _ text)))
 
 parts_kept : (parts : List Text) → list_all is_part parts ≡ true → list_all is_kept (map kept parts) ≡ true
 parts_kept [] e = refl
 parts_kept (part ∷ parts) e =
-    let h = and_parts (is_part part) (list_all is_part parts) e in and_from _ _ (part_kept part h.0) (parts_kept parts h.1)
+    let h = and_parts _ _ e in and_from _ _ (part_kept part h.0) (parts_kept parts h.1)
 
 pre_parts_kept : (p : PartialTree) → HasParts p → list_all is_kept (map kept (pre_parts p)) ≡ true
 pre_parts_kept (PartialTree.one a) h = refl
@@ -51,9 +49,9 @@ pre_kept p h = go (length (stated p) == 3) where
 filled_fits : {s : List ℕ} → Shape s → (pre : List IdentifierValue) → list_all fits_u64 s ≡ true
     → list_all fits_u64 (numbers (filled s pre)) ≡ true
 filled_fits Shape.none pre e = refl
-filled_fits (Shape.one x) pre e = and_from _ _ (and_parts (fits_u64 x) true e).0 refl
+filled_fits (Shape.one x) pre e = and_from _ _ (and_parts _ _ e).0 refl
 filled_fits (Shape.two x y) pre e =
-    let h = and_parts (fits_u64 x) (fits_u64 y && true) e in and_from _ _ h.0 (and_from _ _ (and_parts (fits_u64 y) true h.1).0 refl)
+    let h = and_parts _ _ e in and_from _ _ h.0 (and_from _ _ (and_parts _ _ h.1).0 refl)
 filled_fits (Shape.three x y w) pre e = e
 
 module _ (bound_pre : List IdentifierValue) (keeps : list_all is_kept bound_pre ≡ true) (mode : Compat) where
@@ -74,7 +72,7 @@ module _ (bound_pre : List IdentifierValue) (keeps : list_all is_kept bound_pre 
       → are_printable (written_simple bound_pre mode s) ≡ true
   simple_printable s h e =
       let c = cell mode s.form (stated s.partial) in
-      let fit = and_parts (list_all fits_u64 (stated s.partial)) (bound_fits (cell_raised c (stated s.partial))) e in
+      let fit = and_parts _ _ e in
       cell_printable c (stated s.partial) (zero_filled s.partial)
       (and_from _ _ (filled_fits (stated_shape s.partial) (pre_release s.partial) fit.0) (pre_kept s.partial h)) fit.1
 
@@ -88,7 +86,7 @@ module _ (bound_pre : List IdentifierValue) (keeps : list_all is_kept bound_pre 
   unfolding HaveParts
   simples_printable [] h e = refl
   simples_printable (s ∷ ss) h e =
-      let fit = and_parts (term_fits mode (of_simple s)) (list_all (term_fits mode) (map of_simple ss)) e in
+      let fit = and_parts _ _ e in
       list_all-append (λ c. is_printable_version c.version) (written_simple bound_pre mode s) (flat_map (written_simple bound_pre mode) ss)
       ∙ and_from _ _ (simple_printable s h.0 fit.0) (simples_printable ss h.1 fit.1)
 
@@ -115,23 +113,20 @@ module _ (bound_pre : List IdentifierValue) (keeps : list_all is_kept bound_pre 
   unfolding HaveParts
   range_printable empty t h e = (refl, refl)
   range_printable (simples first others) t h e = (
-    not_from_false (is_empty (flat_map (written_simple bound_pre mode) (first ∷ others))) (simples_some first others),
+    not_from_false _ (simples_some first others),
     simples_printable (first ∷ others) (simples_parts first others t h) e,
   )
   range_printable (hyphen left right) t (l, gap, gap', r, h, g, g', h', eq) e = elim (cases_Bool (states_nothing left)) [
-    | inl a ↦ elim (cases_Bool (states_nothing right)) [
-      | inl b ↦ rw (a, b) (refl, refl)
-      | inr b ↦ rw (a, b) (made (right_side right) [] (h'.1, tt) (rw (a, b) at e))
-    ]
-    | inr a ↦ elim (cases_Bool (states_nothing right)) [
-      | inl b ↦ rw (a, b) (made (left_side left) [] (h.1, tt) (rw (a, b) at e))
-      | inr b ↦ rw (a, b) (made (left_side left) (right_side right ∷ []) (h.1, (h'.1, tt)) (rw (a, b) at e))
-    ]
+    | inl a ↦ by_test (states_nothing right)
+        (λ b. rw (a, b) (refl, refl))
+        (λ b. rw (a, b) (made (right_side right) [] (h'.1, tt) (rw (a, b) at e)))
+    | inr a ↦ by_test (states_nothing right)
+        (λ b. rw (a, b) (made (left_side left) [] (h.1, tt) (rw (a, b) at e)))
+        (λ b. rw (a, b) (made (left_side left) (right_side right ∷ []) (h.1, (h'.1, tt)) (rw (a, b) at e)))
   ] where
     made : (s : Simple) (ss : List Simple) → HaveParts (s ∷ ss) → list_all (term_fits mode) (map of_simple (s ∷ ss)) ≡ true
         → ArePrintable (flat_map (written_simple bound_pre mode) (s ∷ ss))
-    made s ss h e =
-        (not_from_false (is_empty (flat_map (written_simple bound_pre mode) (s ∷ ss))) (simples_some s ss), simples_printable (s ∷ ss) h e)
+    made s ss h e = (not_from_false _ (simples_some s ss), simples_printable (s ∷ ss) h e)
 
   padded_printable : (r : RangeTree) (t : Text) → SpellsPadded r t → list_all (term_fits mode) (terms r) ≡ true
       → IsPrintableRange mode (record { comparators = written_range bound_pre mode r; compat = mode })
@@ -142,9 +137,9 @@ module _ (bound_pre : List IdentifierValue) (keeps : list_all is_kept bound_pre 
   ranges_printable [] t h e = absurd h
   ranges_printable (r ∷ []) t h e =
       All-cons (IsPrintableRange mode) (record { comparators = written_range bound_pre mode r; compat = mode }) []
-      (padded_printable r t h (and_parts (list_all (term_fits mode) (terms r)) true e).0) (All-nil (IsPrintableRange mode))
+      (padded_printable r t h (and_parts _ _ e).0) (All-nil (IsPrintableRange mode))
   ranges_printable (r ∷ next ∷ others) t (head, tail, h, more, eq) e =
-      let parts = and_parts (list_all (term_fits mode) (terms r)) (fits mode (next ∷ others)) e in
+      let parts = and_parts _ _ e in
       All-cons (IsPrintableRange mode) (record { comparators = written_range bound_pre mode r; compat = mode })
       (written_set bound_pre mode (next ∷ others)).ranges
       (padded_printable r head h parts.0) (ranges_printable (next ∷ others) tail more parts.1)

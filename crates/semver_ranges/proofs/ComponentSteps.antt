@@ -30,7 +30,7 @@ pub wildcard_front : (t : Text) → 1 ≤ length t → is_wildcard (get_or t 0 0
 wildcard_front t some e = (
   get_or t 0 0 ∷ [],
   ap component (first_apart t some)
-      ∙ one_byte (get_or t 0 0) _ (or_left (is_wildcard (get_or t 0 0 ∷ [])) (get_or t 0 0 == 48) e),
+      ∙ one_byte (get_or t 0 0) _ (or_left _ _ e),
   e,
 )
 

@@ -1,22 +1,21 @@
 -- The reader's steps, as the cursor takes them.
-use Rattle.std.proofs.Common.{◌≡◌, false, ◌==◌, List, [], ◌∷◌, Some, refl, sym, ap, ◌∙◌, inl, inr}
-use Rattle.std.proofs.lemmas.Bool.{cases_Bool}
+use Rattle.std.proofs.Common.{◌≡◌, false, ◌==◌, List, [], ◌∷◌, Some, refl, sym, ap, ◌∙◌}
 use Rattle.semver_ranges.specs.RangeTree.{PartialTree, one, two, three, Form}
 use Rattle.semver_texts.specs.Texts.{Text}
 use Rattle.semver_ranges.specs.Means.Reading.{begins_with, behind_blanks, operator, partial, simple, with_form, parts, behind_pre}
 use Rattle.semver_ranges.specs.Means.Reading.{behind_three, behind_two, behind_one}
 use Rattle.semver_ranges.specs.Means.CursorViews.{marked_parts}
+use Rattle.semver_texts.proofs.Lists.{by_test}
 
 -- a pre-release and a build, each where its mark is there
 build_found : (a b c : Text) (pre build : List Text) (u v : Text) → marked_parts 43 u ≡ Some (build, v)
     → behind_pre a b c pre u ≡ Some (three a b c pre build, v)
 build_found a b c pre build [] v e =
     let same : ([], []) ≡ (build, v) = cc in ap (λ (f : List Text × Text). Some (three a b c pre f.0, f.1)) same
-build_found a b c pre build (m ∷ u) v e = elim (cases_Bool (m == 43)) [
-  | inl y ↦ let found : parts u ≡ Some (build, v) = rw y at e in rw (y, found) refl
-  | inr n ↦ let found : Some ([], m ∷ u) ≡ Some (build, v) = rw n at e in let same : ([], m ∷ u) ≡ (build, v) = cc in
-      rw n (ap (λ (f : List Text × Text). Some (three a b c pre f.0, f.1)) same)
-]
+build_found a b c pre build (m ∷ u) v e = by_test (m == 43)
+    (λ y. let found : parts u ≡ Some (build, v) = rw y at e in rw (y, found) refl)
+    (λ n. let found : Some ([], m ∷ u) ≡ Some (build, v) = rw n at e in let same : ([], m ∷ u) ≡ (build, v) = cc in
+    rw n (ap (λ (f : List Text × Text). Some (three a b c pre f.0, f.1)) same))
 
 pub qualifier_found : (a b c : Text) (pre build : List Text) (t u v : Text) → marked_parts 45 t ≡ Some (pre, u)
     → marked_parts 43 u ≡ Some (build, v) → behind_three a b c t ≡ Some (three a b c pre build, v)
@@ -25,16 +24,14 @@ qualifier_found a b c pre build [] u v e f =
     let none : [] ≡ pre = ap (λ (f : List Text × Text). f.0) same in
     let end : [] ≡ u = ap (λ (f : List Text × Text). f.1) same in
     build_found a b c [] build [] v (ap (marked_parts 43) end ∙ f) ∙ ap (λ p. Some (three a b c p build, v)) none
-qualifier_found a b c pre build (m ∷ t) u v e f = elim (cases_Bool (m == 45)) [
-  | inl y ↦ let found : parts t ≡ Some (pre, u) = rw y at e in rw (y, found) (build_found a b c pre build u v f)
-  | inr n ↦
-      let found : Some ([], m ∷ t) ≡ Some (pre, u) = rw n at e in
-      let same : ([], m ∷ t) ≡ (pre, u) = cc in
-      let none : [] ≡ pre = ap (λ (f : List Text × Text). f.0) same in
-      let rest : m ∷ t ≡ u = ap (λ (f : List Text × Text). f.1) same in
-      rw n (build_found a b c [] build (m ∷ t) v (ap (marked_parts 43) rest ∙ f)
-      ∙ ap (λ p. Some (three a b c p build, v)) none)
-]
+qualifier_found a b c pre build (m ∷ t) u v e f = by_test (m == 45)
+    (λ y. let found : parts t ≡ Some (pre, u) = rw y at e in rw (y, found) (build_found a b c pre build u v f))
+    (λ n. let found : Some ([], m ∷ t) ≡ Some (pre, u) = rw n at e in
+    let same : ([], m ∷ t) ≡ (pre, u) = cc in
+    let none : [] ≡ pre = ap (λ (f : List Text × Text). f.0) same in
+    let rest : m ∷ t ≡ u = ap (λ (f : List Text × Text). f.1) same in
+    rw n (build_found a b c [] build (m ∷ t) v (ap (marked_parts 43) rest ∙ f)
+    ∙ ap (λ p. Some (three a b c p build, v)) none))
 
 -- what follows a component that no dot follows
 pub minor_end : (a b t : Text) → begins_with 46 t ≡ false → behind_two a b t ≡ Some (two a b, t)

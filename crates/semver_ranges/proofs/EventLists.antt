@@ -14,6 +14,7 @@ use Rattle.semver_ranges.specs.RewritingTable.{comparator, term_fits, written_si
 use Rattle.semver_ranges.specs.Means.RangeEvents.{Event, next_range, yielded, in_front, events_of, range_simples, range_others, bars}
 use Rattle.semver_ranges.specs.Means.RangeEvents.{simple_fits, event_fits}
 use Rattle.semver_ranges.specs.Means.BoundsViews.{range_of_simples, range_for}
+use Rattle.semver_texts.proofs.Lists.{by_test}
 
 -- a range fits as the simples that it is yielded as, and has their comparators, however a raised bound is written
 abbrev IsMadeOf : RangeTree → List Simple → Type 0
@@ -33,17 +34,13 @@ fits_nothing mode p e = rw e refl
 
 made_of_sides : (l r : PartialTree) → IsMadeOf (hyphen l r) (yielded (hyphen l r))
 made_of_sides l r = λ mode. elim (cases_Bool (states_nothing r)) [
-  | inl y ↦ elim (cases_Bool (states_nothing l)) [
-    | inl x ↦ rw (y, x) (
-      ap (λ b. term_fits mode (of_simple (left_side l)) && (b && true)) (fits_nothing mode r (nothing_is (stated r) y)),
-      λ bound_pre. from_zero bound_pre mode l (nothing_is (stated l) x),
-    )
-    | inr n ↦ rw (y, n) (refl, λ bound_pre. refl)
-  ]
-  | inr n ↦ elim (cases_Bool (states_nothing l)) [
-    | inl y ↦ rw (n, y) (refl, λ bound_pre. refl)
-    | inr m ↦ rw (n, m) (refl, λ bound_pre. refl)
-  ]
+  | inl y ↦ by_test (states_nothing l)
+      (λ x. rw (y, x) (
+        ap (λ b. term_fits mode (of_simple (left_side l)) && (b && true)) (fits_nothing mode r (nothing_is (stated r) y)),
+        λ bound_pre. from_zero bound_pre mode l (nothing_is (stated l) x),
+      ))
+      (λ n. rw (y, n) (refl, λ bound_pre. refl))
+  | inr n ↦ by_test (states_nothing l) (λ y. rw (n, y) (refl, λ bound_pre. refl)) (λ m. rw (n, m) (refl, λ bound_pre. refl))
 ]
 
 made_of : (r : RangeTree) → IsMadeOf r (yielded r)
@@ -92,8 +89,7 @@ set_fits mode [] = refl
 set_fits mode (r ∷ []) = front_fits mode (yielded r) [] ∙ ap (λ b. b && true) (made_of r mode).0
 set_fits mode (r ∷ next ∷ others) =
     front_fits mode (yielded r) (next_range ∷ events_of (next ∷ others))
-    ∙ ap (λ b. b && list_all (event_fits mode) (events_of (next ∷ others))) (made_of r mode).0
-    ∙ ap (λ b. list_all (term_fits mode) (terms r) && b) (set_fits mode (next ∷ others))
+    ∙ (λ i. (made_of r mode).0 i && set_fits mode (next ∷ others) i)
 
 pub set_bars : (r : RangeTree) (others : SetTree) → bars (events_of (r ∷ others)) ≡ length others
 set_bars r [] = front_bars (yielded r) []

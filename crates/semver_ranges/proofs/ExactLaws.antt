@@ -1,6 +1,6 @@
 -- What comparators with exact bounds mean, and what is below such a bound.
-use Rattle.std.proofs.Common.{◌≡◌, Bool, true, false, not, ◌&&◌, List, [], ◌∷◌, refl, sym, subst, Some}
-use Rattle.std.specs.Ordering.{nat_cmp, is_lt}
+use Rattle.std.proofs.Common.{◌≡◌, Bool, true, false, not, ◌&&◌, List, [], ◌∷◌, refl, Some}
+use Rattle.std.specs.Ordering.{is_lt}
 use Rattle.std.specs.declared.cmp.Ordering.{Ordering}
 use Rattle.std.specs.declared.cmp.Ordering.TheVariants.{Less, Equal, Greater}
 use Rattle.semver_ranges.specs.declared.range.Compat.{Compat}
@@ -12,7 +12,7 @@ use Rattle.semver_ranges.specs.Partials.{pre_release}
 use Rattle.semver_ranges.specs.OwnMeaning.{meets_term, meets_tree}
 use Rattle.semver_ranges.specs.ExactBounds.{lowest_pre_release, exact_bound, rewritten_exactly}
 use Rattle.semver_ranges.specs.Meeting.{meets_set, is_pre_release_of}
-use Rattle.semver_ranges.proofs.Rows.{Step, step, Tail, same, past, floor, compared, exact_row}
+use Rattle.semver_ranges.proofs.Rows.{Step, numbers_step, Tail, same, past, floor, exact_row}
 use Rattle.semver_ranges.proofs.SetMeanings.{stated_shape, set_meets}
 
 -- a version meets the comparators of a set with exact bounds exactly if it meets what its tree means
@@ -35,30 +35,16 @@ against (x ∷ xs) = pre (floor (x ∷ xs)) where
   pre past = higher
 
 -- what is below an exact bound, by how the numbers stand to those of the bound and what the pre-release is
-below_exact : {o : Ordering} {e m : Bool} → Step o e m → {o' : Ordering} {e' m' : Bool} → Step o' e' m' → {o3 : Ordering} {e3 m3 : Bool}
-    → Step o3 e3 m3
-    → {r : Ordering} {i : Bool} {r' : Ordering} → Against r i r'
-    → is_lt (compared o o' o3 r') ≡ (is_lt (compared o o' o3 r) && not (i && (m && (m' && (m3 && true)))))
-below_exact Step.lower b c release = refl
-below_exact Step.lower b c lowest = refl
-below_exact Step.lower b c Against.higher = refl
-below_exact Step.higher b c a = refl
-below_exact Step.level Step.lower c release = refl
-below_exact Step.level Step.lower c lowest = refl
-below_exact Step.level Step.lower c Against.higher = refl
-below_exact Step.level Step.higher c a = refl
-below_exact Step.level Step.level Step.lower release = refl
-below_exact Step.level Step.level Step.lower lowest = refl
-below_exact Step.level Step.level Step.lower Against.higher = refl
-below_exact Step.level Step.level Step.higher a = refl
-below_exact Step.level Step.level Step.level release = refl
-below_exact Step.level Step.level Step.level lowest = refl
-below_exact Step.level Step.level Step.level Against.higher = refl
+below_exact : {g : Ordering → Ordering} {e m : Bool} → Step g e m → {r : Ordering} {i : Bool} {r' : Ordering} → Against r i r'
+    → is_lt (g r') ≡ (is_lt (g r) && not (i && m))
+below_exact Step.lower release = refl
+below_exact Step.lower lowest = refl
+below_exact Step.lower Against.higher = refl
+below_exact Step.level release = refl
+below_exact Step.level lowest = refl
+below_exact Step.level Against.higher = refl
+below_exact Step.higher a = refl
 
 pub below_bound : (bound v : PlainVersion) → bound.pre ≡ []
     → is_lt (precedence v (exact_bound bound)) ≡ (is_lt (precedence v bound) && not (is_pre_release_of v (Some bound)))
-below_bound bound v none =
-    let at : List IdentifierValue → Type 0 = λ q. is_lt (precedence v (exact_bound bound))
-    ≡ (is_lt (compared (nat_cmp v.major bound.major) (nat_cmp v.minor bound.minor) (nat_cmp v.patch bound.patch) (pre_cmp v.pre q))
-    && not (is_pre_release_of v (Some bound))) in
-    subst at (sym none) (below_exact (step v.major bound.major) (step v.minor bound.minor) (step v.patch bound.patch) (against v.pre))
+below_bound bound v none = rw none (below_exact (numbers_step v bound) (against v.pre))

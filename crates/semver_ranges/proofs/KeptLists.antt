@@ -9,8 +9,8 @@ use Rattle.std.proofs.lemmas.List.{length-map}
 -- parts at a place, and one more of them as it is kept
 pub all_at : {X : Type 0} (p : X → Bool) (xs : List X) (i : ℕ) (d : X) → list_all p xs ≡ true → i < length xs → p (get_or xs i d) ≡ true
 all_at p [] i d e within = absurd (omega arith)
-all_at p (x ∷ xs) zero d e within = (and_parts (p x) (list_all p xs) e).0
-all_at p (x ∷ xs) (suc i) d e within = all_at p xs i d (and_parts (p x) (list_all p xs) e).1 (omega arith)
+all_at p (x ∷ xs) zero d e within = (and_parts _ _ e).0
+all_at p (x ∷ xs) (suc i) d e within = all_at p xs i d (and_parts _ _ e).1 (omega arith)
 
 pub mapped_more : {X Y : Type 0} (f : X → Y) (xs : List X) (i : ℕ) (x : X) → i < length xs → x ≡ get_or xs i x
     → take i (map f xs) ++ f x ∷ [] ≡ take (i + 1) (map f xs)

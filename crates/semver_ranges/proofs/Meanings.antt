@@ -1,32 +1,31 @@
 -- What comparators mean, but for the pre-releases of raised bounds.
 use Rattle.std.proofs.Common.{◌≡◌, true, false, [], refl, sym, ap, ◌∙◌, IsTrue, Option, Some, None}
+use Rattle.std.proofs.Math.Bool.{or-false}
 use Rattle.std.proofs.lemmas.Bool.{or_left}
 use Rattle.std.specs.List.{list_all}
-use Rattle.std.specs.Ordering.{is_ge}
 use Rattle.semver_ranges.specs.declared.range.Compat.{Compat}
 use Rattle.semver_ranges.specs.RangeTree.{SetTree}
 use Rattle.semver_texts.specs.Texts.{is_empty}
 use Rattle.semver_texts.specs.Versions.{PlainVersion}
-use Rattle.semver_ranges.specs.Partials.{pre_release, zero_version}
-use Rattle.semver_ranges.specs.Precedence.{precedence}
+use Rattle.semver_ranges.specs.Partials.{pre_release}
 use Rattle.semver_ranges.specs.Terms.{Term, terms}
 use Rattle.semver_ranges.specs.OwnMeaning.{meets_term, meets_tree}
 use Rattle.semver_ranges.specs.RewritingTable.{raised_bound, rewritten}
 use Rattle.semver_ranges.specs.Meeting.{meets_set, is_pre_release_of, meets_term_or_bound, meets_tree_or_bounds}
-use Rattle.semver_ranges.proofs.Rows.{row, or_false}
+use Rattle.semver_ranges.proofs.Rows.{row}
 use Rattle.semver_ranges.proofs.SetMeanings.{stated_shape, set_meets}
 use Rattle.semver_ranges.proofs.Tests.{list_all-weaker, list_any-weaker, list_all-same, list_any-same}
 
 -- a version meets the comparators of a set exactly if some range has each term met, or is a pre-release of its bound
 pub some_agrees : (mode : Compat) (tree : SetTree) (v : PlainVersion) → meets_set v (rewritten mode tree) ≡ meets_tree_or_bounds mode tree v
 some_agrees mode tree v = set_meets [] mode v (λ term. meets_term_or_bound mode term v)
-    (λ s. row v mode s.form (stated_shape s.partial) (pre_release s.partial)) (sym (or_false (is_ge (precedence v zero_version)))) tree
+    (λ s. row v mode s.form (stated_shape s.partial) (pre_release s.partial)) (sym (or-false _)) tree
 
 -- what meets the text's own meaning meets it but for raised bounds
 own_meaning_weaker : (mode : Compat) (tree : SetTree) (v : PlainVersion) → meets_tree mode tree v ≡ true
     → meets_tree_or_bounds mode tree v ≡ true
 own_meaning_weaker mode tree v = list_any-weaker _ _
-    (λ r. list_all-weaker _ _ (λ term. or_left (meets_term mode term v) (is_pre_release_of v (raised_bound mode term))) (terms r)) tree
+    (λ r. list_all-weaker _ _ (λ term. or_left _ _) (terms r)) tree
 
 -- a release is a pre-release of nothing
 no_pre_release : (v : PlainVersion) (bound : Option PlainVersion) → is_empty v.pre ≡ true → is_pre_release_of v bound ≡ false
@@ -39,7 +38,7 @@ on_releases mode tree v e =
     let either = λ (term : Term). meets_term_or_bound mode term v in
     let own = λ (term : Term). meets_term mode term v in
     let alike : (term : Term) → either term ≡ own term = λ term. rw (no_pre_release v (raised_bound mode term) e)
-    (or_false (meets_term mode term v)) in
+    (or-false _) in
     list_any-same (λ r. list_all either (terms r)) (λ r. list_all own (terms r)) (λ r. list_all-same either own alike (terms r)) tree
 
 pub agree_on_releases : (mode : Compat) (tree : SetTree) (v : PlainVersion) → v.pre ≡ []

@@ -95,10 +95,7 @@ then_second Greater s e = cc
 
 -- versions with the same fields are the same
 same_fields : (v w : PlainVersion) → v.major ≡ w.major → v.minor ≡ w.minor → v.patch ≡ w.patch → v.pre ≡ w.pre → v ≡ w
-same_fields v w a b c d =
-    let made : ℕ → ℕ → ℕ → List IdentifierValue → PlainVersion = λ x y z p. record { major = x; minor = y; patch = z; pre = p } in
-    ap (λ x. made x v.minor v.patch v.pre) a ∙ ap (λ y. made w.major y v.patch v.pre) b ∙ ap (λ z. made w.major w.minor z v.pre) c
-    ∙ ap (λ p. made w.major w.minor w.patch p) d
+same_fields v w a b c d = λ i. record { major = a i; minor = b i; patch = c i; pre = d i }
 
 pub precedence-same : IsAntisymmetric precedence
 precedence-same v w e =

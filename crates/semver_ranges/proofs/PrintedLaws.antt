@@ -1,5 +1,5 @@
 -- Printed sets read back, and what is answered is printable.
-use Rattle.std.proofs.Common.{◌≡◌, ℕ, zero, suc, length, ◌<◌, ◌^◌, true, false, not, ◌&&◌, ◌||◌, ◌==◌, if◌then◌else◌, List, [], ◌∷◌, ◌++◌}
+use Rattle.std.proofs.Common.{◌≡◌, ℕ, zero, suc, length, ◌<◌, ◌^◌, Bool, true, false, not, ◌&&◌, ◌==◌, if◌then◌else◌, List, [], ◌∷◌, ◌++◌}
 use Rattle.std.proofs.Common.{map, codes, refl, sym, ap, ◌∙◌, None, All, append_assoc, append-nil, decimal, get_or, arith}
 use Rattle.std.proofs.lemmas.Bool.{and_parts, and_from, or_right, ltb-true, ne_eqb, not-true, not_from_false}
 use Rattle.std.proofs.lemmas.List.Elements.{All-head, All-tail}
@@ -22,6 +22,7 @@ use Rattle.semver_ranges.specs.RewritingTable.{PlainComparator, PlainRange, Plai
 use Rattle.semver_ranges.specs.RewritingTable.{written_set, cell, cell_raised, bound_fits, fits, term_fits, comparator}
 use Rattle.semver_ranges.specs.Terms.{of_simple, terms}
 use Rattle.semver_ranges.proofs.WrittenPieces.{apart}
+use Rattle.semver_ranges.proofs.Tests.{list_all-weaker}
 use Rattle.semver_ranges.specs.PrintedRanges.{op_text, comparator_text, range_text, set_text, is_kept, is_printable_version}
 use Rattle.semver_ranges.specs.PrintedRanges.{IsPrintableRange, IsPrintableSet}
 use Rattle.semver_texts.specs.PrintedText.{identifier_text, plain_text}
@@ -43,7 +44,7 @@ decimal_value n e = digits_value-decimal own n (fits_below n e)
 no_zero_first : (t : Text) → all_ascii_digits t ≡ true → 48 < get_or t 0 0 → is_number t ≡ true
 no_zero_first [] e h = absurd (omega arith)
 no_zero_first (c ∷ t) e h =
-    and_from _ _ e (or_right (is_empty t) (not (c == 48)) (not_from_false (c == 48) (ne_eqb c 48 (λ same. omega arith))))
+    and_from _ _ e (or_right _ _ (not_from_false _ (ne_eqb c 48 (λ same. omega arith))))
 
 decimal_number : (n : ℕ) → fits_u64 n ≡ true → is_number (decimal n) ≡ true
 decimal_number zero e = rw (decimal_digit 0 (omega arith)) refl
@@ -54,25 +55,22 @@ decimal_number (suc n) e =
 digits_no_wildcard : (t : Text) → all_ascii_digits t ≡ true → is_wildcard t ≡ false
 digits_no_wildcard [] e = refl
 digits_no_wildcard (b ∷ []) e =
-    let digit : is_ascii_digit b ≡ true = (and_parts (is_ascii_digit b) true e).0 in
+    let digit : is_ascii_digit b ≡ true = (and_parts _ _ e).0 in
     rw (apart is_ascii_digit b 120 digit refl, apart is_ascii_digit b 88 digit refl, apart is_ascii_digit b 42 digit refl) refl
 digits_no_wildcard (b ∷ c ∷ t) e = refl
 
 -- digits are a part
 digit_part_bytes : (t : Text) → all_ascii_digits t ≡ true → list_all is_part_byte t ≡ true
-digit_part_bytes [] e = refl
-digit_part_bytes (b ∷ t) e =
-    let parts = and_parts (is_ascii_digit b) (all_ascii_digits t) e in
-    and_from _ _ (rw parts.0 refl) (digit_part_bytes t parts.1)
+digit_part_bytes = list_all-weaker is_ascii_digit is_part_byte (λ b digit. rw digit refl)
 
 number_part : (t : Text) → is_number t ≡ true → is_part t ≡ true
 number_part [] e = cc
-number_part (b ∷ t) e = digit_part_bytes (b ∷ t) (and_parts (all_ascii_digits (b ∷ t)) (is_empty t || not (b == 48)) e).0
+number_part (b ∷ t) e = digit_part_bytes (b ∷ t) (and_parts _ _ e).0
 
 -- an identifier's text is a part that is kept as the identifier
 identifier_part : (i : IdentifierValue) → is_kept i ≡ true → is_part (identifier_text i) ≡ true
 identifier_part (numeric n) e = number_part (decimal n) (decimal_number n e)
-identifier_part (alphanumeric t) e = (and_parts (is_part t) _ e).0
+identifier_part (alphanumeric t) e = (and_parts _ _ e).0
 
 identifier_kept : (i : IdentifierValue) → is_kept i ≡ true → kept (identifier_text i) ≡ i
 identifier_kept (numeric n) e = rw (decimal_digits n e, decimal_value n e, e) refl
@@ -83,12 +81,12 @@ identifier_kept (alphanumeric t) e =
 identifiers_parts : (is : List IdentifierValue) → list_all is_kept is ≡ true → list_all is_part (map identifier_text is) ≡ true
 identifiers_parts [] e = refl
 identifiers_parts (i ∷ is) e =
-    let parts = and_parts (is_kept i) (list_all is_kept is) e in and_from _ _ (identifier_part i parts.0) (identifiers_parts is parts.1)
+    let parts = and_parts _ _ e in and_from _ _ (identifier_part i parts.0) (identifiers_parts is parts.1)
 
 identifiers_kept : (is : List IdentifierValue) → list_all is_kept is ≡ true → map kept (map identifier_text is) ≡ is
 identifiers_kept [] e = refl
 identifiers_kept (i ∷ is) e =
-    let parts = and_parts (is_kept i) (list_all is_kept is) e in
+    let parts = and_parts _ _ e in
     rw (identifier_kept i parts.0, identifiers_kept is parts.1) refl
 
 -- a version as a partial of three numbers
@@ -103,10 +101,10 @@ record Printable (v : PlainVersion) : Type 0 where
 
 printable : (v : PlainVersion) → is_printable_version v ≡ true → Printable v
 printable v e =
-    let parts = and_parts (list_all fits_u64 (numbers v)) (list_all is_kept v.pre) e in
-    let first = and_parts (fits_u64 v.major) (fits_u64 v.minor && (fits_u64 v.patch && true)) parts.0 in
-    let second = and_parts (fits_u64 v.minor) (fits_u64 v.patch && true) first.1 in
-    record { major = first.0; minor = second.0; patch = (and_parts (fits_u64 v.patch) true second.1).0; pre = parts.1 }
+    let parts = and_parts _ _ e in
+    let first = and_parts _ _ parts.0 in
+    let second = and_parts _ _ first.1 in
+    record { major = first.0; minor = second.0; patch = (and_parts _ _ second.1).0; pre = parts.1 }
 
 stated_numbers : (v : PlainVersion) → Printable v → stated (version_tree v) ≡ numbers v
 stated_numbers v h = rw (
@@ -123,7 +121,7 @@ stated_pre v h = ap (λ s. if length s == 3 then map kept (map identifier_text v
     ∙ identifiers_kept v.pre h.pre
 
 decimal_component : (n : ℕ) → fits_u64 n ≡ true → is_component (decimal n) ≡ true
-decimal_component n e = or_right (is_wildcard (decimal n)) (is_number (decimal n)) (decimal_number n e)
+decimal_component n e = or_right _ _ (decimal_number n e)
 
 version_spells : (v : PlainVersion) → Printable v → SpellsPartial (version_tree v) (plain_text v)
 version_spells v h = (
@@ -160,10 +158,9 @@ of_three bound_pre mode _ v = refl
 comparator_again : (bound_pre : List IdentifierValue) (mode : Compat) (c : PlainComparator) → Printable c.version
     → written_simple bound_pre mode (simple_of c) ≡ c ∷ []
 comparator_again bound_pre mode c h =
-    let cell_of = cell mode (form_of c.op) in
-    ap (λ s. written_cell bound_pre (cell_of s) s (filled s (pre_release (version_tree c.version)))) (stated_numbers c.version h)
-    ∙ ap (λ p. written_cell bound_pre (cell_of (numbers c.version)) (numbers c.version) (filled (numbers c.version) p))
-    (stated_pre c.version h)
+    let numbers_are = stated_numbers c.version h in
+    (λ i. written_cell bound_pre (cell mode (form_of c.op) (numbers_are i)) (numbers_are i)
+    (filled (numbers_are i) (stated_pre c.version h i)))
     ∙ of_three bound_pre mode c.op c.version
 
 no_bound : (mode : Compat) (op : Op) (v : PlainVersion) → cell_raised (cell mode (form_of op) (numbers v)) (numbers v) ≡ None
@@ -177,11 +174,14 @@ comparator_fits mode c h =
     ∙ and_from _ _ (and_from _ _ h.major (and_from _ _ h.minor (and_from _ _ h.patch refl))) refl
 
 -- comparators as simples
-simples_spell : (c : PlainComparator) (cs : List PlainComparator) → list_all (λ c. is_printable_version c.version) (c ∷ cs) ≡ true
+abbrev pub are_printable : List PlainComparator → Bool
+are_printable cs = list_all (λ c. is_printable_version c.version) cs
+
+simples_spell : (c : PlainComparator) (cs : List PlainComparator) → are_printable (c ∷ cs) ≡ true
     → SpellsSimples (simple_of c) (map simple_of cs) (joined (codes " ") (map comparator_text (c ∷ cs)))
-simples_spell c [] e = comparator_spells c (printable c.version (and_parts (is_printable_version c.version) true e).0)
+simples_spell c [] e = comparator_spells c (printable c.version (and_parts _ _ e).0)
 simples_spell c (next ∷ cs) e =
-    let parts = and_parts (is_printable_version c.version) (list_all (λ c. is_printable_version c.version) (next ∷ cs)) e in (
+    let parts = and_parts _ _ e in (
       comparator_text c,
       codes " ",
       joined (codes " ") (map comparator_text (next ∷ cs)),
@@ -192,19 +192,17 @@ simples_spell c (next ∷ cs) e =
     )
 
 comparators_again : (bound_pre : List IdentifierValue) (mode : Compat) (cs : List PlainComparator)
-    → list_all (λ c. is_printable_version c.version) cs ≡ true → flat_map (written_simple bound_pre mode) (map simple_of cs) ≡ cs
+    → are_printable cs ≡ true → flat_map (written_simple bound_pre mode) (map simple_of cs) ≡ cs
 comparators_again bound_pre mode [] e = refl
 comparators_again bound_pre mode (c ∷ cs) e =
-    let parts = and_parts (is_printable_version c.version) (list_all (λ c. is_printable_version c.version) cs) e in
-    ap (λ x. x ++ flat_map (written_simple bound_pre mode) (map simple_of cs))
-    (comparator_again bound_pre mode c (printable c.version parts.0))
-    ∙ ap (λ x. c ∷ x) (comparators_again bound_pre mode cs parts.1)
+    let parts = and_parts _ _ e in
+    λ i. comparator_again bound_pre mode c (printable c.version parts.0) i ++ comparators_again bound_pre mode cs parts.1 i
 
-comparators_fit : (mode : Compat) (cs : List PlainComparator) → list_all (λ c. is_printable_version c.version) cs ≡ true
+comparators_fit : (mode : Compat) (cs : List PlainComparator) → are_printable cs ≡ true
     → list_all (term_fits mode) (map of_simple (map simple_of cs)) ≡ true
 comparators_fit mode [] e = refl
 comparators_fit mode (c ∷ cs) e =
-    let parts = and_parts (is_printable_version c.version) (list_all (λ c. is_printable_version c.version) cs) e in
+    let parts = and_parts _ _ e in
     and_from _ _ (comparator_fits mode c (printable c.version parts.0)) (comparators_fit mode cs parts.1)
 
 -- a range of comparators as a range of simples
@@ -217,24 +215,22 @@ tree_of ranges = map (λ r. range_of r.comparators) ranges
 
 range_spells : (mode : Compat) (r : PlainRange) → IsPrintableRange mode r → SpellsRange (range_of r.comparators) (range_text r)
 range_spells mode r h = go r.comparators h.0 h.2 where
-  go : (cs : List PlainComparator) → not (is_empty cs) ≡ true → list_all (λ c. is_printable_version c.version) cs ≡ true
+  go : (cs : List PlainComparator) → not (is_empty cs) ≡ true → are_printable cs ≡ true
       → SpellsRange (range_of cs) (joined (codes " ") (map comparator_text cs))
   go [] some e = cc
   go (c ∷ cs) some e = simples_spell c cs e
 
 range_again : (bound_pre : List IdentifierValue) (mode : Compat) (r : PlainRange) → IsPrintableRange mode r
     → record { comparators = written_range bound_pre mode (range_of r.comparators); compat = mode } ≡ r
-range_again bound_pre mode r h =
-    let made : List PlainComparator → Compat → PlainRange = λ cs m. record { comparators = cs; compat = m } in
-    ap (λ cs. made cs mode) (go r.comparators h.0 h.2) ∙ ap (λ m. made r.comparators m) (sym h.1) where
-      go : (cs : List PlainComparator) → not (is_empty cs) ≡ true → list_all (λ c. is_printable_version c.version) cs ≡ true
-          → written_range bound_pre mode (range_of cs) ≡ cs
-      go [] some e = cc
-      go (c ∷ cs) some e = comparators_again bound_pre mode (c ∷ cs) e
+range_again bound_pre mode r h = λ i. record { comparators = go r.comparators h.0 h.2 i; compat = sym h.1 i } where
+  go : (cs : List PlainComparator) → not (is_empty cs) ≡ true → are_printable cs ≡ true
+      → written_range bound_pre mode (range_of cs) ≡ cs
+  go [] some e = cc
+  go (c ∷ cs) some e = comparators_again bound_pre mode (c ∷ cs) e
 
 range_fits : (mode : Compat) (r : PlainRange) → IsPrintableRange mode r → list_all (term_fits mode) (terms (range_of r.comparators)) ≡ true
 range_fits mode r h = go r.comparators h.2 where
-  go : (cs : List PlainComparator) → list_all (λ c. is_printable_version c.version) cs ≡ true
+  go : (cs : List PlainComparator) → are_printable cs ≡ true
       → list_all (term_fits mode) (terms (range_of cs)) ≡ true
   go [] e = refl
   go (c ∷ cs) e = comparators_fit mode (c ∷ cs) e
@@ -255,24 +251,20 @@ set_spells mode before r [] b h = (
 set_spells mode before r (next ∷ rs) b h =
     let rest = joined (codes " || ") (map range_text (next ∷ rs)) in
     let t = range_text r in
-    let head = (before ++ t) ++ codes " " in
-    let text : before ++ ((t ++ codes " || ") ++ rest) ≡ (head ++ codes "||") ++ (codes " " ++ rest) =
-    sym (append_assoc before (t ++ codes " || ") rest) ∙ ap (λ x. x ++ rest) (sym (append_assoc before t (codes " || ")))
-    ∙ append_assoc (before ++ t) (codes " || ") rest ∙ sym (append_assoc (before ++ t) (codes " ") (codes "||" ++ (codes " " ++ rest)))
-    ∙ sym (append_assoc head (codes "||") (codes " " ++ rest)) in (
+    let head = (before ++ t) ++ codes " " in (
       head,
       codes " " ++ rest,
       (before, t, codes " ", b, range_spells mode r (All-head (IsPrintableRange mode) r (next ∷ rs) h), refl, refl),
       set_spells mode (codes " ") next rs refl (All-tail (IsPrintableRange mode) r (next ∷ rs) h),
-      text,
+      simp append_assoc,
     )
 
 set_again : (bound_pre : List IdentifierValue) (mode : Compat) (rs : List PlainRange) → All (IsPrintableRange mode) rs
     → (written_set bound_pre mode (tree_of rs)).ranges ≡ rs
 set_again bound_pre mode [] h = refl
-set_again bound_pre mode (r ∷ rs) h =
-    ap (λ x. x ∷ (written_set bound_pre mode (tree_of rs)).ranges) (range_again bound_pre mode r (All-head (IsPrintableRange mode) r rs h))
-    ∙ ap (λ x. r ∷ x) (set_again bound_pre mode rs (All-tail (IsPrintableRange mode) r rs h))
+set_again bound_pre mode (r ∷ rs) h = λ i.
+    range_again bound_pre mode r (All-head (IsPrintableRange mode) r rs h) i
+    ∷ set_again bound_pre mode rs (All-tail (IsPrintableRange mode) r rs h) i
 
 set_fits : (mode : Compat) (rs : List PlainRange) → All (IsPrintableRange mode) rs → fits mode (tree_of rs) ≡ true
 set_fits mode [] h = refl
@@ -286,8 +278,7 @@ printed_again bound_pre s h = (
   tree_of s.ranges,
   spelled s.ranges h.0 h.1,
   set_fits s.compat s.ranges h.1,
-  (let made : List PlainRange → PlainSet = λ rs. record { ranges = rs; compat = s.compat } in
-      ap made (set_again bound_pre s.compat s.ranges h.1)),
+  λ i. record { ranges = set_again bound_pre s.compat s.ranges h.1 i; compat = s.compat },
 ) where
   spelled : (rs : List PlainRange) → not (is_empty rs) ≡ true → All (IsPrintableRange s.compat) rs
       → Spells (tree_of rs) (joined (codes " || ") (map range_text rs))

@@ -19,7 +19,7 @@ is_simple_byte b = is_component_byte b || ((b == 61) || ((b == 60) || ((b == 62)
 
 component_simple : (t : Text) → starts is_component_byte t ≡ true → starts is_simple_byte t ≡ true
 component_simple [] e = cc
-component_simple (b ∷ t) e = or_left (is_component_byte b) _ e
+component_simple (b ∷ t) e = or_left _ _ e
 
 form_starts : (f : Form) (sign t : Text) → SpellsForm f sign → starts is_component_byte t ≡ true → starts is_simple_byte (sign ++ t) ≡ true
 form_starts bare sign t h e = rw h (component_simple t e)
@@ -66,7 +66,7 @@ end_no_hyphen (b ∷ t) e = rw (eqb-true b 124 e) refl
 -- a word ends before blanks and the end of its range, and before a gap
 blanks_end : (blanks t : Text) → AreBlanks blanks → ends_range t ≡ true → ends_word (blanks ++ t) ≡ true
 blanks_end [] [] h e = refl
-blanks_end [] (b ∷ t) h e = or_right (is_blank b) (is_bar b) e
+blanks_end [] (b ∷ t) h e = or_right _ _ e
 blanks_end (b ∷ blanks) t h e = or_left (is_blank b) (is_bar b) (and_parts (is_blank b) (list_all is_blank blanks) h).0
 
 gap_ends : (gap t : Text) → AreSomeBlanks gap → ends_word (gap ++ t) ≡ true

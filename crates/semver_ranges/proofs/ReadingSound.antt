@@ -1,16 +1,17 @@
 -- What the reader finds spells the text.
 use Rattle.std.proofs.Common.{◌≡◌, ℕ, zero, suc, true, false, ◌&&◌, ◌==◌, List, [], ◌∷◌, ◌++◌, codes, length, refl, sym, ap, ◌∙◌, subst}
 use Rattle.std.proofs.Common.{inl, inr, Option, Some, None, append_assoc, append-nil}
-use Rattle.std.proofs.lemmas.Bool.{cases_Bool, and_parts, and_from, eqb-true, both_ways, not_from_false}
+use Rattle.std.proofs.lemmas.Bool.{and_parts, and_from, eqb-true, both_ways, not_from_false}
 use Rattle.semver_ranges.specs.RangeTree.{PartialTree, Form, bare, Simple, RangeTree}
 use Rattle.semver_ranges.specs.RangeTree.{SetTree, is_blank, AreBlanks, AreSomeBlanks, SpellsPartial, SpellsSimple, SpellsSimples}
 use Rattle.semver_ranges.specs.RangeTree.{SpellsRange, SpellsPadded, Spells}
-use Rattle.semver_texts.specs.Texts.{Text, is_empty}
+use Rattle.semver_texts.specs.Texts.{Text}
 use Rattle.semver_ranges.specs.Means.Reading.{front, behind_blanks, begins_with, is_bar, ends_range, partial, simple, put_before}
 use Rattle.semver_ranges.specs.Means.Reading.{behind_simple, some_simples, all_simples, range_end, right_side, is_bare, with_right}
 use Rattle.semver_ranges.specs.Means.Reading.{with_others, behind_first, range_here, range, behind_bars, onto, more_ranges, behind_range}
 use Rattle.semver_ranges.specs.Means.Reading.{some_ranges, read}
 use Rattle.semver_ranges.proofs.ReadingPieces.{front-back, front_all, WordAt, partial_sound, IsGap, SimpleAt, simple_sound}
+use Rattle.semver_texts.proofs.Lists.{by_test}
 
 -- a first simple and the others that are found behind it and its gap
 abbrev SimplesAt : Simple → Text → Option (List Simple × Text) → Type 0
@@ -20,8 +21,8 @@ SimplesAt s t (Some found) =
 
 -- a gap that parts two simples
 some_blanks : (gap t : Text) → IsGap gap t → ends_range t ≡ false → AreSomeBlanks gap
-some_blanks gap t (blanks, inl some) e = (not_from_false (is_empty gap) some, blanks)
-some_blanks gap t (blanks, inr ends) e = absurd (both_ways (ends_range t) e ends)
+some_blanks gap t (blanks, inl some) e = (not_from_false _ some, blanks)
+some_blanks gap t (blanks, inr ends) e = absurd (both_ways _ e ends)
 
 put_sound : (s next : Simple) (w gap t : Text) (o : Option (List Simple × Text)) → SpellsSimple s w → AreSomeBlanks gap → SimplesAt next t o
     → SimplesAt s (w ++ (gap ++ t)) (put_before next o)
@@ -38,10 +39,9 @@ next_sound s w gap t f (Some (next, u)) h spelled blanks (w', gap', spelled', pa
 
 simples_sound : (n : ℕ) (s : Simple) (w gap t : Text) → SpellsSimple s w → IsGap gap t → SimplesAt s (w ++ (gap ++ t)) (some_simples n t)
 simples_sound zero s w gap t spelled parts = tt
-simples_sound (suc n) s w gap t spelled parts = elim (cases_Bool (ends_range t)) [
-  | inl e ↦ rw e (w, gap, spelled, parts.0, refl)
-  | inr e ↦ rw e (next_sound s w gap t (some_simples n) (simple t) (simples_sound n) spelled (some_blanks gap t parts e) (simple_sound t))
-]
+simples_sound (suc n) s w gap t spelled parts = by_test (ends_range t)
+    (λ e. rw e (w, gap, spelled, parts.0, refl))
+    (λ e. rw e (next_sound s w gap t (some_simples n) (simple t) (simples_sound n) spelled (some_blanks gap t parts e) (simple_sound t)))
 
 -- a range behind the blanks at the front of a text, and the blanks behind it
 abbrev RangeAt : Text → Option (RangeTree × Text) → Type 0
@@ -58,27 +58,25 @@ RightAt t (Some found) =
 end_sound : (blank : ℕ) (t : Text) (o : Option (PartialTree × Text)) → is_blank blank ≡ true → WordAt (behind_blanks t) o
     → RightAt (45 ∷ blank ∷ t) (range_end o)
 end_sound blank t None e h = tt
-end_sound blank t (Some (p, u)) e (w, spelled, text, ends) = elim (cases_Bool (ends_range (behind_blanks u))) [
-  | inl stops ↦ rw stops (
-    blank ∷ front is_blank t,
-    w,
-    front is_blank u,
-    (refl, and_from _ _ e (front_all is_blank t)),
-    spelled,
-    front_all is_blank u,
-    ap (λ x. 45 ∷ blank ∷ x) (front-back is_blank t ∙ ap (λ x. front is_blank t ++ x) (text ∙ ap (λ x. w ++ x) (front-back is_blank u))),
-  )
-  | inr other ↦ rw other tt
-]
+end_sound blank t (Some (p, u)) e (w, spelled, text, ends) = by_test (ends_range (behind_blanks u))
+    (λ stops. rw stops (
+      blank ∷ front is_blank t,
+      w,
+      front is_blank u,
+      (refl, and_from _ _ e (front_all is_blank t)),
+      spelled,
+      front_all is_blank u,
+      ap (λ x. 45 ∷ blank ∷ x) (front-back is_blank t ∙ ap (λ x. front is_blank t ++ x) (text ∙ ap (λ x. w ++ x) (front-back is_blank u))),
+    ))
+    (λ other. rw other tt)
 
 right_sound : (t : Text) → RightAt t (right_side t)
 right_sound [] = tt
 right_sound (dash ∷ []) = tt
-right_sound (dash ∷ blank ∷ t) = elim (cases_Bool ((dash == 45) && is_blank blank)) [
-  | inl e ↦ let p = and_parts (dash == 45) (is_blank blank) e in
-      rw (e, eqb-true dash 45 p.0) (end_sound blank t (partial (behind_blanks t)) p.1 (partial_sound (behind_blanks t)))
-  | inr e ↦ rw e tt
-]
+right_sound (dash ∷ blank ∷ t) = by_test ((dash == 45) && is_blank blank)
+    (λ e. let p = and_parts _ _ e in
+    rw (e, eqb-true dash 45 p.0) (end_sound blank t (partial (behind_blanks t)) p.1 (partial_sound (behind_blanks t))))
+    (λ e. rw e tt)
 
 -- a bare simple is a partial
 bare_form : (f : Form) → is_bare f ≡ true → f ≡ bare
@@ -93,16 +91,15 @@ bare_partial s w e (sign, text, form, spelled, whole) =
 hyphen_sound : (s : Simple) (w gap t : Text) (o : Option (PartialTree × Text)) → SpellsSimple s w → AreSomeBlanks gap → RightAt t o
     → RangeAt (w ++ (gap ++ t)) (with_right s o)
 hyphen_sound s w gap t None spelled blanks h = tt
-hyphen_sound s w gap t (Some (p, u)) spelled blanks (gap', w', after, blanks', spelled', ends, text) = elim (cases_Bool (is_bare s.form)) [
-  | inl e ↦ rw e (
-    (((w ++ gap) ++ codes "-") ++ gap') ++ w',
-    after,
-    (w, gap, gap', w', bare_partial s w (bare_form s.form e) spelled, blanks, blanks', spelled', refl),
-    ends,
-    ap (λ x. w ++ (gap ++ x)) text ∙ simp append_assoc,
-  )
-  | inr e ↦ rw e tt
-]
+hyphen_sound s w gap t (Some (p, u)) spelled blanks (gap', w', after, blanks', spelled', ends, text) = by_test (is_bare s.form)
+    (λ e. rw e (
+      (((w ++ gap) ++ codes "-") ++ gap') ++ w',
+      after,
+      (w, gap, gap', w', bare_partial s w (bare_form s.form e) spelled, blanks, blanks', spelled', refl),
+      ends,
+      ap (λ x. w ++ (gap ++ x)) text ∙ simp append_assoc,
+    ))
+    (λ e. rw e tt)
 
 others_sound : (s : Simple) (t : Text) (o : Option (List Simple × Text)) → SimplesAt s t o → RangeAt t (with_others s o)
 others_sound s t None h = tt
@@ -115,16 +112,12 @@ no_end (b ∷ t) e = rw (eqb-true b 45 e) refl
 
 first_sound : (t : Text) (o : Option (Simple × Text)) → SimpleAt t o → RangeAt t (behind_first o)
 first_sound t None h = tt
-first_sound t (Some (s, u)) (w, gap, spelled, parts, text) = elim (cases_Bool (begins_with 45 u)) [
-  | inl e ↦ rw (text, e) (hyphen_sound s w gap u (right_side u) spelled (some_blanks gap u parts (no_end u e)) (right_sound u))
-  | inr e ↦ rw (text, e) (others_sound s (w ++ (gap ++ u)) (all_simples u) (simples_sound (suc (length u)) s w gap u spelled parts))
-]
+first_sound t (Some (s, u)) (w, gap, spelled, parts, text) = by_test (begins_with 45 u)
+    (λ e. rw (text, e) (hyphen_sound s w gap u (right_side u) spelled (some_blanks gap u parts (no_end u e)) (right_sound u)))
+    (λ e. rw (text, e) (others_sound s (w ++ (gap ++ u)) (all_simples u) (simples_sound (suc (length u)) s w gap u spelled parts)))
 
 range_here_sound : (t : Text) → RangeAt t (range_here t)
-range_here_sound t = elim (cases_Bool (ends_range t)) [
-  | inl e ↦ rw e ([], [], refl, refl, refl)
-  | inr e ↦ rw e (first_sound t (simple t) (simple_sound t))
-]
+range_here_sound t = by_test (ends_range t) (λ e. rw e ([], [], refl, refl, refl)) (λ e. rw e (first_sound t (simple t) (simple_sound t)))
 
 -- a range between blanks
 abbrev PaddedAt : Text → Option (RangeTree × Text) → Type 0
@@ -150,10 +143,9 @@ BarsAt t (Some u) = t ≡ codes "||" ++ u
 bars_sound : (t : Text) → BarsAt t (behind_bars t)
 bars_sound [] = tt
 bars_sound (b ∷ []) = tt
-bars_sound (b ∷ c ∷ t) = elim (cases_Bool (is_bar b && is_bar c)) [
-  | inl e ↦ let p = and_parts (is_bar b) (is_bar c) e in rw (eqb-true b 124 p.0, eqb-true c 124 p.1) refl
-  | inr e ↦ rw e tt
-]
+bars_sound (b ∷ c ∷ t) = by_test (is_bar b && is_bar c)
+    (λ e. let p = and_parts _ _ e in rw (eqb-true b 124 p.0, eqb-true c 124 p.1) refl)
+    (λ e. rw e tt)
 
 -- ranges up to the end
 abbrev SetAt : Text → Option SetTree → Type 0

@@ -1,7 +1,6 @@
 -- How the reader's counted loops go on, without the count; and that what is left of a text is shorter.
 use Rattle.std.proofs.Common.{◌≡◌, ℕ, zero, suc, ◌<◌, ◌≤◌, Bool, true, false, ◌&&◌, ◌==◌, if◌then◌else◌, List, [], ◌∷◌, length, refl, ap}
-use Rattle.std.proofs.Common.{subst, inl, inr, Option, Some, None, arith, length-append}
-use Rattle.std.proofs.lemmas.Bool.{cases_Bool}
+use Rattle.std.proofs.Common.{subst, Option, Some, None, arith, length-append}
 use Rattle.semver_ranges.specs.RangeTree.{PartialTree, Simple, RangeTree, SetTree, is_blank}
 use Rattle.semver_texts.specs.Texts.{Text}
 use Rattle.semver_ranges.proofs.ReadingPieces.{front-back, WordAt, partial_sound, starts, is_component_byte, partial_starts, SimpleAt}
@@ -10,6 +9,7 @@ use Rattle.semver_ranges.specs.Means.Reading.{back, behind_blanks, begins_with, 
 use Rattle.semver_ranges.specs.Means.Reading.{behind_simple, some_simples, all_simples, range_end, right_side, is_bare, with_right}
 use Rattle.semver_ranges.specs.Means.Reading.{with_others, behind_first, range_here, range, behind_bars, onto, more_ranges, behind_range}
 use Rattle.semver_ranges.specs.Means.Reading.{some_ranges, read}
+use Rattle.semver_texts.proofs.Lists.{by_test}
 
 -- what is left behind an answer is at most so long
 abbrev Leaves : {X : Type 0} → ℕ → Option (X × Text) → Type 0
@@ -52,9 +52,6 @@ abbrev Stops : {X : Type 0} → ℕ → Option (X × Text) → Type 0
 Stops n None = Unit {0}
 Stops n (Some found) = Stopped n found.1
 
-stopped_found : {X : Type 0} (n : ℕ) (x : X) (u : Text) (o : Option (X × Text)) → Stops n o → o ≡ Some (x, u) → Stopped n u
-stopped_found n x u o h e = let k : Stops n (Some (x, u)) = subst (λ o. Stops n o) e h in k
-
 put_stops : (n : ℕ) (s : Simple) (o : Option (List Simple × Text)) → Stops n o → Stops n (put_before s o)
 put_stops n s None h = tt
 put_stops n s (Some found) h = h
@@ -66,10 +63,9 @@ behind_simple_stops n f h (Some found) l = put_stops n found.0 (f found.1) (h fo
 
 some_simples_stop : (k n : ℕ) (t : Text) → length t ≤ n → Stops n (some_simples k t)
 some_simples_stop zero n t h = tt
-some_simples_stop (suc k) n t h = elim (cases_Bool (ends_range t)) [
-  | inl e ↦ rw e (record { short = h; ends = e })
-  | inr e ↦ rw e (behind_simple_stops n (some_simples k) (some_simples_stop k n) (simple t) (simple_leaves n t (omega arith)))
-]
+some_simples_stop (suc k) n t h = by_test (ends_range t)
+    (λ e. rw e (record { short = h; ends = e }))
+    (λ e. rw e (behind_simple_stops n (some_simples k) (some_simples_stop k n) (simple t) (simple_leaves n t (omega arith))))
 
 all_simples_stop : (n : ℕ) (t : Text) → length t ≤ n → Stops n (all_simples t)
 all_simples_stop n t h = some_simples_stop (suc (length t)) n t h
@@ -77,35 +73,30 @@ all_simples_stop n t h = some_simples_stop (suc (length t)) n t h
 -- so does a range
 range_end_stops : (n : ℕ) (o : Option (PartialTree × Text)) → Leaves n o → Stops n (range_end o)
 range_end_stops n None h = tt
-range_end_stops n (Some found) h = let k = back_shorter is_blank found.1 in elim (cases_Bool (ends_range (behind_blanks found.1))) [
-  | inl e ↦ rw e (record { short = omega arith; ends = e })
-  | inr e ↦ rw e tt
-]
+range_end_stops n (Some found) h = let k = back_shorter is_blank found.1 in by_test (ends_range (behind_blanks found.1))
+    (λ e. rw e (record { short = omega arith; ends = e }))
+    (λ e. rw e tt)
 
 right_side_stops : (n : ℕ) (t : Text) → length t ≤ n → Stops n (right_side t)
 right_side_stops n [] h = tt
 right_side_stops n (dash ∷ []) h = tt
-right_side_stops n (dash ∷ blank ∷ t) h = let k = back_shorter is_blank t in elim (cases_Bool ((dash == 45) && is_blank blank)) [
-  | inl e ↦ rw e (range_end_stops n (partial (behind_blanks t)) (partial_leaves n (behind_blanks t) (omega arith)))
-  | inr e ↦ rw e tt
-]
+right_side_stops n (dash ∷ blank ∷ t) h = let k = back_shorter is_blank t in by_test ((dash == 45) && is_blank blank)
+    (λ e. rw e (range_end_stops n (partial (behind_blanks t)) (partial_leaves n (behind_blanks t) (omega arith))))
+    (λ e. rw e tt)
 
 right_stops : (n : ℕ) (s : Simple) (o : Option (PartialTree × Text)) → Stops n o → Stops n (with_right s o)
 right_stops n s None h = tt
-right_stops n s (Some found) h = elim (cases_Bool (is_bare s.form)) [
-  | inl e ↦ rw e h
-  | inr e ↦ rw e tt
-]
+right_stops n s (Some found) h = by_test (is_bare s.form) (λ e. rw e h) (λ e. rw e tt)
+
+right_stopped : (s : Simple) (t u : Text) (r : RangeTree) → with_right s (right_side t) ≡ Some (r, u) → Stopped (length t) u
+right_stopped s t u r e = subst (λ o. Stops (length t) o) e
+    (right_stops (length t) s (right_side t) (right_side_stops (length t) t (omega arith)))
 
 pub shorter_right : (s : Simple) (t u : Text) (r : RangeTree) → with_right s (right_side t) ≡ Some (r, u) → length u ≤ length t
-shorter_right s t u r e =
-    (stopped_found (length t) r u (with_right s (right_side t)) (right_stops (length t) s (right_side t)
-    (right_side_stops (length t) t (omega arith))) e).short
+shorter_right s t u r e = (right_stopped s t u r e).short
 
 pub right_ends : (s : Simple) (t u : Text) (r : RangeTree) → with_right s (right_side t) ≡ Some (r, u) → ends_range u ≡ true
-right_ends s t u r e =
-    (stopped_found (length t) r u (with_right s (right_side t)) (right_stops (length t) s (right_side t)
-    (right_side_stops (length t) t (omega arith))) e).ends
+right_ends s t u r e = (right_stopped s t u r e).ends
 
 others_stop : (n : ℕ) (s : Simple) (o : Option (List Simple × Text)) → Stops n o → Stops n (with_others s o)
 others_stop n s None h = tt
@@ -113,16 +104,14 @@ others_stop n s (Some found) h = h
 
 first_stops : (n : ℕ) (o : Option (Simple × Text)) → Leaves n o → Stops n (behind_first o)
 first_stops n None h = tt
-first_stops n (Some found) h = elim (cases_Bool (begins_with 45 found.1)) [
-  | inl e ↦ rw e (right_stops n found.0 (right_side found.1) (right_side_stops n found.1 h))
-  | inr e ↦ rw e (others_stop n found.0 (all_simples found.1) (all_simples_stop n found.1 h))
-]
+first_stops n (Some found) h = by_test (begins_with 45 found.1)
+    (λ e. rw e (right_stops n found.0 (right_side found.1) (right_side_stops n found.1 h)))
+    (λ e. rw e (others_stop n found.0 (all_simples found.1) (all_simples_stop n found.1 h)))
 
 range_here_stops : (n : ℕ) (t : Text) → length t ≤ n → Stops n (range_here t)
-range_here_stops n t h = elim (cases_Bool (ends_range t)) [
-  | inl e ↦ rw e (record { short = h; ends = e })
-  | inr e ↦ rw e (first_stops n (simple t) (simple_leaves n t (omega arith)))
-]
+range_here_stops n t h = by_test (ends_range t)
+    (λ e. rw e (record { short = h; ends = e }))
+    (λ e. rw e (first_stops n (simple t) (simple_leaves n t (omega arith))))
 
 range_stopped : (n : ℕ) (t : Text) → length t ≤ n → Stops n (range t)
 range_stopped n t h = let k = back_shorter is_blank t in range_here_stops n (behind_blanks t) (omega arith)
@@ -153,10 +142,9 @@ simples_step t e =
 pub shorter_bars : (t u : Text) → behind_bars t ≡ Some u → length u < length t
 shorter_bars [] u e = cc
 shorter_bars (b ∷ []) u e = cc
-shorter_bars (b ∷ c ∷ t) u e = elim (cases_Bool (is_bar b && is_bar c)) [
-  | inl bars ↦ let found : Some t ≡ Some u = rw bars at e in let same : t ≡ u = cc in omega (arith, ap length same)
-  | inr other ↦ let found : None ≡ Some u = rw other at e in cc
-]
+shorter_bars (b ∷ c ∷ t) u e = by_test (is_bar b && is_bar c)
+    (λ bars. let found : Some t ≡ Some u = rw bars at e in let same : t ≡ u = cc in omega (arith, ap length same))
+    (λ other. let found : None ≡ Some u = rw other at e in cc)
 
 -- two readers of the rest that agree on shorter texts agree behind a range
 agree_behind : (f g : Text → Option SetTree) (n : ℕ) → ((t : Text) → length t < n → f t ≡ g t) → (o : Option (RangeTree × Text))

@@ -6,41 +6,31 @@ use Rattle.std.specs.List.{list_all, list_any, flat_map}
 use Rattle.std.specs.Ordering.{is_ge}
 use Rattle.semver_ranges.specs.declared.range.Op.TheVariants.{Gte}
 use Rattle.semver_ranges.specs.declared.range.Compat.{Compat}
-use Rattle.semver_ranges.specs.RangeTree.{is_wildcard, PartialTree, one, two, three, at_most, at_least, Simple, RangeTree, empty}
+use Rattle.semver_ranges.specs.RangeTree.{is_wildcard, PartialTree, Form, one, two, three, at_most, at_least, Simple, RangeTree, empty}
 use Rattle.semver_ranges.specs.RangeTree.{hyphen, simples, SetTree}
 use Rattle.semver_texts.specs.Texts.{is_empty}
 use Rattle.semver_ranges.specs.Precedence.{precedence}
 use Rattle.semver_texts.specs.Versions.{IdentifierValue, PlainVersion}
 use Rattle.semver_ranges.specs.Partials.{stated, states_nothing, zero_filled, zero_version}
 use Rattle.semver_ranges.specs.Terms.{Term, of_simple, of_nothing, left_side, right_side, terms}
-use Rattle.semver_ranges.specs.RewritingTable.{PlainComparator, comparator, cell, written_cell, written_simple, written_range, written_set}
+use Rattle.semver_ranges.specs.RewritingTable.{PlainComparator, comparator, from_zero, nothing_stated, cell, written_cell}
+use Rattle.semver_ranges.specs.RewritingTable.{written_simple, written_range, written_set}
 use Rattle.semver_ranges.specs.Meeting.{meets_comparator, meets_set}
 use Rattle.semver_ranges.proofs.Rows.{Shape}
 use Rattle.semver_ranges.proofs.Tests.{list_any-mapped}
+use Rattle.semver_texts.proofs.Lists.{by_test}
 
 -- a partial states none to three numbers
 pub stated_shape : (p : PartialTree) → Shape (stated p)
-stated_shape (one a) = elim (cases_Bool (is_wildcard a)) [
-  | inl w ↦ rw w Shape.none
-  | inr n ↦ rw n (Shape.one _)
-]
-stated_shape (two a b) = elim (cases_Bool (is_wildcard a)) [
-  | inl w ↦ rw w Shape.none
-  | inr n ↦ elim (cases_Bool (is_wildcard b)) [
-    | inl w ↦ rw (n, w) (Shape.one _)
-    | inr n' ↦ rw (n, n') (Shape.two _ _)
-  ]
-]
-stated_shape (three a b c pre build) = elim (cases_Bool (is_wildcard a)) [
-  | inl w ↦ rw w Shape.none
-  | inr n ↦ elim (cases_Bool (is_wildcard b)) [
-    | inl w ↦ rw (n, w) (Shape.one _)
-    | inr n' ↦ elim (cases_Bool (is_wildcard c)) [
-      | inl w ↦ rw (n, n', w) (Shape.two _ _)
-      | inr n'' ↦ rw (n, n', n'') (Shape.three _ _ _)
-    ]
-  ]
-]
+stated_shape (one a) = by_test (is_wildcard a) (λ w. rw w Shape.none) (λ n. rw n (Shape.one _))
+stated_shape (two a b) = by_test (is_wildcard a)
+    (λ w. rw w Shape.none)
+    (λ n. by_test (is_wildcard b) (λ w. rw (n, w) (Shape.one _)) (λ n'. rw (n, n') (Shape.two _ _)))
+stated_shape (three a b c pre build) = by_test (is_wildcard a)
+    (λ w. rw w Shape.none)
+    (λ n. by_test (is_wildcard b)
+    (λ w. rw (n, w) (Shape.one _))
+    (λ n'. by_test (is_wildcard c) (λ w. rw (n, n', w) (Shape.two _ _)) (λ n''. rw (n, n', n'') (Shape.three _ _ _))))
 
 -- one comparator `>=0.0.0` says what two of them say
 twice : (b : Bool) → (b && true) ≡ ((b && true) && ((b && true) && true))
@@ -53,42 +43,30 @@ module _ (bound_pre : List IdentifierValue) (mode : Compat) (test : PlainCompara
   any = test (comparator Gte zero_version) && true
 
   -- the comparators of a side that states nothing
-  at_least_any : (s : List ℕ) (z : PlainVersion) → is_empty s ≡ true
-      → list_all test (written_cell bound_pre (cell mode at_least s) s z) ≡ any
-  at_least_any [] z e = refl
-  at_least_any (x ∷ xs) z e = cc e
-
-  at_most_any : (s : List ℕ) (z : PlainVersion) → is_empty s ≡ true
-      → list_all test (written_cell bound_pre (cell mode at_most s) s z) ≡ any
-  at_most_any [] z e = refl
-  at_most_any (x ∷ xs) z e = cc e
+  side_any : (form : Form) → nothing_stated form ≡ from_zero → (s : List ℕ) (z : PlainVersion) → is_empty s ≡ true
+      → list_all test (written_cell bound_pre (cell mode form s) s z) ≡ any
+  side_any form zero [] z e = rw zero refl
+  side_any form zero (x ∷ xs) z e = cc e
 
   module _ (holds : Term → Bool) (simple_holds : (s : Simple) → list_all test (written_simple bound_pre mode s) ≡ holds (of_simple s))
       (nothing_holds : test (comparator Gte zero_version) ≡ holds of_nothing) where
     simples_hold : (ss : List Simple) → list_all test (flat_map (written_simple bound_pre mode) ss) ≡ list_all holds (map of_simple ss)
     simples_hold [] = refl
     simples_hold (s ∷ ss) = list_all-append test (written_simple bound_pre mode s) (flat_map (written_simple bound_pre mode) ss)
-        ∙ ap (λ b. b && list_all test (flat_map (written_simple bound_pre mode) ss)) (simple_holds s)
-        ∙ ap (λ b. holds (of_simple s) && b) (simples_hold ss)
+        ∙ (λ i. simple_holds s i && simples_hold ss i)
 
     pub range_holds : (r : RangeTree) → list_all test (written_range bound_pre mode r) ≡ list_all holds (terms r)
     range_holds empty = ap (λ b. b && true) nothing_holds
     range_holds (simples first others) = simples_hold (first ∷ others)
     range_holds (hyphen left right) = elim (cases_Bool (states_nothing left)) [
-      | inl l ↦ elim (cases_Bool (states_nothing right)) [
-        | inr r ↦ rw (l, r) (simples_hold (right_side right ∷ []))
-        | inl r ↦
-            let lower : any ≡ holds (of_simple (left_side left)) = sym (at_least_any (stated left) (zero_filled left) l)
-            ∙ simple_holds (left_side left) in
-            let upper : any ≡ holds (of_simple (right_side right)) = sym (at_most_any (stated right) (zero_filled right) r)
-            ∙ simple_holds (right_side right) in
-            rw (l, r) (twice (test (comparator Gte zero_version)) ∙ ap (λ b. b && (any && true)) lower
-            ∙ ap (λ b. holds (of_simple (left_side left)) && (b && true)) upper)
-      ]
-      | inr l ↦ elim (cases_Bool (states_nothing right)) [
-        | inl r ↦ rw (l, r) (simples_hold (left_side left ∷ []))
-        | inr r ↦ rw (l, r) (simples_hold (left_side left ∷ right_side right ∷ []))
-      ]
+      | inl l ↦ by_test (states_nothing right)
+          (λ r. let lower = sym (side_any at_least refl (stated left) (zero_filled left) l) ∙ simple_holds (left_side left) in
+          let upper = sym (side_any at_most refl (stated right) (zero_filled right) r) ∙ simple_holds (right_side right) in
+          rw (l, r) (twice (test (comparator Gte zero_version)) ∙ (λ i. lower i && (upper i && true))))
+          (λ r. rw (l, r) (simples_hold (right_side right ∷ [])))
+      | inr l ↦ by_test (states_nothing right)
+          (λ r. rw (l, r) (simples_hold (left_side left ∷ [])))
+          (λ r. rw (l, r) (simples_hold (left_side left ∷ right_side right ∷ [])))
     ]
 
 -- a version meets a set exactly if some range has each term met

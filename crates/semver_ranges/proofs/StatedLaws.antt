@@ -22,22 +22,17 @@ use Rattle.semver_ranges.specs.ExactBounds.{lowest_pre_release, rewritten_exactl
 use Rattle.semver_ranges.specs.Meeting.{has_pre_release, meets_comparator}
 use Rattle.semver_ranges.specs.StatedPreReleases.{states_pre_release_at, counts_in, meets_tree_as_stated, has_pre_release_at}
 use Rattle.semver_ranges.specs.StatedPreReleases.{meets_set_as_stated}
-use Rattle.semver_ranges.proofs.Rows.{Step, step, Tail, same, past, floor, compared, Shape, none, one, two, three, exact_row}
+use Rattle.semver_ranges.proofs.Rows.{Step, numbers_step, Tail, same, past, floor, Shape, none, one, two, three, exact_row}
 use Rattle.semver_ranges.proofs.SetMeanings.{stated_shape, range_holds}
 use Rattle.semver_ranges.proofs.Tests.{list_any-weaker, list_any-same, list_any-mapped, some_of_all}
 
 -- what is below an exact bound hasn't the numbers of the bound
-below_exact : {o : Ordering} {e m : Bool} → Step o e m → {o' : Ordering} {e' m' : Bool} → Step o' e' m' → {o3 : Ordering} {e3 m3 : Bool}
-    → Step o3 e3 m3 → {r : Ordering} → Tail r false
-    → (is_lt (compared o o' o3 r) && not (m && (m' && (m3 && true)))) ≡ is_lt (compared o o' o3 r)
-below_exact Step.lower b c t = refl
-below_exact Step.higher b c t = refl
-below_exact Step.level Step.lower c t = refl
-below_exact Step.level Step.higher c t = refl
-below_exact Step.level Step.level Step.lower t = refl
-below_exact Step.level Step.level Step.higher t = refl
-below_exact Step.level Step.level Step.level same = refl
-below_exact Step.level Step.level Step.level past = refl
+below_exact : {g : Ordering → Ordering} {e m : Bool} → Step g e m → {r : Ordering} → Tail r false
+    → (is_lt (g r) && not m) ≡ is_lt (g r)
+below_exact Step.lower t = refl
+below_exact Step.level same = refl
+below_exact Step.level past = refl
+below_exact Step.higher t = refl
 
 -- two tests and what follows, in the other order
 reorder : (x y w : Bool) → ((x && not y) && w) ≡ ((x && w) && not y)
@@ -66,8 +61,7 @@ module _ (v : PlainVersion) where
 
   silent_bound : (k : ℕ) (s : List ℕ) → let c : PlainComparator = comparator Lt (up_with lowest_pre_release k s) in
       silent c ≡ meets_comparator v c
-  silent_bound k s = let bound : PlainVersion = up_with lowest_pre_release k s in
-      below_exact (step v.major bound.major) (step v.minor bound.minor) (step v.patch bound.patch) (floor v.pre)
+  silent_bound k s = below_exact (numbers_step v (up_with lowest_pre_release k s)) (floor v.pre)
 
   -- of a cell's comparators only z tells of one
   silent_cell : (c : Cell) (s : List ℕ) (z : PlainVersion)

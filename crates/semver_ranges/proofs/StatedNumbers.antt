@@ -1,8 +1,7 @@
 -- What a partial states, by its components.
-use Rattle.std.proofs.Common.{◌≡◌, ℕ, Bool, true, false, ◌&&◌, List, [], ◌∷◌, map, refl, sym, ap, ◌∙◌, inl, inr, Option, Some, None}
+use Rattle.std.proofs.Common.{◌≡◌, ℕ, Bool, true, false, ◌&&◌, List, [], ◌∷◌, map, refl, sym, ap, ◌∙◌, Option, Some, None}
 use Rattle.std.specs.Option.{is_some, unwrap_or}
 use Rattle.std.specs.List.{list_all}
-use Rattle.std.proofs.lemmas.Bool.{cases_Bool}
 use Rattle.semver_ranges.specs.declared.partial.Component.{Component}
 use Rattle.semver_ranges.specs.declared.partial.Component.TheVariants.{Wildcard, Number}
 use Rattle.semver_ranges.specs.declared.partial.Partial.{Partial}
@@ -13,6 +12,7 @@ use Rattle.semver_texts.specs.Texts.{Text, is_empty}
 use Rattle.semver_texts.specs.Versions.{IdentifierValue, PlainVersion}
 use Rattle.semver_ranges.specs.Partials.{stated, states_nothing, fits_u64, kept, filled, zero_filled}
 use Rattle.semver_ranges.specs.Means.PartialViews.{stated_at, parts_of, states_none, IsValue, IsPartialOf, AreComponentsOf}
+use Rattle.semver_texts.proofs.Lists.{by_test}
 
 -- numbers and a pre-release are what a tree states, where its numbers fit
 abbrev States : Bool → List ℕ → PlainVersion → List ℕ → PlainVersion → Type 0
@@ -75,7 +75,6 @@ by_kind XRangeOnly a b c = refl
 by_kind _ a b c = refl
 
 pub states_kind : (t : PartialTree) (p : Partial) → IsPartialOf t p → states_nothing t ≡ states_none p.kind
-states_kind t p (fits, values, none, parts) = elim (cases_Bool p.fits) [
-  | inl y ↦ ap is_empty (sym (values y).0) ∙ by_kind p.kind p.major p.minor p.patch
-  | inr n ↦ some_stated (stated t) (fits ∙ n) ∙ sym (none n)
-]
+states_kind t p (fits, values, none, parts) = by_test p.fits
+    (λ y. ap is_empty (sym (values y).0) ∙ by_kind p.kind p.major p.minor p.patch)
+    (λ n. some_stated (stated t) (fits ∙ n) ∙ sym (none n))

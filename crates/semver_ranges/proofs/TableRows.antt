@@ -1,7 +1,7 @@
 -- The comparators of a simple that was read, by the columns of the table.
-use Rattle.std.proofs.Common.{◌≡◌, true, false, ◌&&◌, ◌⊎◌, inl, inr, List, [], refl, sym, ap, ◌∙◌}
+use Rattle.std.proofs.Common.{◌≡◌, true, false, ◌&&◌, List, [], refl, sym, ap, ◌∙◌}
 use Rattle.std.specs.List.{list_all}
-use Rattle.std.proofs.lemmas.Bool.{cases_Bool, and_parts, and_left, true≢false}
+use Rattle.std.proofs.lemmas.Bool.{and_parts, and_left, true≢false}
 use Rattle.semver_ranges.specs.declared.partial.Partial.{Partial}
 use Rattle.semver_ranges.specs.declared.partial.PartialKind.TheVariants.{XRangeOnly}
 use Rattle.semver_ranges.specs.declared.partial.RaisedBounds.{RaisedBounds}
@@ -17,6 +17,7 @@ use Rattle.semver_ranges.specs.Means.PartialViews.{stated_at, stated_of, version
 use Rattle.semver_ranges.specs.Means.CursorViews.{form_of, IsSimpleOf}
 use Rattle.semver_ranges.specs.Means.RangeEvents.{simple_fits}
 use Rattle.semver_ranges.specs.Means.BoundsViews.{cell_of, with_version, comparators_of, bounds_fit, IsPlaced, IsRow}
+use Rattle.semver_texts.proofs.Lists.{by_test}
 
 -- the column where nothing is stated raises no bound, and compares with 0.0.0
 nothing_raised : (form : Form)
@@ -32,10 +33,7 @@ nothing_written bound_pre _ = refl
 
 -- what states no number fits
 none_fits : (p : Partial) → (p.fits ≡ false → states_none p.kind ≡ false) → p.kind ≡ XRangeOnly → p.fits ≡ true
-none_fits p some kind = elim (cases_Bool p.fits) [
-  | inl y ↦ y
-  | inr n ↦ absurd (true≢false (sym (ap states_none kind) ∙ some n))
-]
+none_fits p some kind = by_test p.fits (λ y. y) (λ n. absurd (true≢false (sym (ap states_none kind) ∙ some n)))
 
 -- the comparators are those of the cell
 cell_comparators : (raised : RaisedBounds) (b : Bounds) (p : Partial)
@@ -54,7 +52,7 @@ row_of : (mode : Compat) (s : Simple) (simple : read.Simple) (b : Bounds) → Is
     → IsRow mode s simple.partial b
 row_of mode s simple b placed is raised comparators = (
   (is.1.3, placed),
-  fits (cases_Bool p.fits),
+  by_test p.fits fits (λ n. and_left _ _ n ∙ sym (and_left _ _ (is.1.0 ∙ n))),
   λ all bounds. let f = (and_parts p.fits (bound_fits (cell_raised (cell_of b) (stated_of p))) all).0 in
       cell_comparators bounds b p ∙ ap (λ l. written_cell (pre_of bounds) (cell_of b) l (version_of p)) (is.1.1 f).0
       ∙ ap (written_cell (pre_of bounds) (cell_of b) (stated s.partial)) (is.1.1 f).1 ∙ comparators f (pre_of bounds),
@@ -63,12 +61,11 @@ row_of mode s simple b placed is raised comparators = (
     p : Partial
     p = simple.partial
 
-    fits : ((p.fits ≡ true) ⊎ (p.fits ≡ false)) → bounds_fit b p ≡ simple_fits mode s
-    fits (inl f) =
+    fits : p.fits ≡ true → bounds_fit b p ≡ simple_fits mode s
+    fits f =
         ap (λ q. q && bound_fits (cell_raised (cell_of b) (stated_of p))) (sym is.1.0)
         ∙ ap (λ l. list_all fits_u64 (stated s.partial) && bound_fits (cell_raised (cell_of b) l)) (is.1.1 f).0
         ∙ ap (λ q. list_all fits_u64 (stated s.partial) && q) (raised f)
-    fits (inr n) = and_left _ _ n ∙ sym (and_left _ _ (is.1.0 ∙ n))
 
 -- the column where nothing is stated
 pub row_of_nothing : (mode : Compat) (s : Simple) (simple : read.Simple) (b : Bounds) → simple.partial.kind ≡ XRangeOnly
