@@ -1,6 +1,5 @@
 pub mod AnswerLaws
 pub mod AnsweredLaws
-pub mod AsciiParts
 pub mod CaretPlaces
 pub mod ComponentSteps
 pub mod CursorSteps
@@ -10,7 +9,6 @@ pub mod EventSums
 pub mod ExactLaws
 pub mod FoundEvents
 pub mod Fronts
-pub mod KeptLists
 pub mod KeptParts
 pub mod Meanings
 pub mod OnlySimples

@@ -1,3 +1,4 @@
+pub mod DottedParts
 pub mod Joins
 pub mod Lists
 pub mod Numerals

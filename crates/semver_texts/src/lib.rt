@@ -5,5 +5,6 @@
 
 pub mod bytes;
 pub mod decimals;
+pub mod dotted;
 pub mod printing;
 pub mod version;
