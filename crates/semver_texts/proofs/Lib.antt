@@ -1,4 +1,6 @@
+mod DerivedOrder
 pub mod Joins
 pub mod Lists
 pub mod Numerals
 pub mod Numbers
+pub mod PrecedenceLaws

@@ -5,5 +5,7 @@
 
 pub mod bytes;
 pub mod decimals;
+pub mod laws;
+pub mod precedence;
 pub mod printing;
 pub mod version;
