@@ -13,7 +13,6 @@ pub mod KeptParts
 pub mod Meanings
 pub mod OnlySimples
 pub mod PartRuns
-pub mod PrecedenceLaws
 pub mod PrintedLaws
 pub mod RangeExamples
 pub mod ReadingComplete

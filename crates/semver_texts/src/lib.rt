@@ -6,5 +6,7 @@
 pub mod bytes;
 pub mod decimals;
 pub mod dotted;
+pub mod laws;
+pub mod precedence;
 pub mod printing;
 pub mod version;

@@ -1,8 +1,8 @@
 use Rattle.std.proofs.lemmas.Cmp.{tied_itself}
 use Rattle.std.proofs.Common.{ap, sym, ◌∙◌}
-use Rattle.semver_ranges.specs.Precedence.{precedence}
-use Rattle.semver_ranges.proofs.PrecedenceLaws.{precedence_total, precedence-same}
-use Rattle.semver_ranges.proofs.laws.precedence_is_total.Goals as goal
+use Rattle.semver_texts.specs.Precedence.{precedence}
+use Rattle.semver_texts.proofs.PrecedenceLaws.{precedence_total, precedence-same}
+use Rattle.semver_texts.proofs.laws.precedence_is_total.Goals as goal
 
 pub returns-clause-total : goal.returns-clause-total
 returns-clause-total c = precedence_total
