@@ -1,0 +1,2 @@
+mod SwitchLaws
+mod WalkLaws

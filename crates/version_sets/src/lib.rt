@@ -1,0 +1,2 @@
+//! Sets of versions, in one normal form.
+#![tactic(auto)]
