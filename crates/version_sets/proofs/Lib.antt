@@ -1,2 +1,7 @@
 mod SwitchLaws
 mod WalkLaws
+mod DerivedOrder
+mod ClonedPlaces
+mod SearchLaws
+mod PrecedenceOrder
+mod SetLaws

@@ -1,5 +1,5 @@
 -- What the walk over two lists of switches shows of them.
-use Rattle.std.proofs.Common.{◌≡◌, Bool, true, false, not, cond, ◌||◌, List, [], ◌∷◌, map, refl, sym, ap, ap₂, ◌∙◌, subst, true≢false, Ordering, Less, Equal, Greater, is_ge}
+use Rattle.std.proofs.Common.{◌≡◌, Bool, true, false, not, cond, ◌||◌, List, [], ◌∷◌, map, refl, sym, ap, ap₂, ◌∙◌, true≢false, Ordering, Less, Equal, Greater, is_ge}
 use Rattle.std.specs.List.{AllByRecursion, list_any}
 use Rattle.std.specs.Cmp.{IsTotalOrder, tied_itself, alike_right}
 use Rattle.std.specs.Ordering.{match_ordering}
@@ -30,7 +30,7 @@ by_cond : {X : Type 0} (Q : X → Type 0) (b : Bool) (x y : X) → (b ≡ true �
 by_cond Q true x y f g = f refl
 by_cond Q false x y f g = g refl
 
-by_test : (b : Bool) {G : Type 0} → (b ≡ true → G) → (b ≡ false → G) → G
+pub by_test : (b : Bool) {G : Type 0} → (b ≡ true → G) → (b ≡ false → G) → G
 by_test true f g = f refl
 by_test false f g = g refl
 

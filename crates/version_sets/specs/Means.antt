@@ -1,1 +1,4 @@
+pub mod Places
 pub mod Walks
+pub mod WalkViews
+pub mod Combined
