@@ -3,5 +3,6 @@ mod WalkLaws
 mod DerivedOrder
 mod ClonedPlaces
 mod SearchLaws
-mod PrecedenceOrder
 mod SetLaws
+mod SameSets
+mod FirstSwitches

@@ -1,5 +1,5 @@
 -- Sets of versions by the laws of their switches: what is in a combination, and that one set has one normal form.
-use Rattle.std.proofs.Common.{◌≡◌, Bool, true, false, ◌||◌, cond, List, refl, sym, ap, ap₂, ◌∙◌}
+use Rattle.std.proofs.Common.{◌≡◌, ◌↔◌, Bool, true, false, ◌||◌, cond, List, refl, sym, ap, ap₂, ◌∙◌}
 use Rattle.semver_parser.specs.Texts.{is_empty}
 use Rattle.semver_parser.specs.Versions.{PlainVersion}
 use Rattle.semver_parser.specs.Precedence.{precedence}
@@ -9,7 +9,7 @@ use Rattle.version_sets.specs.Switches.{switched}
 use Rattle.version_sets.specs.VersionSets.{SetValue, has, IsRelease, IsPreRelease, AreSwitches, IsNormal}
 use Rattle.version_sets.specs.Means.Walks.{held}
 use Rattle.version_sets.specs.Means.Combined.{keeps, pieces, keeps_some, combined, combined_sets, KeepsSome}
-use Rattle.version_sets.proofs.PrecedenceOrder.{precedence_total}
+use Rattle.version_sets.specs.Means.PrecedenceOrder.{precedence_total}
 use Rattle.version_sets.proofs.WalkLaws.{walk-is, changes-rise, changes-each, changes-hold, some_held, held_some, by_test}
 
 keeps_nothing : (how : Combination) → keeps how false false ≡ false
@@ -107,3 +107,13 @@ module _ (how : Combination) (a b : SetValue) (s : IsNormal a) (t : IsNormal b) 
       (sym (ap₂ (keeps how) (has-release a v e) (has-release b v e)) ∙ h)))
       (λ e. or_second _ _ (kept_some IsPreRelease how a.pre_releases b.pre_releases s.pre_releases t.pre_releases v
       (sym (ap₂ (keeps how) (has-pre_release a v e) (has-pre_release b v e)) ∙ h)))
+
+  -- the answer of both kinds tells whether some version is in the combination
+  pub tells_some : (r : Bool) → r ≡ keeps_any → (r ≡ true) ↔ KeepsSome how a b
+  tells_some r e = (λ h. some_is (sym e ∙ h), λ k. e ∙ is_some k.0 k.2)
+
+pub by_first : (r p q : Bool) → r ≡ p → r ≡ true → r ≡ (p || q)
+by_first r p q e h = h ∙ sym (ap (λ b. b || q) (sym e ∙ h))
+
+pub by_second : (r s p q : Bool) → r ≡ p → r ≡ false → s ≡ q → s ≡ (p || q)
+by_second r s p q e h f = f ∙ sym (ap (λ b. b || q) (sym e ∙ h))

@@ -2,3 +2,5 @@ pub mod Places
 pub mod Walks
 pub mod WalkViews
 pub mod Combined
+pub mod PrecedenceOrder
+pub mod SameSwitches

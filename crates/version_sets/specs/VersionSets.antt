@@ -1,7 +1,9 @@
 -- Sets of versions by their switches, and which versions are in them.
-use Rattle.std.specs.Prelude.{◌≡◌, ◌≢◌, ◌^◌, ◌<◌, Bool, true, false, IsTrue}
+use Rattle.std.specs.Prelude.{◌≡◌, ◌≢◌, ◌^◌, ◌<◌, ◌&&◌, Bool, true, false, IsTrue}
 use Rattle.std.specs.Prelude.{if◌then◌else◌, List}
 use Rattle.std.specs.List.{AllByRecursion}
+use Rattle.std.specs.Ordering.{eq_by_cmp}
+use Rattle.std.specs.Cmp.Lexicographic.{pointwise}
 use Rattle.std.specs.declared.cmp.Ordering.TheVariants.{Less}
 use Rattle.semver_parser.specs.Texts.{is_empty}
 use Rattle.semver_parser.specs.Versions.{PlainVersion}
@@ -22,6 +24,12 @@ has set v =
 -- its numbers fit 64 bits
 abbrev pub Fits : PlainVersion → Type 0
 Fits v = (v.major < 2 ^ 64) × (v.minor < 2 ^ 64) × (v.patch < 2 ^ 64)
+
+-- whether two sets have the same switches
+abbrev pub same_switches : SetValue → SetValue → Bool
+same_switches a b =
+    pointwise (eq_by_cmp precedence) a.releases b.releases
+    && pointwise (eq_by_cmp precedence) a.pre_releases b.pre_releases
 
 -- a version whose numbers fit, as those of every `Version` do, is in the set
 abbrev pub IsIn : PlainVersion → SetValue → Type 0

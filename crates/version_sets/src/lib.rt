@@ -2,6 +2,7 @@
 #![tactic(auto)]
 
 mod combination;
+mod comparing;
 mod precedence;
 mod release;
 mod switch;
