@@ -2,6 +2,7 @@
 #![tactic(auto)]
 
 mod combination;
+mod combining;
 mod comparing;
 mod precedence;
 mod release;
