@@ -51,7 +51,12 @@ pub record IsNormal (set : SetValue) : Type 0 where
   pub releases : AreSwitches IsRelease set.releases
   pub pre_releases : AreSwitches IsPreRelease set.pre_releases
 
--- it is in the set, and none that is in it is below, by precedence
-pub record IsLeast (v : PlainVersion) (set : SetValue) : Type 0 where
+-- it is of a kind and in the set, and none of the kind that is in the set is below, by precedence
+pub record IsLeast (IsOfKind : PlainVersion → Type 0) (set : SetValue) (v : PlainVersion) : Type 0 where
+  pub is_of_kind : IsOfKind v
   pub is_in : IsIn v set
-  pub lowest : (w : PlainVersion) → IsIn w set → precedence w v ≢ Less
+  pub lowest : (w : PlainVersion) → IsOfKind w → IsIn w set → precedence w v ≢ Less
+
+-- none of a kind is in the set
+abbrev pub HasNone : (PlainVersion → Type 0) → SetValue → Type 0
+HasNone IsOfKind set = (v : PlainVersion) → IsOfKind v → ¬ IsIn v set

@@ -4,6 +4,7 @@
 mod combination;
 mod combining;
 mod comparing;
+mod least;
 mod precedence;
 mod release;
 mod switch;

@@ -63,11 +63,6 @@ impl VersionSet {
         if !version.pre.is_empty() {
             return switches::has(&self.pre_releases, version);
         }
-        let release = Release {
-            major: version.major,
-            minor: version.minor,
-            patch: version.patch,
-        };
-        switches::has(&self.releases, &release)
+        switches::has(&self.releases, &Release::of(version))
     }
 }
