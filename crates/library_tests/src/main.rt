@@ -1,12 +1,14 @@
-//! Tests of the library that need more than data: the derived orders, values made by hand, and
-//! readers and writers that fail. It writes what it found. What it has to be stands in the file
-//! beside this crate: it comes from the written rules and from the declarations of the Rust crate.
+//! Tests of the library that need more than data: the derived orders and precedence, values made by
+//! hand, and readers and writers that fail. It writes what it found. What it has to be stands in the
+//! file beside this crate: it comes from the written rules and from the declarations of the Rust
+//! crate.
 #![tactic(auto)]
 
 mod bytes;
 mod lines;
 mod made;
 mod orders;
+mod precedence;
 mod printing;
 mod reading;
 mod reports;
@@ -20,6 +22,7 @@ fn main(rt: HostRuntime) -> io::Result<()> {
     reading::write_reading(&rt, rt.alloc())?;
     orders::write_enums(&rt, rt.alloc())?;
     orders::write_structs(&rt, rt.alloc())?;
+    precedence::write_precedence(&rt, rt.alloc())?;
     made::write_versions(&rt, rt.alloc())?;
     made::write_sets(&rt, rt.alloc())?;
     printing::write_versions(&rt, rt.alloc())?;

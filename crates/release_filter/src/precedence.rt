@@ -37,37 +37,7 @@ pub fn is_above(version: &Version, other: &Version) -> bool
     ensures { (result ≡ true) ↔ (precedence (version_value other.now).plain
         (version_value version.now).plain ≡ Less) }
 {
-    compare_versions(other, version).is_lt()
-}
-
-/// How two versions compare. Their builds don't count.
-fn compare_versions(version: &Version, other: &Version) -> Ordering
-    ensures { result ≡ precedence (version_value version.now).plain
-        (version_value other.now).plain }
-{
-    version
-        .major
-        .cmp(&other.major)
-        .then(version.minor.cmp(&other.minor))
-        .then(version.patch.cmp(&other.patch))
-        .then_with(|| compare_two_pre_releases(&version.pre, &other.pre))
-}
-
-/// No pre-release is above any. Two go by the derived order of their identifiers, which is that of
-/// precedence.
-fn compare_two_pre_releases(
-    version: &[version::Identifier],
-    other: &[version::Identifier],
-) -> Ordering
-    ensures { result ≡ pre_cmp (map identifier_value version.now)
-        (map identifier_value other.now) }
-{
-    match (version.is_empty(), other.is_empty()) {
-        (true, true) => Ordering::Equal,
-        (true, false) => Ordering::Greater,
-        (false, true) => Ordering::Less,
-        (false, false) => version.cmp(other),
-    }
+    version::cmp_precedence(other, version).is_lt()
 }
 
 /// No pre-release is above any. Two go identifier by identifier.

@@ -10,7 +10,7 @@ use Rattle.semver_ranges.specs.RangeTree.{PartialTree, one, three, Form, bare, e
 use Rattle.semver_ranges.specs.RangeTree.{greater, tilde, caret, empty, hyphen, simples, SetTree}
 use Rattle.semver_ranges.specs.RangeTree.{SpellsPartial, SpellsForm, Spells}
 use Rattle.semver_texts.specs.Texts.{Text}
-use Rattle.semver_ranges.specs.Precedence.{precedence}
+use Rattle.semver_texts.specs.Precedence.{precedence}
 use Rattle.semver_texts.specs.Versions.{IdentifierValue, numeric, alphanumeric, PlainVersion}
 use Rattle.semver_ranges.specs.Partials.{filled}
 use Rattle.semver_ranges.specs.OwnMeaning.{meets_tree}

@@ -13,11 +13,11 @@ pub use Rattle.semver_steps.specs.ParserViews
 pub use Rattle.semver_texts.specs.VersionGrammar
 pub use Rattle.semver_steps.specs.VersionReading
 pub use Rattle.semver_texts.specs.VersionViews
+pub use Rattle.semver_texts.specs.Precedence
 pub use Rattle.semver_versions.specs.Outlines
 pub use Rattle.semver_ranges.specs.RangeTree
 pub use Rattle.semver_ranges.specs.RangeTexts
 pub use Rattle.semver_ranges.specs.Partials
-pub use Rattle.semver_ranges.specs.Precedence
 pub use Rattle.semver_ranges.specs.Terms
 pub use Rattle.semver_ranges.specs.OwnMeaning
 pub use Rattle.semver_ranges.specs.RewritingTable

@@ -8,8 +8,9 @@ ghost use Rattle.semver_parser.specs.Examples.{IsMet, IsMetAsStated, release, ve
 
 pub use semver_ranges::laws::{
     answered_sets_are_printable, exact_bounds_mean_the_text, meanings_agree, one_tree,
-    precedence_is_total, printed_sets_read_back, stated_pre_releases_mean_the_text,
+    printed_sets_read_back, stated_pre_releases_mean_the_text,
 };
+pub use semver_texts::laws::precedence_is_total;
 pub use semver_tokens::laws::one_token_list;
 pub use semver_versions::laws::{one_outcome, one_version};
 

@@ -2,7 +2,8 @@
 use Rattle.std.proofs.Common.{◌≡◌, ◌<◌, Bool, true, false, List, [], ◌∷◌, Option, Some, None, length, refl, sym, ap, ◌∙◌, arith}
 use Rattle.semver_ranges.specs.RangeTree.{Simple, RangeTree, empty, simples, SetTree}
 use Rattle.semver_texts.specs.Texts.{Text}
-use Rattle.semver_ranges.specs.Means.Reading.{begins_with, ends_range, simple, put_before, behind_simple, all_simples, right_side}
+use Rattle.semver_ranges.specs.Means.Reading.{ends_range, simple, put_before, behind_simple, all_simples, right_side}
+use Rattle.semver_texts.specs.Texts.{begins_with}
 use Rattle.semver_ranges.specs.Means.Reading.{with_right, with_others, behind_first, range_here, behind_bars, onto, more_ranges}
 use Rattle.semver_ranges.specs.Means.Reading.{behind_range, behind_blanks, read}
 use Rattle.semver_ranges.specs.Means.RangeEvents.{Event, one_simple, next_range, wildcard, yielded, in_front, events_of, put, put_simples}

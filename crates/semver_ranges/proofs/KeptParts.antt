@@ -1,15 +1,17 @@
 -- Numbers and parts, as `parse` of a `u64` reads them.
 use Rattle.std.proofs.Common.{◌≡◌, ℕ, ◌^◌, ◌<◌, true, ◌&&◌, [], ◌∷◌, length, get_or, Ok, Err, if◌then◌else◌, inl, inr, sym, ap, ◌∙◌}
-use Rattle.std.proofs.Common.{arith}
+use Rattle.std.proofs.Common.{List, arith, subst, refl, map}
 use Rattle.std.specs.Str.{all_ascii_digits}
 use Rattle.std.specs.Str.Parse.{digits_value, ParsesUnsigned}
-use Rattle.std.specs.List.{list_all}
+use Rattle.std.specs.List.{AllByRecursion, AllZip, list_all, slice_split}
+use Rattle.std.proofs.lemmas.List.Splits.{join_with_byte-slice_split}
 use Rattle.std.proofs.lemmas.Bool.{and_parts, and_from, cases_Bool, true≢false}
 use Rattle.std.proofs.lemmas.Str.Parse.{parse_plain}
 use Rattle.std.proofs.lemmas.Grind.{common_steps}
 use Rattle.semver_ranges.specs.RangeTree.{is_part}
-use Rattle.semver_texts.specs.Texts.{is_part_byte, Text}
-use Rattle.semver_texts.specs.Versions.{numeric, alphanumeric}
+use Rattle.semver_texts.specs.Texts.{is_part_byte, is_dotted_byte, is_dot, cut_at_dots, Text}
+use Rattle.semver_texts.proofs.Lists.{Passes, joined_pass}
+use Rattle.semver_texts.specs.Versions.{IdentifierValue, numeric, alphanumeric}
 use Rattle.semver_ranges.specs.Partials.{fits_u64, kept}
 use Rattle.semver_texts.proofs.Numerals.{own}
 
@@ -43,3 +45,34 @@ kept_text t e h =
           absurd (p (parts.0, part_some t e, fits_small (digits_value 10 t) parts.1))
       | inr n ↦ sym (ap (λ b. if b then numeric (digits_value 10 t) else alphanumeric t) n)
     ]
+
+-- ---- all parts of a pre-release
+
+part_dotted : (t : Text) → is_part t ≡ true → Passes is_dotted_byte t
+part_dotted [] e = tt
+part_dotted (b ∷ t) e = bytes (b ∷ t) e
+  where
+    bytes : (t : Text) → list_all is_part_byte t ≡ true → Passes is_dotted_byte t
+    bytes [] e = tt
+    bytes (b ∷ t) e = let p = and_parts (is_part_byte b) (list_all is_part_byte t) e in (rw p.0 refl, bytes t p.1)
+
+parts_dotted : (parts : List Text) → list_all is_part parts ≡ true → AllByRecursion (Passes is_dotted_byte) parts
+parts_dotted [] e = tt
+parts_dotted (t ∷ parts) e = let p = and_parts (is_part t) (list_all is_part parts) e in (part_dotted t p.0, parts_dotted parts p.1)
+
+pub cut_dotted : (t : Text) → list_all is_part (cut_at_dots t) ≡ true → Passes is_dotted_byte t
+cut_dotted [] e = tt
+cut_dotted (b ∷ t) e =
+    subst (Passes is_dotted_byte) (join_with_byte-slice_split 46 (b ∷ t))
+    (joined_pass is_dotted_byte 46 refl (slice_split is_dot (b ∷ t)) (parts_dotted (slice_split is_dot (b ∷ t)) e))
+
+-- what is made of each part is the part as it is kept
+pub all_kept : {X : Type 0} {R : X → Text → Type 0} (value : X → IdentifierValue)
+    → ((x : X) (t : Text) → R x t → is_part t ≡ true → value x ≡ kept t) → (xs : List X) (parts : List Text) → AllZip R xs parts
+    → list_all is_part parts ≡ true → map value xs ≡ map kept parts
+all_kept value each [] [] zip e = refl
+all_kept value each [] (t ∷ parts) zip e = absurd zip
+all_kept value each (x ∷ xs) [] zip e = absurd zip
+all_kept value each (x ∷ xs) (t ∷ parts) zip e =
+    let p = and_parts (is_part t) (list_all is_part parts) e in
+    λ i. each x t zip.0 p.0 i ∷ all_kept value each xs parts zip.1 p.1 i

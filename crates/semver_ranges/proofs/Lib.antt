@@ -1,6 +1,5 @@
 pub mod AnswerLaws
 pub mod AnsweredLaws
-pub mod AsciiParts
 pub mod CaretPlaces
 pub mod ComponentSteps
 pub mod CursorSteps
@@ -10,12 +9,10 @@ pub mod EventSums
 pub mod ExactLaws
 pub mod FoundEvents
 pub mod Fronts
-pub mod KeptLists
 pub mod KeptParts
 pub mod Meanings
 pub mod OnlySimples
 pub mod PartRuns
-pub mod PrecedenceLaws
 pub mod PrintedLaws
 pub mod RangeExamples
 pub mod ReadingComplete

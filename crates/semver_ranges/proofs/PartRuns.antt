@@ -1,16 +1,20 @@
 -- Parts and dots at the front of a text, byte by byte.
-use Rattle.std.proofs.lemmas.List.{drop_all, drop_more}
-use Rattle.std.specs.Prelude.{MatchOption}
-use Rattle.std.proofs.Common.{◌≡◌, ℕ, ◌+◌, ◌<◌, ◌≤◌, Bool, true, false, ◌&&◌, ◌==◌, Option, Some, None, List, [], ◌∷◌, length}
-use Rattle.std.proofs.Common.{get_or, take, drop, if◌then◌else◌, refl, sym, ◌∙◌, inl, inr}
-use Rattle.std.specs.List.{list_all, slice_split}
-use Rattle.std.proofs.lemmas.Bool.{cases_Bool, eqb-true, false_from_ne_true}
+use Rattle.std.proofs.Common.{◌≡◌, ℕ, Bool, true, false, ◌&&◌, ◌==◌, Some, None, List, [], ◌∷◌, take, drop, if◌then◌else◌, refl, sym, ap}
+use Rattle.std.proofs.Common.{◌∙◌, inl, inr, arith, one-add}
+use Rattle.std.specs.List.{list_all, prefix_len, slice_split}
+use Rattle.std.proofs.lemmas.Bool.{cases_Bool}
+use Rattle.std.proofs.lemmas.Bool.Decides.{nat_tests}
 use Rattle.semver_ranges.specs.RangeTree.{is_part}
-use Rattle.semver_texts.specs.Texts.{Text, is_part_byte, is_dot}
-use Rattle.semver_ranges.specs.Means.Reading.{front, back, in_parts}
+use Rattle.semver_texts.specs.Texts.{Text, cut_at_dots, is_part_byte, is_dot, is_dotted_byte}
+use Rattle.semver_texts.specs.declared.dotted.Hyphens.TheVariants.{Any}
+use Rattle.semver_texts.specs.Means.DottedParts.{runs_stand, marked_part}
+use Rattle.semver_texts.proofs.Lists.{by_test}
+use Rattle.semver_texts.proofs.DottedParts.{found_same}
+use Rattle.semver_ranges.specs.Means.Reading.{front, back}
+use Rattle.semver_ranges.specs.Means.CursorViews.{marked_parts}
 
 -- parts and dots, byte by byte: whether what is left is the rest of a part, where one was begun, and parts behind it
-abbrev pub parts_pass : Bool → Text → Bool
+abbrev parts_pass : Bool → Text → Bool
 parts_pass begun [] = begun
 parts_pass begun (b ∷ t) = if is_dot b then begun && parts_pass false t else (is_part_byte b && parts_pass true t)
 
@@ -51,47 +55,63 @@ both_parts (b ∷ t) =
       ))
     ]
 
-pub parts_pass-split : (t : Text) → parts_pass false t ≡ list_all is_part (slice_split is_dot t)
+parts_pass-split : (t : Text) → parts_pass false t ≡ list_all is_part (slice_split is_dot t)
 parts_pass-split t = (both_parts t).1
 
--- whether the run at the front of a text is the rest of a part, where one was begun, and parts behind it
-abbrev pub run_pass : Bool → Text → Bool
-run_pass begun t = parts_pass begun (front in_parts t)
+-- where each hyphen may stand, the runs at the front stand exactly where they are parts
+no_dot : (b : ℕ) → is_part_byte b ≡ true → is_dot b ≡ false
+no_dot b e = grind (arith, nat_tests)
 
-pub run_decides : (t : Text) → run_pass false t ≡ list_all is_part (slice_split is_dot (front in_parts t))
-run_decides t = parts_pass-split (front in_parts t)
+no_hyphen : (b : ℕ) → is_part_byte b ≡ false → (b == 45) ≡ false
+no_hyphen b e = grind (arith, nat_tests)
 
--- one step of it: a dot, a byte of a part, any other byte, and the end
-in_dot : (b : ℕ) → b ≡ 46 → (is_dot b ≡ true) × (in_parts b ≡ true)
-in_dot b e = rw e (refl, refl)
+runs_pass : (begun : Bool) (t : Text) → runs_stand is_part_byte begun t ≡ parts_pass begun (front is_dotted_byte t)
+runs_pass begun [] = refl
+runs_pass begun (b ∷ t) = by_test (is_part_byte b)
+    (λ y. rw (y, no_dot b y, y) (runs_pass true t))
+    (λ n. by_test (is_dot b)
+    (λ dot. rw (n, no_hyphen b n, dot, dot) (ap (λ pass. begun && pass) (runs_pass false t)))
+    (λ other. rw (n, no_hyphen b n, other) refl))
 
-pub run-dot : (begun : Bool) (t : Text) (i : ℕ) → i < length t → get_or t i 0 ≡ 46
-    → run_pass begun (drop i t) ≡ (begun && run_pass false (drop (i + 1) t))
-run-dot begun t i within e = let h = in_dot (get_or t i 0) e in rw (drop_more t i 0 within, h.1) (rw h.0 refl)
+stand_decides : (t : Text) → runs_stand is_part_byte false t ≡ list_all is_part (slice_split is_dot (front is_dotted_byte t))
+stand_decides t = runs_pass false t ∙ parts_pass-split (front is_dotted_byte t)
 
-in_byte : (b : ℕ) → is_part_byte b ≡ true → in_parts b ≡ true
-in_byte b e = rw e refl
+-- the front is what stands before the first byte that doesn't pass
+front_taken : (p : ℕ → Bool) (t : Text) → (front p t ≡ take (prefix_len p t) t) × (back p t ≡ drop (prefix_len p t) t)
+front_taken p [] = (refl, refl)
+front_taken p (b ∷ t) = by_test (p b)
+    (λ y. let rest = front_taken p t in rw (y, one-add) (ap (λ f. b ∷ f) rest.0, rest.1))
+    (λ n. rw n (refl, refl))
 
-pub run-byte : (begun : Bool) (t : Text) (i : ℕ) → i < length t → (get_or t i 0 ≡ 46 → ⊥) → is_part_byte (get_or t i 0) ≡ true
-    → run_pass begun (drop i t) ≡ run_pass true (drop (i + 1) t)
-run-byte begun t i within other e =
-    let no : is_dot (get_or t i 0) ≡ false = false_from_ne_true (get_or t i 0 == 46) (λ h. other (eqb-true (get_or t i 0) 46 h)) in
-    rw (drop_more t i 0 within, in_byte (get_or t i 0) e) (rw no (rw e refl))
+some_parts : (t : Text) → list_all is_part (slice_split is_dot t) ≡ true → slice_split is_dot t ≡ cut_at_dots t
+some_parts [] e = cc
+some_parts (b ∷ t) e = refl
 
-pub in_parts-not : (b : ℕ) → (b ≡ 46 → ⊥) → is_part_byte b ≡ false → in_parts b ≡ false
-in_parts-not b other e = let no : is_dot b ≡ false = false_from_ne_true (b == 46) (λ h. other (eqb-true b 46 h)) in rw (e, no) refl
+-- ---- the parts behind a mark
 
-pub run-stop : (begun : Bool) (t : Text) (i : ℕ) → i < length t → in_parts (get_or t i 0) ≡ false → run_pass begun (drop i t) ≡ begun
-run-stop begun t i within e = rw (drop_more t i 0 within, e) refl
+pub parts_found : (mark : ℕ) (t inner rest : Text) → marked_part Any mark t ≡ Some (inner, rest)
+    → (marked_parts mark t ≡ Some (cut_at_dots inner, rest)) × (list_all is_part (cut_at_dots inner) ≡ true)
+parts_found mark [] inner rest e =
+    let same = found_same e in
+    (λ i. Some (cut_at_dots (same.0 i), same.1 i), ap (λ u. list_all is_part (cut_at_dots u)) (sym same.0))
+parts_found mark (b ∷ t) inner rest e = by_test (b == mark)
+    (λ y. by_test (runs_stand is_part_byte false t)
+    (λ are. let there : Some (take (prefix_len is_dotted_byte t) t, drop (prefix_len is_dotted_byte t) t)
+    ≡ Some (inner, rest) = rw (y, are) at e in
+    let same = found_same there in
+    let taken = front_taken is_dotted_byte t in
+    let pass : list_all is_part (slice_split is_dot (front is_dotted_byte t)) ≡ true = sym (stand_decides t) ∙ are in
+    let cut = some_parts (front is_dotted_byte t) pass ∙ ap cut_at_dots (taken.0 ∙ same.0) in
+    (rw (y, pass) (λ i. Some (cut i, (taken.1 ∙ same.1) i)), ap (list_all is_part) (sym cut) ∙ pass))
+    (λ other. let none : None ≡ Some (inner, rest) = rw (y, other) at e in cc))
+    (λ n. let there : Some ([], b ∷ t) ≡ Some (inner, rest) = rw n at e in
+    let same = found_same there in
+    (rw n (λ i. Some (cut_at_dots (same.0 i), same.1 i)), ap (λ u. list_all is_part (cut_at_dots u)) (sym same.0)))
 
-pub run-end : (begun : Bool) (t : Text) (i : ℕ) → length t ≤ i → run_pass begun (drop i t) ≡ begun
-run-end begun t i within = rw (drop_all i t within) refl
-
--- what a loop answers at the end of the run
-pub run_length : (t : Text) (i : ℕ) (begun : Bool) (o : Option ℕ) → (if begun then Some i else None) ≡ o → run_pass false t ≡ begun
-    → i ≤ length t → front in_parts t ≡ take i t → back in_parts t ≡ drop i t
-    → MatchOption o (list_all is_part (slice_split is_dot (front in_parts t)) ≡ false)
-    (λ len. (list_all is_part (slice_split is_dot (front in_parts t)) ≡ true) × (len ≤ length t) × (take len t ≡ front in_parts t)
-    × (drop len t ≡ back in_parts t))
-run_length t i true o is pass within taken left = rw (← is) (sym (run_decides t) ∙ pass, within, sym taken, sym left)
-run_length t i false o is pass within taken left = rw (← is) (sym (run_decides t) ∙ pass)
+pub parts_not_found : (mark : ℕ) (t : Text) → marked_part Any mark t ≡ None → marked_parts mark t ≡ None
+parts_not_found mark [] e = cc
+parts_not_found mark (b ∷ t) e = by_test (b == mark)
+    (λ y. by_test (runs_stand is_part_byte false t)
+    (λ are. let some : Some _ ≡ None = rw (y, are) at e in cc)
+    (λ other. rw (y, sym (stand_decides t) ∙ other) refl))
+    (λ n. let some : Some ([], b ∷ t) ≡ None = rw n at e in cc)

@@ -7,7 +7,8 @@ use Rattle.semver_ranges.specs.RangeTree.{PartialTree, Form, bare, equal, less, 
 use Rattle.semver_ranges.specs.RangeTree.{empty, hyphen, simples, SetTree, is_blank, AreBlanks, AreSomeBlanks, SpellsPartial, SpellsForm}
 use Rattle.semver_ranges.specs.RangeTree.{SpellsSimple, SpellsSimples, SpellsRange, SpellsPadded, Spells}
 use Rattle.semver_texts.specs.Texts.{Text}
-use Rattle.semver_ranges.specs.Means.Reading.{behind_blanks, begins_with, is_bar, ends_range, ends_word, simple, put_before, behind_simple}
+use Rattle.semver_ranges.specs.Means.Reading.{behind_blanks, is_bar, ends_range, ends_word, simple, put_before, behind_simple}
+use Rattle.semver_texts.specs.Texts.{begins_with}
 use Rattle.semver_ranges.specs.Means.Reading.{all_simples, right_side, range_here, range, onto, behind_range, read}
 use Rattle.semver_ranges.proofs.ReadingPieces.{starts, starts-append, is_component_byte, partial_starts}
 use Rattle.semver_ranges.proofs.ReadingSteps.{simples_end, simples_step, read_step}

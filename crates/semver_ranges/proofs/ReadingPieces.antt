@@ -9,7 +9,8 @@ use Rattle.std.specs.List.{list_all, slice_split, join_with_byte}
 use Rattle.semver_ranges.specs.RangeTree.{PartialTree, one, two, three, Form, Simple, is_blank, is_wildcard, is_number, is_component}
 use Rattle.semver_ranges.specs.RangeTree.{is_part, AreBlanks, SpellsPartial, IsSignAndBlanks, SpellsForm, SpellsSimple}
 use Rattle.semver_texts.specs.Texts.{Text, is_empty, marked, is_dot}
-use Rattle.semver_ranges.specs.Means.Reading.{front, back, behind_blanks, is_bar, ends_range, ends_word, component, in_parts, parts}
+use Rattle.semver_ranges.specs.Means.Reading.{front, back, behind_blanks, is_bar, ends_range, ends_word, component, parts}
+use Rattle.semver_texts.specs.Texts.{is_dotted_byte}
 use Rattle.semver_ranges.specs.Means.Reading.{with_build, behind_pre, with_pre, behind_three, with_third, behind_two, with_second}
 use Rattle.semver_ranges.specs.Means.Reading.{behind_one, with_first, whole_word, partial, after_less, after_greater, after_tilde, operator}
 use Rattle.semver_ranges.specs.Means.Reading.{with_form, simple}
@@ -76,11 +77,11 @@ marked_parts mark t =
     ap (marked (mark ∷ [])) r.2 ∙ ap (λ ps. mark ∷ join_with_byte 46 ps) (sym r.2) ∙ ap (λ x. mark ∷ x) (join_with_byte-slice_split 46 t)
 
 parts_sound : (t : Text) → PartsAt t (parts t)
-parts_sound t = elim (cases_Bool (list_all is_part (slice_split is_dot (front in_parts t)))) [
+parts_sound t = elim (cases_Bool (list_all is_part (slice_split is_dot (front is_dotted_byte t)))) [
   | inl e ↦ rw e (
     e,
-    λ mark. ap (λ x. mark ∷ x) (front-back in_parts t)
-        ∙ ap (λ x. x ++ back in_parts t) (sym (marked_parts mark (front in_parts t))),
+    λ mark. ap (λ x. mark ∷ x) (front-back is_dotted_byte t)
+        ∙ ap (λ x. x ++ back is_dotted_byte t) (sym (marked_parts mark (front is_dotted_byte t))),
   )
   | inr e ↦ rw e tt
 ]

@@ -5,7 +5,8 @@ use Rattle.semver_ranges.specs.RangeTree.{PartialTree, Simple, RangeTree, SetTre
 use Rattle.semver_texts.specs.Texts.{Text}
 use Rattle.semver_ranges.proofs.ReadingPieces.{front-back, WordAt, partial_sound, starts, is_component_byte, partial_starts, SimpleAt}
 use Rattle.semver_ranges.proofs.ReadingPieces.{simple_sound}
-use Rattle.semver_ranges.specs.Means.Reading.{back, behind_blanks, begins_with, is_bar, ends_range, partial, simple, put_before}
+use Rattle.semver_ranges.specs.Means.Reading.{back, behind_blanks, is_bar, ends_range, partial, simple, put_before}
+use Rattle.semver_texts.specs.Texts.{begins_with}
 use Rattle.semver_ranges.specs.Means.Reading.{behind_simple, some_simples, all_simples, range_end, right_side, is_bare, with_right}
 use Rattle.semver_ranges.specs.Means.Reading.{with_others, behind_first, range_here, range, behind_bars, onto, more_ranges, behind_range}
 use Rattle.semver_ranges.specs.Means.Reading.{some_ranges, read}

@@ -11,7 +11,8 @@ use Rattle.semver_ranges.specs.RangeTree.{PartialTree, one, two, three}
 use Rattle.semver_texts.specs.Texts.{Text, is_empty}
 use Rattle.semver_texts.specs.Versions.{IdentifierValue, PlainVersion}
 use Rattle.semver_ranges.specs.Partials.{stated, states_nothing, fits_u64, kept, filled, zero_filled}
-use Rattle.semver_ranges.specs.Means.PartialViews.{stated_at, parts_of, states_none, IsValue, IsPartialOf, AreComponentsOf}
+use Rattle.semver_ranges.specs.Means.PartialViews.{stated_at, states_none, IsValue, IsPartialOf, AreComponentsOf}
+use Rattle.semver_texts.specs.Texts.{cut_at_dots}
 use Rattle.semver_texts.proofs.Lists.{by_test}
 
 -- numbers and a pre-release are what a tree states, where its numbers fit
@@ -59,11 +60,11 @@ states_two (three a b c parts build) x y pre is = rw (is.0.0, is.1.0, is.2) (two
 
 pub states_three : (t : PartialTree) (x y z : Option ℕ) (pre : Text) → AreComponentsOf t (Number x) (Number y) (Number z) pre
     → States ((is_some x && is_some y) && is_some z) (unwrap_or x 0 ∷ unwrap_or y 0 ∷ unwrap_or z 0 ∷ [])
-    (version (unwrap_or x 0) (unwrap_or y 0) (unwrap_or z 0) (map kept (parts_of pre))) (stated t) (zero_filled t)
+    (version (unwrap_or x 0) (unwrap_or y 0) (unwrap_or z 0) (map kept (cut_at_dots pre))) (stated t) (zero_filled t)
 states_three (one a) x y z pre is = cc is.1
 states_three (two a b) x y z pre is = cc is.2
 states_three (three a b c parts build) x y z pre is =
-    rw (is.0.0, is.1.0, is.2.0, is.3) (three_numbers _ _ _ x y z (map kept (parts_of pre)) is.0.1 is.1.1 is.2.1)
+    rw (is.0.0, is.1.0, is.2.0, is.3) (three_numbers _ _ _ x y z (map kept (cut_at_dots pre)) is.0.1 is.1.1 is.2.1)
 
 -- whether it states nothing, by its kind
 some_stated : (s : List ℕ) → list_all fits_u64 s ≡ false → is_empty s ≡ false

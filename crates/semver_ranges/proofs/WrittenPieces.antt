@@ -13,7 +13,8 @@ use Rattle.semver_ranges.specs.RangeTree.{PartialTree, one, two, three, Form, ba
 use Rattle.semver_ranges.specs.RangeTree.{Simple, is_blank, is_wildcard, is_number, is_component, is_part, AreBlanks, SpellsPartial}
 use Rattle.semver_ranges.specs.RangeTree.{SpellsForm, SpellsSimple}
 use Rattle.semver_texts.specs.Texts.{is_part_byte, Text, is_empty, marked, is_dot}
-use Rattle.semver_ranges.specs.Means.Reading.{front, back, behind_blanks, is_bar, ends_word, component, in_parts, parts, behind_pre}
+use Rattle.semver_ranges.specs.Means.Reading.{front, back, behind_blanks, is_bar, ends_word, component, parts, behind_pre}
+use Rattle.semver_texts.specs.Texts.{is_dotted_byte}
 use Rattle.semver_ranges.specs.Means.Reading.{with_pre, behind_three, with_third, behind_two, with_second, behind_one, with_first}
 use Rattle.semver_ranges.specs.Means.Reading.{whole_word, partial, after_less, after_greater, after_tilde, operator, with_form, simple}
 use Rattle.semver_ranges.proofs.Tests.{list_all-weaker}
@@ -98,20 +99,20 @@ slice_split-join x (y ∷ ys) e =
     let p = and_parts (is_part x) (list_all is_part (y ∷ ys)) e in
     slice_split_at is_dot x 46 (join_with_byte 46 (y ∷ ys)) (no_dot x (part_bytes x p.0)) refl ∙ ap (λ l. x ∷ l) (slice_split-join y ys p.1)
 
-in_part : (t : Text) → is_part t ≡ true → list_all in_parts t ≡ true
-in_part t e = list_all-weaker is_part_byte in_parts (λ b h. or_left (is_part_byte b) (is_dot b) h) t (part_bytes t e)
+in_part : (t : Text) → is_part t ≡ true → list_all is_dotted_byte t ≡ true
+in_part t e = list_all-weaker is_part_byte is_dotted_byte (λ b h. or_left (is_part_byte b) (is_dot b) h) t (part_bytes t e)
 
-in_joined : (x : Text) (xs : List Text) → list_all is_part (x ∷ xs) ≡ true → list_all in_parts (join_with_byte 46 (x ∷ xs)) ≡ true
+in_joined : (x : Text) (xs : List Text) → list_all is_part (x ∷ xs) ≡ true → list_all is_dotted_byte (join_with_byte 46 (x ∷ xs)) ≡ true
 in_joined x [] e = in_part x (and_parts (is_part x) true e).0
 in_joined x (y ∷ ys) e =
     let p = and_parts (is_part x) (list_all is_part (y ∷ ys)) e in
-    list_all-append in_parts x (46 ∷ join_with_byte 46 (y ∷ ys)) ∙ and_from _ _ (in_part x p.0) (in_joined y ys p.1)
+    list_all-append is_dotted_byte x (46 ∷ join_with_byte 46 (y ∷ ys)) ∙ and_from _ _ (in_part x p.0) (in_joined y ys p.1)
 
-parts_read : (x : Text) (xs : List Text) (u : Text) → list_all is_part (x ∷ xs) ≡ true → stops in_parts u ≡ true
+parts_read : (x : Text) (xs : List Text) (u : Text) → list_all is_part (x ∷ xs) ≡ true → stops is_dotted_byte u ≡ true
     → parts (join_with_byte 46 (x ∷ xs) ++ u) ≡ Some (x ∷ xs, u)
 parts_read x xs u e s =
     let text = join_with_byte 46 (x ∷ xs) in
-    rw (front-append in_parts text u (in_joined x xs e) s, back-append in_parts text u (in_joined x xs e) s, slice_split-join x xs e, e)
+    rw (front-append is_dotted_byte text u (in_joined x xs e) s, back-append is_dotted_byte text u (in_joined x xs e) s, slice_split-join x xs e, e)
     refl
 
 -- a partial, up to the end of its word: its build, its pre-release, its components
@@ -119,10 +120,10 @@ behind_pre_read : (a b c : Text) (pre build : List Text) (u : Text) → list_all
     → behind_pre a b c pre (marked (codes "+") build ++ u) ≡ Some (three a b c pre build, u)
 behind_pre_read a b c pre [] [] h e = refl
 behind_pre_read a b c pre [] (mark ∷ u) h e = rw (not-true (mark == 43) (word_stops (λ b. b == 43) refl refl refl (mark ∷ u) e)) refl
-behind_pre_read a b c pre (x ∷ xs) u h e = rw (parts_read x xs u h (word_stops in_parts refl refl refl u e)) refl
+behind_pre_read a b c pre (x ∷ xs) u h e = rw (parts_read x xs u h (word_stops is_dotted_byte refl refl refl u e)) refl
 
-stops_at_build : (build : List Text) (u : Text) → ends_word u ≡ true → stops in_parts (marked (codes "+") build ++ u) ≡ true
-stops_at_build [] u e = word_stops in_parts refl refl refl u e
+stops_at_build : (build : List Text) (u : Text) → ends_word u ≡ true → stops is_dotted_byte (marked (codes "+") build ++ u) ≡ true
+stops_at_build [] u e = word_stops is_dotted_byte refl refl refl u e
 stops_at_build (x ∷ xs) u e = refl
 
 behind_three_read : (a b c : Text) (pre build : List Text) (u : Text) → list_all is_part pre ≡ true → list_all is_part build ≡ true

@@ -1,6 +1,5 @@
 pub mod RangeTree
 pub mod Partials
-pub mod Precedence
 pub mod Terms
 pub mod OwnMeaning
 pub mod RewritingTable

@@ -9,7 +9,7 @@ use Rattle.semver_ranges.specs.declared.range.Op.TheVariants.{Lt, Lte, Gt, Gte, 
 use Rattle.semver_ranges.specs.declared.range.Compat.{Compat}
 use Rattle.semver_ranges.specs.RangeTree.{SetTree}
 use Rattle.semver_texts.specs.Texts.{is_empty}
-use Rattle.semver_ranges.specs.Precedence.{precedence}
+use Rattle.semver_texts.specs.Precedence.{precedence}
 use Rattle.semver_texts.specs.Versions.{numbers, PlainVersion}
 use Rattle.semver_ranges.specs.Terms.{Term, terms}
 use Rattle.semver_ranges.specs.OwnMeaning.{meets_term}

@@ -12,10 +12,11 @@ ghost use Rattle.semver_ranges.specs.Means.CursorViews.{AreSides, FindsSides, Ta
 ghost use Rattle.semver_ranges.specs.Means.CursorViews.{IsSimpleOf};
 
 use crate::grammar::{
-    Form, Simple, after_byte, behind_bars, behind_blanks, ends_range, read_right_side, read_simple,
+    Form, Simple, behind_bars, behind_blanks, ends_range, read_right_side, read_simple,
 };
 use crate::partial::Partial;
 use crate::range_set::RangeError;
+use semver_texts::dotted::behind_mark;
 
 /// What stands next in a range text.
 #[derive(Clone, Copy)]
@@ -91,7 +92,7 @@ impl<'input> Events<'input> {
         ensures { TakesEvent begins_range self.old.rest.now result self.new }
     {
         let (simple, rest) = read_simple(self.rest)?;
-        match after_byte(rest, b'-') {
+        match behind_mark(rest, b'-') {
             Some(behind) if begins_range => self.read_sides(simple, behind),
             _ => {
                 self.rest = rest;

@@ -12,20 +12,23 @@ ghost use Rattle.std.specs.Str.Parse.{digits_value};
 ghost use Rattle.std.specs.Char.{is_ascii_digit};
 ghost use Rattle.semver_texts.specs.Texts.{Text, is_part_byte as part_byte};
 ghost use Rattle.semver_ranges.specs.RangeTree.{one, two, three, is_blank as blank, is_part};
-ghost use Rattle.semver_ranges.specs.Means.Reading.{back, begins_with, ends_range, ends_word};
+ghost use Rattle.semver_ranges.specs.Means.Reading.{back, ends_range, ends_word};
+ghost use Rattle.semver_texts.specs.Texts.{begins_with};
 ghost use Rattle.semver_ranges.specs.Means.Reading.{component, partial, operator, simple};
 ghost use Rattle.semver_ranges.specs.Means.Reading.{right_side, with_second, with_third};
 ghost use Rattle.semver_ranges.specs.Means.Reading.{behind_three, with_first, behind_bars};
-ghost use Rattle.semver_ranges.specs.Means.Reading.{in_parts, front, behind_blanks};
+ghost use Rattle.semver_ranges.specs.Means.Reading.{front, behind_blanks};
+ghost use Rattle.semver_texts.specs.Texts.{is_dotted_byte};
 ghost use Rattle.semver_ranges.specs.Means.RangeEvents.{wildcard};
-ghost use Rattle.semver_ranges.specs.Means.PartialViews.{parts_of, IsValue, IsComponentOf};
+ghost use Rattle.semver_ranges.specs.Means.PartialViews.{IsValue, IsComponentOf};
+ghost use Rattle.semver_texts.specs.Texts.{cut_at_dots};
 ghost use Rattle.semver_ranges.specs.Means.PartialViews.{IsPartialOf};
 ghost use Rattle.semver_ranges.specs.Means.CursorViews.{form_of, marked_parts, Finds, FindsPre};
 ghost use Rattle.semver_ranges.specs.Means.CursorViews.{IsSimpleOf};
 
 use crate::partial::{Component, Partial};
-use semver_texts::bytes::is_part_byte;
 use semver_texts::decimals;
+use semver_texts::dotted::{Hyphens, behind_mark, marked_part};
 
 /// What stands before a partial: nothing, or an operator.
 #[derive(Clone, Copy)]
@@ -126,11 +129,11 @@ fn read_components(text: &[u8]) -> Option<(Partial<'_>, &[u8])>
 {
     let none = Component::Wildcard;
     let (major, rest) = read_component(text)?;
-    let Some(behind) = after_byte(rest, b'.') else {
+    let Some(behind) = behind_mark(rest, b'.') else {
         return Some((Partial::new(major, none, none, &[]), rest));
     };
     let (minor, rest) = read_component(behind)?;
-    let Some(behind) = after_byte(rest, b'.') else {
+    let Some(behind) = behind_mark(rest, b'.') else {
         return Some((Partial::new(major, minor, none, &[]), rest));
     };
     let (patch, rest) = read_component(behind)?;
@@ -155,50 +158,9 @@ fn read_qualifier(text: &[u8]) -> Option<(&[u8], &[u8])>
 fn read_pre(text: &[u8]) -> Option<(&[u8], &[u8])>
     ensures { FindsPre text.now result }
 {
-    let (pre, rest) = read_parts(text, b'-')?;
-    let (_, rest) = read_parts(rest, b'+')?;
+    let (pre, rest) = marked_part(text, b'-', Hyphens::Any)?;
+    let (_, rest) = marked_part(rest, b'+', Hyphens::Any)?;
     Some((pre, rest))
-}
-
-/// The parts behind a mark, and what follows them; nothing where the text doesn't begin with the
-/// mark.
-#[inline(always)]
-fn read_parts(text: &[u8], mark: u8) -> Option<(&[u8], &[u8])>
-    ensures found { MatchOption result (marked_parts mark text.now
-        ≡ None) (λ f. marked_parts mark text.now ≡ Some (parts_of f.0.now, f.1.now)) }
-    ensures parts_pass { IfSome result (λ f. list_all is_part (parts_of f.0.now) ≡ true) }
-{
-    let Some(behind) = after_byte(text, mark) else {
-        return Some((&[], text));
-    };
-    let len = parts_len(behind)?;
-    Some(behind.split_at(len))
-}
-
-/// How many bytes at the front are parts joined by dots; none where they aren't parts.
-fn parts_len(bytes: &[u8]) -> Option<usize>
-    ensures { MatchOption result (list_all is_part (slice_split is_dot (front in_parts bytes.now))
-        ≡ false)
-        (λ len. (list_all is_part (slice_split is_dot (front in_parts bytes.now)) ≡ true)
-        × (len ≤ length bytes.now)
-        × (take len bytes.now ≡ front in_parts bytes.now)
-        × (drop len bytes.now ≡ back in_parts bytes.now)) }
-{
-    let mut begun = false;
-    for at in 0..bytes.len() {
-        let byte = bytes[at];
-        if byte == b'.' {
-            if !begun {
-                return None;
-            }
-            begun = false;
-        } else if is_part_byte(byte) {
-            begun = true;
-        } else {
-            return begun.then_some(at);
-        }
-    }
-    begun.then_some(bytes.len())
 }
 
 /// The component at the front of a text, and what follows it.
@@ -266,18 +228,6 @@ fn behind_blank(text: &[u8]) -> Option<&[u8]>
 {
     match text {
         [first, rest @ ..] if is_blank(*first) => Some(rest),
-        _ => None,
-    }
-}
-
-/// What follows this byte, where the text begins with it.
-#[inline(always)]
-pub(crate) fn after_byte(text: &[u8], byte: u8) -> Option<&[u8]>
-    ensures { MatchOption result (begins_with byte text.now ≡ false) (λ rest. text.now
-        ≡ byte ∷ rest.now) }
-{
-    match text {
-        [first, rest @ ..] if *first == byte => Some(rest),
         _ => None,
     }
 }

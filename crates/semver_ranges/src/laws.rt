@@ -1,13 +1,11 @@
 //! Laws over the definitions: each is the contract of a function that does nothing.
 ghost use Rattle.std.specs.Prelude.{◌≡◌, ◌↔◌, ◌&&◌, not, [], IsTrue};
-ghost use Rattle.std.specs.Cmp.{IsTotalOrder};
 ghost use Rattle.std.specs.Ordering.{is_lt};
-ghost use Rattle.std.specs.declared.cmp.Ordering.TheVariants.{Equal};
 ghost use Rattle.semver_ranges.specs.declared.range.Compat.{Compat};
 ghost use Rattle.semver_texts.specs.Texts.{Text};
 ghost use Rattle.semver_ranges.specs.RangeTree.{SetTree, Spells};
 ghost use Rattle.semver_texts.specs.Versions.{PlainVersion};
-ghost use Rattle.semver_ranges.specs.Precedence.{precedence};
+ghost use Rattle.semver_texts.specs.Precedence.{precedence};
 ghost use Rattle.semver_ranges.specs.OwnMeaning.{meets_tree};
 ghost use Rattle.semver_ranges.specs.RewritingTable.{PlainSet, fits, rewritten};
 ghost use Rattle.semver_ranges.specs.ExactBounds.{exact_bound, rewritten_exactly};
@@ -56,12 +54,6 @@ pub fn stated_pre_releases_mean_the_text()
     // On releases both are equal.
     ensures releases { (mode : Compat) (tree : SetTree) (v : PlainVersion) → v.pre ≡ [] →
         meets_tree_as_stated mode tree v ≡ meets_tree mode tree v }
-{}
-
-/// Precedence is a total order, and two versions are equal in it exactly if they are the same.
-pub fn precedence_is_total()
-    ensures total { IsTotalOrder precedence }
-    ensures same { (v w : PlainVersion) → (precedence v w ≡ Equal) ↔ (v ≡ w) }
 {}
 
 /// The text of a printable set is spelled by a tree that fits and is rewritten to the set.

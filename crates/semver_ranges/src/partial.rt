@@ -9,13 +9,14 @@ ghost use Rattle.semver_ranges.specs.RangeTree.{PartialTree, one, two, three, is
 ghost use Rattle.semver_ranges.specs.Partials.{kept, leading_place};
 ghost use Rattle.semver_ranges.specs.RewritingTable.{comparator, up, up_with, bound_fits};
 ghost use Rattle.semver_ranges.specs.RangeViews.{comparator_of, identifier_of};
-ghost use Rattle.semver_ranges.specs.Means.PartialViews.{parts_of, states_none, stated_of};
+ghost use Rattle.semver_ranges.specs.Means.PartialViews.{states_none, stated_of};
+ghost use Rattle.semver_texts.specs.Texts.{cut_at_dots};
 ghost use Rattle.semver_ranges.specs.Means.PartialViews.{version_of, place_number, pre_of};
 ghost use Rattle.semver_ranges.specs.Means.PartialViews.{AreComponentsOf, IsPartialOf};
 ghost use Rattle.semver_ranges.specs.Means.PartialViews.{PartsPass};
 
 use crate::range::{Comparator, Identifier, Op};
-use semver_texts::bytes::count_dots;
+use semver_texts::dotted::{of_parts, text_of_parts};
 use std::alloc::{AllocError, Global};
 
 /// A component: a wildcard, or a number, whose value is none above 2^64 - 1.
@@ -77,7 +78,7 @@ impl<'input> Partial<'input> {
         patch: Component,
         pre: &'input [u8],
     ) -> Partial<'input>
-        requires { list_all is_part (parts_of pre.now) ≡ true }
+        requires { list_all is_part (cut_at_dots pre.now) ≡ true }
         ensures { (t : PartialTree) → AreComponentsOf t major minor patch pre.now
             → IsPartialOf t result }
     {
@@ -180,17 +181,13 @@ impl<'input> Partial<'input> {
         requires { PartsPass self.now }
         ensures { IfOk result (λ c. comparator_of c ≡ comparator op (version_of self.now)) }
     {
-        let pre = if self.pre.is_empty() {
-            Vec::new(alloc)
-        } else {
-            read_identifiers(alloc, text_of(self.pre))?
-        };
+        let pre = text_of_parts(self.pre);
         Ok(Comparator {
             op,
             major: self.major,
             minor: self.minor,
             patch: self.patch,
-            pre,
+            pre: of_parts(alloc, pre, |part| read_identifier(alloc, part))?,
         })
     }
 
@@ -239,38 +236,9 @@ fn raised_pre(alloc: Global, raised: RaisedBounds) -> Result<Vec<Identifier>, Al
     }
 }
 
-/// The bytes of parts and dots, which are ASCII, as a text.
-#[inline(always)]
-fn text_of(pre: &[u8]) -> &str
-    requires { list_all is_part (slice_split is_dot pre.now) ≡ true }
-    ensures { result.now ≡ pre.now }
-{
-    std::str::from_utf8(pre).unwrap_or("")
-}
-
-/// The identifiers of a pre-release.
-fn read_identifiers(alloc: Global, pre: &str) -> Result<Vec<Identifier>, AllocError>
-    requires { IsTrue (list_all is_part (slice_split is_dot pre.now)) }
-    ensures { IfOk result (λ v. map identifier_of v.items ≡ map kept (slice_split is_dot pre.now)) }
-{
-    let mut identifiers = Vec::with_capacity(alloc, count_parts(pre.as_bytes()))?;
-    for part in pre.split('.') {
-        identifiers.push(read_identifier(alloc, part)?)?;
-    }
-    Ok(identifiers)
-}
-
-/// How many parts a pre-release has.
-fn count_parts(pre: &[u8]) -> usize
-    ensures { result ≡ length (slice_split is_dot pre.now) }
-{
-    count_dots(pre) + 1
-}
-
 /// A part as it is kept.
 fn read_identifier(alloc: Global, part: &str) -> Result<Identifier, AllocError>
-    requires { is_part part.now ≡ true }
-    ensures { IfOk result (λ i. identifier_of i ≡ kept part.now) }
+    ensures { IfOk result (λ i. is_part part.now ≡ true → identifier_of i ≡ kept part.now) }
 {
     match part.parse::<u64>() {
         Ok(number) => Ok(Identifier::Numeric(number)),

@@ -1,4 +1,7 @@
+pub mod DottedParts
+mod DerivedOrder
 pub mod Joins
 pub mod Lists
 pub mod Numerals
 pub mod Numbers
+pub mod PrecedenceLaws

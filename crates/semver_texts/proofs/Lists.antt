@@ -1,7 +1,12 @@
 -- Lists, and what holds of each of their elements.
-use Rattle.std.proofs.Common.{◌≡◌, ℕ, Bool, true, false, List, [], ◌∷◌, ◌++◌, length, take, drop, refl, one-add}
-use Rattle.std.specs.Prelude.{IsTrue, slice_index}
+use Rattle.std.proofs.Common.{◌≡◌, ℕ, suc, ◌+◌, ◌<◌, Bool, true, false, List, [], ◌∷◌, ◌++◌, length, take, drop, get_or}
+use Rattle.std.proofs.Common.{refl, sym, ap, ◌∙◌, subst, arith, one-add}
+use Rattle.std.specs.Prelude.{IsTrue, map, slice_index}
 use Rattle.std.specs.List.{AllByRecursion, AllZip, prefix_len, join_with_byte}
+use Rattle.std.specs.Str.{IsAscii}
+use Rattle.std.proofs.Math.Seq.{take-suc}
+use Rattle.std.proofs.lemmas.Slice.Zip.{all_zipped_more}
+use Rattle.std.proofs.lemmas.Str.Ascii.{IsAscii-cons, IsAscii-nil}
 use Rattle.semver_texts.specs.Texts.{marked}
 
 pub tails : {x y : ℕ} {xs ys : List ℕ} → x ∷ xs ≡ y ∷ ys → xs ≡ ys
@@ -23,16 +28,37 @@ all_zipped each [] (y ∷ ys) all = absurd all
 all_zipped each (x ∷ xs) [] all = absurd all
 all_zipped each (x ∷ xs) (y ∷ ys) all = (each x y all.0, all_zipped each xs ys all.1)
 
--- ---- bytes
-
 -- either way a test goes
 pub by_test : {A : Type 0} (b : Bool) → (b ≡ true → A) → (b ≡ false → A) → A
 by_test true f g = f refl
 by_test false f g = g refl
 
+-- and what is made of the first
+pub zip_mapped : {A B C : Type 0} {R : A → B → Type 0} {P : B → Type 0} (S : C → B → Type 0) (f : A → C)
+    → ((a : A) (b : B) → R a b → P b → S (f a) b) → (xs : List A) (ys : List B) → AllZip R xs ys → AllByRecursion P ys → AllZip S (map f xs) ys
+zip_mapped S f each [] [] zip all = tt
+zip_mapped S f each [] (y ∷ ys) zip all = absurd zip
+zip_mapped S f each (x ∷ xs) [] zip all = absurd zip
+zip_mapped S f each (x ∷ xs) (y ∷ ys) zip all = (each x y zip.0 all.0, zip_mapped S f each xs ys zip.1 all.1)
+
+-- the first n of the other list, and the next one
+pub zip_more : {A B : Type 0} (R : A → B → Type 0) (xs : List A) (ys : List B) (n : ℕ) (a : A) (b : B) → n < length ys → b ≡ get_or ys n b
+    → R a b → AllZip R xs (take n ys) → AllZip R (xs ++ a ∷ []) (take (n + 1) ys)
+zip_more R xs ys n a b inside here met zip =
+    let next : suc n ≡ n + 1 = omega arith in
+    subst (AllZip R (xs ++ a ∷ []))
+    (ap (λ x. take n ys ++ x ∷ []) here ∙ sym (take-suc ys n b inside) ∙ ap (λ k. take k ys) next)
+    (all_zipped_more R xs (take n ys) a b zip met)
+
+-- ---- bytes
+
 -- each byte passes the test
 abbrev pub Passes : (ℕ → Bool) → List ℕ → Type 0
 Passes p bs = AllByRecursion (λ b. IsTrue (p b)) bs
+
+pub ascii_from : (p : ℕ → Bool) → ((b : ℕ) → p b ≡ true → b < 128) → (bs : List ℕ) → Passes p bs → IsAscii bs
+ascii_from p small [] all = IsAscii-nil
+ascii_from p small (b ∷ bs) all = IsAscii-cons b bs (small b all.0) (ascii_from p small bs all.1)
 
 pub passes_append : (p : ℕ → Bool) (xs ys : List ℕ) → Passes p xs → Passes p ys → Passes p (xs ++ ys)
 passes_append p [] ys a b = b

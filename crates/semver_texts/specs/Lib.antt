@@ -4,3 +4,4 @@ pub mod Versions
 pub mod PrintedText
 pub mod VersionGrammar
 pub mod VersionViews
+pub mod Precedence

@@ -3,7 +3,7 @@ use Prim.Native.Char.{code}
 use Rattle.std.specs.Prelude.{◌≡◌, ℕ, ◌^◌, ◌<◌, Bool, true, false, ◌||◌, ◌==◌, List, [], ◌∷◌, ◌++◌}
 use Rattle.std.specs.Prelude.{length, map, slice_index, IsTrue, decimal}
 use Rattle.std.specs.Char.{is_ascii_alphanumeric, is_ascii_digit}
-use Rattle.std.specs.List.{AllByRecursion, join_with_byte}
+use Rattle.std.specs.List.{AllByRecursion, join_with_byte, slice_split}
 
 -- a text, as its bytes
 abbrev pub Text : Type 0
@@ -22,6 +22,20 @@ is_part_byte b = is_ascii_alphanumeric b || (b == code "-")
 -- a dot
 abbrev pub is_dot : ℕ → Bool
 is_dot b = b == code "."
+
+-- a byte of parts joined by dots
+abbrev pub is_dotted_byte : ℕ → Bool
+is_dotted_byte b = is_part_byte b || is_dot b
+
+-- the texts between the dots; none where there is nothing
+abbrev pub cut_at_dots : Text → List Text
+cut_at_dots [] = []
+cut_at_dots (b ∷ t) = slice_split is_dot (b ∷ t)
+
+-- whether a text begins with this byte
+abbrev pub begins_with : ℕ → Text → Bool
+begins_with b [] = false
+begins_with b (c ∷ t) = c == b
 
 -- a space, a tab, a line feed or a carriage return
 abbrev pub is_space : ℕ → Bool

@@ -5,5 +5,8 @@
 
 pub mod bytes;
 pub mod decimals;
+pub mod dotted;
+pub mod laws;
+pub mod precedence;
 pub mod printing;
 pub mod version;

@@ -1,5 +1,5 @@
 -- A text may be cut where a token ends.
-use Rattle.std.proofs.Common.{◌≡◌, ℕ, zero, suc, ◌+◌, ◌-◌, ◌<◌, ◌≤◌, Bool, true, List, [], ◌∷◌, ◌++◌, length, get_or, take, drop, sym, refl}
+use Rattle.std.proofs.Common.{◌≡◌, ℕ, zero, suc, ◌+◌, ◌-◌, ◌<◌, ◌≤◌, Bool, true, List, ◌++◌, length, get_or, take, drop, sym, refl}
 use Rattle.std.proofs.Common.{ap, ◌∙◌, subst, arith, IsUtf8, length-drop, length-append, length-take-le, take-append-drop, zero-add}
 use Rattle.std.proofs.Common.{get_or-drop, Some, ltb}
 use Rattle.std.specs.Prelude.{IsTrue, IsCharBoundary}
@@ -10,17 +10,13 @@ use Rattle.std.proofs.lemmas.List.Sums.{prefix_len-le-length}
 use Rattle.std.proofs.lemmas.List.{get_or_append_left}
 use Rattle.std.proofs.lemmas.Bool.{ltb-true}
 use Rattle.std.proofs.lemmas.Str.{IsCharBoundary-start, IsCharBoundary-after_ascii, IsCharBoundary-from_rest}
-use Rattle.std.proofs.lemmas.Str.Ascii.{IsAscii-cons, IsAscii-nil}
 use Rattle.std.proofs.lemmas.Fmt.{IsAscii-decimal}
 use Rattle.semver_texts.specs.Texts.{is_space}
+use Rattle.semver_texts.proofs.Lists.{ascii_from}
 use Rattle.semver_tokens.specs.Tokens.{TokenValue, LtEq, GtEq, Or, Whitespace}
 use Rattle.semver_tokens.specs.Tokens.{Numeric, AlphaNumeric, token_text, IsTokenAt}
 use Rattle.semver_tokens.specs.Means.Scanning.{first_token}
 use Rattle.semver_tokens.proofs.FirstToken.{all_of_prefix, IsFound, first_token-found, run_ascii, space_ascii}
-
-pub ascii_from : (p : ℕ → Bool) → ((b : ℕ) → p b ≡ true → b < 128) → (bs : List ℕ) → AllByRecursion (λ b. IsTrue (p b)) bs → IsAscii bs
-ascii_from p small [] all = IsAscii-nil
-ascii_from p small (b ∷ bs) all = IsAscii-cons b bs (small b all.0) (ascii_from p small bs all.1)
 
 small_ascii : (bs : List ℕ) → AllByRecursion (λ b. IsTrue (ltb b 128)) bs → IsAscii bs
 small_ascii bs all = ascii_from (λ b. ltb b 128) (λ b h. ltb-true b 128 h) bs all

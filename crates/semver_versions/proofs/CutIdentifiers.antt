@@ -1,25 +1,23 @@
 -- Identifiers as they are found byte by byte, and as they are cut at dots.
-use Rattle.std.proofs.Common.{◌≡◌, ℕ, ◌<◌, suc, ◌+◌, Bool, true, false, cond, List, [], ◌∷◌, ◌++◌, zero, length, take, drop}
-use Rattle.std.proofs.Common.{get_or, sym, refl, ap, ◌∙◌, subst, arith, append_assoc, append-nil, length-append, one-add}
-use Rattle.std.specs.Prelude.{◌==◌, ◌||◌, ◌&&◌, slice_index, MatchOption}
-use Rattle.std.specs.Bool.{then_some}
-use Rattle.std.specs.List.{AllByRecursion, AllZip, slice_split, join_with_byte, prefix_len}
+use Rattle.std.proofs.Common.{◌≡◌, ℕ, ◌<◌, ◌+◌, Bool, true, false, cond, List, [], ◌∷◌, ◌++◌, length, take, drop}
+use Rattle.std.proofs.Common.{sym, refl, ap, ◌∙◌, subst, arith, append_assoc, append-nil, length-append, one-add}
+use Rattle.std.specs.Prelude.{◌==◌, ◌||◌, ◌&&◌, slice_index, Some, None}
+use Rattle.std.specs.List.{AllByRecursion, slice_split, join_with_byte, prefix_len}
 use Rattle.std.specs.Char.{is_ascii_alphanumeric}
-use Rattle.std.proofs.Math.Seq.{take-suc}
 use Rattle.std.proofs.lemmas.Bool.{eqb-true, eq-eqb}
 use Rattle.std.proofs.lemmas.Bool.Decides.{nat_tests}
 use Rattle.std.proofs.lemmas.List.Folds.{length-prefix_len}
-use Rattle.std.proofs.lemmas.List.{take-append-drop, drop_more, take_at, drop_at}
-use Rattle.std.proofs.lemmas.List.Sums.{prefix_len-drop_no}
-use Rattle.std.proofs.lemmas.Slice.Zip.{all_zipped_more}
+use Rattle.std.proofs.lemmas.List.{take-append-drop, take_at, drop_at}
 use Rattle.std.proofs.lemmas.List.Splits.{join_with_byte-slice_split, length-slice_split}
-use Rattle.semver_texts.specs.Texts.{Text, marked, is_part_byte, IsRun, is_dot}
-use Rattle.semver_texts.specs.Versions.{IdentifierValue}
-use Rattle.semver_texts.specs.VersionGrammar.{IsIdentifierText, SpellsIdentifier}
-use Rattle.semver_versions.specs.Means.Cutting.{cut_at_dots, AreIdentifiers, is_inner_byte, BeginsWithIdentifiers, IsPart}
-use Rattle.semver_texts.proofs.Lists.{tails, Passes, all_more, passes_append, joined_pass}
+use Rattle.semver_texts.specs.Texts.{Text, marked, is_part_byte, IsRun, is_dot, cut_at_dots, is_dotted_byte}
+use Rattle.semver_texts.specs.VersionGrammar.{IsIdentifierText}
+use Rattle.semver_texts.specs.declared.dotted.Hyphens.TheVariants.{BetweenRuns}
+use Rattle.semver_texts.specs.Means.DottedParts.{runs_stand, marked_part}
+use Rattle.semver_versions.specs.Means.Cutting.{AreIdentifiers, BeginsWithIdentifiers, IsPart}
+use Rattle.semver_texts.proofs.Lists.{Passes, all_more, by_test, passes_append, joined_pass}
+use Rattle.semver_texts.proofs.DottedParts.{found_same}
 use Rattle.semver_versions.proofs.OneVersion.{IsPartText, joined_runs, joined_some, split_joined}
-use Rattle.semver_tokens.proofs.FirstToken.{never, prefix_stops}
+use Rattle.semver_tokens.proofs.FirstToken.{prefix_stops}
 use Rattle.semver_tokens.proofs.TokenLists.{prefix_is}
 
 -- ---- one run more
@@ -79,14 +77,11 @@ before_hyphen run text is w = record {
 
 -- ---- byte by byte
 
--- each hyphen and each dot before the first other byte stands between letters or digits
-abbrev pub stands : Bool → Text → Bool
-stands in_run [] = in_run
-stands in_run (b ∷ bs) =
-    cond (is_ascii_alphanumeric b) (stands true bs) (cond (b == 45 || b == 46) (in_run && stands false bs) in_run)
+abbrev stands : Bool → Text → Bool
+stands = runs_stand is_ascii_alphanumeric
 
 abbrev front : Text → Text
-front bytes = take (prefix_len is_inner_byte bytes) bytes
+front bytes = take (prefix_len is_dotted_byte bytes) bytes
 
 -- then they are identifiers
 begun : (bytes : Text) → (stands false bytes ≡ true → AreJoined (front bytes))
@@ -101,9 +96,9 @@ begun (b ∷ bytes) = by (is_ascii_alphanumeric b) (b == 45) (b == 46) refl refl
         → (stands false bytes ≡ true → AreJoined (front bytes))
         × ((run : Text) → IsRun run → stands true bytes ≡ true → AreJoined (run ++ front bytes))
         → (cond letter (stands true bytes) (cond (hyphen || dot) (false && stands false bytes) false) ≡ true
-        → AreJoined (take (cond ((letter || hyphen) || dot) (1 + prefix_len is_inner_byte bytes) 0) (b ∷ bytes)))
+        → AreJoined (take (cond ((letter || hyphen) || dot) (1 + prefix_len is_dotted_byte bytes) 0) (b ∷ bytes)))
         × ((run : Text) → IsRun run → cond letter (stands true bytes) (cond (hyphen || dot) (true && stands false bytes) true) ≡ true
-        → AreJoined (run ++ take (cond ((letter || hyphen) || dot) (1 + prefix_len is_inner_byte bytes) 0) (b ∷ bytes)))
+        → AreJoined (run ++ take (cond ((letter || hyphen) || dot) (1 + prefix_len is_dotted_byte bytes) 0) (b ∷ bytes)))
     by true hyphen dot is h d more = (
       λ e. subst AreJoined (sym (one_taken _)) (more.1 (b ∷ []) (one_run b is) e),
       λ run r e. subst AreJoined (append_assoc run (b ∷ []) (front bytes) ∙ ap (λ t. run ++ t) (sym (one_taken _)))
@@ -180,7 +175,7 @@ stand_found bytes e =
         arith,
         joined_some 46 w.first w.others (identifier_part w.first w.each.0).0,
         ap length w.joined,
-        length-prefix_len is_inner_byte bytes,
+        length-prefix_len is_dotted_byte bytes,
       ),
       subst AreIdentifiers (sym w.joined) (subst (AllByRecursion IsIdentifierText) (sym (cut_texts (w.first ∷ w.others) w.each)) w.each),
     )
@@ -189,57 +184,24 @@ stand_found bytes e =
 pub ends_front : (p : ℕ → Bool) → p 0 ≡ false → (text : Text) → p (slice_index (drop (prefix_len p text) text) 0) ≡ false
 ends_front p past text = prefix_stops p text past
 
-other_stands : (more : Text) → is_inner_byte (slice_index more 0) ≡ false → stands true more ≡ true
+other_stands : (more : Text) → is_dotted_byte (slice_index more 0) ≡ false → stands true more ≡ true
 other_stands [] e = refl
 other_stands (b ∷ more) e = let n = not_inner b e in rw (n.0, n.1) refl
   where
-    not_inner : (b : ℕ) → is_inner_byte b ≡ false → (is_ascii_alphanumeric b ≡ false) × ((b == 45 || b == 46) ≡ false)
+    not_inner : (b : ℕ) → is_dotted_byte b ≡ false → (is_ascii_alphanumeric b ≡ false) × ((b == 45 || b == 46) ≡ false)
     not_inner b e = (grind (arith, nat_tests), grind (arith, nat_tests))
 
 pub found_stand : (bytes : Text) → BeginsWithIdentifiers bytes → stands false bytes ≡ true
 found_stand bytes w =
-    let n : ℕ = prefix_len is_inner_byte bytes in
-    let some : 0 < length (take n bytes) = omega (arith, w.0, length-prefix_len is_inner_byte bytes) in
+    let n : ℕ = prefix_len is_dotted_byte bytes in
+    let some : 0 < length (take n bytes) = omega (arith, w.0, length-prefix_len is_dotted_byte bytes) in
     let is : join_with_byte 46 (cut_at_dots (take n bytes)) ≡ take n bytes =
     ap (join_with_byte 46) (some_cut (take n bytes) some) ∙ join_with_byte-slice_split 46 (take n bytes) in
     let count : 0 < length (cut_at_dots (take n bytes)) =
     omega (arith, ap length (some_cut (take n bytes) some), length-slice_split is_dot (take n bytes)) in
     ap (stands false) (sym (take-append-drop n bytes) ∙ ap (λ t. t ++ drop n bytes) (sym is))
     ∙ identifiers_stand false (cut_at_dots (take n bytes)) (drop n bytes) count w.1
-    ∙ other_stands (drop n bytes) (ends_front is_inner_byte refl bytes)
-
--- ---- at a place of a loop over the bytes
-
--- what was read so far: whether a run is being read, and how far the front goes
-pub record IsRead (bytes : Text) (at : ℕ) (in_run : Bool) : Type 0 where
-  pub standing : stands false bytes ≡ stands in_run (drop at bytes)
-  pub front_goes_on : prefix_len is_inner_byte bytes ≡ at + prefix_len is_inner_byte (drop at bytes)
-
--- a mark that no run comes before
-pub none_read : (bytes : Text) (at : ℕ) → at < length bytes → is_ascii_alphanumeric (get_or bytes at 0) ≡ false
-    → (get_or bytes at 0 == 45 || get_or bytes at 0 == 46) ≡ true → IsRead bytes at false → ¬ (BeginsWithIdentifiers bytes)
-none_read bytes at inside other mark w found =
-    let e : false ≡ true = sym (w.standing ∙ ap (stands false) (drop_more bytes at 0 inside) ∙ rw (other, mark) refl)
-    ∙ found_stand bytes found
-    in cc
-
--- where the front ends
-pub at_end : (bytes : Text) (at : ℕ) (in_run : Bool) → prefix_len is_inner_byte (drop at bytes) ≡ 0 → stands in_run (drop at bytes) ≡ in_run
-    → IsRead bytes at in_run → MatchOption (then_some in_run at) (¬ (BeginsWithIdentifiers bytes))
-    (λ len. BeginsWithIdentifiers bytes × (len ≡ prefix_len is_inner_byte bytes))
-at_end bytes at true ended same w = (stand_found bytes (w.standing ∙ same), omega (arith, w.front_goes_on, ended))
-at_end bytes at false ended same w = λ found. let e : false ≡ true = sym (w.standing ∙ same) ∙ found_stand bytes found in cc
-
-pub other_ends : (bytes : Text) (at : ℕ) (in_run : Bool) → at < length bytes → is_ascii_alphanumeric (get_or bytes at 0) ≡ false
-    → (get_or bytes at 0 == 45 || get_or bytes at 0 == 46) ≡ false
-    → (prefix_len is_inner_byte (drop at bytes) ≡ 0) × (stands in_run (drop at bytes) ≡ in_run)
-other_ends bytes at in_run inside other no_mark = (
-  prefix_len-drop_no is_inner_byte bytes at 0 inside (outer (get_or bytes at 0) other no_mark),
-  ap (stands in_run) (drop_more bytes at 0 inside) ∙ rw (other, no_mark) refl,
-)
-  where
-    outer : (b : ℕ) → is_ascii_alphanumeric b ≡ false → (b == 45 || b == 46) ≡ false → is_inner_byte b ≡ false
-    outer b h m = grind (arith, nat_tests)
+    ∙ other_stands (drop n bytes) (ends_front is_dotted_byte refl bytes)
 
 -- ---- a part behind its mark
 
@@ -253,80 +215,54 @@ marked_cut mark text some =
     ∙ marked_some (mark ∷ []) (slice_split is_dot text) (omega (arith, length-slice_split is_dot text))
     ∙ ap (λ t. mark ∷ t) (join_with_byte-slice_split 46 text)
 
-pub inner_passes : (inner : Text) → AreIdentifiers inner → Passes is_inner_byte inner
+pub inner_passes : (inner : Text) → AreIdentifiers inner → Passes is_dotted_byte inner
 inner_passes [] each = tt
 inner_passes (b ∷ inner) each =
-    subst (Passes is_inner_byte) (join_with_byte-slice_split 46 (b ∷ inner))
-    (joined_pass is_inner_byte 46 refl (cut_at_dots (b ∷ inner)) (all_more inner_text (cut_at_dots (b ∷ inner)) each))
+    subst (Passes is_dotted_byte) (join_with_byte-slice_split 46 (b ∷ inner))
+    (joined_pass is_dotted_byte 46 refl (cut_at_dots (b ∷ inner)) (all_more inner_text (cut_at_dots (b ∷ inner)) each))
   where
-    part_is_inner : (b : ℕ) → is_part_byte b ≡ true → is_inner_byte b ≡ true
+    part_is_inner : (b : ℕ) → is_part_byte b ≡ true → is_dotted_byte b ≡ true
     part_is_inner b h = rw h refl
 
-    inner_text : (t : Text) → IsIdentifierText t → Passes is_inner_byte t
+    inner_text : (t : Text) → IsIdentifierText t → Passes is_dotted_byte t
     inner_text t is = all_more part_is_inner t (identifier_part t is).1
 
-module _ (text behind : Text) (mark : ℕ) (apart : text ≡ mark ∷ behind) where
-  -- the part that is found
-  pub part_found : (inner rest : Text) (len : ℕ) → BeginsWithIdentifiers behind → len ≡ prefix_len is_inner_byte behind
-      → inner ≡ take len behind → rest ≡ drop len behind → AreIdentifiers inner × (text ≡ marked (mark ∷ []) (cut_at_dots inner) ++ rest)
-  part_found inner rest len begins is front back =
-      let same : inner ≡ take (prefix_len is_inner_byte behind) behind = front ∙ ap (λ k. take k behind) is in
-      let some : 0 < length inner = omega (arith, begins.0, ap length same, length-prefix_len is_inner_byte behind) in (
-        subst AreIdentifiers (sym same) begins.1,
-        apart ∙ ap (λ t. mark ∷ t) (sym (take-append-drop len behind) ∙ (λ i. sym front i ++ sym back i))
-            ∙ ap (λ t. t ++ rest) (sym (marked_cut mark inner some)),
-      )
+-- the part that is found
+pub part_found : (mark : ℕ) (text inner rest : Text) → marked_part BetweenRuns mark text ≡ Some (inner, rest)
+    → AreIdentifiers inner × (text ≡ marked (mark ∷ []) (cut_at_dots inner) ++ rest)
+part_found mark [] inner rest e =
+    let same = found_same e in (subst AreIdentifiers same.0 tt, λ i. marked (mark ∷ []) (cut_at_dots (same.0 i)) ++ same.1 i)
+part_found mark (b ∷ behind) inner rest e = by_test (b == mark)
+    (λ y. by_test (stands false behind)
+    (λ are. let n : ℕ = prefix_len is_dotted_byte behind in
+    let there : Some (front behind, drop n behind) ≡ Some (inner, rest) = rw (y, are) at e in
+    let same = found_same there in
+    let found = stand_found behind are in
+    let some : 0 < length inner = omega (arith, found.0, ap length same.0, length-prefix_len is_dotted_byte behind) in (
+      subst AreIdentifiers same.0 found.1,
+      (λ i. eqb-true b mark y i ∷ (sym (take-append-drop n behind) ∙ (λ j. same.0 j ++ same.1 j)) i)
+          ∙ ap (λ t. t ++ rest) (sym (marked_cut mark inner some)),
+    ))
+    (λ other. let none : None ≡ Some (inner, rest) = rw (y, other) at e in cc))
+    (λ n. let found : Some ([], b ∷ behind) ≡ Some (inner, rest) = rw n at e in
+    let same = found_same found in (subst AreIdentifiers same.0 tt, λ i. marked (mark ∷ []) (cut_at_dots (same.0 i)) ++ same.1 i))
 
-  part_begins : (inner rest : Text) → IsPart mark text inner rest
-      → (0 < length inner) × (behind ≡ inner ++ rest) × (prefix_len is_inner_byte behind ≡ length inner)
-  part_begins [] rest w = absurd (never (sym (ap (λ t. slice_index t 0 == mark) (sym apart ∙ w.split)) ∙ eq-eqb mark mark refl) w.no_mark)
-  part_begins (b ∷ inner) rest w =
-      let behind_is : behind ≡ (b ∷ inner) ++ rest =
-      tails (sym apart ∙ w.split ∙ ap (λ t. t ++ rest) (marked_cut mark (b ∷ inner) (omega arith))) in (
-        omega arith,
-        behind_is,
-        ap (prefix_len is_inner_byte) behind_is
-            ∙ prefix_is is_inner_byte (b ∷ inner) rest (inner_passes (b ∷ inner) w.each) refl w.ended,
-      )
-
-  -- where there is a part, it is that
-  pub part_not_found : ¬ (BeginsWithIdentifiers behind) → (inner rest : Text) → ¬ (IsPart mark text inner rest)
-  part_not_found none inner rest w =
-      let b = part_begins inner rest w in
-      none (
-        omega (arith, b.0, b.2),
-        subst AreIdentifiers (sym (take_at inner rest (length inner) refl) ∙ (λ i. take (sym b.2 i) (sym b.1 i))) w.each,
-      )
-
-  pub part_is : (inner rest found left : Text) (len : ℕ) → len ≡ prefix_len is_inner_byte behind → found ≡ take len behind
-      → left ≡ drop len behind → IsPart mark text inner rest → (found ≡ inner) × (left ≡ rest)
-  part_is inner rest found left len is front back w =
-      let b = part_begins inner rest w in
-      let count : len ≡ length inner = is ∙ b.2 in (
-        front ∙ (λ i. take (count i) (b.1 i)) ∙ take_at inner rest (length inner) refl,
-        back ∙ (λ i. drop (count i) (b.1 i)) ∙ drop_at inner rest (length inner) refl,
-      )
-
--- and a text that doesn't begin with the mark has none
-pub no_part : (text : Text) (mark : ℕ) → ((behind : Text) → ¬ (text ≡ mark ∷ behind)) → (inner rest : Text)
-    → IsPart mark text inner rest → ([] ≡ inner) × (text ≡ rest)
-no_part text mark other [] rest w = (refl, w.split)
-no_part text mark other (b ∷ inner) rest w =
-    absurd (other ((b ∷ inner) ++ rest) (w.split ∙ ap (λ t. t ++ rest) (marked_cut mark (b ∷ inner) (omega arith))))
-
--- ---- identifiers one after the other
-
-pub all_at : {X : Type 0} (P : X → Type 0) (xs : List X) (n : ℕ) (d : X) → AllByRecursion P xs → n < length xs → P (get_or xs n d)
-all_at P [] n d all inside = absurd (omega (arith, inside))
-all_at P (x ∷ xs) zero d all inside = all.0
-all_at P (x ∷ xs) (suc n) d all inside = all_at P xs n d all.1 (omega (arith, inside))
-
--- the first n texts are spelled by identifiers, and the next one is by one more
-pub one_more_spelled : (texts : List Text) (n : ℕ) (t : Text) (ids : List IdentifierValue) (id : IdentifierValue) → n < length texts
-    → t ≡ get_or texts n t → SpellsIdentifier id t → AllZip SpellsIdentifier ids (take n texts)
-    → AllZip SpellsIdentifier (ids ++ id ∷ []) (take (n + 1) texts)
-one_more_spelled texts n t ids id inside here spells zip =
-    let next : suc n ≡ n + 1 = omega arith in
-    subst (AllZip SpellsIdentifier (ids ++ id ∷ []))
-    (ap (λ u. take n texts ++ u ∷ []) here ∙ sym (take-suc texts n t inside) ∙ ap (λ k. take k texts) next)
-    (all_zipped_more SpellsIdentifier ids (take n texts) id t zip spells)
+-- where there is a part, it is that
+pub part_is : (mark : ℕ) (text inner rest : Text) → IsPart mark text inner rest → marked_part BetweenRuns mark text ≡ Some (inner, rest)
+part_is mark [] [] rest w = cc
+part_is mark (b ∷ text) [] rest w =
+    rw (ap (λ t. slice_index t 0 == mark) w.split ∙ w.no_mark) (ap (λ t. Some ([], t)) w.split)
+part_is mark text (b ∷ inner) rest w =
+    let part : Text = b ∷ inner in
+    let n : prefix_len is_dotted_byte (part ++ rest) ≡ length part =
+    prefix_is is_dotted_byte part rest (inner_passes part w.each) refl w.ended in
+    let begins : BeginsWithIdentifiers (part ++ rest) = (
+      omega (arith, n),
+      subst AreIdentifiers (sym (take_at part rest (length part) refl) ∙ ap (λ k. take k (part ++ rest)) (sym n)) w.each,
+    ) in
+    ap (marked_part BetweenRuns mark) (w.split ∙ ap (λ t. t ++ rest) (marked_cut mark part (omega arith)))
+    ∙ rw (eq-eqb mark mark refl, found_stand (part ++ rest) begins)
+    (ap Some (λ i. (
+      (ap (λ k. take k (part ++ rest)) n ∙ take_at part rest (length part) refl) i,
+      (ap (λ k. drop k (part ++ rest)) n ∙ drop_at part rest (length part) refl) i,
+    )))

@@ -1,5 +1,4 @@
 pub mod CutIdentifiers
-pub mod IdentifierBytes
 pub mod OneVersion
 pub mod OutlinedTexts
 pub mod ParseFacts

@@ -1,6 +1,6 @@
 -- A text of three numbers, and of identifiers behind their marks, spells a version, and any other text spells none.
 use Rattle.std.proofs.Common.{◌≡◌, ℕ, true, false, List, [], ◌∷◌, ◌++◌, length, take, drop, map, sym, refl, ap, ◌∙◌, subst}
-use Rattle.std.proofs.Common.{⊎_elim, ◌⊎◌, arith, append_assoc, codes, decimal}
+use Rattle.std.proofs.Common.{⊎_elim, arith, append_assoc, codes, decimal}
 use Rattle.std.specs.Prelude.{◌==◌, slice_index}
 use Rattle.std.specs.List.{AllByRecursion, AllZip, join_with_byte, prefix_len}
 use Rattle.std.proofs.lemmas.List.{drop_at, take-append-drop}
@@ -10,7 +10,8 @@ use Rattle.semver_texts.specs.Texts.{Text, marked, is_space, BeginsWithNumbers}
 use Rattle.semver_texts.specs.Versions.{IdentifierValue, numeric, alphanumeric, VersionValue}
 use Rattle.semver_texts.specs.Means.Decimals.{is_number}
 use Rattle.semver_texts.specs.VersionGrammar.{IsIdentifierText, SpellsIdentifier, SpellsPart, SpellsVersion, IsVersionText}
-use Rattle.semver_versions.specs.Means.Cutting.{cut_at_dots, AreIdentifiers, is_inner_byte, AreSpaces, IsPart, AreParts}
+use Rattle.semver_versions.specs.Means.Cutting.{AreIdentifiers, AreSpaces, IsPart, AreParts}
+use Rattle.semver_texts.specs.Texts.{cut_at_dots, is_dotted_byte}
 use Rattle.semver_texts.proofs.Numbers.{is_number_true, canonical_from_is_number, canonical_from_IsNumber, IsNumber-from_canonical}
 use Rattle.semver_texts.proofs.Numbers.{same_numbers}
 use Rattle.semver_texts.proofs.Lists.{all_zipped, passes_append}
@@ -18,11 +19,15 @@ use Rattle.semver_tokens.proofs.FirstToken.{all_of_prefix, never}
 use Rattle.semver_tokens.proofs.TokenLists.{prefix_is, decimal_is_run}
 use Rattle.semver_versions.proofs.OneVersion.{begins_marked, space_begins, numbers_first, at_numbers, behind_numbers, behind_spaces}
 use Rattle.semver_versions.proofs.OneVersion.{core_begins}
-use Rattle.semver_versions.proofs.CutIdentifiers.{identifier_part, cut_texts, run_identifier}
+use Rattle.semver_versions.proofs.CutIdentifiers.{identifier_part, cut_texts, run_identifier, part_found, part_is}
+use Rattle.semver_texts.specs.declared.dotted.Hyphens.TheVariants.{BetweenRuns}
+use Rattle.semver_texts.specs.Means.DottedParts.{marked_part}
+use Rattle.semver_texts.proofs.DottedParts.{found_same}
+use Rattle.std.specs.Prelude.{Some, None}
 
 -- ---- what white space isn't
 
-no_inner : (b : ℕ) → is_space b ≡ true → is_inner_byte b ≡ false
+no_inner : (b : ℕ) → is_space b ≡ true → is_dotted_byte b ≡ false
 no_inner b h = grind (arith, nat_tests)
 
 no_hyphen : (b : ℕ) → is_space b ≡ true → (b == 45) ≡ false
@@ -38,8 +43,8 @@ module _ (text pre build : Text) (w : AreParts text pre build) where
   pre_is = record {
     each = w.pre_each;
     split = w.split;
-    ended = begins_marked is_inner_byte 43 (cut_at_dots build) w.after refl
-        (space_begins is_inner_byte w.after w.spaces refl no_inner);
+    ended = begins_marked is_dotted_byte 43 (cut_at_dots build) w.after refl
+        (space_begins is_dotted_byte w.after w.spaces refl no_inner);
     no_mark = begins_marked (λ b. b == 45) 43 (cut_at_dots build) w.after refl
         (space_begins (λ b. b == 45) w.after w.spaces refl no_hyphen);
   }
@@ -48,26 +53,46 @@ module _ (text pre build : Text) (w : AreParts text pre build) where
   build_is = record {
     each = w.build_each;
     split = refl;
-    ended = space_begins is_inner_byte w.after w.spaces refl no_inner;
+    ended = space_begins is_dotted_byte w.after w.spaces refl no_inner;
     no_mark = space_begins (λ b. b == 43) w.after w.spaces refl no_plus;
   }
 
+is_none : {X : Type 0} {x : X} → None ≡ Some x → ⊥
+is_none e = cc
+
 -- so they are found where they are there
-pub no_pre : (text : Text) → ((inner rest : Text) → ¬ (IsPart 45 text inner rest)) → (pre build : Text) → ¬ (AreParts text pre build)
-no_pre text none pre build w = none pre _ (pre_is text pre build w)
+pub no_pre : (text : Text) → marked_part BetweenRuns 45 text ≡ None → (pre build : Text) → ¬ (AreParts text pre build)
+no_pre text none pre build w =
+    let e : None ≡ Some (pre, marked (codes "+") (cut_at_dots build) ++ w.after) = sym none ∙ part_is 45 text pre _ (pre_is text pre build w) in
+    absurd (is_none e)
 
-module _ (text found rest : Text) (pre_only : (inner more : Text) → IsPart 45 text inner more → (found ≡ inner) × (rest ≡ more)) where
-  pub no_build : ((inner more : Text) → ¬ (IsPart 43 rest inner more)) → (pre build : Text) → ¬ (AreParts text pre build)
-  no_build none pre build w =
-      none build w.after (subst (λ t. IsPart 43 t build w.after) (sym (pre_only pre _ (pre_is text pre build w)).1)
-      (build_is text pre build w))
+module _ (text found rest : Text) (at : marked_part BetweenRuns 45 text ≡ Some (found, rest)) where
+  behind_pre : (pre build : Text) (w : AreParts text pre build) → rest ≡ marked (codes "+") (cut_at_dots build) ++ w.after
+  behind_pre pre build w = (found_same (sym at ∙ part_is 45 text pre _ (pre_is text pre build w))).1
 
-  pub no_end : (also left : Text) → ((inner more : Text) → IsPart 43 rest inner more → (also ≡ inner) × (left ≡ more)) → ¬ (AreSpaces left)
-      → (pre build : Text) → ¬ (AreParts text pre build)
-  no_end also left build_only other pre build w =
-      other (subst AreSpaces (sym (build_only build w.after
-      (subst (λ t. IsPart 43 t build w.after) (sym (pre_only pre _ (pre_is text pre build w)).1) (build_is text pre build w))).1)
-      w.spaces)
+  behind_build : (pre build : Text) (w : AreParts text pre build) → marked_part BetweenRuns 43 rest ≡ Some (build, w.after)
+  behind_build pre build w =
+      ap (marked_part BetweenRuns 43) (behind_pre pre build w) ∙ part_is 43 _ build w.after (build_is text pre build w)
+
+  pub no_build : marked_part BetweenRuns 43 rest ≡ None → (pre build : Text) → ¬ (AreParts text pre build)
+  no_build none pre build w = absurd (is_none (sym none ∙ behind_build pre build w))
+
+  pub no_end : (also left : Text) → marked_part BetweenRuns 43 rest ≡ Some (also, left) → ¬ (AreSpaces left) → (pre build : Text)
+      → ¬ (AreParts text pre build)
+  no_end also left there other pre build w =
+      other (subst AreSpaces (sym (found_same (sym there ∙ behind_build pre build w)).1) w.spaces)
+
+  pub parts_found : (also left : Text) → marked_part BetweenRuns 43 rest ≡ Some (also, left) → AreSpaces left → AreParts text found also
+  parts_found also left there spaces =
+      let pre = part_found 45 text found rest at in
+      let build = part_found 43 rest also left there in
+      record {
+        after = left;
+        pre_each = pre.0;
+        build_each = build.0;
+        spaces = spaces;
+        split = pre.1 ∙ ap (λ t. marked (codes "-") (cut_at_dots found) ++ t) build.1;
+      }
 
 -- ---- a version, from its numbers and its parts
 

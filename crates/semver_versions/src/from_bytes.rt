@@ -1,81 +1,17 @@
 //! A version text read from its bytes to its outline: three numbers, and the pre-release and the
 //! build as slices. Each byte that is read as a part of a version is ASCII, so the bytes need no
 //! check for UTF-8.
-ghost use Rattle.std.specs.Prelude.{◌≡◌, ◌==◌, ◌||◌, ◌<◌, ◌+◌, ◌^◌, ◌++◌, [], ◌∷◌, ℕ, true, false};
-ghost use Rattle.std.specs.Prelude.{length, drop, IfSome, MatchOption};
+ghost use Rattle.std.specs.Prelude.{◌≡◌, ◌<◌, ◌+◌, ◌^◌, [], ◌∷◌, ℕ, true, false, length, drop};
+ghost use Rattle.std.specs.Prelude.{MatchOption};
 ghost use Rattle.std.specs.List.{prefix_len};
-ghost use Rattle.semver_texts.specs.Texts.{Text, BeginsWithNumbers, marked, is_space};
+ghost use Rattle.semver_texts.specs.Texts.{Text, BeginsWithNumbers, cut_at_dots, marked, is_space};
 ghost use Rattle.semver_versions.specs.Outlines.{behind_mark};
-ghost use Rattle.semver_versions.specs.Means.Cutting.{cut_at_dots, AreIdentifiers, is_inner_byte};
-ghost use Rattle.semver_versions.specs.Means.Cutting.{BeginsWithIdentifiers, AreSpaces, IsPart};
-ghost use Rattle.semver_versions.specs.Means.Cutting.{AreParts, IsOutlined};
+ghost use Rattle.semver_versions.specs.Means.Cutting.{AreSpaces, AreParts, IsOutlined};
 
-use crate::identifiers::text_of_identifiers;
 use crate::outlines::Outline;
 use semver_texts::bytes::space_len;
 use semver_texts::decimals::{begins_with_digit, numbers};
-
-/// A hyphen or a dot.
-#[inline(always)]
-fn is_between_runs(byte: u8) -> bool
-    ensures { result ≡ (byte == 45 || byte == 46) }
-{
-    matches!(byte, b'-' | b'.')
-}
-
-/// How many bytes at the front are identifiers joined by dots, up to a byte that can't stand in
-/// them.
-#[inline(always)]
-fn identifiers_len(bytes: &[u8]) -> Option<usize>
-    ensures { MatchOption result (¬ (BeginsWithIdentifiers bytes.now))
-        (λ len. BeginsWithIdentifiers bytes.now
-        × (len ≡ prefix_len is_inner_byte bytes.now)) }
-{
-    let mut in_run = false;
-    for at in 0..bytes.len() {
-        let byte = bytes[at];
-        if byte.is_ascii_alphanumeric() {
-            in_run = true;
-            continue;
-        }
-        if !is_between_runs(byte) {
-            return in_run.then_some(at);
-        }
-        if !in_run {
-            return None;
-        }
-        in_run = false;
-    }
-    in_run.then_some(bytes.len())
-}
-
-/// What follows the mark, where the bytes begin with it.
-#[inline(always)]
-fn behind_mark(bytes: &[u8], mark: u8) -> Option<&[u8]>
-    ensures { MatchOption result ((behind : Text) → ¬ (bytes.now ≡ mark ∷ behind))
-        (λ behind. bytes.now ≡ mark ∷ behind.now) }
-{
-    match bytes {
-        [first, behind @ ..] if *first == mark => Some(behind),
-        _ => None,
-    }
-}
-
-/// The identifiers behind the mark, and what follows them; where the bytes don't begin with the
-/// mark, nothing and all of them.
-#[inline(always)]
-fn part(bytes: &[u8], mark: u8) -> Option<(&[u8], &[u8])>
-    ensures found { IfSome result (λ r. AreIdentifiers r.0.now
-        × (bytes.now ≡ marked (mark ∷ []) (cut_at_dots r.0.now) ++ r.1.now)) }
-    ensures only { (inner rest : Text) → IsPart mark bytes.now inner rest →
-        MatchOption result ⊥ (λ r. (r.0.now ≡ inner) × (r.1.now ≡ rest)) }
-{
-    let Some(behind) = behind_mark(bytes, mark) else {
-        return Some((&[], bytes));
-    };
-    let len = identifiers_len(behind)?;
-    Some(behind.split_at(len))
-}
+use semver_texts::dotted::{Hyphens, marked_part, text_of_parts};
 
 /// Whether the bytes are white space alone.
 #[inline(always)]
@@ -93,8 +29,8 @@ fn parts(bytes: &[u8]) -> Option<(&[u8], &[u8])>
     ensures { MatchOption result ((pre build : Text) → ¬ (AreParts bytes.now pre build))
         (λ r. AreParts bytes.now r.0.now r.1.now) }
 {
-    let (pre, rest) = part(bytes, b'-')?;
-    let (build, rest) = part(rest, b'+')?;
+    let (pre, rest) = marked_part(bytes, b'-', Hyphens::BetweenRuns)?;
+    let (build, rest) = marked_part(rest, b'+', Hyphens::BetweenRuns)?;
     if are_spaces(rest) {
         Some((pre, build))
     } else {
@@ -141,8 +77,8 @@ fn with_parts(
         major,
         minor,
         patch,
-        pre: text_of_identifiers(pre),
-        build: text_of_identifiers(build),
+        pre: text_of_parts(pre),
+        build: text_of_parts(build),
         before_pre: behind_mark_at(numbers_end, pre),
         before_build: behind_mark_at(pre_end, build),
     })

@@ -20,6 +20,7 @@ ghost use Rattle.semver_steps.specs.ParserViews.{answer_of, UnlessOutOfMemory, I
 use crate::from_bytes;
 pub use crate::outlines::Outline;
 use semver_steps::parser::{self, Parser};
+pub use semver_texts::precedence::cmp_precedence;
 pub use semver_texts::version::{Identifier, Version};
 use std::alloc::{AllocError, Global};
 

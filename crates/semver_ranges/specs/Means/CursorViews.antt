@@ -19,7 +19,8 @@ use Rattle.semver_texts.specs.Texts.{Text}
 use Rattle.semver_ranges.specs.Means.Reading.{parts, behind_three}
 use Rattle.semver_ranges.specs.Means.RangeEvents as list
 use Rattle.semver_ranges.specs.Means.RangeEvents.{one_simple, next_range, yielded, put, events_left}
-use Rattle.semver_ranges.specs.Means.PartialViews.{parts_of, IsPartialOf}
+use Rattle.semver_ranges.specs.Means.PartialViews.{IsPartialOf}
+use Rattle.semver_texts.specs.Texts.{cut_at_dots}
 
 -- what is found at the front of a text, and what follows it
 abbrev pub Finds : {X A : Type 0} → (X → A → Type 0) → Option (X × Text) → Option (A × Bor Text)
@@ -37,8 +38,8 @@ abbrev pub FindsPre : Text → Option (Bor Text × Bor Text) → Type 0
 FindsPre t None = (a b c : Text) → behind_three a b c t ≡ None
 FindsPre t (Some found) =
     ((a b c : Text) → (build : List Text)
-    × (behind_three a b c t ≡ Some (three a b c (parts_of found.0.now) build, found.1.now)))
-    × (list_all is_part (parts_of found.0.now) ≡ true)
+    × (behind_three a b c t ≡ Some (three a b c (cut_at_dots found.0.now) build, found.1.now)))
+    × (list_all is_part (cut_at_dots found.0.now) ≡ true)
 
 -- what stands before a partial
 abbrev pub form_of : Form → tree.Form

@@ -1,7 +1,7 @@
 -- A means of proof, which no public clause cites: what private contracts see of components and
 -- partials.
 use Rattle.std.specs.Prelude.{◌≡◌, ℕ, Bool, true, false, Option, Some, None, List, [], ◌∷◌, map}
-use Rattle.std.specs.List.{list_all, slice_split}
+use Rattle.std.specs.List.{list_all}
 use Rattle.std.specs.Str.Parse.{digits_value}
 use Rattle.semver_ranges.specs.declared.partial.Component.{Component}
 use Rattle.semver_ranges.specs.declared.partial.Component.TheVariants.{Wildcard, Number}
@@ -16,15 +16,10 @@ use Rattle.semver_ranges.specs.declared.partial.Place.{Place}
 use Rattle.semver_ranges.specs.declared.partial.Place.TheVariants.{Major, Minor, Patch}
 use Rattle.semver_ranges.specs.RangeTree.{PartialTree, one, two, three, is_wildcard}
 use Rattle.semver_ranges.specs.RangeTree.{is_part}
-use Rattle.semver_texts.specs.Texts.{Text, is_dot}
+use Rattle.semver_texts.specs.Texts.{Text, cut_at_dots}
 use Rattle.semver_texts.specs.Versions.{IdentifierValue, PlainVersion}
 use Rattle.semver_ranges.specs.Partials.{fits_u64, kept, stated, zero_filled}
 use Rattle.semver_ranges.specs.ExactBounds.{lowest_pre_release}
-
--- the parts of a slice between dots; none where it is empty
-abbrev pub parts_of : Text → List Text
-parts_of [] = []
-parts_of (b ∷ t) = slice_split is_dot (b ∷ t)
 
 -- the numbers that are stated
 abbrev pub stated_at : PartialKind → ℕ → ℕ → ℕ → List ℕ
@@ -43,8 +38,7 @@ version_of p =
       major = p.major;
       minor = p.minor;
       patch = p.patch;
-      pre = map kept
-          (parts_of p.pre.now);
+      pre = map kept (cut_at_dots p.pre.now);
     }
 
 -- the place of a number, from 1
@@ -75,7 +69,7 @@ states_none _ = false
 
 -- the parts of a pre-release are parts
 abbrev pub PartsPass : Partial → Type 0
-PartsPass p = list_all is_part (parts_of p.pre.now) ≡ true
+PartsPass p = list_all is_part (cut_at_dots p.pre.now) ≡ true
 
 -- what a partial states: some number that doesn't fit, or these numbers and this pre-release
 abbrev pub IsPartialOf : PartialTree → Partial → Type 0
@@ -90,4 +84,4 @@ AreComponentsOf (one a) major minor patch pre = IsComponentOf a major × (minor 
 AreComponentsOf (two a b) major minor patch pre =
     IsComponentOf a major × IsComponentOf b minor × (patch ≡ Wildcard)
 AreComponentsOf (three a b c parts build) major minor patch pre =
-    IsComponentOf a major × IsComponentOf b minor × IsComponentOf c patch × (parts ≡ parts_of pre)
+    IsComponentOf a major × IsComponentOf b minor × IsComponentOf c patch × (parts ≡ cut_at_dots pre)

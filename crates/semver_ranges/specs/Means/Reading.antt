@@ -10,7 +10,7 @@ use Rattle.semver_ranges.specs.RangeTree.{PartialTree, one, two, three, Form, ba
 use Rattle.semver_ranges.specs.RangeTree.{at_most, greater, at_least, tilde, caret, Simple}
 use Rattle.semver_ranges.specs.RangeTree.{RangeTree, empty, hyphen, simples, SetTree, is_blank}
 use Rattle.semver_ranges.specs.RangeTree.{is_wildcard, is_part}
-use Rattle.semver_texts.specs.Texts.{Text, is_dot, is_part_byte}
+use Rattle.semver_texts.specs.Texts.{Text, begins_with, is_dot, is_dotted_byte}
 
 -- the longest front whose bytes pass, and what is left
 abbrev pub front : (ℕ → Bool) → Text → Text
@@ -24,11 +24,6 @@ back p (b ∷ t) = if p b then back p t else b ∷ t
 -- what follows the blanks at the front
 abbrev pub behind_blanks : Text → Text
 behind_blanks t = back is_blank t
-
--- whether a text begins with this byte
-abbrev pub begins_with : ℕ → Text → Bool
-begins_with b [] = false
-begins_with b (c ∷ t) = c == b
 
 -- whether a word or a range ends here: at the end of the text, at a bar, and a word at a blank
 abbrev pub is_bar : ℕ → Bool
@@ -51,13 +46,10 @@ component (b ∷ t) =
     else None)
 
 -- parts: the bytes of parts and dots, cut at the dots
-abbrev pub in_parts : ℕ → Bool
-in_parts b = is_part_byte b || is_dot b
-
 abbrev pub parts : Text → Option (List Text × Text)
 parts t =
-    if list_all is_part (slice_split is_dot (front in_parts t)) then Some
-    (slice_split is_dot (front in_parts t), back in_parts t) else None
+    if list_all is_part (slice_split is_dot (front is_dotted_byte t)) then Some
+    (slice_split is_dot (front is_dotted_byte t), back is_dotted_byte t) else None
 
 -- a build, where one is there
 abbrev pub with_build : Text → Text → Text → List Text → Option (List Text × Text)

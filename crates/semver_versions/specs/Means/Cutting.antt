@@ -1,36 +1,27 @@
 -- A version in parts, as it is read from its bytes: a means of proof. `VersionGrammar` says what
 -- the identifiers of a text are and which version it spells; the public clauses speak of that.
-use Rattle.std.specs.Prelude.{◌≡◌, ◌<◌, Bool, false, ◌||◌, ◌==◌, ℕ, List, [], ◌∷◌, ◌++◌}
+use Rattle.std.specs.Prelude.{◌≡◌, ◌<◌, false, ◌==◌, ℕ, [], ◌∷◌, ◌++◌}
 use Rattle.std.specs.Prelude.{take, slice_index, IsTrue, Option, Some, None, codes}
-use Rattle.std.specs.List.{AllByRecursion, prefix_len, slice_split}
-use Rattle.semver_texts.specs.Texts.{Text, marked, is_dot, is_part_byte, is_space}
+use Rattle.std.specs.List.{AllByRecursion, prefix_len}
+use Rattle.semver_texts.specs.Texts.{Text, marked, cut_at_dots, is_dotted_byte, is_space}
 use Rattle.semver_texts.specs.Versions.{VersionValue}
 use Rattle.semver_texts.specs.VersionGrammar.{IsIdentifierText, SpellsVersion, IsVersionText}
 use Rattle.semver_versions.specs.Outlines.{OutlineValue, outline_behind}
 
--- the texts between the dots; none where there is nothing
-abbrev pub cut_at_dots : Text → List Text
-cut_at_dots [] = []
-cut_at_dots (b ∷ t) = slice_split is_dot (b ∷ t)
-
--- each of them is the text of an identifier
+-- each text between the dots is that of an identifier
 abbrev pub AreIdentifiers : Text → Type 0
 AreIdentifiers t = AllByRecursion IsIdentifierText (cut_at_dots t)
-
--- a byte of an identifier, or a dot between two
-abbrev pub is_inner_byte : ℕ → Bool
-is_inner_byte b = is_part_byte b || (b == 46)
 
 -- what stands before the first other byte are one or more identifiers joined by dots
 abbrev pub BeginsWithIdentifiers : Text → Type 0
 BeginsWithIdentifiers t =
-    (0 < prefix_len is_inner_byte t) × AreIdentifiers (take (prefix_len is_inner_byte t) t)
+    (0 < prefix_len is_dotted_byte t) × AreIdentifiers (take (prefix_len is_dotted_byte t) t)
 
 -- the identifiers behind their mark, where there are some, and a rest that can't go on with them
 pub record IsPart (mark : ℕ) (text inner rest : Text) : Type 0 where
   pub each : AreIdentifiers inner
   pub split : text ≡ marked (mark ∷ []) (cut_at_dots inner) ++ rest
-  pub ended : is_inner_byte (slice_index rest 0) ≡ false
+  pub ended : is_dotted_byte (slice_index rest 0) ≡ false
   pub no_mark : (slice_index rest 0 == mark) ≡ false
 
 -- white space, or nothing

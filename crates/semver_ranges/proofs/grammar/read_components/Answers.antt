@@ -1,6 +1,6 @@
 use Rattle.std.proofs.Common.{refl}
 use Rattle.semver_ranges.specs.RangeTree.{one, two, three}
-use Rattle.semver_ranges.specs.Means.PartialViews.{parts_of}
+use Rattle.semver_texts.specs.Texts.{cut_at_dots}
 use Rattle.semver_ranges.proofs.CursorSteps.{major_end, minor_end}
 use Rattle.semver_ranges.proofs.grammar.read_components.Goals as goal
 
@@ -12,13 +12,13 @@ returns-in_default c =
       c.new.ensures (one major.0) (major.2, refl),
     )
 
-pub returns-in_default-after_byte : goal.returns-in_default-after_byte
-returns-in_default-after_byte c =
+pub returns-in_default-behind_mark : goal.returns-in_default-behind_mark
+returns-in_default-behind_mark c =
     let major = c.in_ok-major.ensures in
     let minor = c.in_ok-minor.ensures in (
       two major.0 minor.0,
-      rw (major.1, c.in-Some.ensures, minor.1) (minor_end major.0 minor.0 c.in_ok-minor.rest.now c.in_default-after_byte.ensures),
-      c.new-in_default-after_byte.ensures (two major.0 minor.0) (major.2, minor.2, refl),
+      rw (major.1, c.in-Some.ensures, minor.1) (minor_end major.0 minor.0 c.in_ok-minor.rest.now c.in_default-behind_mark.ensures),
+      c.new-in_default-behind_mark.ensures (two major.0 minor.0) (major.2, minor.2, refl),
     )
 
 pub returns : goal.returns
@@ -27,8 +27,8 @@ returns c =
     let minor = c.in_ok-minor.ensures in
     let patch = c.in_ok-patch.ensures in
     let behind = c.in_ok-pre.ensures.0 major.0 minor.0 patch.0 in
-    let tree = three major.0 minor.0 patch.0 (parts_of c.in_ok-pre.pre.now) behind.0 in (
+    let tree = three major.0 minor.0 patch.0 (cut_at_dots c.in_ok-pre.pre.now) behind.0 in (
       tree,
-      rw (major.1, c.in-Some.ensures, minor.1, c.in-Some-after_byte.ensures, patch.1) behind.1,
+      rw (major.1, c.in-Some.ensures, minor.1, c.in-Some-behind_mark.ensures, patch.1) behind.1,
       c.new-2.ensures tree (major.2, minor.2, patch.2, refl),
     )

@@ -1,13 +1,25 @@
-use Rattle.semver_ranges.specs.Means.PartialViews.{parts_of}
-use Rattle.semver_ranges.proofs.CursorSteps.{qualifier_found}
+use Rattle.semver_texts.specs.Texts.{cut_at_dots}
+use Rattle.semver_ranges.proofs.CursorSteps.{qualifier_found, no_pre, no_build_behind}
+use Rattle.semver_ranges.proofs.PartRuns.{parts_found, parts_not_found}
 use Rattle.semver_ranges.proofs.grammar.read_pre.Goals as goal
 
+pub returns-in_err-pre : goal.returns-in_err-pre
+returns-in_err-pre c =
+    rw c.from_residual.ensures (λ a b d. no_pre a b d c.args.text.now (parts_not_found 45 c.args.text.now c.in_err-pre.ensures))
+
+pub returns-in_err-rest : goal.returns-in_err-rest
+returns-in_err-rest c =
+    let pre = parts_found 45 c.args.text.now c.in_ok-pre.pre.now c.in_ok-pre.rest.now c.in_ok-pre.ensures in
+    rw c.from_residual-in_err-rest.ensures (λ a b d. no_build_behind a b d _ c.args.text.now c.in_ok-pre.rest.now pre.0
+    (parts_not_found 43 c.in_ok-pre.rest.now c.in_err-rest.ensures))
+
 pub returns : goal.returns
-returns c = (
-  λ a b d. (
-    parts_of c.in_ok-rest.field-0-0.now,
-    qualifier_found a b d _ _ c.args.text.now c.in_ok-pre.rest.now c.in_ok-rest.rest.now c.in_ok-pre.ensures.found
-        c.in_ok-rest.ensures.found,
-  ),
-  c.in_ok-pre.ensures.parts_pass,
-)
+returns c =
+    let pre = parts_found 45 c.args.text.now c.in_ok-pre.pre.now c.in_ok-pre.rest.now c.in_ok-pre.ensures in
+    let build = parts_found 43 c.in_ok-pre.rest.now c.in_ok-rest.field-0-0.now c.in_ok-rest.rest.now c.in_ok-rest.ensures in (
+      λ a b d. (
+        cut_at_dots c.in_ok-rest.field-0-0.now,
+        qualifier_found a b d _ _ c.args.text.now c.in_ok-pre.rest.now c.in_ok-rest.rest.now pre.0 build.0,
+      ),
+      pre.1,
+    )

@@ -1,0 +1,70 @@
+-- Parts joined by dots, as they are read byte by byte.
+use Rattle.std.proofs.Common.{◌≡◌, ℕ, ◌+◌, ◌<◌, Bool, true, false, length, get_or, drop, refl, ap, ◌∙◌, arith}
+use Rattle.std.specs.Prelude.{◌==◌, ◌||◌, MatchOption, Option, Some}
+use Rattle.std.specs.Bool.{then_some}
+use Rattle.std.specs.List.{prefix_len}
+use Rattle.std.specs.Str.{IsUtf8}
+use Rattle.std.proofs.lemmas.Bool.Decides.{nat_tests}
+use Rattle.std.proofs.lemmas.List.{drop_more}
+use Rattle.std.proofs.lemmas.List.Sums.{prefix_len-drop_no}
+use Rattle.std.proofs.lemmas.Str.{IsUtf8-from_ascii}
+use Rattle.semver_texts.specs.Texts.{Text, is_dotted_byte}
+use Rattle.semver_texts.specs.declared.dotted.Hyphens.{Hyphens}
+use Rattle.semver_texts.specs.declared.dotted.Hyphens.TheVariants.{Any, BetweenRuns}
+use Rattle.semver_texts.specs.Means.DottedParts.{is_run_byte, runs_stand}
+use Rattle.semver_texts.proofs.Lists.{Passes, ascii_from}
+
+-- ---- bytes
+
+pub run_dotted : (hyphens : Hyphens) (b : ℕ) → is_run_byte hyphens b ≡ true → is_dotted_byte b ≡ true
+run_dotted Any b h = rw h refl
+run_dotted BetweenRuns b h = rw h refl
+
+pub between_dotted : (b : ℕ) → (b == 45 || b == 46) ≡ true → is_dotted_byte b ≡ true
+between_dotted b h = grind (arith, nat_tests)
+
+other_byte : (hyphens : Hyphens) (b : ℕ) → is_run_byte hyphens b ≡ false → (b == 45 || b == 46) ≡ false → is_dotted_byte b ≡ false
+other_byte Any b h m = grind (arith, nat_tests)
+other_byte BetweenRuns b h m = grind (arith, nat_tests)
+
+small_byte : (b : ℕ) → is_dotted_byte b ≡ true → b < 128
+small_byte b h = grind (arith, nat_tests)
+
+-- they are ASCII, and so a text
+pub dotted_utf8 : (bytes : Text) → Passes is_dotted_byte bytes → IsUtf8 bytes
+dotted_utf8 bytes all = IsUtf8-from_ascii bytes (ascii_from is_dotted_byte small_byte bytes all)
+
+-- ---- at a place of a loop over the bytes
+
+-- what was read so far: whether a run is being read, and how far the parts go
+pub record IsRead (hyphens : Hyphens) (bytes : Text) (at : ℕ) (in_run : Bool) : Type 0 where
+  pub standing : runs_stand (is_run_byte hyphens) false bytes ≡ runs_stand (is_run_byte hyphens) in_run (drop at bytes)
+  pub goes_on : prefix_len is_dotted_byte bytes ≡ at + prefix_len is_dotted_byte (drop at bytes)
+
+-- a mark that no run comes before
+pub none_read : (hyphens : Hyphens) (bytes : Text) (at : ℕ) → at < length bytes → is_run_byte hyphens (get_or bytes at 0) ≡ false
+    → (get_or bytes at 0 == 45 || get_or bytes at 0 == 46) ≡ true → IsRead hyphens bytes at false
+    → runs_stand (is_run_byte hyphens) false bytes ≡ false
+none_read hyphens bytes at inside other mark w =
+    w.standing ∙ ap (runs_stand (is_run_byte hyphens) false) (drop_more bytes at 0 inside) ∙ rw (other, mark) refl
+
+-- where the parts end
+pub at_end : (hyphens : Hyphens) (bytes : Text) (at : ℕ) (in_run : Bool) → prefix_len is_dotted_byte (drop at bytes) ≡ 0
+    → runs_stand (is_run_byte hyphens) in_run (drop at bytes) ≡ in_run → IsRead hyphens bytes at in_run
+    → MatchOption (then_some in_run at) (runs_stand (is_run_byte hyphens) false bytes ≡ false)
+    (λ len. (runs_stand (is_run_byte hyphens) false bytes ≡ true) × (len ≡ prefix_len is_dotted_byte bytes))
+at_end hyphens bytes at true ended same w = (w.standing ∙ same, omega (arith, w.goes_on, ended))
+at_end hyphens bytes at false ended same w = w.standing ∙ same
+
+pub other_ends : (hyphens : Hyphens) (bytes : Text) (at : ℕ) (in_run : Bool) → at < length bytes
+    → is_run_byte hyphens (get_or bytes at 0) ≡ false → (get_or bytes at 0 == 45 || get_or bytes at 0 == 46) ≡ false
+    → (prefix_len is_dotted_byte (drop at bytes) ≡ 0) × (runs_stand (is_run_byte hyphens) in_run (drop at bytes) ≡ in_run)
+other_ends hyphens bytes at in_run inside other no_mark = (
+  prefix_len-drop_no is_dotted_byte bytes at 0 inside (other_byte hyphens (get_or bytes at 0) other no_mark),
+  ap (runs_stand (is_run_byte hyphens) in_run) (drop_more bytes at 0 inside) ∙ rw (other, no_mark) refl,
+)
+
+-- what is found, and what follows it
+pub found_same : {X Y : Type 0} {x x' : X} {y y' : Y} → ◌≡◌ {A = Option (X × Y)} (Some (x, y)) (Some (x', y')) → (x ≡ x') × (y ≡ y')
+found_same {X = X} {Y = Y} {x = x} {x' = x'} {y = y} {y' = y'} e =
+    let same : ◌≡◌ {A = X × Y} (x, y) (x', y') = cc in (ap (λ (p : X × Y). p.0) same, ap (λ (p : X × Y). p.1) same)

@@ -1,0 +1,34 @@
+-- Parts joined by dots, as they are read byte by byte: a means of proof. `VersionGrammar` says what
+-- the identifiers of a version text are, and `RangeTree` what the parts of a range text are.
+use Rattle.std.specs.Prelude.{ℕ, Bool, true, false, ◌&&◌, ◌||◌, ◌==◌, if◌then◌else◌, [], ◌∷◌}
+use Rattle.std.specs.Prelude.{Option, Some, None, take, drop}
+use Rattle.std.specs.Char.{is_ascii_alphanumeric}
+use Rattle.std.specs.List.{prefix_len}
+use Rattle.semver_texts.specs.Texts.{Text, is_part_byte, is_dotted_byte}
+use Rattle.semver_texts.specs.declared.dotted.Hyphens.{Hyphens}
+use Rattle.semver_texts.specs.declared.dotted.Hyphens.TheVariants.{Any, BetweenRuns}
+
+-- a byte of a run: a letter or a digit, and a hyphen where any may stand
+abbrev pub is_run_byte : Hyphens → ℕ → Bool
+is_run_byte Any b = is_part_byte b
+is_run_byte BetweenRuns b = is_ascii_alphanumeric b
+
+-- before the first byte that can't stand there, each dot, and each hyphen that belongs to no run,
+-- stands between two runs
+abbrev pub runs_stand : (ℕ → Bool) → Bool → Text → Bool
+runs_stand run in_run [] = in_run
+runs_stand run in_run (b ∷ bs) =
+    if run b then runs_stand run true bs
+    else (if b == 45 || b == 46 then in_run && runs_stand run false bs else in_run)
+
+-- the parts at the front, and what follows them
+abbrev pub parts_ahead : Hyphens → Text → Option (Text × Text)
+parts_ahead hyphens t =
+    if runs_stand (is_run_byte hyphens) false t then Some
+    (take (prefix_len is_dotted_byte t) t, drop (prefix_len is_dotted_byte t) t) else None
+
+-- the parts behind their mark, and what follows them; nothing where the mark isn't there
+abbrev pub marked_part : Hyphens → ℕ → Text → Option (Text × Text)
+marked_part hyphens mark [] = Some ([], [])
+marked_part hyphens mark (b ∷ t) =
+    if b == mark then parts_ahead hyphens t else Some ([], b ∷ t)

@@ -1,0 +1,133 @@
+//! Parts joined by dots behind their mark, as the identifiers of a pre-release and those of a build
+//! are written in version texts and in range texts.
+ghost use Rattle.std.specs.Prelude.{◌≡◌, ◌||◌, ◌==◌, ◌<◌, ◌∷◌, None, Some, Ok, true, false, length, IsTrue};
+ghost use Rattle.std.specs.Prelude.{IfOk, IfErr, MatchOption};
+ghost use Rattle.std.specs.List.{AllByRecursion, AllZip, prefix_len, slice_split};
+ghost use Rattle.std.specs.Fn.{FnReturnsAt};
+ghost use Rattle.semver_texts.specs.Texts.{begins_with, cut_at_dots, is_dot, is_dotted_byte};
+ghost use Rattle.semver_texts.specs.Means.DottedParts.{is_run_byte, runs_stand, marked_part};
+
+use crate::bytes::count_dots;
+use std::alloc::{AllocError, Global};
+
+/// Which hyphens a part may have.
+#[derive(Clone, Copy)]
+pub enum Hyphens {
+    /// Any, as in a range text.
+    Any,
+    /// Those between letters and digits, as in a version text.
+    BetweenRuns,
+}
+
+/// Whether the byte goes on with a run: a letter or a digit, and a hyphen where any may stand.
+#[inline(always)]
+fn is_run_byte(byte: u8, hyphens: Hyphens) -> bool
+    ensures { result ≡ is_run_byte hyphens byte }
+{
+    byte.is_ascii_alphanumeric() || (byte == b'-' && matches!(hyphens, Hyphens::Any))
+}
+
+/// A hyphen or a dot.
+#[inline(always)]
+fn is_between_runs(byte: u8) -> bool
+    ensures { result ≡ (byte == 45 || byte == 46) }
+{
+    matches!(byte, b'-' | b'.')
+}
+
+/// How many bytes at the front are parts joined by dots, up to a byte that can't stand in them.
+#[inline(always)]
+fn parts_len(bytes: &[u8], hyphens: Hyphens) -> Option<usize>
+    ensures { MatchOption result (runs_stand (is_run_byte hyphens) false bytes.now ≡ false)
+        (λ len. (runs_stand (is_run_byte hyphens) false bytes.now ≡ true)
+        × (len ≡ prefix_len is_dotted_byte bytes.now)) }
+{
+    let mut in_run = false;
+    for at in 0..bytes.len() {
+        let byte = bytes[at];
+        if is_run_byte(byte, hyphens) {
+            in_run = true;
+            continue;
+        }
+        if !is_between_runs(byte) {
+            return in_run.then_some(at);
+        }
+        if !in_run {
+            return None;
+        }
+        in_run = false;
+    }
+    in_run.then_some(bytes.len())
+}
+
+/// What follows the mark, where the bytes begin with it.
+#[inline(always)]
+pub fn behind_mark(bytes: &[u8], mark: u8) -> Option<&[u8]>
+    ensures { MatchOption result (begins_with mark bytes.now ≡ false)
+        (λ behind. bytes.now ≡ mark ∷ behind.now) }
+{
+    match bytes {
+        [first, behind @ ..] if *first == mark => Some(behind),
+        _ => None,
+    }
+}
+
+/// The parts behind the mark, and what follows them; where the bytes don't begin with the mark,
+/// nothing and all of them. None where what stands behind the mark are no parts.
+#[inline(always)]
+pub fn marked_part(bytes: &[u8], mark: u8, hyphens: Hyphens) -> Option<(&[u8], &[u8])>
+    ensures { MatchOption result (marked_part hyphens mark bytes.now ≡ None)
+        (λ r. marked_part hyphens mark bytes.now ≡ Some (r.0.now, r.1.now)) }
+{
+    let Some(behind) = behind_mark(bytes, mark) else {
+        return Some((&[], bytes));
+    };
+    let len = parts_len(behind, hyphens)?;
+    Some(behind.split_at(len))
+}
+
+/// The text of parts. Their bytes and the dots between them are ASCII, which is proved, and so
+/// isn't checked.
+#[inline(always)]
+pub fn text_of_parts(bytes: &[u8]) -> &str
+    requires { AllByRecursion (λ b. IsTrue (is_dotted_byte b)) bytes.now }
+    ensures { result.now ≡ bytes.now }
+{
+    unsafe { str::from_utf8_unchecked(bytes) }
+}
+
+/// What is made of each part between the dots. Their list is asked for once, at its size.
+fn cut_parts<T: Drop, F: Fn(&str) -> Result<T, AllocError>>(
+    alloc: Global,
+    text: &str,
+    make: F,
+) -> Result<Vec<T>, AllocError>
+    requires { F.IsAlwaysCallable make }
+    ensures { IfOk result (λ made. AllZip (λ item part. FnReturnsAt F.Fn make part (Ok item))
+        made.items (slice_split is_dot text.now)) }
+{
+    let mut made = Vec::with_capacity(alloc, count_dots(text.as_bytes()).saturating_add(1))?;
+    for part in text.split('.') {
+        made.push(make(part)?)?;
+    }
+    Ok(made)
+}
+
+/// What is made of each part between the dots; nothing where the text is empty, which takes no
+/// memory.
+#[inline(always)]
+pub fn of_parts<T: Drop, F: Fn(&str) -> Result<T, AllocError>>(
+    alloc: Global,
+    text: &str,
+    make: F,
+) -> Result<Vec<T>, AllocError>
+    requires { F.IsAlwaysCallable make }
+    ensures made { IfOk result (λ made. AllZip (λ item part. FnReturnsAt F.Fn make part (Ok item))
+        made.items (cut_at_dots text.now)) }
+    ensures some { IfErr result (λ _. 0 < length text.now) }
+{
+    if text.is_empty() {
+        return Ok(Vec::new(alloc));
+    }
+    cut_parts(alloc, text, make)
+}
