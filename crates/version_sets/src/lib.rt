@@ -5,7 +5,6 @@ mod combination;
 mod combining;
 mod comparing;
 mod least;
-mod precedence;
 mod release;
 mod switch;
 mod switches;

@@ -5,9 +5,8 @@ ghost use Rattle.semver_parser.specs.Versions.{PlainVersion};
 ghost use Rattle.semver_parser.specs.Precedence.{precedence};
 ghost use Rattle.semver_parser.specs.VersionViews.{version_value};
 
-use crate::precedence::cmp_precedence;
 use crate::release::Release;
-use semver_parser::version::Version;
+use semver_parser::version::{Version, cmp_precedence};
 use std::alloc::{AllocError, Global};
 use std::cmp::Ordering;
 
