@@ -1,5 +1,6 @@
 -- The first switch of a kind is in the set, and none of its kind that is in the set is below it.
-use Rattle.std.proofs.Common.{◌≡◌, ◌≢◌, ◌↔◌, Bool, true, false, ◌&&◌, List, [], ◌∷◌, refl, sym, ap, ◌∙◌, subst, true≢false, Less, Option, Some, None, map, Bor}
+use Rattle.std.proofs.Common.{◌≡◌, ◌≢◌, ◌↔◌, Bool, true, false, ◌&&◌, List, [], ◌∷◌, refl}
+use Rattle.std.proofs.Common.{sym, ap, ◌∙◌, subst, true≢false, Less, Option, Some, None, map, Bor}
 use Rattle.std.specs.Option.{option_copied}
 use Rattle.std.specs.Prelude.{MatchOption, IfSome, slice_get}
 use Rattle.semver_parser.specs.Texts.{is_empty}
@@ -16,14 +17,26 @@ module _ (set : SetValue) (s : IsNormal set) where
   pub release_in : (b : PlainVersion) (ys : List PlainVersion) → set.releases ≡ b ∷ ys → IsIn b set × (is_empty b.pre ≡ true)
   release_in b ys e =
       let t = subst (AreSwitches IsRelease) e s.releases in
-      let kind = t.are_of_kind.0 in
-      ((kind.0, has-release set b kind.1 ∙ ap (λ l. switched precedence l b) e ∙ switched-first precedence precedence_total b ys t.increase.0), kind.1)
+      let kind = t.are_of_kind.0 in (
+        (
+          kind.0,
+          has-release set b kind.1 ∙ ap (λ l. switched precedence l b) e
+              ∙ switched-first precedence precedence_total b ys t.increase.0,
+        ),
+        kind.1,
+      )
 
   pub pre_release_in : (b : PlainVersion) (ys : List PlainVersion) → set.pre_releases ≡ b ∷ ys → IsIn b set × (is_empty b.pre ≡ false)
   pre_release_in b ys e =
       let t = subst (AreSwitches IsPreRelease) e s.pre_releases in
-      let kind = t.are_of_kind.0 in
-      ((kind.0, has-pre_release set b kind.1 ∙ ap (λ l. switched precedence l b) e ∙ switched-first precedence precedence_total b ys t.increase.0), kind.1)
+      let kind = t.are_of_kind.0 in (
+        (
+          kind.0,
+          has-pre_release set b kind.1 ∙ ap (λ l. switched precedence l b) e
+              ∙ switched-first precedence precedence_total b ys t.increase.0,
+        ),
+        kind.1,
+      )
 
 module _ (set : SetValue) (w : PlainVersion) (h : IsIn w set) where
   pub no_release : set.releases ≡ [] → is_empty w.pre ≡ false
@@ -34,11 +47,13 @@ module _ (set : SetValue) (w : PlainVersion) (h : IsIn w set) where
   no_pre_release e =
       by_test (is_empty w.pre) (λ t. t) (λ f. absurd (true≢false (sym h.1 ∙ has-pre_release set w f ∙ ap (λ l. switched precedence l w) e)))
 
-  pub release_not_below : (b : PlainVersion) (ys : List PlainVersion) → set.releases ≡ b ∷ ys → is_empty w.pre ≡ true → precedence w b ≢ Less
+  pub release_not_below : (b : PlainVersion) (ys : List PlainVersion) → set.releases ≡ b ∷ ys
+      → is_empty w.pre ≡ true → precedence w b ≢ Less
   release_not_below b ys e t l =
       true≢false (sym h.1 ∙ has-release set w t ∙ ap (λ l. switched precedence l w) e ∙ switched-below precedence w (b ∷ ys) l)
 
-  pub pre_release_not_below : (b : PlainVersion) (ys : List PlainVersion) → set.pre_releases ≡ b ∷ ys → is_empty w.pre ≡ false → precedence w b ≢ Less
+  pub pre_release_not_below : (b : PlainVersion) (ys : List PlainVersion) → set.pre_releases ≡ b ∷ ys
+      → is_empty w.pre ≡ false → precedence w b ≢ Less
   pre_release_not_below b ys e t l =
       true≢false (sym h.1 ∙ has-pre_release set w t ∙ ap (λ l. switched precedence l w) e ∙ switched-below precedence w (b ∷ ys) l)
 
@@ -122,7 +137,8 @@ module _ (set : SetValue) (b : PlainVersion) where
   }
 
   -- else the least pre-release is
-  pub least_leading : IsLeast IsPreRelease set b → ((w : PlainVersion) → IsRelease w → IsIn w set → precedence w b ≢ Less) → IsLeast Fits set b
+  pub least_leading : IsLeast IsPreRelease set b
+      → ((w : PlainVersion) → IsRelease w → IsIn w set → precedence w b ≢ Less) → IsLeast Fits set b
   least_leading l none = record {
     is_of_kind = l.is_in.0;
     is_in = l.is_in;

@@ -1,5 +1,6 @@
 -- Sets with the same versions have the same switches.
-use Rattle.std.proofs.Common.{◌≡◌, ◌↔◌, Bool, true, false, not, ◌&&◌, refl, sym, ap, ap₂, ◌∙◌, subst, true≢false, Ordering, Less, Equal, Greater, is_eq}
+use Rattle.std.proofs.Common.{◌≡◌, ◌↔◌, Bool, true, false, not, ◌&&◌, refl, sym}
+use Rattle.std.proofs.Common.{ap, ap₂, ◌∙◌, subst, true≢false, Ordering, Less, Equal, Greater, is_eq}
 use lib.Pointwise.{pointwise_decides}
 use Rattle.std.specs.Ordering.{eq_by_cmp}
 use Rattle.semver_parser.specs.Versions.{PlainVersion}
@@ -42,8 +43,10 @@ module _ (ties : (v w : PlainVersion) → (precedence v w ≡ Equal) ↔ (v ≡ 
   -- sets in the normal form with the same versions are one
   pub one_set : (a b : SetValue) → IsNormal a → IsNormal b → ((v : PlainVersion) → IsIn v a ↔ IsIn v b) → a ≡ b
   one_set a b s t h =
-      let alike = λ (v : PlainVersion) (fits : Fits v). one_answer (has a v) (has b v) (λ i. ((h v).0 (fits, i)).1) (λ i. ((h v).1 (fits, i)).1) in
-      let releases = one_list precedence precedence_total (λ v w. (ties v w).0) _ a.releases b.releases s.releases.increase t.releases.increase
+      let alike = λ (v : PlainVersion) (fits : Fits v).
+      one_answer (has a v) (has b v) (λ i. ((h v).0 (fits, i)).1) (λ i. ((h v).1 (fits, i)).1) in
+      let releases = one_list precedence precedence_total (λ v w. (ties v w).0) _ a.releases b.releases
+      s.releases.increase t.releases.increase
       s.releases.are_of_kind t.releases.are_of_kind (λ v k. sym (has-release a v k.1) ∙ alike v k.0 ∙ has-release b v k.1) in
       let pre_releases = one_list precedence precedence_total (λ v w. (ties v w).0) _ a.pre_releases b.pre_releases s.pre_releases.increase
       t.pre_releases.increase s.pre_releases.are_of_kind t.pre_releases.are_of_kind

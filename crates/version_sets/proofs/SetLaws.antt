@@ -24,7 +24,8 @@ or_second false q e = e
 -- ---- one kind
 
 module _ (P : PlainVersion → Type 0) (how : Combination) (xs ys : List PlainVersion) where
-  kept : (v : PlainVersion) → held precedence (keeps how) false (pieces xs ys) v ≡ keeps how (switched precedence xs v) (switched precedence ys v)
+  kept : (v : PlainVersion)
+      → held precedence (keeps how) false (pieces xs ys) v ≡ keeps how (switched precedence xs v) (switched precedence ys v)
   kept v =
       ap (λ k. held precedence (keeps how) k (pieces xs ys) v) (sym (keeps_nothing how))
       ∙ (walk-is precedence precedence_total P xs false false ys).holds (keeps how) v
@@ -52,7 +53,8 @@ module _ (P : PlainVersion → Type 0) (how : Combination) (xs ys : List PlainVe
         (w.each s.are_of_kind t.are_of_kind) e in
         (found.0, found.1, sym (kept found.0) ∙ found.2)
 
-    kept_some : (v : PlainVersion) → keeps how (switched precedence xs v) (switched precedence ys v) ≡ true → keeps_some how (pieces xs ys) ≡ true
+    kept_some : (v : PlainVersion) → keeps how (switched precedence xs v) (switched precedence ys v) ≡ true
+        → keeps_some how (pieces xs ys) ≡ true
     kept_some v e = held_some precedence precedence_total P (keeps how) (pieces xs ys) v (kept v ∙ e)
 
 -- ---- both kinds

@@ -10,6 +10,7 @@ returns g c =
     let place = g.T.Switch.place in
     let v = place c.args.place.now in
     let xs = c.args.switches.now in
-    let point = IsPartitionPoint-from_clause (is_passed precedence precedence_total place v) xs _ c.partition_point-below.ensures.partitioned
+    let point =
+    IsPartitionPoint-from_clause (is_passed precedence precedence_total place v) xs _ c.partition_point-below.ensures.partitioned
     (passed_before precedence precedence_total place v xs c.requires) (λ a r q k. search rules) in
     odd_passed precedence precedence_total place v xs _ c.partition_point-below.ensures.bound point

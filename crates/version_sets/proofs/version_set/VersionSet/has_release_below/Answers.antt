@@ -19,7 +19,8 @@ no_pre [] = refl
 no_pre (x ∷ xs) = refl
 
 -- what comes last, and is not below, does not make it below
-last : (a b c d : Ordering) → is_lt d ≡ false → is_lt (ordering_then a (ordering_then b (ordering_then c d))) ≡ is_lt (ordering_then a (ordering_then b c))
+last : (a b c d : Ordering) → is_lt d ≡ false
+    → is_lt (ordering_then a (ordering_then b (ordering_then c d))) ≡ is_lt (ordering_then a (ordering_then b c))
 last Less b c d e = refl
 last Greater b c d e = refl
 last Equal Less c d e = refl
