@@ -1,0 +1,7 @@
+mod SwitchLaws
+mod WalkLaws
+mod ClonedPlaces
+mod SearchLaws
+mod SetLaws
+mod SameSets
+mod FirstSwitches

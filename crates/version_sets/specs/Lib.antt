@@ -1,0 +1,4 @@
+pub mod Switches
+pub mod Releases
+pub mod VersionSets
+pub mod Means
