@@ -1,0 +1,60 @@
+-- A binary search among switches finds how many are at or below a place, and so whether it is in the set.
+use Rattle.std.proofs.Common.{◌≡◌, ℕ, zero, suc, ◌≤◌, ◌<◌, ◌%◌, Bool, true, false, not, nat_eq, List, [], ◌∷◌, map, length, get_or, refl, sym, ap, ◌∙◌, true≢false, Ordering, Less, Equal, Greater, is_ge, is_le, is_gt, arith}
+use Rattle.std.proofs.lemmas.Bool.Decides.{nat_tests}
+use Rattle.std.specs.Cmp.{IsTotalOrder, upto}
+use Rattle.std.specs.List.Sorted.{IsPartitionedBy, IsPartitionPoint}
+use Rattle.std.specs.Ordering.{ordering_reverse}
+use Rattle.version_sets.specs.Switches.{switched, IsBelowFirst, IsIncreasing}
+use Rattle.version_sets.proofs.SwitchLaws.{switched-below, switched-at}
+
+le-gt : (r : Ordering) → is_le r ≡ true → is_gt r ≡ false
+le-gt Less e = refl
+le-gt Equal e = refl
+le-gt Greater e = absurd (true≢false (sym e))
+
+gt-le : (r : Ordering) → is_gt r ≡ false → is_le r ≡ true
+gt-le Less e = refl
+gt-le Equal e = refl
+gt-le Greater e = absurd (true≢false e)
+
+ge_reverse : (r : Ordering) → is_le r ≡ true → is_ge (ordering_reverse r) ≡ true
+ge_reverse Less e = refl
+ge_reverse Equal e = refl
+ge_reverse Greater e = absurd (true≢false (sym e))
+
+less_reverse : (r : Ordering) → is_le r ≡ false → ordering_reverse r ≡ Less
+less_reverse Less e = absurd (true≢false e)
+less_reverse Equal e = absurd (true≢false e)
+less_reverse Greater e = refl
+
+odd_next : (n : ℕ) → nat_eq (suc n % 2) 1 ≡ not (nat_eq (n % 2) 1)
+odd_next n = grind (arith, nat_tests)
+
+module _ {T X : Type 0} (cmp : T → T → Ordering) (o : IsTotalOrder cmp) (f : X → T) (v : T) where
+  abbrev pub is_passed : X → Bool
+  is_passed x = is_le (cmp (f x) v)
+
+  first_passed : (x : X) (xs : List X) (d : X) → 0 < length xs → IsBelowFirst cmp (f x) (map f xs) → is_passed (get_or xs 0 d) ≡ true → is_passed x ≡ true
+  first_passed x [] d l h p = absurd (omega arith)
+  first_passed x (y ∷ xs) d l h p = gt-le _ (upto o (f x) (f y) v (ap is_gt h) (le-gt _ p))
+
+  -- what is before a switch that is at or below the place, is so too
+  pub passed_before : (xs : List X) → IsIncreasing cmp (map f xs) → IsPartitionedBy is_passed xs
+  passed_before [] s i j d k l p = absurd (omega arith)
+  passed_before (x ∷ xs) s zero zero d k l p = p
+  passed_before (x ∷ xs) s zero (suc j) d k l p =
+      let l2 : j < length xs = omega arith in
+      first_passed x xs d (omega arith) s.0 (passed_before xs s.1 zero j d (omega arith) l2 p)
+  passed_before (x ∷ xs) s (suc i) zero d k l p = absurd (omega arith)
+  passed_before (x ∷ xs) s (suc i) (suc j) d k l p = passed_before xs s.1 i j d (omega arith) (omega arith) p
+
+  -- where n switches are at or below the place, it is in the set if n is odd
+  pub odd_passed : (xs : List X) (n : ℕ) → n ≤ length xs → IsPartitionPoint (λ x. is_passed x ≡ true) (λ x. is_passed x ≡ false) xs n
+      → nat_eq (n % 2) 1 ≡ switched cmp (map f xs) v
+  odd_passed [] zero l point = refl
+  odd_passed [] (suc n) l point = absurd (omega arith)
+  odd_passed (x ∷ xs) zero l point =
+      sym (switched-below cmp v (map f (x ∷ xs)) (o.antisymm v (f x) ∙ less_reverse (cmp (f x) v) (point.1 0 x (omega arith) (omega arith))))
+  odd_passed (x ∷ xs) (suc n) l point =
+      odd_next n ∙ ap not (odd_passed xs n (omega arith) (λ k d p q. point.0 (suc k) d (omega arith) (omega arith), λ k d p q. point.1 (suc k) d (omega arith) (omega arith)))
+      ∙ sym (switched-at cmp v (f x) (map f xs) (ap is_ge (o.antisymm v (f x)) ∙ ge_reverse (cmp (f x) v) (point.0 0 x (omega arith) (omega arith))))

@@ -1,0 +1,43 @@
+use Rattle.std.proofs.Common.{rules, ◌≡◌, true, ap, ap₂, subst, sym, ◌∙◌, IfErr, Result, Ok, Err}
+use Rattle.version_sets.specs.VersionSets.{SetValue, has, IsNormal}
+use Rattle.version_sets.specs.Means.Places.{set_of}
+use Rattle.version_sets.specs.Means.Combined.{keeps, pieces, keeps_some, combined_sets, KeepsSome}
+use Rattle.version_sets.proofs.SetLaws.{combined-normal, has-combined, some_release, some_pre_release}
+use Rattle.version_sets.proofs.version_set.VersionSet.combined.Goals as goal
+
+on_err : {X E : Type 0} {P : Type 0} (r : Result X E) → P → IfErr r (λ _. P)
+on_err (Ok x) p = tt
+on_err (Err e) p = p
+
+pub returns-in_err-releases-clause-out_of_memory : goal.returns-in_err-releases-clause-out_of_memory
+returns-in_err-releases-clause-out_of_memory c =
+    let a = set_of c.self.inside.releases.items c.self.inside.pre_releases.items in
+    let b = set_of c.other.inside.releases.items c.other.inside.pre_releases.items in
+    let some : keeps_some c.args.how (pieces a.releases b.releases) ≡ true = search rules in
+    on_err c.from_residual.result
+    (subst (λ (s : SetValue). KeepsSome c.args.how s c.args.other.now) c.self.view_is
+    (subst (KeepsSome c.args.how a) c.other.view_is (some_release c.args.how a b c.self.invariant c.other.invariant some)))
+
+pub returns-in_err-pre_releases-clause-out_of_memory : goal.returns-in_err-pre_releases-clause-out_of_memory
+returns-in_err-pre_releases-clause-out_of_memory c =
+    let a = set_of c.self.inside.releases.items c.self.inside.pre_releases.items in
+    let b = set_of c.other.inside.releases.items c.other.inside.pre_releases.items in
+    let some : keeps_some c.args.how (pieces a.pre_releases b.pre_releases) ≡ true = search rules in
+    on_err c.from_residual-in_err-pre_releases.result
+    (subst (λ (s : SetValue). KeepsSome c.args.how s c.args.other.now) c.self.view_is
+    (subst (KeepsSome c.args.how a) c.other.view_is (some_pre_release c.args.how a b c.self.invariant c.other.invariant some)))
+
+pub of_switches-requires : goal.of_switches-requires
+of_switches-requires c =
+    let a = set_of c.self.inside.releases.items c.self.inside.pre_releases.items in
+    let b = set_of c.other.inside.releases.items c.other.inside.pre_releases.items in
+    let made : set_of c.in_ok-releases.releases.items c.in_ok-pre_releases.pre_releases.items ≡ combined_sets c.args.how a b = search rules in
+    subst IsNormal (sym made) (combined-normal c.args.how a b c.self.invariant c.other.invariant)
+
+pub returns-clause-has : goal.returns-clause-has
+returns-clause-has c = λ v.
+    let a = set_of c.self.inside.releases.items c.self.inside.pre_releases.items in
+    let b = set_of c.other.inside.releases.items c.other.inside.pre_releases.items in
+    let made : c.of_switches.result ≡ combined_sets c.args.how a b = search rules in
+    ap (λ s. has s v) made ∙ has-combined c.args.how a b c.self.invariant c.other.invariant v
+    ∙ ap₂ (λ s t. keeps c.args.how (has s v) (has t v)) c.self.view_is c.other.view_is

@@ -1,0 +1,30 @@
+use Rattle.std.proofs.Common.{rules, arith, ◌≡◌, ◌↔◌, true, ℕ, Bool, ◌&&◌, ◌==◌, List, [], ◌∷◌, map, length, subst, ap, sym, ◌∙◌}
+use Rattle.std.proofs.lemmas.Bool.Decides.{nat_tests}
+use Rattle.semver_parser.specs.Versions.{PlainVersion}
+use Rattle.semver_parser.specs.Texts.{is_empty}
+use Rattle.version_sets.specs.Means.Places.{release_place, version_place, set_of}
+use Rattle.version_sets.specs.VersionSets.{IsIn}
+use Rattle.version_sets.proofs.FirstSwitches.{tells_empty}
+use Rattle.version_sets.proofs.version_set.VersionSet.is_empty.Goals as goal
+
+none_left : {X Y : Type 0} (f : X → Y) (xs : List X) (n : ℕ) (r : Bool) → r ≡ (n == 0) → n ≡ length xs → r ≡ is_empty (map f xs)
+none_left f [] n r e l = grind (arith, nat_tests)
+none_left f (x ∷ xs) n r e l = grind (arith, nat_tests)
+
+pub returns-then-is_empty : goal.returns-then-is_empty
+returns-then-is_empty c =
+    let set = set_of c.self.inside.releases.items c.self.inside.pre_releases.items in
+    let r = c.is_empty-then-is_empty.result in
+    let first = none_left release_place c.self.inside.releases.items _ _ c.is_empty.ensures (search rules) in
+    let second = none_left version_place c.self.inside.pre_releases.items _ _ c.is_empty-then-is_empty.ensures (search rules) in
+    subst (λ s. (r ≡ true) ↔ ((v : PlainVersion) → ¬ IsIn v s)) c.self.view_is
+    (tells_empty set c.self.invariant r (second ∙ ap (λ b. b && is_empty set.pre_releases) (sym c.if-is_empty.true ∙ first)))
+
+pub returns-else-is_empty : goal.returns-else-is_empty
+returns-else-is_empty c =
+    let set = set_of c.self.inside.releases.items c.self.inside.pre_releases.items in
+    let r = c.is_empty.result in
+    let first = none_left release_place c.self.inside.releases.items _ _ c.is_empty.ensures (search rules) in
+    subst (λ s. (r ≡ true) ↔ ((v : PlainVersion) → ¬ IsIn v s)) c.self.view_is
+    (tells_empty set c.self.invariant r
+    (c.if-is_empty.false ∙ ap (λ b. b && is_empty set.pre_releases) (sym c.if-is_empty.false ∙ first)))

@@ -1,0 +1,6 @@
+pub mod Places
+pub mod Walks
+pub mod WalkViews
+pub mod Combined
+pub mod PrecedenceOrder
+pub mod SameSwitches

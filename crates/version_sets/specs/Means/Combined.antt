@@ -1,0 +1,38 @@
+-- What combining two lists of switches gives: a means of proof.
+use Rattle.std.specs.Prelude.{◌≡◌, Bool, true, false, not, ◌&&◌, ◌||◌, List}
+use Rattle.std.specs.List.{list_any}
+use Rattle.semver_parser.specs.Versions.{PlainVersion}
+use Rattle.semver_parser.specs.Precedence.{precedence}
+use Rattle.version_sets.specs.declared.combination.Combination.{Combination}
+use Rattle.version_sets.specs.declared.combination.Combination.TheVariants.{Union}
+use Rattle.version_sets.specs.declared.combination.Combination.TheVariants.{Intersection}
+use Rattle.version_sets.specs.declared.combination.Combination.TheVariants.{Difference}
+use Rattle.version_sets.specs.VersionSets.{SetValue, has, Fits}
+use Rattle.version_sets.specs.Means.Walks.{PieceValue, walk, changes}
+
+-- whether what is in the first or in the second is in the combination
+abbrev pub keeps : Combination → Bool → Bool → Bool
+keeps Union x y = x || y
+keeps Intersection x y = x && y
+keeps Difference x y = x && not y
+
+abbrev pub pieces : List PlainVersion → List PlainVersion → List (PieceValue PlainVersion)
+pieces xs ys = walk precedence xs false false ys
+
+abbrev pub keeps_some : Combination → List (PieceValue PlainVersion) → Bool
+keeps_some how ps = list_any (λ p. keeps how p.in_first p.in_second) ps
+
+abbrev pub combined : Combination → List (PieceValue PlainVersion) → List PlainVersion
+combined how ps = changes (keeps how) false ps
+
+-- two sets combined, kind by kind
+abbrev pub combined_sets : Combination → SetValue → SetValue → SetValue
+combined_sets how a b = record {
+  releases = combined how (pieces a.releases b.releases);
+  pre_releases = combined how (pieces a.pre_releases b.pre_releases);
+}
+
+-- some version is in the combination of two sets
+abbrev pub KeepsSome : Combination → SetValue → SetValue → Type 0
+KeepsSome how a b =
+    (v : PlainVersion) × Fits v × (keeps how (has a v) (has b v) ≡ true)

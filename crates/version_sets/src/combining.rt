@@ -1,0 +1,77 @@
+//! What is in one set or another, in both, or in the first alone.
+
+ghost use Rattle.std.specs.Prelude.{◌≡◌, ◌⊎◌, ◌&&◌, ◌||◌, not, IfOk, IfErr};
+ghost use Rattle.semver_parser.specs.Versions.{PlainVersion};
+ghost use Rattle.version_sets.specs.VersionSets.{has, IsIn};
+ghost use Rattle.version_sets.specs.Means.Combined.{keeps, KeepsSome};
+
+use crate::combination::Combination;
+use crate::version_set::VersionSet;
+use std::alloc::{AllocError, Global};
+
+impl VersionSet {
+    /// The versions of one set or the other. It takes time in the number of their switches.
+    ///
+    /// Those of `>=1.0.0 <1.5.0` and `>=1.2.0 <2.0.0` give that of `>=1.0.0 <2.0.0`.
+    ///
+    /// Memory is asked for as the answer grows, and not at all where it is empty. `Err` is want of
+    /// it.
+    pub fn union(&self, alloc: Global, other: &VersionSet) -> Result<VersionSet, AllocError>
+        ensures has { IfOk result (λ set. (v : PlainVersion)
+            → has set v ≡ (has self.now v || has other.now v)) }
+        // Memory runs out only where the answer has a version.
+        ensures out_of_memory { IfErr result (λ _. (v : PlainVersion)
+            × (IsIn v self.now ⊎ IsIn v other.now)) }
+    {
+        self.combined(alloc, Combination::Union, other)
+    }
+
+    /// The versions of both sets. It takes time in the number of their switches.
+    ///
+    /// Those of `>=1.0.0 <1.5.0` and `>=1.2.0 <2.0.0` give that of `>=1.2.0 <1.5.0`.
+    ///
+    /// Memory is asked for as the answer grows, and not at all where it is empty. `Err` is want of
+    /// it.
+    pub fn intersection(&self, alloc: Global, other: &VersionSet) -> Result<VersionSet, AllocError>
+        ensures has { IfOk result (λ set. (v : PlainVersion)
+            → has set v ≡ (has self.now v && has other.now v)) }
+        // Memory runs out only where the answer has a version.
+        ensures out_of_memory { IfErr result (λ _. (v : PlainVersion)
+            × IsIn v self.now × IsIn v other.now) }
+    {
+        self.combined(alloc, Combination::Intersection, other)
+    }
+
+    /// The versions of the first set that the other doesn't have. It takes time in the number of
+    /// their switches.
+    ///
+    /// Of those of `>=1.0.0 <1.5.0` and `>=1.2.0 <2.0.0` it is that of `>=1.0.0 <1.2.0`.
+    ///
+    /// Memory is asked for as the answer grows, and not at all where it is empty. `Err` is want of
+    /// it.
+    pub fn difference(&self, alloc: Global, other: &VersionSet) -> Result<VersionSet, AllocError>
+        ensures has { IfOk result (λ set. (v : PlainVersion)
+            → has set v ≡ (has self.now v && not (has other.now v))) }
+        // Memory runs out only where the answer has a version.
+        ensures out_of_memory { IfErr result (λ _. (v : PlainVersion)
+            × IsIn v self.now × (¬ IsIn v other.now)) }
+    {
+        self.combined(alloc, Combination::Difference, other)
+    }
+
+    /// The versions of a combination.
+    fn combined(
+        &self,
+        alloc: Global,
+        how: Combination,
+        other: &VersionSet,
+    ) -> Result<VersionSet, AllocError>
+        ensures has { IfOk result (λ set. (v : PlainVersion)
+            → has set v ≡ keeps how (has self.now v) (has other.now v)) }
+        ensures out_of_memory { IfErr result (λ _. KeepsSome how self.now other.now) }
+    {
+        let releases = how.of(alloc, &self.releases, &other.releases)?;
+        let pre_releases = how.of(alloc, &self.pre_releases, &other.pre_releases)?;
+        Ok(VersionSet::of_switches(releases, pre_releases))
+    }
+}

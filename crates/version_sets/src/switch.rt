@@ -1,0 +1,60 @@
+//! What both kinds of switches have: a place in the order of precedence.
+
+ghost use Rattle.std.specs.Prelude.{◌≡◌, IfOk};
+ghost use Rattle.semver_parser.specs.Versions.{PlainVersion};
+ghost use Rattle.semver_parser.specs.Precedence.{precedence};
+
+use crate::precedence::cmp_precedence;
+use crate::release::Release;
+use semver_parser::version::Version;
+use std::alloc::{AllocError, Global};
+use std::cmp::Ordering;
+
+/// A switch of a set: from its place on, versions of its kind are in the set, or are no longer.
+pub(crate) trait Switch: Drop {
+    ghost place: { Self → PlainVersion };
+
+    /// How two switches compare by precedence.
+    fn compare(&self, other: &Self) -> Ordering
+        ensures { result ≡ precedence (place self.now) (place other.now) };
+
+    /// A switch at the same place. `Err` is want of memory.
+    fn at_same_place(&self, alloc: Global) -> Result<Self, AllocError>
+        ensures { IfOk result (λ switch. place switch ≡ place self.now) };
+}
+
+impl Switch for Release {
+    ghost use Rattle.version_sets.specs.Means.Places.{release_place};
+
+    ghost place = { release_place };
+
+    fn compare(&self, other: &Release) -> Ordering {
+        self.cmp(other)
+    }
+
+    /// It takes no memory.
+    fn at_same_place(&self, _alloc: Global) -> Result<Release, AllocError> {
+        Ok(*self)
+    }
+}
+
+impl Switch for Version {
+    ghost use Rattle.version_sets.specs.Means.Places.{version_place};
+
+    ghost place = { version_place };
+
+    fn compare(&self, other: &Version) -> Ordering {
+        cmp_precedence(self, other)
+    }
+
+    /// The build is left out.
+    fn at_same_place(&self, alloc: Global) -> Result<Version, AllocError> {
+        Ok(Version {
+            major: self.major,
+            minor: self.minor,
+            patch: self.patch,
+            pre: self.pre.clone()?,
+            build: Vec::new(alloc),
+        })
+    }
+}
