@@ -1,6 +1,5 @@
 mod SwitchLaws
 mod WalkLaws
-mod DerivedOrder
 mod ClonedPlaces
 mod SearchLaws
 mod SetLaws

@@ -4,7 +4,6 @@
 mod combination;
 mod combining;
 mod comparing;
-mod precedence;
 mod release;
 mod switch;
 mod switches;

@@ -4,9 +4,8 @@ ghost use Rattle.std.specs.Prelude.{◌≡◌, IfOk};
 ghost use Rattle.semver_parser.specs.Versions.{PlainVersion};
 ghost use Rattle.semver_parser.specs.Precedence.{precedence};
 
-use crate::precedence::cmp_precedence;
 use crate::release::Release;
-use semver_parser::version::Version;
+use semver_parser::version::{Version, cmp_precedence};
 use std::alloc::{AllocError, Global};
 use std::cmp::Ordering;
 
