@@ -1,3 +1,4 @@
 pub mod Switches
 pub mod VersionSets
+pub mod PreReleaseRules
 pub mod Means
