@@ -1,6 +1,7 @@
 //! Sets of versions, in one normal form.
 #![tactic(auto)]
 
+mod bounds;
 mod combination;
 mod combining;
 mod comparing;
