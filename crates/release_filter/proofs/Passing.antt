@@ -11,13 +11,13 @@ use Rattle.semver_parser.specs.declared.version.Version.{Version}
 use Rattle.semver_parser.specs.RewritingTable.{PlainSet}
 use Rattle.semver_parser.specs.Meeting.{meets_range, meets_set}
 use Rattle.semver_parser.specs.StatedPreReleases.{counts_beside, meets_set_as_stated}
-use Rattle.release_filter.specs.Filters.{meets_with, FilterValue, passes}
-use Rattle.release_filter.specs.KeptReleases.{is_release}
+use Rattle.version_sets.specs.PreReleaseRules.{is_release, meets_with}
+use Rattle.release_filter.specs.Filters.{FilterValue, passes}
 use Rattle.release_filter.specs.Judging.{IsJudged, without_build}
 use Rattle.release_filter.specs.Means.Tested.{IsReadAs, IsTested}
 use Rattle.release_filter.specs.declared.judging.Judged.TheVariants.{DoesNotPass}
-use Rattle.release_filter.specs.declared.rules.PreReleases.{PreReleases}
-use Rattle.release_filter.specs.declared.rules.PreReleases.TheVariants.{Excluded, Stated, Included}
+use Rattle.version_sets.specs.declared.PreReleases.{PreReleases}
+use Rattle.version_sets.specs.declared.PreReleases.TheVariants.{Excluded, Stated, Included}
 use Rattle.release_filter.proofs.Tests.{first_of_both}
 
 second : (a b : Bool) → (a && b) ≡ true → b ≡ true

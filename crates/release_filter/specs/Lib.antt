@@ -4,3 +4,4 @@ pub mod Judging
 pub mod Greatest
 pub mod Means
 pub mod KeptLines
+pub use Rattle.version_sets.specs.PreReleaseRules

@@ -8,8 +8,9 @@ ghost use Rattle.semver_parser.specs.Versions.{PlainVersion, VersionValue};
 ghost use Rattle.semver_parser.specs.Meeting.{meets_set};
 ghost use Rattle.semver_parser.specs.RangeViews.{set_of};
 ghost use Rattle.semver_parser.specs.VersionViews.{version_value};
-ghost use Rattle.release_filter.specs.KeptReleases.{kept_releases, meant_with};
-ghost use Rattle.release_filter.specs.Filters.{FilterValue, meets_with, passes};
+ghost use Rattle.version_sets.specs.PreReleaseRules.{meant_with};
+ghost use Rattle.release_filter.specs.KeptReleases.{kept_releases};
+ghost use Rattle.release_filter.specs.Filters.{FilterValue, passes};
 ghost use Rattle.release_filter.specs.Greatest.{HasNone, IsGreatest, IsOneThat};
 ghost use Rattle.release_filter.specs.Means.Majors.{IsWithin};
 ghost use Rattle.release_filter.specs.Means.PlainVersions.{plain_of};
@@ -18,11 +19,11 @@ use crate::majors::{self, Majors};
 use crate::meeting::{is_met, is_met_as_stated};
 use crate::plain::{self, Plain};
 use crate::precedence;
-use crate::rules::PreReleases;
 use semver_parser::version::Version;
 use semver_parser::{Compat, RangeError, RangeSet, laws};
 use std::alloc::{AllocError, Global};
 use std::marker::Model;
+use version_sets::{PreReleases, read_set};
 
 /// Which versions a range text means, by one of the three rules for pre-releases.
 ///
@@ -144,26 +145,6 @@ impl Filter {
             }
         }
         greatest
-    }
-}
-
-/// The set whose versions are those that the text means. Raised bounds count for pre-releases
-/// alone, so a filter of releases does with the set that takes less memory.
-fn read_set(
-    alloc: Global,
-    range: &str,
-    compat: Compat,
-    pre_releases: PreReleases,
-) -> Result<RangeSet, RangeError>
-    ensures refusals { RefusesExactly compat range.now result }
-    ensures meaning { IfOk result (λ set. (tree : SetTree) (v : VersionValue)
-        → Spells tree range.now →
-        meets_with pre_releases (set_of set) v ≡ meant_with pre_releases compat tree v) }
-{
-    laws::stated_pre_releases_mean_the_text();
-    match pre_releases {
-        PreReleases::Excluded => RangeSet::parse(alloc, range, compat),
-        PreReleases::Stated | PreReleases::Included => RangeSet::parse_exact(alloc, range, compat),
     }
 }
 

@@ -12,9 +12,9 @@ ghost use Rattle.release_filter.specs.Means.Tested.{IsReadAs, IsTested, release}
 
 use crate::filter::Filter;
 use crate::plain::{self, Plain};
-use crate::rules::PreReleases;
 use semver_parser::version::{self, Outline, Version};
 use std::alloc::{AllocError, Global};
+use version_sets::PreReleases;
 
 /// What a filter says of a text.
 #[derive(Debug, Drop)]

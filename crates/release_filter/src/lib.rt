@@ -10,10 +10,9 @@ mod meeting;
 mod next_line;
 mod plain;
 mod precedence;
-mod rules;
 
 pub use filter::{Filter, filter_text};
 pub use judging::Judged;
 pub use lines::LineError;
 pub use meeting::{release_meets, version_meets, version_meets_as_stated};
-pub use rules::PreReleases;
+pub use version_sets::PreReleases;

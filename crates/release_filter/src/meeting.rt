@@ -8,7 +8,7 @@ ghost use Rattle.semver_parser.specs.StatedPreReleases.{meets_range_as_stated};
 ghost use Rattle.semver_parser.specs.StatedPreReleases.{meets_set_as_stated};
 ghost use Rattle.semver_parser.specs.RangeViews.{comparator_of, range_of, set_of};
 ghost use Rattle.semver_parser.specs.VersionViews.{version_value};
-ghost use Rattle.release_filter.specs.KeptReleases.{is_release};
+ghost use Rattle.version_sets.specs.PreReleaseRules.{is_release};
 ghost use Rattle.release_filter.specs.Means.PlainVersions.{plain_of};
 
 use crate::plain::{self, Plain};

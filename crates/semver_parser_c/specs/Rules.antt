@@ -9,7 +9,7 @@ use Rattle.semver_parser.specs.ParserState.{Fault}
 use Rattle.semver_parser.specs.declared.Compat.{Compat}
 use Rattle.semver_parser.specs.RangeTree.{SetTree, Spells}
 use Rattle.release_filter.specs.Filters.{FilterValue, passes}
-use Rattle.release_filter.specs.KeptReleases.{meant_with}
+use Rattle.release_filter.specs.PreReleaseRules.{meant_with}
 use Rattle.release_filter.specs.declared.PreReleases.{PreReleases}
 use Rattle.release_filter.specs.declared.PreReleases.TheVariants.{Excluded, Stated, Included}
 use Rattle.semver_parser_c.specs.Numbers as number

@@ -25,7 +25,7 @@ ghost use Rattle.semver_parser.specs.ParserState.{Fault};
 ghost use Rattle.semver_parser.specs.RangeTree.{SetTree, Spells};
 ghost use Rattle.semver_parser.specs.RewritingTable.{fits};
 ghost use Rattle.semver_parser.specs.PrintedRanges.{set_text};
-ghost use Rattle.release_filter.specs.KeptReleases.{meant_with};
+ghost use Rattle.release_filter.specs.PreReleaseRules.{meant_with};
 ghost use Rattle.release_filter.specs.declared.PreReleases.{PreReleases as Rule};
 ghost use Rattle.semver_parser_c.specs.Numbers as number;
 ghost use Rattle.semver_parser_c.specs.Faults.{IsOneOf, RangeIsRead, mode_of, outcome_number};

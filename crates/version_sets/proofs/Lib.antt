@@ -2,6 +2,8 @@ mod SwitchLaws
 mod WalkLaws
 mod ClonedPlaces
 mod SearchLaws
+mod Lists
 mod SetLaws
+mod BoundLaws
 mod SameSets
 mod FirstSwitches

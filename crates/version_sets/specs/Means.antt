@@ -1,4 +1,5 @@
 pub mod Places
+pub mod Bounds
 pub mod Walks
 pub mod WalkViews
 pub mod Combined

@@ -2,15 +2,20 @@
 //! alone, the least version, and whether two sets are the same.
 #![tactic(auto)]
 
+mod bounds;
 mod combination;
 mod combining;
 mod comparing;
 mod least;
+mod reading;
 mod release;
+mod rules;
 mod switch;
 mod switches;
 mod version_set;
 mod walk;
 
+pub use reading::read_set;
 pub use release::Release;
+pub use rules::PreReleases;
 pub use version_set::VersionSet;

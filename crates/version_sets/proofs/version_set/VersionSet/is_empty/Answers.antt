@@ -1,16 +1,12 @@
-use Rattle.std.proofs.Common.{rules, arith, ◌≡◌, ◌↔◌, true, ℕ, Bool, ◌&&◌, ◌==◌, List, [], ◌∷◌, map, length, subst, ap, sym, ◌∙◌}
-use Rattle.std.proofs.lemmas.Bool.Decides.{nat_tests}
+use Rattle.std.proofs.Common.{rules, ◌≡◌, ◌↔◌, true, ◌&&◌, subst, ap, sym, ◌∙◌}
 use Rattle.semver_parser.specs.Versions.{PlainVersion}
 use Rattle.semver_parser.specs.Texts.{is_empty}
 use Rattle.version_sets.specs.Releases.{release_value}
 use Rattle.version_sets.specs.Means.Places.{version_place, set_of}
 use Rattle.version_sets.specs.VersionSets.{IsIn}
+use Rattle.version_sets.proofs.Lists.{none_left}
 use Rattle.version_sets.proofs.FirstSwitches.{tells_empty}
 use Rattle.version_sets.proofs.version_set.VersionSet.is_empty.Goals as goal
-
-none_left : {X Y : Type 0} (f : X → Y) (xs : List X) (n : ℕ) (r : Bool) → r ≡ (n == 0) → n ≡ length xs → r ≡ is_empty (map f xs)
-none_left f [] n r e l = grind (arith, nat_tests)
-none_left f (x ∷ xs) n r e l = grind (arith, nat_tests)
 
 pub returns-then-is_empty : goal.returns-then-is_empty
 returns-then-is_empty c =

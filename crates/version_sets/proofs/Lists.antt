@@ -1,0 +1,17 @@
+-- Lists by their length and by their halves, and what is answered of one.
+use Rattle.std.proofs.Common.{◌≡◌, ◌==◌, ℕ, Bool, List, [], ◌∷◌, map, length, sym, subst, arith, IfOk, Result, Ok, Err}
+use Rattle.std.proofs.lemmas.Bool.Decides.{nat_tests}
+use Rattle.semver_parser.specs.Texts.{is_empty}
+
+pub none_left : {X Y : Type 0} (f : X → Y) (xs : List X) (n : ℕ) (r : Bool) → r ≡ (n == 0) → n ≡ length xs → r ≡ is_empty (map f xs)
+none_left f [] n r e l = grind (arith, nat_tests)
+none_left f (x ∷ xs) n r e l = grind (arith, nat_tests)
+
+-- what is so of a value, is so where it is answered
+pub answered : {T E : Type 0} (x : T) (P : T → Type 0) (r : Result T E) → IfOk r (λ y. y ≡ x) → P x → IfOk r P
+answered x P (Ok y) e p = subst P (sym e) p
+answered x P (Err e) _ p = tt
+
+pub answered_so : {T E : Type 0} (P Q : T → Type 0) (r : Result T E) → IfOk r P → ((x : T) → P x → Q x) → IfOk r Q
+answered_so P Q (Ok x) p f = f x p
+answered_so P Q (Err e) _ f = tt

@@ -1,0 +1,24 @@
+-- The numbers of a version against those of a release, or behind all: a means of proof.
+use Rattle.std.specs.Prelude.{Bool, false, ◌∷◌, [], Option, Some, None}
+use Rattle.std.specs.Ordering.{is_ge, nat_cmp, on, then_cmp}
+use Rattle.std.specs.declared.cmp.Ordering.{Ordering}
+use Rattle.semver_parser.specs.Versions.{PlainVersion, numeric}
+use Rattle.version_sets.specs.declared.release.Release.{Release}
+use Rattle.version_sets.specs.Means.Places.{release_place}
+
+-- by the three numbers alone
+abbrev pub numbers_cmp : PlainVersion → PlainVersion → Ordering
+numbers_cmp =
+    then_cmp (on (λ (v : PlainVersion). v.major) nat_cmp)
+    (then_cmp (on (λ (v : PlainVersion). v.minor) nat_cmp)
+    (on (λ (v : PlainVersion). v.patch) nat_cmp))
+
+-- whether the numbers of a version are at or above those of a release; none are where there is none
+abbrev pub reaches : Option Release → PlainVersion → Bool
+reaches None v = false
+reaches (Some r) v = is_ge (numbers_cmp v (release_place r))
+
+-- the lowest pre-release of the same numbers
+abbrev pub lowest_place : Release → PlainVersion
+lowest_place r =
+    record { major = r.major; minor = r.minor; patch = r.patch; pre = numeric 0 ∷ [] }
