@@ -10,7 +10,8 @@ ghost use Rattle.semver_parser.specs.VersionViews.{identifier_value};
 ghost use Rattle.semver_parser.specs.Versions.{PlainVersion};
 ghost use Rattle.version_sets.specs.VersionSets.{has, Fits};
 ghost use Rattle.version_sets.specs.Means.Bounds.{lowest_place, numbers_cmp, reaches};
-ghost use Rattle.version_sets.specs.Means.Places.{release_place, set_of, version_place};
+ghost use Rattle.version_sets.specs.Means.Places.{set_of, version_place};
+ghost use Rattle.version_sets.specs.Releases.{release_value};
 
 use crate::release::Release;
 use crate::version_set::VersionSet;
@@ -87,7 +88,7 @@ fn one_or_none<T: Drop>(alloc: Global, item: Option<T>) -> Result<Vec<T>, AllocE
 
 /// The numbers of a comparator.
 pub(crate) fn numbers_of(comparator: &Comparator) -> Release
-    ensures { release_place result
+    ensures { release_value result
         ≡ record (comparator_of comparator.now).version { pre = [] } }
 {
     Release {
@@ -100,7 +101,7 @@ pub(crate) fn numbers_of(comparator: &Comparator) -> Release
 /// The numbers right behind these. There are none behind the last.
 pub(crate) fn next_numbers(numbers: Release) -> Option<Release>
     ensures { (v : PlainVersion) → Fits v
-        → reaches result v ≡ is_gt (numbers_cmp v (release_place numbers)) }
+        → reaches result v ≡ is_gt (numbers_cmp v (release_value numbers)) }
 {
     let (major, minor) = (numbers.major, numbers.minor);
     if let Some(patch) = numbers.patch.checked_add(1) {
