@@ -2,5 +2,4 @@ pub mod Places
 pub mod Walks
 pub mod WalkViews
 pub mod Combined
-pub mod PrecedenceOrder
 pub mod SameSwitches
