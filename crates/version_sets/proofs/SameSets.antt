@@ -30,7 +30,10 @@ equal_is Greater e = absurd (true≢false (sym e))
 
 -- versions tie exactly where they are the same
 exact : (v w : PlainVersion) → (eq_by_cmp precedence v w ≡ true → v ≡ w) × (v ≡ w → eq_by_cmp precedence v w ≡ true)
-exact v w = (λ e. precedence-same v w (equal_is (precedence v w) e), λ e. ap is_eq (ap (precedence v) (sym e) ∙ tied_itself precedence_total v))
+exact v w = (
+  λ e. precedence-same v w (equal_is (precedence v w) e),
+  λ e. ap is_eq (ap (precedence v) (sym e) ∙ tied_itself precedence_total v),
+)
 
 -- it is to be one set
 pub same_is : (a b : SetValue) (r : Bool) → r ≡ same_switches a b → (r ≡ true) ↔ (a ≡ b)
