@@ -8,7 +8,7 @@ use Rattle.semver_parser.specs.Versions.{PlainVersion}
 use Rattle.semver_parser.specs.Precedence.{precedence}
 use Rattle.version_sets.specs.Switches.{switched}
 use Rattle.version_sets.specs.VersionSets.{SetValue, Fits, IsIn, IsRelease, IsPreRelease, AreSwitches, IsNormal, IsLeast, HasNone}
-use Rattle.semver_parser.proofs.PrecedenceLaws.{precedence_total}
+use Rattle.semver_parser.specs.PrecedenceLaws.{precedence_total}
 use Rattle.version_sets.proofs.SetLaws.{has-release, has-pre_release}
 use Rattle.version_sets.proofs.SwitchLaws.{switched-first, switched-below, by_order, turned_below}
 use Rattle.version_sets.proofs.WalkLaws.{by_test}

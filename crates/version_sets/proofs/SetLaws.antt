@@ -9,7 +9,7 @@ use Rattle.version_sets.specs.Switches.{switched}
 use Rattle.version_sets.specs.VersionSets.{SetValue, has, IsRelease, IsPreRelease, AreSwitches, IsNormal}
 use Rattle.version_sets.specs.Means.Walks.{held}
 use Rattle.version_sets.specs.Means.Combined.{keeps, pieces, keeps_some, combined, combined_sets, KeepsSome}
-use Rattle.semver_parser.proofs.PrecedenceLaws.{precedence_total}
+use Rattle.semver_parser.specs.PrecedenceLaws.{precedence_total}
 use Rattle.version_sets.proofs.WalkLaws.{walk-is, changes-rise, changes-each, changes-hold, some_held, held_some, by_test}
 
 keeps_nothing : (how : Combination) → keeps how false false ≡ false

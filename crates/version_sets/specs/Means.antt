@@ -3,5 +3,4 @@ pub mod Bounds
 pub mod Walks
 pub mod WalkViews
 pub mod Combined
-pub mod PrecedenceOrder
 pub mod SameSwitches

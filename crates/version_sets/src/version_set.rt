@@ -1,6 +1,6 @@
 //! Sets of versions, and which versions are in them.
 
-ghost use Rattle.std.specs.Prelude.{◌≡◌, false, IfOk, IfErr};
+ghost use Rattle.std.specs.Prelude.{◌≡◌, false};
 ghost use Rattle.semver_parser.specs.Versions.{PlainVersion};
 ghost use Rattle.semver_parser.specs.VersionViews.{version_value};
 ghost use Rattle.version_sets.specs.VersionSets.{has, IsNormal};

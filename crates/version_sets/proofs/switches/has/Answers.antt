@@ -2,7 +2,7 @@ use Rattle.std.proofs.Common.{rules}
 use Rattle.std.proofs.lemmas.List.Sorted.{IsPartitionPoint-from_clause}
 use Rattle.semver_parser.specs.Precedence.{precedence}
 use Rattle.version_sets.proofs.SearchLaws.{is_passed, passed_before, odd_passed}
-use Rattle.semver_parser.proofs.PrecedenceLaws.{precedence_total}
+use Rattle.semver_parser.specs.PrecedenceLaws.{precedence_total}
 use Rattle.version_sets.proofs.switches.has.Goals as goal
 
 pub returns : goal.returns

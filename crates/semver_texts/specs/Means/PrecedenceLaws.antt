@@ -1,13 +1,14 @@
--- Precedence is a total order, so that what ties is an equivalence, as `==` asks: a means of proof.
+-- Precedence is a total order, and equal only of equal versions: a means of proof.
 use Rattle.std.proofs.Common.{◌≡◌, ℕ, List, [], ◌∷◌, refl, sym, ap, ◌∙◌}
 use Rattle.std.specs.Ordering.{nat_cmp, on, ordering_reverse, ordering_then, then_cmp}
 use Rattle.std.specs.Cmp.{IsTotalOrder, nat_cmp_total, on_total, then_total}
 use Rattle.std.specs.Cmp.Lexicographic.{lists_total, nat_list_cmp_total, slice_cmp}
+use Rattle.std.specs.FinMap.{IsAntisymmetric, nat_cmp-IsAntisymmetric, slice_cmp-IsAntisymmetric}
 use Rattle.std.specs.declared.cmp.Ordering.{Ordering}
 use Rattle.std.specs.declared.cmp.Ordering.TheVariants.{Less, Equal, Greater}
-use Rattle.semver_parser.specs.Texts.{Text}
-use Rattle.semver_parser.specs.Precedence.{identifier_cmp, pre_cmp, precedence}
-use Rattle.semver_parser.specs.Versions.{IdentifierValue, numeric, alphanumeric, PlainVersion}
+use Rattle.semver_texts.specs.Texts.{Text}
+use Rattle.semver_texts.specs.Precedence.{identifier_cmp, pre_cmp, precedence}
+use Rattle.semver_texts.specs.Versions.{IdentifierValue, numeric, alphanumeric, PlainVersion}
 
 -- an order that answers as a total one does is total
 same_total : {K : Type 0} {R S : K → K → Ordering}
@@ -75,3 +76,42 @@ precedence_total =
     (then_total (on_total (λ (v : PlainVersion). v.minor) nat_cmp_total)
     (then_total (on_total (λ (v : PlainVersion). v.patch) nat_cmp_total)
     (on_total (λ (v : PlainVersion). v.pre) pre_total)))
+
+-- what ties is the same
+identifier-same : IsAntisymmetric identifier_cmp
+identifier-same (numeric m) (numeric n) e = ap numeric (nat_cmp-IsAntisymmetric m n e)
+identifier-same (numeric m) (alphanumeric t) e = cc
+identifier-same (alphanumeric s) (numeric n) e = cc
+identifier-same (alphanumeric s) (alphanumeric t) e =
+    ap alphanumeric (slice_cmp-IsAntisymmetric nat_cmp-IsAntisymmetric s t e)
+
+pre-same : IsAntisymmetric pre_cmp
+pre-same [] [] e = refl
+pre-same [] (y ∷ ys) e = cc
+pre-same (x ∷ xs) [] e = cc
+pre-same (x ∷ xs) (y ∷ ys) e = slice_cmp-IsAntisymmetric identifier-same (x ∷ xs) (y ∷ ys) e
+
+then_first : (r s : Ordering) → ordering_then r s ≡ Equal → r ≡ Equal
+then_first Less s e = cc
+then_first Equal s e = refl
+then_first Greater s e = cc
+
+then_second : (r s : Ordering) → ordering_then r s ≡ Equal → s ≡ Equal
+then_second Less s e = cc
+then_second Equal s e = e
+then_second Greater s e = cc
+
+-- versions with the same fields are the same
+same_fields : (v w : PlainVersion)
+    → v.major ≡ w.major → v.minor ≡ w.minor → v.patch ≡ w.patch → v.pre ≡ w.pre → v ≡ w
+same_fields v w a b c d = λ i. record { major = a i; minor = b i; patch = c i; pre = d i }
+
+pub precedence-same : IsAntisymmetric precedence
+precedence-same v w e =
+    let e2 = then_second (nat_cmp v.major w.major) _ e in
+    let e3 = then_second (nat_cmp v.minor w.minor) _ e2 in
+    let major : v.major ≡ w.major = nat_cmp-IsAntisymmetric _ _ (then_first _ _ e) in
+    let minor : v.minor ≡ w.minor = nat_cmp-IsAntisymmetric _ _ (then_first _ _ e2) in
+    let patch : v.patch ≡ w.patch = nat_cmp-IsAntisymmetric _ _ (then_first _ _ e3) in
+    let pre : v.pre ≡ w.pre = pre-same _ _ (then_second _ _ e3) in
+    same_fields v w major minor patch pre
