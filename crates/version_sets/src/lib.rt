@@ -1,10 +1,12 @@
 //! Sets of versions, in one normal form.
 #![tactic(auto)]
 
+mod beginning;
 mod bounds;
 mod combination;
 mod combining;
 mod comparing;
+mod of_comparators;
 mod reading;
 mod release;
 mod rules;
