@@ -1,7 +1,7 @@
 //! Parts joined by dots behind their mark, as the identifiers of a pre-release and those of a build
 //! are written in version texts and in range texts.
-ghost use Rattle.std.specs.Prelude.{◌≡◌, ◌||◌, ◌==◌, ◌<◌, ◌∷◌, None, Some, Ok, true, false, length, IsTrue};
-ghost use Rattle.std.specs.Prelude.{IfOk, IfErr, MatchOption, [], ◌++◌};
+ghost use Rattle.std.specs.Prelude.{◌≡◌, ◌||◌, ◌==◌, ◌<◌, [], ◌∷◌, ◌++◌, None, Some, Ok, true};
+ghost use Rattle.std.specs.Prelude.{false, length, IsTrue, IfOk, IfErr, MatchOption};
 ghost use Rattle.std.specs.List.{AllByRecursion, AllZip, prefix_len, slice_split};
 ghost use Rattle.std.specs.Fn.{FnReturnsAt};
 ghost use Rattle.semver_texts.specs.Texts.{begins_with, cut_at_dots, is_dot, is_dotted_byte};

@@ -1,19 +1,20 @@
 -- What sets say that begin at a place of each kind: what is at or above a version, and what is above it.
-use Rattle.std.proofs.Common.{rules, arith, ◌≡◌, ◌==◌, zero, suc, Bool, true, false, ◌&&◌, not, List, [], ◌∷◌, ◌++◌, map, length, refl, sym, ap, ap₂, ◌∙◌, nat_cmp, Ordering, Less, Equal, Greater, is_ge, is_gt}
+use Rattle.std.proofs.Common.{rules, arith, ◌≡◌, zero, suc, Bool, true, false, ◌&&◌, not, List, [], ◌∷◌, ◌++◌, map, refl, sym, ap, ap₂, ◌∙◌, nat_cmp, Ordering, Less, Equal, Greater, is_eq, is_ge, is_gt, ℕ, nat_eq}
 use Rattle.std.specs.Prelude.{Option, Some, None, option_map, option_to_list}
 use Rattle.std.specs.Cmp.{nat_cmp_is}
-use Rattle.std.specs.Cmp.Lexicographic.{slice_cmp}
+use Rattle.std.specs.Cmp.Lexicographic.{pointwise, slice_cmp}
+use Rattle.std.proofs.lemmas.Bool.Decides.{nat_tests}
 use Rattle.std.specs.Ordering.{ordering_then}
 use Rattle.std.proofs.lemmas.List.{map-append}
 use Rattle.semver_parser.specs.Precedence.{identifier_cmp, pre_cmp, precedence}
 use Rattle.semver_parser.specs.Texts.{is_empty}
-use Rattle.semver_parser.specs.Versions.{IdentifierValue, numeric, alphanumeric, PlainVersion}
+use Rattle.semver_parser.specs.Versions.{IdentifierValue, numeric, alphanumeric, numbers, PlainVersion}
 use Rattle.semver_parser.specs.VersionViews.{identifier_value}
 use Rattle.semver_parser.specs.declared.version.Identifier.{Identifier}
 use Rattle.semver_parser.specs.declared.version.Identifier.TheVariants.{Numeric}
 use Rattle.semver_parser.specs.declared.version.Version.{Version}
 use Rattle.version_sets.specs.declared.release.Release.{Release}
-use Rattle.version_sets.specs.VersionSets.{SetValue, has, Fits}
+use Rattle.version_sets.specs.VersionSets.{SetValue, has}
 use Rattle.version_sets.specs.Means.Bounds.{lowest_place, numbers_cmp, reaches}
 use Rattle.version_sets.specs.Means.Places.{set_of, version_place}
 use Rattle.version_sets.specs.Releases.{release_value}
@@ -196,3 +197,32 @@ pub with_zero : (x : Version) (w : PlainVersion) (pre : List Identifier) → ver
 with_zero x w pre same more =
     ap (λ is. record (version_place x) { pre = is }) (ap (map identifier_value) more ∙ map-append identifier_value x.pre.items (Numeric 0 ∷ []))
     ∙ ap (λ (u : PlainVersion). record u { pre = u.pre ++ numeric 0 ∷ [] }) same
+
+-- ---- the numbers of a version and no others
+
+is_eq_then : (r s : Ordering) → is_eq (ordering_then r s) ≡ (is_eq r && is_eq s)
+is_eq_then Less s = refl
+is_eq_then Equal s = refl
+is_eq_then Greater s = refl
+
+at_and_not_above : (o : Ordering) → (is_ge o && not (is_gt o)) ≡ is_eq o
+at_and_not_above Less = refl
+at_and_not_above Equal = refl
+at_and_not_above Greater = refl
+
+same_number : (m n : ℕ) → is_eq (nat_cmp m n) ≡ nat_eq m n
+same_number m n = grind (arith, nat_tests)
+
+same_numbers : (v w : PlainVersion) → is_eq (numbers_cmp v w) ≡ pointwise nat_eq (numbers v) (numbers w)
+same_numbers v w =
+    is_eq_then (nat_cmp v.major w.major) _
+    ∙ ap₂ (λ a b. a && b) (same_number v.major w.major)
+    (is_eq_then (nat_cmp v.minor w.minor) (nat_cmp v.patch w.patch)
+    ∙ ap₂ (λ a b. a && b) (same_number v.minor w.minor) (same_number v.patch w.patch ∙ sym (and_true (nat_eq v.patch w.patch))))
+
+pub stated_numbers : (m : Release) (w : PlainVersion) → release_value m ≡ record w { pre = [] } → is_empty w.pre ≡ false
+    → (v : PlainVersion) (next : Option Release) → reaches next v ≡ is_gt (numbers_cmp v (release_value m))
+    → (reaches (Some m) v && not (reaches next v)) ≡ (not (is_empty w.pre) && pointwise nat_eq (numbers v) (numbers w))
+stated_numbers m w is some v next above =
+    ap (λ b. reaches (Some m) v && not b) above ∙ at_and_not_above (numbers_cmp v (release_value m))
+    ∙ ap is_eq (numbers_of m w is v) ∙ same_numbers v w ∙ ap (λ b. not b && pointwise nat_eq (numbers v) (numbers w)) (sym some)

@@ -1,6 +1,7 @@
 -- Lists by their length and by their halves, and what is answered of one.
-use Rattle.std.proofs.Common.{◌≡◌, ◌==◌, ℕ, Bool, List, [], ◌∷◌, map, length, sym, subst, arith, IfOk, Result, Ok, Err}
+use Rattle.std.proofs.Common.{◌≡◌, ◌==◌, ◌||◌, ℕ, Bool, List, [], ◌∷◌, map, length, refl, sym, ap, subst, arith, IfOk, Result, Ok, Err}
 use Rattle.std.proofs.lemmas.Bool.Decides.{nat_tests}
+use Rattle.std.specs.List.{list_any}
 use Rattle.semver_parser.specs.Texts.{is_empty}
 
 pub none_left : {X Y : Type 0} (f : X → Y) (xs : List X) (n : ℕ) (r : Bool) → r ≡ (n == 0) → n ≡ length xs → r ≡ is_empty (map f xs)
@@ -12,6 +13,10 @@ pub answered : {T E : Type 0} (x : T) (P : T → Type 0) (r : Result T E) → If
 answered x P (Ok y) e p = subst P (sym e) p
 answered x P (Err e) _ p = tt
 
-pub answered_so : {T E : Type 0} (P Q : T → Type 0) (r : Result T E) → IfOk r P → ((x : T) → P x → Q x) → IfOk r Q
-answered_so P Q (Ok x) p f = f x p
-answered_so P Q (Err e) _ f = tt
+pub answered_so : {T E : Type 0} {P : T → Type 0} (Q : T → Type 0) (r : Result T E) → IfOk r P → ((x : T) → P x → Q x) → IfOk r Q
+answered_so Q (Ok x) p f = f x p
+answered_so Q (Err e) _ f = tt
+
+pub list_any-map : {X Y : Type 0} (p : Y → Bool) (f : X → Y) (xs : List X) → list_any p (map f xs) ≡ list_any (λ x. p (f x)) xs
+list_any-map p f [] = refl
+list_any-map p f (x ∷ xs) = ap (λ b. p (f x) || b) (list_any-map p f xs)

@@ -1,5 +1,6 @@
 pub mod Places
 pub mod Bounds
+pub mod RangeRules
 pub mod Walks
 pub mod WalkViews
 pub mod Combined

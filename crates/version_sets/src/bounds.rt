@@ -1,18 +1,16 @@
 //! The versions at or above a comparator's version, and those above it.
 
-ghost use Rattle.std.specs.Prelude.{◌≡◌, ◌∷◌, ◌++◌, [], false, map, option_map, option_to_list};
-ghost use Rattle.std.specs.Prelude.{IfOk, IfSome};
+ghost use Rattle.std.specs.Prelude.{◌≡◌, [], map, IfOk};
 ghost use Rattle.std.specs.Ordering.{is_ge, is_gt};
 ghost use Rattle.semver_parser.specs.Precedence.{precedence};
 ghost use Rattle.semver_parser.specs.RangeViews.{comparator_of, identifier_of};
-ghost use Rattle.semver_parser.specs.Texts.{is_empty};
 ghost use Rattle.semver_parser.specs.VersionViews.{identifier_value};
 ghost use Rattle.semver_parser.specs.Versions.{PlainVersion};
 ghost use Rattle.version_sets.specs.VersionSets.{has, Fits};
-ghost use Rattle.version_sets.specs.Means.Bounds.{lowest_place, numbers_cmp, reaches};
-ghost use Rattle.version_sets.specs.Means.Places.{set_of, version_place};
+ghost use Rattle.version_sets.specs.Means.Places.{version_place};
 ghost use Rattle.version_sets.specs.Releases.{release_value};
 
+use crate::beginning::{beginning_at, lowest_pre_release, next_numbers, of_numbers_from};
 use crate::release::Release;
 use crate::version_set::VersionSet;
 use semver_parser::version::{self, Version};
@@ -49,43 +47,6 @@ pub(crate) fn above(alloc: Global, comparator: &Comparator) -> Result<VersionSet
     beginning_at(alloc, Some(numbers), Some(version))
 }
 
-/// The versions, of both kinds, whose numbers are these or above.
-pub(crate) fn of_numbers_from(
-    alloc: Global,
-    numbers: Option<Release>,
-) -> Result<VersionSet, AllocError>
-    ensures { IfOk result (λ set. (v : PlainVersion) → has set v ≡ reaches numbers v) }
-{
-    let pre_release = lowest_pre_release(alloc, numbers)?;
-    beginning_at(alloc, numbers, pre_release)
-}
-
-/// The releases from the one on, and the pre-releases from the other on.
-pub(crate) fn beginning_at(
-    alloc: Global,
-    release: Option<Release>,
-    pre_release: Option<Version>,
-) -> Result<VersionSet, AllocError>
-    requires { IfSome pre_release (λ v. is_empty (version_place v).pre ≡ false) }
-    ensures { IfOk result (λ set.
-        set ≡ set_of (option_to_list release) (option_to_list pre_release)) }
-{
-    let releases = one_or_none(alloc, release)?;
-    let pre_releases = one_or_none(alloc, pre_release)?;
-    Ok(VersionSet::of_switches(releases, pre_releases))
-}
-
-/// The list of what is there.
-fn one_or_none<T: Drop>(alloc: Global, item: Option<T>) -> Result<Vec<T>, AllocError>
-    ensures { IfOk result (λ items. items.items ≡ option_to_list item) }
-{
-    let mut items = Vec::new(alloc);
-    if let Some(item) = item {
-        items.push(item)?;
-    }
-    Ok(items)
-}
-
 /// The numbers of a comparator.
 pub(crate) fn numbers_of(comparator: &Comparator) -> Release
     ensures { release_value result
@@ -98,56 +59,8 @@ pub(crate) fn numbers_of(comparator: &Comparator) -> Release
     }
 }
 
-/// The numbers right behind these. There are none behind the last.
-pub(crate) fn next_numbers(numbers: Release) -> Option<Release>
-    ensures { (v : PlainVersion) → Fits v
-        → reaches result v ≡ is_gt (numbers_cmp v (release_value numbers)) }
-{
-    let (major, minor) = (numbers.major, numbers.minor);
-    if let Some(patch) = numbers.patch.checked_add(1) {
-        return Some(Release {
-            major,
-            minor,
-            patch,
-        });
-    }
-    if let Some(minor) = minor.checked_add(1) {
-        return Some(Release {
-            major,
-            minor,
-            patch: 0,
-        });
-    }
-    let major = major.checked_add(1)?;
-    Some(Release {
-        major,
-        minor: 0,
-        patch: 0,
-    })
-}
-
-/// The lowest pre-release of some numbers: 1.2.3-0 of 1.2.3.
-fn lowest_pre_release(
-    alloc: Global,
-    numbers: Option<Release>,
-) -> Result<Option<Version>, AllocError>
-    ensures { IfOk result (λ version.
-        option_map version_place version ≡ option_map lowest_place numbers) }
-{
-    let Some(numbers) = numbers else {
-        return Ok(None);
-    };
-    let mut pre = Vec::new(alloc);
-    pre.push(version::Identifier::Numeric(0))?;
-    Ok(Some(Version {
-        major: numbers.major,
-        minor: numbers.minor,
-        patch: numbers.patch,
-        pre,
-        build: Vec::new(alloc),
-    }))
-}
-
+ghost use Rattle.version_sets.specs.Means.Places.{version_place};
+ghost use Rattle.version_sets.specs.Releases.{release_value};
 /// The version of a comparator.
 fn version_of(alloc: Global, comparator: &Comparator) -> Result<Version, AllocError>
     ensures { IfOk result (λ version.

@@ -2,11 +2,13 @@
 //! alone, the least version, and whether two sets are the same.
 #![tactic(auto)]
 
+mod beginning;
 mod bounds;
 mod combination;
 mod combining;
 mod comparing;
 mod least;
+mod of_comparators;
 mod reading;
 mod release;
 mod rules;

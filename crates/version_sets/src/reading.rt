@@ -1,4 +1,4 @@
-//! The comparators of a range text for a rule for pre-releases.
+//! Range texts as sets of versions, and as comparators for a rule for pre-releases.
 
 ghost use Rattle.std.specs.Prelude.{◌≡◌, IfOk};
 ghost use Rattle.semver_parser.specs.RangeTexts.{RefusesExactly};
@@ -6,10 +6,49 @@ ghost use Rattle.semver_parser.specs.RangeTree.{SetTree, Spells};
 ghost use Rattle.semver_parser.specs.RangeViews.{set_of};
 ghost use Rattle.semver_parser.specs.Versions.{VersionValue};
 ghost use Rattle.version_sets.specs.PreReleaseRules.{meant_with, meets_with};
+ghost use Rattle.version_sets.specs.VersionSets.{has, Fits};
 
 use crate::rules::PreReleases;
+use crate::version_set::VersionSet;
 use semver_parser::{Compat, RangeError, RangeSet, laws};
 use std::alloc::Global;
+
+impl VersionSet {
+    /// The versions that a range text means by a rule for pre-releases (docs/MEANING.md).
+    ///
+    /// In Cargo mode and by `PreReleases::Stated`, those of `^1.2.3-beta || 3.x` are 1.2.3-rc,
+    /// 1.9.0 and 3.0.0, and not 1.3.0-rc and 2.0.0. Those of
+    /// `>18446744073709551615.18446744073709551615.18446744073709551615` are none: no version is
+    /// above the last release.
+    ///
+    /// It takes time in n log n for n comparators of the text, and memory for these and for their
+    /// switches, at most four a comparator.
+    ///
+    /// # Errors
+    ///
+    /// Those of `RangeSet::parse`. `NotARange` exactly where the text isn't in the range grammar.
+    /// `NumberTooLarge` exactly where it is, and a stated number or a raised bound is above
+    /// 2^64 - 1, as in `<=18446744073709551615`. These two take no memory; `OutOfMemory` stands in
+    /// place of a set alone.
+    pub fn of_text(
+        alloc: Global,
+        range: &str,
+        compat: Compat,
+        pre_releases: PreReleases,
+    ) -> Result<VersionSet, RangeError>
+        ensures refusals { RefusesExactly compat range.now result }
+        // A version is in the set exactly if each tree of the text means it by the rule.
+        ensures meaning { IfOk result (λ s. (tree : SetTree) (v : VersionValue)
+            → Spells tree range.now → Fits v.plain
+            → has s v.plain ≡ meant_with pre_releases compat tree v) }
+    {
+        let set = read_set(alloc, range, compat, pre_releases)?;
+        match VersionSet::of_set(alloc, &set, pre_releases) {
+            Ok(versions) => Ok(versions),
+            Err(_) => Err(RangeError::OutOfMemory),
+        }
+    }
+}
 
 /// Reads a range text into comparators that say, by the rule, what the text means. Raised bounds
 /// count for pre-releases alone, so releases alone do with a set that takes less memory: of `^1.2`

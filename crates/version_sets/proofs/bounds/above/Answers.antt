@@ -1,9 +1,8 @@
-use Rattle.std.proofs.Common.{rules, ◌≡◌, ◌∙◌, sym, map, Some, ap}
+use Rattle.std.proofs.Common.{rules, ◌≡◌, ◌∙◌, sym}
 use Rattle.std.specs.Ordering.{is_gt}
 use Rattle.semver_parser.specs.Precedence.{precedence}
 use Rattle.semver_parser.specs.RangeViews.{comparator_of, identifier_of}
 use Rattle.semver_parser.specs.Versions.{PlainVersion}
-use Rattle.version_sets.specs.Means.Bounds.{reaches}
 use Rattle.version_sets.specs.VersionSets.{has, Fits}
 use Rattle.version_sets.proofs.BoundLaws.{passed_with, passed_without, with_zero}
 use Rattle.version_sets.proofs.Lists.{answered, answered_so, none_left}
@@ -21,7 +20,6 @@ pub returns-then-is_empty : goal.returns-then-is_empty
 returns-then-is_empty c =
     let w = (comparator_of c.args.comparator.now).version in
     let none = sym (none_left identifier_of c.args.comparator.now.pre.items _ _ c.is_empty.ensures (search rules)) ∙ c.if-is_empty.true in
-    answered_so (λ set. (v : PlainVersion) → has set v ≡ reaches c.next_numbers.result v)
-    (λ set. (v : PlainVersion) → Fits v → has set v ≡ is_gt (precedence v w)) c.of_numbers_from.result c.of_numbers_from.ensures
+    answered_so (λ set. (v : PlainVersion) → Fits v → has set v ≡ is_gt (precedence v w)) c.of_numbers_from.result c.of_numbers_from.ensures
     (λ set is v fits. is v
     ∙ passed_without c.numbers_of-numbers.result w c.numbers_of-numbers.ensures v c.next_numbers.result none (c.next_numbers.ensures v fits))

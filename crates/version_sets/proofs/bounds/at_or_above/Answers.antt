@@ -1,4 +1,4 @@
-use Rattle.std.proofs.Common.{rules, ◌≡◌, ◌∙◌, sym, map, option_map, Some, ap}
+use Rattle.std.proofs.Common.{rules, ◌≡◌, ◌∙◌, sym, option_map, Some, ap}
 use Rattle.std.specs.Ordering.{is_ge}
 use Rattle.semver_parser.specs.Precedence.{precedence}
 use Rattle.semver_parser.specs.RangeViews.{comparator_of, identifier_of}

@@ -4,7 +4,7 @@ use Rattle.version_sets.specs.VersionSets.{has}
 use Rattle.version_sets.specs.Means.Bounds.{reaches}
 use Rattle.version_sets.proofs.BoundLaws.{has_numbers}
 use Rattle.version_sets.proofs.Lists.{answered}
-use Rattle.version_sets.proofs.bounds.of_numbers_from.Goals as goal
+use Rattle.version_sets.proofs.beginning.of_numbers_from.Goals as goal
 
 pub returns : goal.returns
 returns c =
