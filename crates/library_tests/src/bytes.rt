@@ -1,5 +1,5 @@
 //! Versions read from bytes, which needn't be UTF-8.
-use semver_parser::version;
+use semver_parser::version::{self, Identifier};
 use std::alloc::{AllocError, Global};
 use std::io;
 
@@ -39,7 +39,7 @@ pub fn write_bytes(rt: &impl Print, alloc: Global) -> io::Result<()> {
         }
     }
     for (text, pre, build) in PARTS.iter() {
-        if !has_parts(text, *pre, *build) {
+        if !has_parts(text, *pre, *build) || !are_cut_as(alloc, text, pre.0, build.0)? {
             println!(rt; "parts: wrong of {text}")?;
         }
     }
@@ -76,4 +76,26 @@ fn has_parts(text: &str, pre: (&str, usize), build: (&str, usize)) -> bool {
         && outline.pre_offset() == pre.1
         && outline.build() == build.0
         && outline.build_offset() == build.1
+}
+
+/// Whether the identifiers that a text's parts are cut to print as these.
+fn are_cut_as(alloc: Global, text: &str, pre: &str, build: &str) -> Result<bool, AllocError> {
+    let Some(outline) = version::outline(text) else {
+        return Ok(false);
+    };
+    let identifiers = outline.pre_identifiers(alloc)?;
+    let others = outline.build_identifiers(alloc)?;
+    Ok(print_as(alloc, &identifiers, pre)? && print_as(alloc, &others, build)?)
+}
+
+/// Whether the identifiers print as the text, joined by dots.
+fn print_as(alloc: Global, identifiers: &[Identifier], text: &str) -> Result<bool, AllocError> {
+    let mut joined = String::new(alloc);
+    for identifier in identifiers {
+        if !joined.is_empty() {
+            joined.push('.')?;
+        }
+        joined.push_str(identifier.to_string(alloc)?.as_str())?;
+    }
+    Ok(joined.as_str() == text)
 }

@@ -1,7 +1,6 @@
 pub mod RowFacts
 pub mod Writes
 pub mod ReportSteps
-pub use Rattle.semver_texts.proofs.PrecedenceLaws
 pub use Rattle.semver_tokens.proofs.TokenLists
 pub use Rattle.semver_versions.proofs.OneVersion
 pub use Rattle.semver_versions.proofs.VersionMemory

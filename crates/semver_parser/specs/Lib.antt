@@ -5,6 +5,7 @@ pub mod Means
 pub use Rattle.semver_texts.specs.Texts
 pub use Rattle.semver_texts.specs.Versions
 pub use Rattle.semver_texts.specs.PrintedText
+pub use Rattle.semver_texts.specs.Means.PrecedenceLaws
 pub use Rattle.semver_tokens.specs.Tokens
 pub use Rattle.semver_tokens.specs.ParserState
 pub use Rattle.semver_tokens.specs.Views

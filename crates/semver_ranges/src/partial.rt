@@ -16,7 +16,7 @@ ghost use Rattle.semver_ranges.specs.Means.PartialViews.{AreComponentsOf, IsPart
 ghost use Rattle.semver_ranges.specs.Means.PartialViews.{PartsPass};
 
 use crate::range::{Comparator, Identifier, Op};
-use semver_texts::dotted::{of_parts, text_of_parts};
+use semver_texts::dotted::of_parts;
 use std::alloc::{AllocError, Global};
 
 /// A component: a wildcard, or a number, whose value is none above 2^64 - 1.
@@ -181,13 +181,12 @@ impl<'input> Partial<'input> {
         requires { PartsPass self.now }
         ensures { IfOk result (λ c. comparator_of c ≡ comparator op (version_of self.now)) }
     {
-        let pre = text_of_parts(self.pre);
         Ok(Comparator {
             op,
             major: self.major,
             minor: self.minor,
             patch: self.patch,
-            pre: of_parts(alloc, pre, |part| read_identifier(alloc, part))?,
+            pre: of_parts(alloc, self.pre, |part| read_identifier(alloc, part))?,
         })
     }
 

@@ -1,18 +1,20 @@
 -- Parts joined by dots, as they are read byte by byte.
-use Rattle.std.proofs.Common.{◌≡◌, ℕ, ◌+◌, ◌<◌, Bool, true, false, length, get_or, drop, refl, ap, ◌∙◌, arith}
-use Rattle.std.specs.Prelude.{◌==◌, ◌||◌, MatchOption, Option, Some}
+use Rattle.std.proofs.Common.{◌≡◌, ℕ, ◌+◌, ◌<◌, Bool, true, false, length, get_or, drop, refl, sym, ap, ◌∙◌, arith, ◌∷◌, ◌++◌}
+use Rattle.std.proofs.Common.{subst, append-nil, append_assoc}
+use Rattle.std.specs.Prelude.{◌==◌, ◌||◌, MatchOption, Option, Some, None, List, []}
 use Rattle.std.specs.Bool.{then_some}
-use Rattle.std.specs.List.{prefix_len}
+use Rattle.std.specs.Borrow.{Bor}
+use Rattle.std.specs.List.{prefix_len, slice_split}
 use Rattle.std.specs.Str.{IsUtf8}
 use Rattle.std.proofs.lemmas.Bool.Decides.{nat_tests}
 use Rattle.std.proofs.lemmas.List.{drop_more}
 use Rattle.std.proofs.lemmas.List.Sums.{prefix_len-drop_no}
 use Rattle.std.proofs.lemmas.Str.{IsUtf8-from_ascii}
-use Rattle.semver_texts.specs.Texts.{Text, is_dotted_byte}
+use Rattle.semver_texts.specs.Texts.{Text, is_dot, is_dotted_byte}
 use Rattle.semver_texts.specs.declared.dotted.Hyphens.{Hyphens}
 use Rattle.semver_texts.specs.declared.dotted.Hyphens.TheVariants.{Any, BetweenRuns}
 use Rattle.semver_texts.specs.Means.DottedParts.{is_run_byte, runs_stand}
-use Rattle.semver_texts.proofs.Lists.{Passes, ascii_from}
+use Rattle.semver_texts.proofs.Lists.{Passes, passes_apart, ascii_from}
 
 -- ---- bytes
 
@@ -68,3 +70,34 @@ other_ends hyphens bytes at in_run inside other no_mark = (
 pub found_same : {X Y : Type 0} {x x' : X} {y y' : Y} → ◌≡◌ {A = Option (X × Y)} (Some (x, y)) (Some (x', y')) → (x ≡ x') × (y ≡ y')
 found_same {X = X} {Y = Y} {x = x} {x' = x'} {y = y} {y' = y'} e =
     let same : ◌≡◌ {A = X × Y} (x, y) (x', y') = cc in (ap (λ (p : X × Y). p.0) same, ap (λ (p : X × Y). p.1) same)
+
+-- ---- what is left to be cut
+
+abbrev pub parts_behind : Option (Bor Text) → List Text
+parts_behind None = []
+parts_behind (Some rest) = slice_split is_dot rest.now
+
+abbrev pub ArePartsBehind : Option (Bor Text) → Type 0
+ArePartsBehind None = Unit {0}
+ArePartsBehind (Some rest) = Passes is_dotted_byte rest.now
+
+abbrev pub size_behind : Option (Bor Text) → ℕ
+size_behind None = 0
+size_behind (Some rest) = length rest.now + 1
+
+-- the bytes are a part and its dot, and what is behind it, if anything is
+abbrev pub IsSplit : Text → Text → Option (Bor Text) → Type 0
+IsSplit bytes part behind = MatchOption behind ((slice_split is_dot bytes ≡ part ∷ []) × (bytes ≡ part))
+    (λ behind. (slice_split is_dot bytes ≡ part ∷ slice_split is_dot behind.now) × (bytes ≡ part ++ 46 ∷ behind.now))
+
+pub split_dotted : (bytes part : Text) (behind : Option (Bor Text)) → Passes is_dotted_byte bytes → IsSplit bytes part behind
+    → Passes is_dotted_byte part × ArePartsBehind behind
+split_dotted bytes part None all h = (subst (Passes is_dotted_byte) h.1 all, tt)
+split_dotted bytes part (Some behind) all h =
+    let both = passes_apart is_dotted_byte part (46 ∷ behind.now) (subst (Passes is_dotted_byte) h.1 all) in (both.0, both.1.1)
+
+pub split_more : (bytes part : Text) (behind : Option (Bor Text)) (all cut : List Text) → IsSplit bytes part behind
+    → all ≡ cut ++ slice_split is_dot bytes → all ≡ (cut ++ part ∷ []) ++ parts_behind behind
+split_more bytes part None all cut h e = e ∙ ap (λ ts. cut ++ ts) h.0 ∙ sym (append-nil (cut ++ part ∷ []))
+split_more bytes part (Some behind) all cut h e =
+    e ∙ ap (λ ts. cut ++ ts) h.0 ∙ sym (append_assoc cut (part ∷ []) (slice_split is_dot behind.now))

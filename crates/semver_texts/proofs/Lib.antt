@@ -4,4 +4,3 @@ pub mod Joins
 pub mod Lists
 pub mod Numerals
 pub mod Numbers
-pub mod PrecedenceLaws

@@ -1,11 +1,9 @@
 -- Lists, and what holds of each of their elements.
-use Rattle.std.proofs.Common.{◌≡◌, ℕ, suc, ◌+◌, ◌<◌, Bool, true, false, List, [], ◌∷◌, ◌++◌, length, take, drop, get_or}
-use Rattle.std.proofs.Common.{refl, sym, ap, ◌∙◌, subst, arith, one-add}
+use Rattle.std.proofs.Common.{◌≡◌, ℕ, ◌<◌, Bool, true, false, List, [], ◌∷◌, ◌++◌, length, take, drop}
+use Rattle.std.proofs.Common.{refl, one-add}
 use Rattle.std.specs.Prelude.{IsTrue, map, slice_index}
 use Rattle.std.specs.List.{AllByRecursion, AllZip, prefix_len, join_with_byte}
 use Rattle.std.specs.Str.{IsAscii}
-use Rattle.std.proofs.Math.Seq.{take-suc}
-use Rattle.std.proofs.lemmas.Slice.Zip.{all_zipped_more}
 use Rattle.std.proofs.lemmas.Str.Ascii.{IsAscii-cons, IsAscii-nil}
 use Rattle.semver_texts.specs.Texts.{marked}
 
@@ -40,15 +38,6 @@ zip_mapped S f each [] [] zip all = tt
 zip_mapped S f each [] (y ∷ ys) zip all = absurd zip
 zip_mapped S f each (x ∷ xs) [] zip all = absurd zip
 zip_mapped S f each (x ∷ xs) (y ∷ ys) zip all = (each x y zip.0 all.0, zip_mapped S f each xs ys zip.1 all.1)
-
--- the first n of the other list, and the next one
-pub zip_more : {A B : Type 0} (R : A → B → Type 0) (xs : List A) (ys : List B) (n : ℕ) (a : A) (b : B) → n < length ys → b ≡ get_or ys n b
-    → R a b → AllZip R xs (take n ys) → AllZip R (xs ++ a ∷ []) (take (n + 1) ys)
-zip_more R xs ys n a b inside here met zip =
-    let next : suc n ≡ n + 1 = omega arith in
-    subst (AllZip R (xs ++ a ∷ []))
-    (ap (λ x. take n ys ++ x ∷ []) here ∙ sym (take-suc ys n b inside) ∙ ap (λ k. take k ys) next)
-    (all_zipped_more R xs (take n ys) a b zip met)
 
 -- ---- bytes
 

@@ -1,7 +1,7 @@
 //! Parts joined by dots behind their mark, as the identifiers of a pre-release and those of a build
 //! are written in version texts and in range texts.
 ghost use Rattle.std.specs.Prelude.{◌≡◌, ◌||◌, ◌==◌, ◌<◌, ◌∷◌, None, Some, Ok, true, false, length, IsTrue};
-ghost use Rattle.std.specs.Prelude.{IfOk, IfErr, MatchOption};
+ghost use Rattle.std.specs.Prelude.{IfOk, IfErr, MatchOption, [], ◌++◌};
 ghost use Rattle.std.specs.List.{AllByRecursion, AllZip, prefix_len, slice_split};
 ghost use Rattle.std.specs.Fn.{FnReturnsAt};
 ghost use Rattle.semver_texts.specs.Texts.{begins_with, cut_at_dots, is_dot, is_dotted_byte};
@@ -96,38 +96,59 @@ pub fn text_of_parts(bytes: &[u8]) -> &str
     unsafe { str::from_utf8_unchecked(bytes) }
 }
 
+/// What stands in front of the first dot, and what follows it; all, where there is no dot.
+#[inline(always)]
+fn split_at_dot(bytes: &[u8]) -> (&[u8], Option<&[u8]>)
+    ensures { MatchOption result.1
+        ((slice_split is_dot bytes.now ≡ result.0.now ∷ []) × (bytes.now ≡ result.0.now))
+        (λ behind. (slice_split is_dot bytes.now ≡ result.0.now ∷ slice_split is_dot behind.now)
+        × (bytes.now ≡ result.0.now ++ 46 ∷ behind.now)) }
+{
+    for at in 0..bytes.len() {
+        if bytes[at] == b'.' {
+            return (&bytes[..at], Some(&bytes[at + 1..]));
+        }
+    }
+    (bytes, None)
+}
+
 /// What is made of each part between the dots. Their list is asked for once, at its size.
 fn cut_parts<T: Drop, F: Fn(&str) -> Result<T, AllocError>>(
     alloc: Global,
-    text: &str,
+    bytes: &[u8],
     make: F,
 ) -> Result<Vec<T>, AllocError>
-    requires { F.IsAlwaysCallable make }
+    requires bytes { AllByRecursion (λ b. IsTrue (is_dotted_byte b)) bytes.now }
+    requires make { F.IsAlwaysCallable make }
     ensures { IfOk result (λ made. AllZip (λ item part. FnReturnsAt F.Fn make part (Ok item))
-        made.items (slice_split is_dot text.now)) }
+        made.items (slice_split is_dot bytes.now)) }
 {
-    let mut made = Vec::with_capacity(alloc, count_dots(text.as_bytes()).saturating_add(1))?;
-    for part in text.split('.') {
-        made.push(make(part)?)?;
+    let mut made = Vec::with_capacity(alloc, count_dots(bytes).saturating_add(1))?;
+    let mut rest = Some(bytes);
+    while let Some(bytes) = rest {
+        let (part, behind) = split_at_dot(bytes);
+        made.push(make(text_of_parts(part))?)?;
+        rest = behind;
     }
     Ok(made)
 }
 
-/// What is made of each part between the dots; nothing where the text is empty, which takes no
+/// What is made of each part between the dots; nothing where there are no bytes, which takes no
 /// memory.
 #[inline(always)]
 pub fn of_parts<T: Drop, F: Fn(&str) -> Result<T, AllocError>>(
     alloc: Global,
-    text: &str,
+    bytes: &[u8],
     make: F,
 ) -> Result<Vec<T>, AllocError>
-    requires { F.IsAlwaysCallable make }
+    requires bytes { AllByRecursion (λ b. IsTrue (is_dotted_byte b)) bytes.now }
+    requires make { F.IsAlwaysCallable make }
     ensures made { IfOk result (λ made. AllZip (λ item part. FnReturnsAt F.Fn make part (Ok item))
-        made.items (cut_at_dots text.now)) }
-    ensures some { IfErr result (λ _. 0 < length text.now) }
+        made.items (cut_at_dots bytes.now)) }
+    ensures some { IfErr result (λ _. 0 < length bytes.now) }
 {
-    if text.is_empty() {
+    if bytes.is_empty() {
         return Ok(Vec::new(alloc));
     }
-    cut_parts(alloc, text, make)
+    cut_parts(alloc, bytes, make)
 }

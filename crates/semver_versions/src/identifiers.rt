@@ -24,14 +24,14 @@ fn identifier(alloc: Global, text: &str) -> Result<Identifier, AllocError>
     }
 }
 
-/// The identifiers that the text spells between its dots; none where it is empty, which takes no
-/// memory.
+/// The identifiers that the bytes spell between their dots; none where there are no bytes, which
+/// takes no memory.
 #[inline(always)]
-pub(crate) fn identifiers(alloc: Global, text: &str) -> Result<Vec<Identifier>, AllocError>
-    requires { AreIdentifiers text.now }
+pub(crate) fn identifiers(alloc: Global, bytes: &[u8]) -> Result<Vec<Identifier>, AllocError>
+    requires { AreIdentifiers bytes.now }
     ensures spelled { IfOk result (λ ids. AllZip SpellsIdentifier (map identifier_value ids.items)
-        (cut_at_dots text.now)) }
-    ensures some { IfErr result (λ _. 0 < length text.now) }
+        (cut_at_dots bytes.now)) }
+    ensures some { IfErr result (λ _. 0 < length bytes.now) }
 {
-    of_parts(alloc, text, |part| identifier(alloc, part))
+    of_parts(alloc, bytes, |part| identifier(alloc, part))
 }

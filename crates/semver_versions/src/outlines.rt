@@ -117,7 +117,7 @@ impl<'t> Outline<'t> {
             → IfOk result (λ ids. map identifier_value ids.items ≡ v.plain.pre) }
         ensures out_of_memory { IfErr result (λ _. 0 < length self.now.pre) }
     {
-        identifiers(alloc, self.pre)
+        identifiers(alloc, self.pre.as_bytes())
     }
 
     /// The identifiers of the build: `"5aedf"` of `1.2.3-rc.4+5aedf`. Memory is asked for as by
@@ -130,7 +130,7 @@ impl<'t> Outline<'t> {
             → IfOk result (λ ids. map identifier_value ids.items ≡ v.build) }
         ensures out_of_memory { IfErr result (λ _. 0 < length self.now.build) }
     {
-        identifiers(alloc, self.build)
+        identifiers(alloc, self.build.as_bytes())
     }
 
     /// The version: of the outline of `1.2.3-rc.4+5aedf` the numbers 1, 2 and 3, the pre-release

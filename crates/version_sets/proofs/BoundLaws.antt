@@ -16,7 +16,8 @@ use Rattle.semver_parser.specs.declared.version.Version.{Version}
 use Rattle.version_sets.specs.declared.release.Release.{Release}
 use Rattle.version_sets.specs.VersionSets.{SetValue, has}
 use Rattle.version_sets.specs.Means.Bounds.{lowest_place, numbers_cmp, reaches}
-use Rattle.version_sets.specs.Means.Places.{release_place, set_of, version_place}
+use Rattle.version_sets.specs.Releases.{release_value}
+use Rattle.version_sets.specs.Means.Places.{set_of, version_place}
 use Rattle.version_sets.proofs.SetLaws.{has-release, has-pre_release}
 use Rattle.version_sets.proofs.WalkLaws.{by_test}
 
@@ -119,15 +120,15 @@ begins-pre_release r None v e = has-pre_release (begins r None) v e
 begins-pre_release r (Some b) v e = has-pre_release (begins r (Some b)) v e ∙ and_true (is_ge (precedence v b))
 
 set_begins : (r : Option Release) (p : Option Version)
-    → set_of (option_to_list r) (option_to_list p) ≡ begins (option_map release_place r) (option_map version_place p)
+    → set_of (option_to_list r) (option_to_list p) ≡ begins (option_map release_value r) (option_map version_place p)
 set_begins None None = refl
 set_begins None (Some p) = refl
 set_begins (Some r) None = refl
 set_begins (Some r) (Some p) = refl
 
-from-release : (n : Option Release) (v : PlainVersion) → is_empty v.pre ≡ true → from (option_map release_place n) v ≡ reaches n v
+from-release : (n : Option Release) (v : PlainVersion) → is_empty v.pre ≡ true → from (option_map release_value n) v ≡ reaches n v
 from-release None v e = refl
-from-release (Some r) v e = sym (against is_ge is_ge v (release_place r) refl refl (release_reaches v.pre [] e))
+from-release (Some r) v e = sym (against is_ge is_ge v (release_value r) refl refl (release_reaches v.pre [] e))
 
 from-lowest : (n : Option Release) (v : PlainVersion) → is_empty v.pre ≡ false → from (option_map lowest_place n) v ≡ reaches n v
 from-lowest None v e = refl
@@ -139,11 +140,11 @@ module _ (r : Option Release) (p : Option Version) where
   abbrev set : SetValue
   set = set_of (option_to_list r) (option_to_list p)
 
-  set-release : (v : PlainVersion) → is_empty v.pre ≡ true → has set v ≡ from (option_map release_place r) v
+  set-release : (v : PlainVersion) → is_empty v.pre ≡ true → has set v ≡ from (option_map release_value r) v
   set-release v e = ap (λ s. has s v) (set_begins r p) ∙ begins-release _ (option_map version_place p) v e
 
   set-pre_release : (v : PlainVersion) → is_empty v.pre ≡ false → has set v ≡ from (option_map version_place p) v
-  set-pre_release v e = ap (λ s. has s v) (set_begins r p) ∙ begins-pre_release (option_map release_place r) _ v e
+  set-pre_release v e = ap (λ s. has s v) (set_begins r p) ∙ begins-pre_release (option_map release_value r) _ v e
 
   -- the numbers from some on
   pub has_numbers : option_map version_place p ≡ option_map lowest_place r → (v : PlainVersion) → has set v ≡ reaches r v
@@ -152,8 +153,8 @@ module _ (r : Option Release) (p : Option Version) where
       (λ e. set-release v e ∙ from-release r v e)
       (λ e. set-pre_release v e ∙ ap (λ o. from o v) is ∙ from-lowest r v e)
 
-module _ (m : Release) (w : PlainVersion) (is : release_place m ≡ record w { pre = [] }) where
-  numbers_of : (v : PlainVersion) → numbers_cmp v (release_place m) ≡ numbers_cmp v w
+module _ (m : Release) (w : PlainVersion) (is : release_value m ≡ record w { pre = [] }) where
+  numbers_of : (v : PlainVersion) → numbers_cmp v (release_value m) ≡ numbers_cmp v w
   numbers_of v = ap (numbers_cmp v) is
 
   module _ (v : PlainVersion) where
@@ -165,7 +166,7 @@ module _ (m : Release) (w : PlainVersion) (is : release_place m ≡ record w { p
         ∙ against is_ge is_ge v w refl refl (release_reaches v.pre w.pre e))
         (λ e. set-pre_release (Some m) p v e ∙ ap (λ o. from o v) same)
 
-    pub reached_without : (p : Option Version) (n : Option Release) → is_empty w.pre ≡ true → reaches n v ≡ is_gt (numbers_cmp v (release_place m))
+    pub reached_without : (p : Option Version) (n : Option Release) → is_empty w.pre ≡ true → reaches n v ≡ is_gt (numbers_cmp v (release_value m))
         → option_map version_place p ≡ option_map lowest_place n → has (set_of (m ∷ []) (option_to_list p)) v ≡ is_ge (precedence v w)
     reached_without p n none next same =
         by_test (is_empty v.pre)
@@ -176,16 +177,16 @@ module _ (m : Release) (w : PlainVersion) (is : release_place m ≡ record w { p
 
     -- above a version
     pub passed_with : (u : PlainVersion) → is_empty w.pre ≡ false → u ≡ record w { pre = w.pre ++ numeric 0 ∷ [] }
-        → has (begins (Some (release_place m)) (Some u)) v ≡ is_gt (precedence v w)
+        → has (begins (Some (release_value m)) (Some u)) v ≡ is_gt (precedence v w)
     passed_with u some same =
         by_test (is_empty v.pre)
-        (λ e. begins-release (Some (release_place m)) (Some u) v e ∙ from-release (Some m) v e ∙ ap is_ge (numbers_of v)
+        (λ e. begins-release (Some (release_value m)) (Some u) v e ∙ from-release (Some m) v e ∙ ap is_ge (numbers_of v)
         ∙ against is_ge is_gt v w refl refl (release_above v.pre w.pre e some))
-        (λ e. begins-pre_release (Some (release_place m)) (Some u) v e ∙ ap (λ b. is_ge (precedence v b)) same
+        (λ e. begins-pre_release (Some (release_value m)) (Some u) v e ∙ ap (λ b. is_ge (precedence v b)) same
         ∙ ap is_ge (by_numbers v (record w { pre = w.pre ++ numeric 0 ∷ [] }))
         ∙ then_alike is_ge is_gt (numbers_cmp v w) _ _ refl refl (right_behind v.pre w.pre e some) ∙ sym (ap is_gt (by_numbers v w)))
 
-  pub passed_without : (v : PlainVersion) (n : Option Release) → is_empty w.pre ≡ true → reaches n v ≡ is_gt (numbers_cmp v (release_place m))
+  pub passed_without : (v : PlainVersion) (n : Option Release) → is_empty w.pre ≡ true → reaches n v ≡ is_gt (numbers_cmp v (release_value m))
       → reaches n v ≡ is_gt (precedence v w)
   passed_without v n none next = next ∙ ap is_gt (numbers_of v) ∙ against is_gt is_gt v w refl refl (none_above v.pre w.pre none)
 
@@ -219,9 +220,9 @@ same_numbers v w =
     (is_eq_then (nat_cmp v.minor w.minor) (nat_cmp v.patch w.patch)
     ∙ ap₂ (λ a b. a && b) (same_number v.minor w.minor) (same_number v.patch w.patch ∙ sym (and_true (nat_eq v.patch w.patch))))
 
-pub stated_numbers : (m : Release) (w : PlainVersion) → release_place m ≡ record w { pre = [] } → is_empty w.pre ≡ false
-    → (v : PlainVersion) (next : Option Release) → reaches next v ≡ is_gt (numbers_cmp v (release_place m))
+pub stated_numbers : (m : Release) (w : PlainVersion) → release_value m ≡ record w { pre = [] } → is_empty w.pre ≡ false
+    → (v : PlainVersion) (next : Option Release) → reaches next v ≡ is_gt (numbers_cmp v (release_value m))
     → (reaches (Some m) v && not (reaches next v)) ≡ (not (is_empty w.pre) && pointwise nat_eq (numbers v) (numbers w))
 stated_numbers m w is some v next above =
-    ap (λ b. reaches (Some m) v && not b) above ∙ at_and_not_above (numbers_cmp v (release_place m))
+    ap (λ b. reaches (Some m) v && not b) above ∙ at_and_not_above (numbers_cmp v (release_value m))
     ∙ ap is_eq (numbers_of m w is v) ∙ same_numbers v w ∙ ap (λ b. not b && pointwise nat_eq (numbers v) (numbers w)) (sym some)

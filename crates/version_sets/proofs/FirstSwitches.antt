@@ -1,27 +1,42 @@
 -- The first switch of a kind is in the set, and none of its kind that is in the set is below it.
-use Rattle.std.proofs.Common.{◌≡◌, ◌≢◌, ◌↔◌, Bool, true, false, ◌&&◌, List, [], ◌∷◌, refl, sym, ap, ◌∙◌, subst, true≢false, Less}
+use Rattle.std.proofs.Common.{◌≡◌, ◌≢◌, ◌↔◌, Bool, true, false, ◌&&◌, List, [], ◌∷◌, refl}
+use Rattle.std.proofs.Common.{sym, ap, ◌∙◌, subst, true≢false, Less, Option, Some, None, map, Bor}
+use Rattle.std.specs.Option.{option_copied}
+use Rattle.std.specs.Prelude.{MatchOption, IfSome, slice_get}
 use Rattle.semver_parser.specs.Texts.{is_empty}
 use Rattle.semver_parser.specs.Versions.{PlainVersion}
 use Rattle.semver_parser.specs.Precedence.{precedence}
 use Rattle.version_sets.specs.Switches.{switched}
-use Rattle.version_sets.specs.VersionSets.{SetValue, IsIn, IsRelease, IsPreRelease, AreSwitches, IsNormal}
-use Rattle.version_sets.specs.Means.PrecedenceOrder.{precedence_total}
+use Rattle.version_sets.specs.VersionSets.{SetValue, Fits, IsIn, IsRelease, IsPreRelease, AreSwitches, IsNormal, IsLeast, HasNone}
+use Rattle.semver_parser.specs.PrecedenceLaws.{precedence_total}
 use Rattle.version_sets.proofs.SetLaws.{has-release, has-pre_release}
-use Rattle.version_sets.proofs.SwitchLaws.{switched-first, switched-below}
+use Rattle.version_sets.proofs.SwitchLaws.{switched-first, switched-below, by_order, turned_below}
 use Rattle.version_sets.proofs.WalkLaws.{by_test}
 
 module _ (set : SetValue) (s : IsNormal set) where
   pub release_in : (b : PlainVersion) (ys : List PlainVersion) → set.releases ≡ b ∷ ys → IsIn b set × (is_empty b.pre ≡ true)
   release_in b ys e =
       let t = subst (AreSwitches IsRelease) e s.releases in
-      let kind = t.are_of_kind.0 in
-      ((kind.0, has-release set b kind.1 ∙ ap (λ l. switched precedence l b) e ∙ switched-first precedence precedence_total b ys t.increase.0), kind.1)
+      let kind = t.are_of_kind.0 in (
+        (
+          kind.0,
+          has-release set b kind.1 ∙ ap (λ l. switched precedence l b) e
+              ∙ switched-first precedence precedence_total b ys t.increase.0,
+        ),
+        kind.1,
+      )
 
   pub pre_release_in : (b : PlainVersion) (ys : List PlainVersion) → set.pre_releases ≡ b ∷ ys → IsIn b set × (is_empty b.pre ≡ false)
   pre_release_in b ys e =
       let t = subst (AreSwitches IsPreRelease) e s.pre_releases in
-      let kind = t.are_of_kind.0 in
-      ((kind.0, has-pre_release set b kind.1 ∙ ap (λ l. switched precedence l b) e ∙ switched-first precedence precedence_total b ys t.increase.0), kind.1)
+      let kind = t.are_of_kind.0 in (
+        (
+          kind.0,
+          has-pre_release set b kind.1 ∙ ap (λ l. switched precedence l b) e
+              ∙ switched-first precedence precedence_total b ys t.increase.0,
+        ),
+        kind.1,
+      )
 
 module _ (set : SetValue) (w : PlainVersion) (h : IsIn w set) where
   pub no_release : set.releases ≡ [] → is_empty w.pre ≡ false
@@ -32,11 +47,13 @@ module _ (set : SetValue) (w : PlainVersion) (h : IsIn w set) where
   no_pre_release e =
       by_test (is_empty w.pre) (λ t. t) (λ f. absurd (true≢false (sym h.1 ∙ has-pre_release set w f ∙ ap (λ l. switched precedence l w) e)))
 
-  pub release_not_below : (b : PlainVersion) (ys : List PlainVersion) → set.releases ≡ b ∷ ys → is_empty w.pre ≡ true → precedence w b ≢ Less
+  pub release_not_below : (b : PlainVersion) (ys : List PlainVersion) → set.releases ≡ b ∷ ys
+      → is_empty w.pre ≡ true → precedence w b ≢ Less
   release_not_below b ys e t l =
       true≢false (sym h.1 ∙ has-release set w t ∙ ap (λ l. switched precedence l w) e ∙ switched-below precedence w (b ∷ ys) l)
 
-  pub pre_release_not_below : (b : PlainVersion) (ys : List PlainVersion) → set.pre_releases ≡ b ∷ ys → is_empty w.pre ≡ false → precedence w b ≢ Less
+  pub pre_release_not_below : (b : PlainVersion) (ys : List PlainVersion) → set.pre_releases ≡ b ∷ ys
+      → is_empty w.pre ≡ false → precedence w b ≢ Less
   pre_release_not_below b ys e t l =
       true≢false (sym h.1 ∙ has-pre_release set w t ∙ ap (λ l. switched precedence l w) e ∙ switched-below precedence w (b ∷ ys) l)
 
@@ -53,3 +70,86 @@ pub tells_empty : (set : SetValue) → IsNormal set → (r : Bool) → r ≡ (is
 tells_empty set s r e =
     let is = empty_lists set set.releases set.pre_releases refl refl s in
     (λ h. is.0 (sym e ∙ h), λ none. e ∙ is.1 none)
+
+-- ---- the least of a kind
+
+-- an answer that is the least of a kind in the set, if there is one
+abbrev pub Tells : {X : Type 0} → (X → PlainVersion) → (PlainVersion → Type 0) → SetValue → Option X → Type 0
+Tells f P set o = MatchOption o (HasNone P set) (λ x. IsLeast P set (f x))
+
+module _ (set : SetValue) (s : IsNormal set) {X : Type 0} (f : X → PlainVersion) where
+  pub first_release : (xs : List X) → set.releases ≡ map f xs → Tells f IsRelease set (slice_get xs 0)
+  first_release [] e = λ v k h. true≢false (sym k.1 ∙ no_release set v h e)
+  first_release (x ∷ xs) e =
+      let found = release_in set s (f x) (map f xs) e in
+      record {
+        is_of_kind = (found.0.0, found.1);
+        is_in = found.0;
+        lowest = λ w k h. release_not_below set w h (f x) (map f xs) e k.1;
+      }
+
+  pub first_pre_release : (xs : List X) → set.pre_releases ≡ map f xs → Tells f IsPreRelease set (slice_get xs 0)
+  first_pre_release [] e = λ v k h. true≢false (sym (no_pre_release set v h e) ∙ k.1)
+  first_pre_release (x ∷ xs) e =
+      let found = pre_release_in set s (f x) (map f xs) e in
+      record {
+        is_of_kind = (found.0.0, found.1);
+        is_in = found.0;
+        lowest = λ w k h. pre_release_not_below set w h (f x) (map f xs) e k.1;
+      }
+
+module _ {X : Type 0} (f : X → PlainVersion) (P : PlainVersion → Type 0) (set : SetValue) where
+  pub told_some : (o : Option X) → Tells f P set o → IfSome o (λ x. IsLeast P set (f x))
+  told_some None t = tt
+  told_some (Some x) t = t
+
+  pub told_none : (o : Option X) → Tells f P set o → (o ≡ None) ↔ HasNone P set
+  told_none None t = (λ _. t, λ _. refl)
+  told_none (Some x) t = (λ e. cc, λ none. absurd (none (f x) t.is_of_kind t.is_in))
+
+  -- the same of an answer by reference
+  pub told_behind : (o : Option (Bor X)) → Tells f P set (option_copied o) → Tells (λ x. f x.now) P set o
+  told_behind None t = t
+  told_behind (Some x) t = t
+
+-- ---- the least of both kinds
+
+module _ (set : SetValue) (w : PlainVersion) where
+  -- what is in the set is of one kind or the other
+  by_kind : {G : Type 0} → IsIn w set → (IsRelease w → G) → (IsPreRelease w → G) → G
+  by_kind h f g = by_test (is_empty w.pre) (λ t. f (h.0, t)) (λ t. g (h.0, t))
+
+module _ (set : SetValue) (b : PlainVersion) where
+  -- where no pre-release is in the set, the least release is the least version
+  pub least_alone : IsLeast IsRelease set b → HasNone IsPreRelease set → IsLeast Fits set b
+  least_alone l none = record {
+    is_of_kind = l.is_in.0;
+    is_in = l.is_in;
+    lowest = λ w fits h. by_kind set w h (λ k. l.lowest w k h) (λ k. absurd (none w k h));
+  }
+
+  -- so it is where some release is below the least pre-release
+  pub least_below : (p : PlainVersion) → IsLeast IsRelease set b → IsLeast IsPreRelease set p → precedence b p ≡ Less → IsLeast Fits set b
+  least_below p l m e = record {
+    is_of_kind = l.is_in.0;
+    is_in = l.is_in;
+    lowest = λ w fits h. by_kind set w h (λ k. l.lowest w k h) (λ k below. m.lowest w k h (precedence_total.trans w b p below e));
+  }
+
+  -- else the least pre-release is
+  pub least_leading : IsLeast IsPreRelease set b
+      → ((w : PlainVersion) → IsRelease w → IsIn w set → precedence w b ≢ Less) → IsLeast Fits set b
+  least_leading l none = record {
+    is_of_kind = l.is_in.0;
+    is_in = l.is_in;
+    lowest = λ w fits h. by_kind set w h (λ k. none w k h) (λ k. l.lowest w k h);
+  }
+
+  -- what is not above something below p, is below p
+  pub below_then : (v p : PlainVersion) → precedence v b ≢ Less → precedence v p ≡ Less → precedence b p ≡ Less
+  below_then v p n e =
+      by_order (precedence v b) (λ l. absurd (n l)) (λ t. sym (precedence_total.congr v b p t) ∙ e)
+      (λ g. precedence_total.trans b v p (turned_below precedence precedence_total v b g) e)
+
+pub neither : (set : SetValue) → HasNone IsRelease set → HasNone IsPreRelease set → HasNone Fits set
+neither set r p = λ v fits h. by_kind set v h (λ k. r v k h) (λ k. p v k h)

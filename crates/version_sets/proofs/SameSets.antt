@@ -1,13 +1,15 @@
 -- Sets with the same versions have the same switches.
-use Rattle.std.proofs.Common.{◌≡◌, ◌↔◌, Bool, true, false, not, ◌&&◌, refl, sym, ap, ap₂, ◌∙◌, subst, true≢false, Ordering, Less, Equal, Greater, is_eq}
+use Rattle.std.proofs.Common.{◌≡◌, ◌↔◌, Bool, true, false, not, ◌&&◌, refl, sym}
+use Rattle.std.proofs.Common.{ap, ap₂, ◌∙◌, subst, true≢false, Ordering, Less, Equal, Greater, is_eq}
 use lib.Pointwise.{pointwise_decides}
+use Rattle.std.specs.Cmp.{tied_itself}
 use Rattle.std.specs.Ordering.{eq_by_cmp}
 use Rattle.semver_parser.specs.Versions.{PlainVersion}
 use Rattle.semver_parser.specs.Precedence.{precedence}
 use Rattle.version_sets.specs.declared.combination.Combination.TheVariants.{Difference}
 use Rattle.version_sets.specs.VersionSets.{SetValue, has, Fits, IsIn, same_switches, IsNormal}
 use Rattle.version_sets.specs.Means.Combined.{KeepsSome}
-use Rattle.version_sets.specs.Means.PrecedenceOrder.{precedence_total}
+use Rattle.semver_parser.specs.PrecedenceLaws.{precedence_total, precedence-same}
 use Rattle.version_sets.proofs.SetLaws.{has-release, has-pre_release}
 use Rattle.version_sets.proofs.SwitchLaws.{one_list}
 use Rattle.version_sets.proofs.WalkLaws.{by_test}
@@ -26,35 +28,40 @@ equal_is Less e = absurd (true≢false (sym e))
 equal_is Equal e = refl
 equal_is Greater e = absurd (true≢false (sym e))
 
-module _ (ties : (v w : PlainVersion) → (precedence v w ≡ Equal) ↔ (v ≡ w)) where
-  exact : (v w : PlainVersion) → (eq_by_cmp precedence v w ≡ true → v ≡ w) × (v ≡ w → eq_by_cmp precedence v w ≡ true)
-  exact v w = (λ e. (ties v w).0 (equal_is (precedence v w) e), λ e. ap is_eq ((ties v w).1 e))
+-- versions tie exactly where they are the same
+exact : (v w : PlainVersion) → (eq_by_cmp precedence v w ≡ true → v ≡ w) × (v ≡ w → eq_by_cmp precedence v w ≡ true)
+exact v w = (
+  λ e. precedence-same v w (equal_is (precedence v w) e),
+  λ e. ap is_eq (ap (precedence v) (sym e) ∙ tied_itself precedence_total v),
+)
 
-  -- it is to be one set
-  pub same_is : (a b : SetValue) (r : Bool) → r ≡ same_switches a b → (r ≡ true) ↔ (a ≡ b)
-  same_is a b r e =
-      let releases = pointwise_decides exact a.releases b.releases in
-      let pre_releases = pointwise_decides exact a.pre_releases b.pre_releases in (
-        λ h. let both = both_true _ _ (sym e ∙ h) in λ i. record { releases = releases.0 both.0 i; pre_releases = pre_releases.0 both.1 i },
-        λ is. e ∙ ap₂ (λ p q. p && q) (releases.1 (ap (λ s. s.releases) is)) (pre_releases.1 (ap (λ s. s.pre_releases) is)),
-      )
+-- it is to be one set
+pub same_is : (a b : SetValue) (r : Bool) → r ≡ same_switches a b → (r ≡ true) ↔ (a ≡ b)
+same_is a b r e =
+    let releases = pointwise_decides exact a.releases b.releases in
+    let pre_releases = pointwise_decides exact a.pre_releases b.pre_releases in (
+      λ h. let both = both_true _ _ (sym e ∙ h) in λ i. record { releases = releases.0 both.0 i; pre_releases = pre_releases.0 both.1 i },
+      λ is. e ∙ ap₂ (λ p q. p && q) (releases.1 (ap (λ s. s.releases) is)) (pre_releases.1 (ap (λ s. s.pre_releases) is)),
+    )
 
-  -- sets in the normal form with the same versions are one
-  pub one_set : (a b : SetValue) → IsNormal a → IsNormal b → ((v : PlainVersion) → IsIn v a ↔ IsIn v b) → a ≡ b
-  one_set a b s t h =
-      let alike = λ (v : PlainVersion) (fits : Fits v). one_answer (has a v) (has b v) (λ i. ((h v).0 (fits, i)).1) (λ i. ((h v).1 (fits, i)).1) in
-      let releases = one_list precedence precedence_total (λ v w. (ties v w).0) _ a.releases b.releases s.releases.increase t.releases.increase
-      s.releases.are_of_kind t.releases.are_of_kind (λ v k. sym (has-release a v k.1) ∙ alike v k.0 ∙ has-release b v k.1) in
-      let pre_releases = one_list precedence precedence_total (λ v w. (ties v w).0) _ a.pre_releases b.pre_releases s.pre_releases.increase
-      t.pre_releases.increase s.pre_releases.are_of_kind t.pre_releases.are_of_kind
-      (λ v k. sym (has-pre_release a v k.1) ∙ alike v k.0 ∙ has-pre_release b v k.1) in
-      λ i. record { releases = releases i; pre_releases = pre_releases i }
+-- sets in the normal form with the same versions are one
+pub one_set : (a b : SetValue) → IsNormal a → IsNormal b → ((v : PlainVersion) → IsIn v a ↔ IsIn v b) → a ≡ b
+one_set a b s t h =
+    let alike = λ (v : PlainVersion) (fits : Fits v).
+    one_answer (has a v) (has b v) (λ i. ((h v).0 (fits, i)).1) (λ i. ((h v).1 (fits, i)).1) in
+    let releases = one_list precedence precedence_total precedence-same _ a.releases b.releases
+    s.releases.increase t.releases.increase
+    s.releases.are_of_kind t.releases.are_of_kind (λ v k. sym (has-release a v k.1) ∙ alike v k.0 ∙ has-release b v k.1) in
+    let pre_releases = one_list precedence precedence_total precedence-same _ a.pre_releases b.pre_releases s.pre_releases.increase
+    t.pre_releases.increase s.pre_releases.are_of_kind t.pre_releases.are_of_kind
+    (λ v k. sym (has-pre_release a v k.1) ∙ alike v k.0 ∙ has-pre_release b v k.1) in
+    λ i. record { releases = releases i; pre_releases = pre_releases i }
 
-  pub same_versions : (a b : SetValue) → IsNormal a → IsNormal b → (r : Bool) → r ≡ same_switches a b
-      → (r ≡ true) ↔ ((v : PlainVersion) → IsIn v a ↔ IsIn v b)
-  same_versions a b s t r e =
-      let is = same_is a b r e in
-      (λ h v. subst (λ c. IsIn v a ↔ IsIn v c) (is.0 h) (λ i. i, λ i. i), λ h. is.1 (one_set a b s t h))
+pub same_versions : (a b : SetValue) → IsNormal a → IsNormal b → (r : Bool) → r ≡ same_switches a b
+    → (r ≡ true) ↔ ((v : PlainVersion) → IsIn v a ↔ IsIn v b)
+same_versions a b s t r e =
+    let is = same_is a b r e in
+    (λ h v. subst (λ c. IsIn v a ↔ IsIn v c) (is.0 h) (λ i. i, λ i. i), λ h. is.1 (one_set a b s t h))
 
 -- a set is within another where nothing is in it alone
 pub tells_within : (a b : SetValue) (k : Bool) → (k ≡ true) ↔ KeepsSome Difference a b

@@ -1,5 +1,7 @@
 -- A binary search among switches finds how many are at or below a place, and so whether it is in the set.
-use Rattle.std.proofs.Common.{◌≡◌, ℕ, zero, suc, ◌≤◌, ◌<◌, ◌%◌, Bool, true, false, not, nat_eq, List, [], ◌∷◌, map, length, get_or, refl, sym, ap, ◌∙◌, true≢false, Ordering, Less, Equal, Greater, is_ge, is_le, is_gt, arith}
+use Rattle.std.proofs.Common.{◌≡◌, ℕ, zero, suc, ◌≤◌, ◌<◌, ◌%◌, Bool, true, false, not, nat_eq, List, [], ◌∷◌}
+use Rattle.std.proofs.Common.{map, length, get_or, refl, sym, ap, ◌∙◌, true≢false}
+use Rattle.std.proofs.Common.{Ordering, Less, Equal, Greater, is_ge, is_le, is_gt, arith}
 use Rattle.std.proofs.lemmas.Bool.Decides.{nat_tests}
 use Rattle.std.specs.Cmp.{IsTotalOrder, upto}
 use Rattle.std.specs.List.Sorted.{IsPartitionedBy, IsPartitionPoint}
@@ -34,7 +36,8 @@ module _ {T X : Type 0} (cmp : T → T → Ordering) (o : IsTotalOrder cmp) (f :
   abbrev pub is_passed : X → Bool
   is_passed x = is_le (cmp (f x) v)
 
-  first_passed : (x : X) (xs : List X) (d : X) → 0 < length xs → IsBelowFirst cmp (f x) (map f xs) → is_passed (get_or xs 0 d) ≡ true → is_passed x ≡ true
+  first_passed : (x : X) (xs : List X) (d : X) → 0 < length xs
+      → IsBelowFirst cmp (f x) (map f xs) → is_passed (get_or xs 0 d) ≡ true → is_passed x ≡ true
   first_passed x [] d l h p = absurd (omega arith)
   first_passed x (y ∷ xs) d l h p = gt-le _ (upto o (f x) (f y) v (ap is_gt h) (le-gt _ p))
 
@@ -54,7 +57,12 @@ module _ {T X : Type 0} (cmp : T → T → Ordering) (o : IsTotalOrder cmp) (f :
   odd_passed [] zero l point = refl
   odd_passed [] (suc n) l point = absurd (omega arith)
   odd_passed (x ∷ xs) zero l point =
-      sym (switched-below cmp v (map f (x ∷ xs)) (o.antisymm v (f x) ∙ less_reverse (cmp (f x) v) (point.1 0 x (omega arith) (omega arith))))
+      sym (switched-below cmp v (map f (x ∷ xs)) (o.antisymm v (f x)
+      ∙ less_reverse (cmp (f x) v) (point.1 0 x (omega arith) (omega arith))))
   odd_passed (x ∷ xs) (suc n) l point =
-      odd_next n ∙ ap not (odd_passed xs n (omega arith) (λ k d p q. point.0 (suc k) d (omega arith) (omega arith), λ k d p q. point.1 (suc k) d (omega arith) (omega arith)))
-      ∙ sym (switched-at cmp v (f x) (map f xs) (ap is_ge (o.antisymm v (f x)) ∙ ge_reverse (cmp (f x) v) (point.0 0 x (omega arith) (omega arith))))
+      odd_next n ∙ ap not (odd_passed xs n (omega arith) (
+        λ k d p q. point.0 (suc k) d (omega arith) (omega arith),
+        λ k d p q. point.1 (suc k) d (omega arith) (omega arith),
+      ))
+      ∙ sym (switched-at cmp v (f x) (map f xs) (ap is_ge (o.antisymm v (f x))
+      ∙ ge_reverse (cmp (f x) v) (point.0 0 x (omega arith) (omega arith))))

@@ -9,7 +9,7 @@ use Rattle.version_sets.specs.Switches.{switched}
 use Rattle.version_sets.specs.VersionSets.{SetValue, has, IsRelease, IsPreRelease, AreSwitches, IsNormal}
 use Rattle.version_sets.specs.Means.Walks.{held}
 use Rattle.version_sets.specs.Means.Combined.{keeps, pieces, keeps_some, combined, combined_sets, KeepsSome}
-use Rattle.version_sets.specs.Means.PrecedenceOrder.{precedence_total}
+use Rattle.semver_parser.specs.PrecedenceLaws.{precedence_total}
 use Rattle.version_sets.proofs.WalkLaws.{walk-is, changes-rise, changes-each, changes-hold, some_held, held_some, by_test}
 
 keeps_nothing : (how : Combination) → keeps how false false ≡ false
@@ -24,7 +24,8 @@ or_second false q e = e
 -- ---- one kind
 
 module _ (P : PlainVersion → Type 0) (how : Combination) (xs ys : List PlainVersion) where
-  kept : (v : PlainVersion) → held precedence (keeps how) false (pieces xs ys) v ≡ keeps how (switched precedence xs v) (switched precedence ys v)
+  kept : (v : PlainVersion)
+      → held precedence (keeps how) false (pieces xs ys) v ≡ keeps how (switched precedence xs v) (switched precedence ys v)
   kept v =
       ap (λ k. held precedence (keeps how) k (pieces xs ys) v) (sym (keeps_nothing how))
       ∙ (walk-is precedence precedence_total P xs false false ys).holds (keeps how) v
@@ -52,7 +53,8 @@ module _ (P : PlainVersion → Type 0) (how : Combination) (xs ys : List PlainVe
         (w.each s.are_of_kind t.are_of_kind) e in
         (found.0, found.1, sym (kept found.0) ∙ found.2)
 
-    kept_some : (v : PlainVersion) → keeps how (switched precedence xs v) (switched precedence ys v) ≡ true → keeps_some how (pieces xs ys) ≡ true
+    kept_some : (v : PlainVersion) → keeps how (switched precedence xs v) (switched precedence ys v) ≡ true
+        → keeps_some how (pieces xs ys) ≡ true
     kept_some v e = held_some precedence precedence_total P (keeps how) (pieces xs ys) v (kept v ∙ e)
 
 -- ---- both kinds

@@ -1,5 +1,6 @@
 -- What the walk over two lists of switches shows of them.
-use Rattle.std.proofs.Common.{◌≡◌, Bool, true, false, not, cond, ◌||◌, List, [], ◌∷◌, map, refl, sym, ap, ap₂, ◌∙◌, true≢false, Ordering, Less, Equal, Greater, is_ge}
+use Rattle.std.proofs.Common.{◌≡◌, Bool, true, false, not, cond, ◌||◌, List, [], ◌∷◌, map}
+use Rattle.std.proofs.Common.{refl, sym, ap, ap₂, ◌∙◌, true≢false, Ordering, Less, Equal, Greater, is_ge}
 use Rattle.std.specs.List.{AllByRecursion, list_any}
 use Rattle.std.specs.Cmp.{IsTotalOrder, tied_itself, alike_right}
 use Rattle.std.specs.Ordering.{match_ordering}
@@ -47,7 +48,8 @@ module _ {T : Type 0} (cmp : T → T → Ordering) (o : IsTotalOrder cmp) (P : T
       → differ x (switched cmp (a ∷ xs) v) ≡ differ (not x) (switched cmp xs v)
   differ-at x v a xs g = ap (differ x) (switched-at cmp v a xs g) ∙ differ-not x (switched cmp xs v)
 
-  held-below : (f : Bool → Bool → Bool) (k : Bool) (ps : List (PieceValue T)) (v : T) → IsBelowFirst cmp v (froms ps) → held cmp f k ps v ≡ k
+  held-below : (f : Bool → Bool → Bool) (k : Bool) (ps : List (PieceValue T)) (v : T) → IsBelowFirst cmp v (froms ps)
+      → held cmp f k ps v ≡ k
   held-below f k [] v h = refl
   held-below f k (p ∷ ps) v h = ap (λ r. cond (is_ge r) (held cmp f (f p.in_first p.in_second) ps v) k) h
 
@@ -116,7 +118,8 @@ module _ {T : Type 0} (cmp : T → T → Ordering) (o : IsTotalOrder cmp) (P : T
   walk_alone-is x y (b ∷ ys) = second_turns x y b [] ys (walk_alone x (not y) ys) tt (walk_alone-is x (not y) ys)
 
   module _ (a : T) (xs : List T) (behind : WalkWith T) (is : (x y : Bool) (ys : List T) → IsWalk x y xs ys (behind x y ys)) where
-    walk_step-by : (x y : Bool) (b : T) (ys : List T) (r : Ordering) → cmp a b ≡ r → IsWalk x (not y) (a ∷ xs) ys (walk_step cmp a behind x (not y) ys)
+    walk_step-by : (x y : Bool) (b : T) (ys : List T) (r : Ordering) → cmp a b ≡ r
+        → IsWalk x (not y) (a ∷ xs) ys (walk_step cmp a behind x (not y) ys)
         → IsWalk x y (a ∷ xs) (b ∷ ys)
         (match_ordering r (record { from = a; in_first = not x; in_second = y } ∷ behind (not x) y (b ∷ ys))
         (record { from = a; in_first = not x; in_second = not y } ∷ behind (not x) (not y) ys)

@@ -1,4 +1,5 @@
 pub mod Switches
+pub mod Releases
 pub mod VersionSets
 pub mod PreReleaseRules
 pub mod Means

@@ -4,5 +4,4 @@ pub mod RangeRules
 pub mod Walks
 pub mod WalkViews
 pub mod Combined
-pub mod PrecedenceOrder
 pub mod SameSwitches

@@ -42,7 +42,8 @@ abbrev pub IsPreRelease : PlainVersion → Type 0
 IsPreRelease v = Fits v × (is_empty v.pre ≡ false)
 
 -- the switches of one kind: each is of the kind, and is below the next by precedence
-pub record AreSwitches (IsOfKind : PlainVersion → Type 0) (switches : List PlainVersion) : Type 0 where
+pub record AreSwitches (IsOfKind : PlainVersion → Type 0) (switches : List PlainVersion)
+    : Type 0 where
   pub increase : IsIncreasing precedence switches
   pub are_of_kind : AllByRecursion IsOfKind switches
 
@@ -51,7 +52,13 @@ pub record IsNormal (set : SetValue) : Type 0 where
   pub releases : AreSwitches IsRelease set.releases
   pub pre_releases : AreSwitches IsPreRelease set.pre_releases
 
--- it is in the set, and none that is in it is below, by precedence
-pub record IsLeast (v : PlainVersion) (set : SetValue) : Type 0 where
+-- it is of a kind and in the set, and none of the kind that is in the set is below, by precedence
+pub record IsLeast (IsOfKind : PlainVersion → Type 0) (set : SetValue) (v : PlainVersion)
+    : Type 0 where
+  pub is_of_kind : IsOfKind v
   pub is_in : IsIn v set
-  pub lowest : (w : PlainVersion) → IsIn w set → precedence w v ≢ Less
+  pub lowest : (w : PlainVersion) → IsOfKind w → IsIn w set → precedence w v ≢ Less
+
+-- none of a kind is in the set
+abbrev pub HasNone : (PlainVersion → Type 0) → SetValue → Type 0
+HasNone IsOfKind set = (v : PlainVersion) → IsOfKind v → ¬ IsIn v set

@@ -7,7 +7,8 @@ ghost use Rattle.semver_parser.specs.Texts.{is_empty};
 ghost use Rattle.semver_parser.specs.Versions.{PlainVersion};
 ghost use Rattle.version_sets.specs.VersionSets.{has, Fits};
 ghost use Rattle.version_sets.specs.Means.Bounds.{lowest_place, numbers_cmp, reaches};
-ghost use Rattle.version_sets.specs.Means.Places.{release_place, set_of, version_place};
+ghost use Rattle.version_sets.specs.Releases.{release_value};
+ghost use Rattle.version_sets.specs.Means.Places.{set_of, version_place};
 
 use crate::release::Release;
 use crate::version_set::VersionSet;
@@ -75,7 +76,7 @@ fn one_or_none<T: Drop>(alloc: Global, item: Option<T>) -> Result<Vec<T>, AllocE
 /// The numbers right behind these. There are none behind the last.
 pub(crate) fn next_numbers(numbers: Release) -> Option<Release>
     ensures { (v : PlainVersion) → Fits v
-        → reaches result v ≡ is_gt (numbers_cmp v (release_place numbers)) }
+        → reaches result v ≡ is_gt (numbers_cmp v (release_value numbers)) }
 {
     let (major, minor) = (numbers.major, numbers.minor);
     if let Some(patch) = numbers.patch.checked_add(1) {

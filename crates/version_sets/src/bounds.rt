@@ -7,7 +7,8 @@ ghost use Rattle.semver_parser.specs.RangeViews.{comparator_of, identifier_of};
 ghost use Rattle.semver_parser.specs.VersionViews.{identifier_value};
 ghost use Rattle.semver_parser.specs.Versions.{PlainVersion};
 ghost use Rattle.version_sets.specs.VersionSets.{has, Fits};
-ghost use Rattle.version_sets.specs.Means.Places.{release_place, version_place};
+ghost use Rattle.version_sets.specs.Releases.{release_value};
+ghost use Rattle.version_sets.specs.Means.Places.{version_place};
 
 use crate::beginning::{beginning_at, lowest_pre_release, next_numbers, of_numbers_from};
 use crate::release::Release;
@@ -48,7 +49,7 @@ pub(crate) fn above(alloc: Global, comparator: &Comparator) -> Result<VersionSet
 
 /// The numbers of a comparator.
 pub(crate) fn numbers_of(comparator: &Comparator) -> Release
-    ensures { release_place result
+    ensures { release_value result
         ≡ record (comparator_of comparator.now).version { pre = [] } }
 {
     Release {

@@ -8,7 +8,6 @@ ghost use Rattle.version_sets.specs.Means.Combined.{KeepsSome};
 use crate::combination::Combination;
 use crate::switches::are_same;
 use crate::version_set::VersionSet;
-use semver_parser::laws;
 
 impl VersionSet {
     /// Whether no version is in the set. It takes no memory.
@@ -70,7 +69,6 @@ impl PartialEq for VersionSet {
             ↔ ((v : PlainVersion) → IsIn v self.now ↔ IsIn v other.now) }
         ensures one_form { (result ≡ true) ↔ (self.now ≡ other.now) }
     {
-        laws::precedence_is_total();
         are_same(&self.releases, &other.releases)
             && are_same(&self.pre_releases, &other.pre_releases)
     }

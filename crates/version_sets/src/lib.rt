@@ -1,4 +1,5 @@
-//! Sets of versions, in one normal form.
+//! Sets of versions, in one normal form: which versions are in one, those that a range text means,
+//! what two have in common or one alone, the least version, and whether two sets are the same.
 #![tactic(auto)]
 
 mod beginning;
@@ -6,6 +7,7 @@ mod bounds;
 mod combination;
 mod combining;
 mod comparing;
+mod least;
 mod of_comparators;
 mod reading;
 mod release;

@@ -1,5 +1,12 @@
 //! Releases: versions without a pre-release and without a build.
 
+ghost use Rattle.std.specs.Prelude.{◌≡◌, []};
+ghost use Rattle.semver_parser.specs.VersionViews.{version_value};
+ghost use Rattle.version_sets.specs.Releases.{release_value};
+
+use semver_parser::version::Version;
+use std::alloc::Global;
+
 /// A release: the three numbers of a version. Its derived order is that of precedence.
 #[derive(Clone, Copy, PartialEq, Eq, PartialOrd, Ord, Debug)]
 pub struct Release {
@@ -9,4 +16,31 @@ pub struct Release {
     pub minor: u64,
     /// The third number: 3 in 1.2.3.
     pub patch: u64,
+}
+
+impl Release {
+    /// The numbers of a version, without its pre-release and its build: 1.2.3 of 1.2.3-rc.1+b5.
+    pub fn of(version: &Version) -> Release
+        ensures { release_value result
+            ≡ record (version_value version.now).plain { pre = [] } }
+    {
+        Release {
+            major: version.major,
+            minor: version.minor,
+            patch: version.patch,
+        }
+    }
+
+    /// The release as a version, without a pre-release and without a build. It takes no memory.
+    pub fn version(self, alloc: Global) -> Version
+        ensures { version_value result ≡ record { plain = release_value self; build = [] } }
+    {
+        Version {
+            major: self.major,
+            minor: self.minor,
+            patch: self.patch,
+            pre: Vec::new(alloc),
+            build: Vec::new(alloc),
+        }
+    }
 }

@@ -1,8 +1,9 @@
 //! What both kinds of switches have: a place in the order of precedence.
 
-ghost use Rattle.std.specs.Prelude.{◌≡◌, IfOk};
+ghost use Rattle.std.specs.Prelude.{◌≡◌, [], IfOk};
 ghost use Rattle.semver_parser.specs.Versions.{PlainVersion};
 ghost use Rattle.semver_parser.specs.Precedence.{precedence};
+ghost use Rattle.semver_parser.specs.VersionViews.{version_value};
 
 use crate::release::Release;
 use semver_parser::version::{Version, cmp_precedence};
@@ -23,9 +24,9 @@ pub(crate) trait Switch: Drop {
 }
 
 impl Switch for Release {
-    ghost use Rattle.version_sets.specs.Means.Places.{release_place};
+    ghost use Rattle.version_sets.specs.Releases.{release_value};
 
-    ghost place = { release_place };
+    ghost place = { release_value };
 
     fn compare(&self, other: &Release) -> Ordering {
         self.cmp(other)
@@ -48,12 +49,21 @@ impl Switch for Version {
 
     /// The build is left out.
     fn at_same_place(&self, alloc: Global) -> Result<Version, AllocError> {
-        Ok(Version {
-            major: self.major,
-            minor: self.minor,
-            patch: self.patch,
-            pre: self.pre.clone()?,
-            build: Vec::new(alloc),
-        })
+        without_build(self, alloc)
     }
+}
+
+/// A version with the same numbers and the same pre-release, and no build. `Err` is want of memory,
+/// which is asked for only for the pre-release.
+pub(crate) fn without_build(version: &Version, alloc: Global) -> Result<Version, AllocError>
+    ensures { IfOk result (λ same. version_value same
+        ≡ record { plain = (version_value version.now).plain; build = [] }) }
+{
+    Ok(Version {
+        major: version.major,
+        minor: version.minor,
+        patch: version.patch,
+        pre: version.pre.clone()?,
+        build: Vec::new(alloc),
+    })
 }

@@ -1,6 +1,6 @@
 //! Sets of versions, and which versions are in them.
 
-ghost use Rattle.std.specs.Prelude.{◌≡◌, false, IfOk, IfErr};
+ghost use Rattle.std.specs.Prelude.{◌≡◌, false};
 ghost use Rattle.semver_parser.specs.Versions.{PlainVersion};
 ghost use Rattle.semver_parser.specs.VersionViews.{version_value};
 ghost use Rattle.version_sets.specs.VersionSets.{has, IsNormal};
@@ -12,9 +12,9 @@ use semver_parser::version::Version;
 use std::alloc::Global;
 use std::marker::Model;
 
-/// A set of versions, in one normal form: for releases and for pre-releases a list of switches, each
-/// below the next by precedence (SemVer 2.0.0, section 11). A version is in the set exactly if an
-/// odd number of its kind's switches are at or below it; its build doesn't count.
+/// A set of versions, in one normal form: for releases and for pre-releases a list of switches,
+/// each below the next by precedence (SemVer 2.0.0, section 11). A version is in the set exactly if
+/// an odd number of its kind's switches are at or below it; its build doesn't count.
 ///
 /// The releases of `>=1.2.0 <2.0.0 || 3.1.4` have the switches 1.2.0, 2.0.0, 3.1.4 and 3.1.5.
 #[derive(Debug, Drop)]
@@ -44,7 +44,7 @@ impl VersionSet {
         VersionSet::of_switches(Vec::new(alloc), Vec::new(alloc))
     }
 
-    /// The set with these switches.
+    /// The set with these switches, which are in the normal form. It takes no memory.
     pub(crate) fn of_switches(releases: Vec<Release>, pre_releases: Vec<Version>) -> VersionSet
         requires { IsNormal (set_of releases.items pre_releases.items) }
         ensures { result ≡ set_of releases.items pre_releases.items }
@@ -55,19 +55,14 @@ impl VersionSet {
         }
     }
 
-    /// Whether a version is in the set. It takes time in the logarithm of the number of switches,
-    /// and no memory.
+    /// Whether a version is in the set: 1.9.0+b5 is in that of `^1.2.0`, and 2.0.0 isn't. It takes
+    /// time in the logarithm of the number of switches, and no memory.
     pub fn has(&self, version: &Version) -> bool
         ensures has { result ≡ has self.now (version_value version.now).plain }
     {
         if !version.pre.is_empty() {
             return switches::has(&self.pre_releases, version);
         }
-        let release = Release {
-            major: version.major,
-            minor: version.minor,
-            patch: version.patch,
-        };
-        switches::has(&self.releases, &release)
+        switches::has(&self.releases, &Release::of(version))
     }
 }

@@ -30,8 +30,8 @@ pub(crate) struct Walk<'a, T> {
 }
 
 impl<'a, T: Switch> Walk<'a, T> {
-    /// The pieces of two sets, each by its increasing switches. Of 1, 3 and 2, 3 they are: from 1 on
-    /// in the first, from 2 on in both, from 3 on in neither.
+    /// The pieces of two sets, each by its increasing switches. Of 1, 3 and 2, 3 they are: from 1
+    /// on in the first, from 2 on in both, from 3 on in neither.
     pub(crate) fn over(first: &'a [T], second: &'a [T]) -> Walk<'a, T>
         ensures { pieces_left T.place result ≡ walk precedence (map T.place first.now)
             false false (map T.place second.now) }

@@ -4,7 +4,7 @@ use Rattle.std.specs.Ordering.{is_ge, nat_cmp, on, then_cmp}
 use Rattle.std.specs.declared.cmp.Ordering.{Ordering}
 use Rattle.semver_parser.specs.Versions.{PlainVersion, numeric}
 use Rattle.version_sets.specs.declared.release.Release.{Release}
-use Rattle.version_sets.specs.Means.Places.{release_place}
+use Rattle.version_sets.specs.Releases.{release_value}
 
 -- by the three numbers alone
 abbrev pub numbers_cmp : PlainVersion → PlainVersion → Ordering
@@ -16,7 +16,7 @@ numbers_cmp =
 -- whether the numbers of a version are at or above those of a release; none are where there is none
 abbrev pub reaches : Option Release → PlainVersion → Bool
 reaches None v = false
-reaches (Some r) v = is_ge (numbers_cmp v (release_place r))
+reaches (Some r) v = is_ge (numbers_cmp v (release_value r))
 
 -- the lowest pre-release of the same numbers
 abbrev pub lowest_place : Release → PlainVersion

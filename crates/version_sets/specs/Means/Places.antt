@@ -1,19 +1,17 @@
--- What precedence sees of a release, of a version and of lists of them: a means of proof.
-use Rattle.std.specs.Prelude.{List, [], map}
+-- What precedence sees of a version, and of lists of switches: a means of proof.
+use Rattle.std.specs.Prelude.{List, map}
 use Rattle.semver_parser.specs.Versions.{PlainVersion}
 use Rattle.semver_parser.specs.VersionViews.{version_value}
 use Rattle.semver_parser.specs.declared.version.Version.{Version}
+use Rattle.version_sets.specs.Releases.{release_value}
 use Rattle.version_sets.specs.VersionSets.{SetValue}
 use Rattle.version_sets.specs.declared.release.Release.{Release}
-
-abbrev pub release_place : Release → PlainVersion
-release_place r = record { major = r.major; minor = r.minor; patch = r.patch; pre = [] }
 
 abbrev pub version_place : Version → PlainVersion
 version_place v = (version_value v).plain
 
 abbrev pub set_of : List Release → List Version → SetValue
 set_of releases pre_releases = record {
-  releases = map release_place releases;
+  releases = map release_value releases;
   pre_releases = map version_place pre_releases;
 }

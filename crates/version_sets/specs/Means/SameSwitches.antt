@@ -2,7 +2,7 @@
 use Rattle.std.specs.Cmp.{IsEquivalence}
 use Rattle.std.proofs.lemmas.Cmp.{lists_equiv, eq_by_cmp_equiv, on_equiv, and_equiv}
 use Rattle.version_sets.specs.VersionSets.{SetValue, same_switches}
-use Rattle.version_sets.specs.Means.PrecedenceOrder.{precedence_total}
+use Rattle.semver_parser.specs.PrecedenceLaws.{precedence_total}
 
 pub switches_equiv : IsEquivalence same_switches
 switches_equiv =

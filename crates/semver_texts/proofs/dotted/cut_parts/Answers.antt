@@ -1,27 +1,26 @@
-use Rattle.std.proofs.Common.{List, Ok, length, take, ap, ◌∙◌, subst, rules, lit<}
+use Rattle.std.proofs.Common.{◌∷◌, ◌++◌, [], Ok, rules, subst, ap, ◌∙◌}
 use Rattle.std.specs.Fn.{FnReturnsAt}
-use Rattle.std.specs.List.{AllZip, slice_split}
-use Rattle.std.proofs.Math.Seq.{take-length}
-use Rattle.std.proofs.lemmas.Iterator.Splits.{YieldsList-from_str_split}
-use Rattle.std.proofs.lemmas.Iterator.Consumers.{YieldsList-turn, YieldsList-end}
-use Rattle.std.proofs.lemmas.List.{length_push}
-use Rattle.semver_texts.specs.Texts.{Text, is_dot}
-use Rattle.semver_texts.proofs.Lists.{zip_more}
+use Rattle.std.proofs.lemmas.Slice.Zip.{all_zipped_more}
+use Rattle.semver_texts.proofs.DottedParts.{ArePartsBehind, parts_behind, split_dotted, split_more}
 use Rattle.semver_texts.proofs.dotted.cut_parts.Goals as goal
 
-pub loop-part-preserved : goal.loop-part-preserved
-loop-part-preserved g c =
-    let here = YieldsList-turn (YieldsList-from_str_split 46 c.args.text.now (lit< tt) (cc) (cc) (cc)) c.loop-part.yielded _
-    c.loop-part.yielded_by _ _ c.in-Some.part c.in-Some.is c.next.ensures.steps in
-    let met : FnReturnsAt g.F.Fn c.args.make c.in-Some.part.now (Ok c.in_ok-make.field-0) = search rules in
-    rw (c.in_ok-push.ensures.items, length_push c.loop-part.yielded c.in-Some.part)
-    (zip_more (λ item part. FnReturnsAt g.F.Fn c.args.make part (Ok item)) c.loop-part.made.items (slice_split is_dot c.args.text.now)
-    (length c.loop-part.yielded) c.in_ok-make.field-0 c.in-Some.part.now here.0 here.1 met c.loop-part.invariant)
+pub text_of_parts-requires : goal.text_of_parts-requires
+text_of_parts-requires g c =
+    (split_dotted c.in-Some.bytes.now _ c.split_at_dot.result.1 (subst ArePartsBehind c.in-Some.is c.loop-rest.invariant.0)
+    c.split_at_dot.ensures).0
 
-pub returns : goal.returns
-returns g c =
-    let all : List Text = slice_split is_dot c.args.text.now in
-    let end = YieldsList-end (YieldsList-from_str_split 46 c.args.text.now (lit< tt) (cc) (cc) (cc)) c.loop-part.yielded _
-    c.loop-part.yielded_by _ _ c.in-None.is c.next.ensures.steps in
-    subst (AllZip (λ item part. FnReturnsAt g.F.Fn c.args.make part (Ok item)) c.loop-part.made.items)
-    (ap (λ n. take n all) end.1 ∙ take-length all) c.loop-part.invariant
+pub loop-rest-preserved : goal.loop-rest-preserved
+loop-rest-preserved g c =
+    let cut = c.loop-rest.invariant.1 in
+    let met : FnReturnsAt g.F.Fn c.args.make c.split_at_dot.result.0.now (Ok c.in_ok-make.field-0) = search rules in (
+      (split_dotted c.in-Some.bytes.now _ c.split_at_dot.result.1 (subst ArePartsBehind c.in-Some.is c.loop-rest.invariant.0)
+          c.split_at_dot.ensures).1,
+      (
+        cut.0 ++ c.split_at_dot.result.0.now ∷ [],
+        split_more c.in-Some.bytes.now c.split_at_dot.result.0.now c.split_at_dot.result.1 _ cut.0 c.split_at_dot.ensures
+            (cut.1 ∙ ap (λ rest. cut.0 ++ parts_behind rest) c.in-Some.is),
+        rw c.in_ok-push.ensures.items
+            (all_zipped_more (λ item part. FnReturnsAt g.F.Fn c.args.make part (Ok item)) c.loop-rest.made.items cut.0 c.in_ok-make.field-0
+            c.split_at_dot.result.0.now cut.2 met),
+      ),
+    )

@@ -2,7 +2,7 @@ use Rattle.std.proofs.Common.{rules}
 use Rattle.std.proofs.lemmas.List.Sorted.{IsPartitionPoint-from_clause}
 use Rattle.semver_parser.specs.Precedence.{precedence}
 use Rattle.version_sets.proofs.SearchLaws.{is_passed, passed_before, odd_passed}
-use Rattle.version_sets.specs.Means.PrecedenceOrder.{precedence_total}
+use Rattle.semver_parser.specs.PrecedenceLaws.{precedence_total}
 use Rattle.version_sets.proofs.switches.has.Goals as goal
 
 pub returns : goal.returns
@@ -10,6 +10,7 @@ returns g c =
     let place = g.T.Switch.place in
     let v = place c.args.place.now in
     let xs = c.args.switches.now in
-    let point = IsPartitionPoint-from_clause (is_passed precedence precedence_total place v) xs _ c.partition_point-below.ensures.partitioned
+    let point =
+    IsPartitionPoint-from_clause (is_passed precedence precedence_total place v) xs _ c.partition_point-below.ensures.partitioned
     (passed_before precedence precedence_total place v xs c.requires) (λ a r q k. search rules) in
     odd_passed precedence precedence_total place v xs _ c.partition_point-below.ensures.bound point

@@ -1,4 +1,4 @@
-use Rattle.std.proofs.Common.{map, subst, ap}
+use Rattle.std.proofs.Common.{map, subst, ap, ◌∙◌}
 use Rattle.std.specs.List.{AllZip}
 use Rattle.semver_texts.specs.VersionGrammar.{SpellsIdentifier}
 use Rattle.semver_texts.specs.VersionViews.{identifier_value}
@@ -11,5 +11,5 @@ pub returns-clause-identifiers : goal.returns-clause-identifiers
 returns-clause-identifiers c = λ text v outlined spells.
     if_ok_more c.identifiers.result (λ ids each. cut_pre text v spells c.args.self.now outlined (map identifier_value ids.items)
     (subst (λ t. AllZip SpellsIdentifier (map identifier_value ids.items) (cut_at_dots t))
-    (ap (λ (o : OutlineValue). o.pre) c.self.view_is) each))
+    (c.as_bytes.ensures.value ∙ ap (λ (o : OutlineValue). o.pre) c.self.view_is) each))
     c.identifiers.ensures.spelled

@@ -31,7 +31,8 @@ pub of_switches-requires : goal.of_switches-requires
 of_switches-requires c =
     let a = set_of c.self.inside.releases.items c.self.inside.pre_releases.items in
     let b = set_of c.other.inside.releases.items c.other.inside.pre_releases.items in
-    let made : set_of c.in_ok-releases.releases.items c.in_ok-pre_releases.pre_releases.items ≡ combined_sets c.args.how a b = search rules in
+    let made : set_of c.in_ok-releases.releases.items c.in_ok-pre_releases.pre_releases.items
+    ≡ combined_sets c.args.how a b = search rules in
     subst IsNormal (sym made) (combined-normal c.args.how a b c.self.invariant c.other.invariant)
 
 pub returns-clause-has : goal.returns-clause-has

@@ -1,4 +1,4 @@
--- Precedence is a total order, and equal only of equal versions.
+-- Precedence is a total order, and equal only of equal versions: a means of proof.
 use Rattle.std.proofs.Common.{◌≡◌, ℕ, List, [], ◌∷◌, refl, sym, ap, ◌∙◌}
 use Rattle.std.specs.Ordering.{nat_cmp, on, ordering_reverse, ordering_then, then_cmp}
 use Rattle.std.specs.Cmp.{IsTotalOrder, nat_cmp_total, on_total, then_total}
@@ -11,7 +11,8 @@ use Rattle.semver_texts.specs.Precedence.{identifier_cmp, pre_cmp, precedence}
 use Rattle.semver_texts.specs.Versions.{IdentifierValue, numeric, alphanumeric, PlainVersion}
 
 -- an order that answers as a total one does is total
-same_total : {K : Type 0} {R S : K → K → Ordering} → ((x y : K) → R x y ≡ S x y) → IsTotalOrder S → IsTotalOrder R
+same_total : {K : Type 0} {R S : K → K → Ordering}
+    → ((x y : K) → R x y ≡ S x y) → IsTotalOrder S → IsTotalOrder R
 same_total e o = record {
   antisymm = λ x y. e x y ∙ o.antisymm x y ∙ ap ordering_reverse (sym (e y x));
   trans = λ x y z l m. e x z ∙ o.trans x y z (sym (e x y) ∙ l) (sym (e y z) ∙ m);
@@ -37,7 +38,9 @@ text (numeric n) = []
 text (alphanumeric t) = t
 
 by_class : (x y : IdentifierValue)
-    → identifier_cmp x y ≡ then_cmp (on class nat_cmp) (then_cmp (on number nat_cmp) (on text (slice_cmp nat_cmp))) x y
+    → identifier_cmp x y
+    ≡ then_cmp (on class nat_cmp)
+    (then_cmp (on number nat_cmp) (on text (slice_cmp nat_cmp))) x y
 unfolding class number text
 by_class (numeric m) (numeric n) = sym (then-equal (nat_cmp m n))
 by_class (numeric m) (alphanumeric t) = refl
@@ -54,7 +57,8 @@ rank : List IdentifierValue → ℕ
 rank [] = 1
 rank (x ∷ xs) = 0
 
-by_rank : (xs ys : List IdentifierValue) → pre_cmp xs ys ≡ then_cmp (on rank nat_cmp) (slice_cmp identifier_cmp) xs ys
+by_rank : (xs ys : List IdentifierValue)
+    → pre_cmp xs ys ≡ then_cmp (on rank nat_cmp) (slice_cmp identifier_cmp) xs ys
 unfolding rank
 by_rank [] [] = refl
 by_rank [] (y ∷ ys) = refl
@@ -62,20 +66,24 @@ by_rank (x ∷ xs) [] = refl
 by_rank (x ∷ xs) (y ∷ ys) = refl
 
 pub pre_total : IsTotalOrder pre_cmp
-pre_total = same_total by_rank (then_total (on_total rank nat_cmp_total) (lists_total identifier_total))
+pre_total =
+    same_total by_rank (then_total (on_total rank nat_cmp_total) (lists_total identifier_total))
 
 -- precedence is total
 pub precedence_total : IsTotalOrder precedence
 precedence_total =
-    then_total (on_total (λ (v : PlainVersion). v.major) nat_cmp_total) (then_total (on_total (λ (v : PlainVersion). v.minor) nat_cmp_total)
-    (then_total (on_total (λ (v : PlainVersion). v.patch) nat_cmp_total) (on_total (λ (v : PlainVersion). v.pre) pre_total)))
+    then_total (on_total (λ (v : PlainVersion). v.major) nat_cmp_total)
+    (then_total (on_total (λ (v : PlainVersion). v.minor) nat_cmp_total)
+    (then_total (on_total (λ (v : PlainVersion). v.patch) nat_cmp_total)
+    (on_total (λ (v : PlainVersion). v.pre) pre_total)))
 
 -- what ties is the same
 identifier-same : IsAntisymmetric identifier_cmp
 identifier-same (numeric m) (numeric n) e = ap numeric (nat_cmp-IsAntisymmetric m n e)
 identifier-same (numeric m) (alphanumeric t) e = cc
 identifier-same (alphanumeric s) (numeric n) e = cc
-identifier-same (alphanumeric s) (alphanumeric t) e = ap alphanumeric (slice_cmp-IsAntisymmetric nat_cmp-IsAntisymmetric s t e)
+identifier-same (alphanumeric s) (alphanumeric t) e =
+    ap alphanumeric (slice_cmp-IsAntisymmetric nat_cmp-IsAntisymmetric s t e)
 
 pre-same : IsAntisymmetric pre_cmp
 pre-same [] [] e = refl
@@ -94,7 +102,8 @@ then_second Equal s e = e
 then_second Greater s e = cc
 
 -- versions with the same fields are the same
-same_fields : (v w : PlainVersion) → v.major ≡ w.major → v.minor ≡ w.minor → v.patch ≡ w.patch → v.pre ≡ w.pre → v ≡ w
+same_fields : (v w : PlainVersion)
+    → v.major ≡ w.major → v.minor ≡ w.minor → v.patch ≡ w.patch → v.pre ≡ w.pre → v ≡ w
 same_fields v w a b c d = λ i. record { major = a i; minor = b i; patch = c i; pre = d i }
 
 pub precedence-same : IsAntisymmetric precedence
