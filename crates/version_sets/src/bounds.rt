@@ -17,8 +17,8 @@ use semver_parser::version::{self, Version};
 use semver_parser::{Comparator, Identifier};
 use std::alloc::{AllocError, Global};
 
-/// The versions at or above a comparator's. Its numbers have no pre-release at or above a release of
-/// them, so there the pre-releases begin at the next numbers.
+/// The versions at or above a comparator's. No pre-release of the same numbers is above a release,
+/// so beside one the pre-releases begin at the next numbers.
 pub(crate) fn at_or_above(alloc: Global, comparator: &Comparator) -> Result<VersionSet, AllocError>
     ensures { IfOk result (λ set. (v : PlainVersion) → Fits v
         → has set v ≡ is_ge (precedence v (comparator_of comparator.now).version)) }
