@@ -12,6 +12,7 @@ mod precedence;
 mod printing;
 mod reading;
 mod reports;
+mod sets;
 mod writers;
 mod writes;
 
@@ -20,6 +21,7 @@ use std::io;
 fn main(rt: HostRuntime) -> io::Result<()> {
     bytes::write_bytes(&rt, rt.alloc())?;
     reading::write_reading(&rt, rt.alloc())?;
+    sets::write_sets(&rt, rt.alloc())?;
     orders::write_enums(&rt, rt.alloc())?;
     orders::write_structs(&rt, rt.alloc())?;
     precedence::write_precedence(&rt, rt.alloc())?;

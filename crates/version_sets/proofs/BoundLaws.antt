@@ -16,14 +16,15 @@ use Rattle.semver_parser.specs.declared.version.Version.{Version}
 use Rattle.version_sets.specs.declared.release.Release.{Release}
 use Rattle.version_sets.specs.VersionSets.{SetValue, has}
 use Rattle.version_sets.specs.Means.Bounds.{lowest_place, numbers_cmp, reaches}
-use Rattle.version_sets.specs.Means.Places.{set_of, version_place}
 use Rattle.version_sets.specs.Releases.{release_value}
+use Rattle.version_sets.specs.Means.Places.{set_of, version_place}
 use Rattle.version_sets.proofs.SetLaws.{has-release, has-pre_release}
 use Rattle.version_sets.proofs.WalkLaws.{by_test}
 
 -- ---- precedence goes by the numbers, and then by the pre-releases
 
-regroup : (a b c d : Ordering) → ordering_then a (ordering_then b (ordering_then c d)) ≡ ordering_then (ordering_then a (ordering_then b c)) d
+regroup : (a b c d : Ordering)
+    → ordering_then a (ordering_then b (ordering_then c d)) ≡ ordering_then (ordering_then a (ordering_then b c)) d
 regroup Less b c d = refl
 regroup Equal Less c d = refl
 regroup Equal Equal c d = refl
@@ -49,7 +50,8 @@ zero_least (numeric (suc n)) xs =
 zero_least (alphanumeric t) xs = refl
 
 -- nothing is between a list and that with the number 0 behind it
-nothing_between : (xs ws : List IdentifierValue) → is_ge (slice_cmp identifier_cmp xs (ws ++ numeric 0 ∷ [])) ≡ is_gt (slice_cmp identifier_cmp xs ws)
+nothing_between : (xs ws : List IdentifierValue)
+    → is_ge (slice_cmp identifier_cmp xs (ws ++ numeric 0 ∷ [])) ≡ is_gt (slice_cmp identifier_cmp xs ws)
 nothing_between [] [] = refl
 nothing_between [] (w ∷ ws) = refl
 nothing_between (x ∷ xs) [] = zero_least x xs
@@ -58,7 +60,8 @@ nothing_between (x ∷ xs) (w ∷ ws) = then_alike is_ge is_gt (identifier_cmp x
 -- ---- releases and pre-releases against a version with a pre-release, and against one without
 
 -- the same, where the other test sees the numbers alone
-numbers_decide : (f g : Ordering → Bool) (o r : Ordering) → f Less ≡ g Less → f Greater ≡ g Greater → f Equal ≡ g r → f o ≡ g (ordering_then o r)
+numbers_decide : (f g : Ordering → Bool) (o r : Ordering)
+    → f Less ≡ g Less → f Greater ≡ g Greater → f Equal ≡ g r → f o ≡ g (ordering_then o r)
 numbers_decide f g Less r l m e = l
 numbers_decide f g Equal r l m e = e
 numbers_decide f g Greater r l m e = m
@@ -159,14 +162,16 @@ module _ (m : Release) (w : PlainVersion) (is : release_value m ≡ record w { p
 
   module _ (v : PlainVersion) where
     -- at or above a version
-    pub reached_with : (p : Option Version) → option_map version_place p ≡ Some w → has (set_of (m ∷ []) (option_to_list p)) v ≡ is_ge (precedence v w)
+    pub reached_with : (p : Option Version) → option_map version_place p ≡ Some w
+        → has (set_of (m ∷ []) (option_to_list p)) v ≡ is_ge (precedence v w)
     reached_with p same =
         by_test (is_empty v.pre)
         (λ e. set-release (Some m) p v e ∙ from-release (Some m) v e ∙ ap is_ge (numbers_of v)
         ∙ against is_ge is_ge v w refl refl (release_reaches v.pre w.pre e))
         (λ e. set-pre_release (Some m) p v e ∙ ap (λ o. from o v) same)
 
-    pub reached_without : (p : Option Version) (n : Option Release) → is_empty w.pre ≡ true → reaches n v ≡ is_gt (numbers_cmp v (release_value m))
+    pub reached_without : (p : Option Version) (n : Option Release) → is_empty w.pre ≡ true
+        → reaches n v ≡ is_gt (numbers_cmp v (release_value m))
         → option_map version_place p ≡ option_map lowest_place n → has (set_of (m ∷ []) (option_to_list p)) v ≡ is_ge (precedence v w)
     reached_without p n none next same =
         by_test (is_empty v.pre)
@@ -186,7 +191,8 @@ module _ (m : Release) (w : PlainVersion) (is : release_value m ≡ record w { p
         ∙ ap is_ge (by_numbers v (record w { pre = w.pre ++ numeric 0 ∷ [] }))
         ∙ then_alike is_ge is_gt (numbers_cmp v w) _ _ refl refl (right_behind v.pre w.pre e some) ∙ sym (ap is_gt (by_numbers v w)))
 
-  pub passed_without : (v : PlainVersion) (n : Option Release) → is_empty w.pre ≡ true → reaches n v ≡ is_gt (numbers_cmp v (release_value m))
+  pub passed_without : (v : PlainVersion) (n : Option Release) → is_empty w.pre ≡ true
+      → reaches n v ≡ is_gt (numbers_cmp v (release_value m))
       → reaches n v ≡ is_gt (precedence v w)
   passed_without v n none next = next ∙ ap is_gt (numbers_of v) ∙ against is_gt is_gt v w refl refl (none_above v.pre w.pre none)
 
@@ -195,7 +201,8 @@ pub with_zero : (x : Version) (w : PlainVersion) (pre : List Identifier) → ver
     → ◌≡◌ {A = PlainVersion} (record { major = x.major; minor = x.minor; patch = x.patch; pre = map identifier_value pre })
     (record w { pre = w.pre ++ numeric 0 ∷ [] })
 with_zero x w pre same more =
-    ap (λ is. record (version_place x) { pre = is }) (ap (map identifier_value) more ∙ map-append identifier_value x.pre.items (Numeric 0 ∷ []))
+    ap (λ is. record (version_place x) { pre = is })
+    (ap (map identifier_value) more ∙ map-append identifier_value x.pre.items (Numeric 0 ∷ []))
     ∙ ap (λ (u : PlainVersion). record u { pre = u.pre ++ numeric 0 ∷ [] }) same
 
 -- ---- the numbers of a version and no others

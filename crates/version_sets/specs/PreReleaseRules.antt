@@ -1,5 +1,5 @@
--- The three rules for pre-releases: what each adds to a range text's own meaning, and to comparators
--- by precedence.
+-- The three rules for pre-releases: which versions a range text means by each, and which meet
+-- comparators by it.
 use Rattle.std.specs.Prelude.{Bool, ◌&&◌}
 use Rattle.semver_parser.specs.Texts.{is_empty}
 use Rattle.semver_parser.specs.Versions.{VersionValue}

@@ -7,8 +7,8 @@ ghost use Rattle.semver_parser.specs.RangeViews.{comparator_of, identifier_of};
 ghost use Rattle.semver_parser.specs.VersionViews.{identifier_value};
 ghost use Rattle.semver_parser.specs.Versions.{PlainVersion};
 ghost use Rattle.version_sets.specs.VersionSets.{has, Fits};
-ghost use Rattle.version_sets.specs.Means.Places.{version_place};
 ghost use Rattle.version_sets.specs.Releases.{release_value};
+ghost use Rattle.version_sets.specs.Means.Places.{version_place};
 
 use crate::beginning::{beginning_at, lowest_pre_release, next_numbers, of_numbers_from};
 use crate::release::Release;
@@ -17,8 +17,8 @@ use semver_parser::version::{self, Version};
 use semver_parser::{Comparator, Identifier};
 use std::alloc::{AllocError, Global};
 
-/// The versions at or above a comparator's. Its numbers have no pre-release at or above a release of
-/// them, so there the pre-releases begin at the next numbers.
+/// The versions at or above a comparator's. No pre-release of the same numbers is above a release,
+/// so beside one the pre-releases begin at the next numbers.
 pub(crate) fn at_or_above(alloc: Global, comparator: &Comparator) -> Result<VersionSet, AllocError>
     ensures { IfOk result (λ set. (v : PlainVersion) → Fits v
         → has set v ≡ is_ge (precedence v (comparator_of comparator.now).version)) }
@@ -59,8 +59,6 @@ pub(crate) fn numbers_of(comparator: &Comparator) -> Release
     }
 }
 
-ghost use Rattle.version_sets.specs.Means.Places.{version_place};
-ghost use Rattle.version_sets.specs.Releases.{release_value};
 /// The version of a comparator.
 fn version_of(alloc: Global, comparator: &Comparator) -> Result<Version, AllocError>
     ensures { IfOk result (λ version.

@@ -1,5 +1,5 @@
-//! Sets of versions, in one normal form: which versions are in one, what two have in common or one
-//! alone, the least version, and whether two sets are the same.
+//! Sets of versions, in one normal form: which versions are in one, those that a range text means,
+//! what two have in common or one alone, the least version, and whether two sets are the same.
 #![tactic(auto)]
 
 mod beginning;

@@ -21,9 +21,9 @@ use std::alloc::{AllocError, Global};
 impl VersionSet {
     /// The versions that meet comparators by a rule for pre-releases (docs/MEANING.md).
     ///
-    /// Those of `>=1.2.0 <2.0.0 || =3.1.4` are 1.2.0, 1.9.0 and 3.1.4, and not 2.0.0. By
-    /// `PreReleases::Included` 2.0.0-rc is one of them, too, since it is below 2.0.0, and by the
-    /// other rules it isn't.
+    /// `>=1.2.0 <2.0.0 || =3.1.4` gives a set with 1.2.0, 1.9.0 and 3.1.4, and without 2.0.0. By
+    /// `PreReleases::Included` 2.0.0-rc is in it, too, since it is below 2.0.0, and by the other
+    /// rules it isn't.
     ///
     /// It takes time in n log n for n comparators, and memory for their switches, at most four a
     /// comparator. `Err` is want of memory.

@@ -16,10 +16,10 @@ use std::alloc::Global;
 impl VersionSet {
     /// The versions that a range text means by a rule for pre-releases (docs/MEANING.md).
     ///
-    /// In Cargo mode and by `PreReleases::Stated`, those of `^1.2.3-beta || 3.x` are 1.2.3-rc,
-    /// 1.9.0 and 3.0.0, and not 1.3.0-rc and 2.0.0. Those of
-    /// `>18446744073709551615.18446744073709551615.18446744073709551615` are none: no version is
-    /// above the last release.
+    /// `^1.2.3-beta || 3.x` in Cargo mode and by `PreReleases::Stated` gives a set with 1.2.3-rc,
+    /// 1.9.0 and 3.0.0, and without 1.3.0-rc and 2.0.0. No version is above the last release, so
+    /// `>18446744073709551615.18446744073709551615.18446744073709551615` means nothing, and its
+    /// set is empty.
     ///
     /// It takes time in n log n for n comparators of the text, and memory for these and for their
     /// switches, at most four a comparator.

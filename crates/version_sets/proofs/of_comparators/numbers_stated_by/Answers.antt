@@ -14,4 +14,5 @@ returns c =
     answered_so (λ set. (v : PlainVersion) → Fits v → has set v ≡ has_pre_release_at v of) c.difference-2.result c.difference-2.ensures.has
     (λ set is v fits. is v
     ∙ ap₂ (λ a b. a && not b) (c.in_ok-from.ensures v) (c.in_ok-of_numbers_from.ensures v)
-    ∙ stated_numbers c.numbers_of-numbers.result of.version c.numbers_of-numbers.ensures some v c.next_numbers.result (c.next_numbers.ensures v fits))
+    ∙ stated_numbers c.numbers_of-numbers.result of.version c.numbers_of-numbers.ensures some v c.next_numbers.result
+    (c.next_numbers.ensures v fits))

@@ -1,0 +1,119 @@
+//! Sets of the versions that a range text means.
+use semver_parser::{Compat, version};
+use std::alloc::Global;
+use std::io::{self, ErrorKind};
+use version_sets::{PreReleases, VersionSet};
+
+/// The last numbers, as a text.
+const LAST: &str = "18446744073709551615.18446744073709551615.18446744073709551615";
+
+/// A range in Cargo mode, a rule, a version, and whether it is in the set.
+const TEXTS: [(&str, PreReleases, &str, bool); 24] = [
+    ("^1.2.3-beta.4", PreReleases::Stated, "1.9.0", true),
+    ("^1.2.3-beta.4", PreReleases::Excluded, "1.2.3-rc", false),
+    ("^1.2.3-beta.4", PreReleases::Stated, "1.2.3-rc", true),
+    ("^1.2.3-beta.4", PreReleases::Stated, "1.3.0-rc", false),
+    ("^1.2.3-beta.4", PreReleases::Included, "1.3.0-rc", true),
+    ("^1.2.3-beta.4", PreReleases::Included, "2.0.0-alpha", false),
+    (">=1.2.3 <1.2.4-rc", PreReleases::Stated, "1.2.4-a", true),
+    ("=2.0.1-a || >=2.0.0", PreReleases::Stated, "2.0.1-a", true),
+    ("=2.0.1-a || >=2.0.0", PreReleases::Stated, "2.0.1-b", false),
+    ("1.2.3-a - 2", PreReleases::Stated, "1.2.3-b", true),
+    ("1.2.3-a - 2", PreReleases::Stated, "2.0.0-b", false),
+    (">1.2.3-a", PreReleases::Included, "1.2.3-a", false),
+    (">1.2.3-a", PreReleases::Included, "1.2.3-a.0", true),
+    (">1.2.3", PreReleases::Included, "1.2.4-0", true),
+    (">1.2.3", PreReleases::Included, "1.2.3-z", false),
+    (
+        "=1.2.18446744073709551615",
+        PreReleases::Included,
+        "1.2.18446744073709551615",
+        true,
+    ),
+    (
+        "=1.2.18446744073709551615",
+        PreReleases::Included,
+        "1.3.0-0",
+        false,
+    ),
+    (
+        "<1.2.0 || 2.x || >=4.0.0",
+        PreReleases::Excluded,
+        "0.0.0",
+        true,
+    ),
+    (
+        "<1.2.0 || 2.x || >=4.0.0",
+        PreReleases::Excluded,
+        "2.9.9+b5",
+        true,
+    ),
+    (
+        "<1.2.0 || 2.x || >=4.0.0",
+        PreReleases::Excluded,
+        "3.0.0",
+        false,
+    ),
+    (
+        "<1.2.0 || 2.x || >=4.0.0",
+        PreReleases::Excluded,
+        LAST,
+        true,
+    ),
+    (">2.0.0 <1.0.0", PreReleases::Included, "1.5.0", false),
+    (
+        "=18446744073709551615.18446744073709551615.18446744073709551615",
+        PreReleases::Stated,
+        LAST,
+        true,
+    ),
+    (
+        ">18446744073709551615.18446744073709551615.18446744073709551615",
+        PreReleases::Included,
+        LAST,
+        false,
+    ),
+];
+
+/// Range texts that mean the same versions, releases alone.
+const SAME: [(&str, &str); 3] = [
+    (">=1.0.0 <2.0.0 || >=2.0.0 <3.0.0", ">=1.0.0 <3.0.0"),
+    (">=1.0.0-rc", ">=1.0.0"),
+    (
+        "<0.0.0",
+        ">18446744073709551615.18446744073709551615.18446744073709551615",
+    ),
+];
+
+/// Writes the places of the texts whose sets are others, and how many texts there were.
+pub fn write_sets(rt: &impl Print, alloc: Global) -> io::Result<()> {
+    for (place, (range, rule, text, wanted)) in TEXTS.iter().enumerate() {
+        if is_in(alloc, range, *rule, text)? != *wanted {
+            println!(rt; "sets: wrong at {place}")?;
+        }
+    }
+    for (place, (range, other)) in SAME.iter().enumerate() {
+        if set_of(alloc, range, PreReleases::Excluded)?
+            != set_of(alloc, other, PreReleases::Excluded)?
+        {
+            println!(rt; "same sets: wrong at {place}")?;
+        }
+    }
+    println!(rt; "sets: {} texts", TEXTS.len())
+}
+
+/// Whether a version is in the set of a range.
+fn is_in(alloc: Global, range: &str, rule: PreReleases, text: &str) -> io::Result<bool> {
+    let Ok(version) = version::parse(alloc, text) else {
+        return Err(io::Error::from(ErrorKind::InvalidInput));
+    };
+    Ok(set_of(alloc, range, rule)?.has(&version))
+}
+
+/// The set of a range.
+fn set_of(alloc: Global, range: &str, rule: PreReleases) -> io::Result<VersionSet> {
+    match VersionSet::of_text(alloc, range, Compat::Cargo, rule) {
+        Ok(set) => Ok(set),
+        Err(_) => Err(io::Error::from(ErrorKind::InvalidInput)),
+    }
+}
