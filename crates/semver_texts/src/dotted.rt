@@ -98,7 +98,7 @@ pub fn text_of_parts(bytes: &[u8]) -> &str
 
 /// What stands in front of the first dot, and what follows it; all, where there is no dot.
 #[inline(always)]
-fn split_at_dot(bytes: &[u8]) -> (&[u8], Option<&[u8]>)
+pub fn split_at_dot(bytes: &[u8]) -> (&[u8], Option<&[u8]>)
     ensures { MatchOption result.1
         ((slice_split is_dot bytes.now ≡ result.0.now ∷ []) × (bytes.now ≡ result.0.now))
         (λ behind. (slice_split is_dot bytes.now ≡ result.0.now ∷ slice_split is_dot behind.now)

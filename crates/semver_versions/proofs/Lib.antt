@@ -1,3 +1,4 @@
+pub mod ComparedTexts
 pub mod CutIdentifiers
 pub mod OneVersion
 pub mod OutlinedTexts

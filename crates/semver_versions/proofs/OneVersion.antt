@@ -52,7 +52,7 @@ pub identifiers_bytes : (ids : List IdentifierValue) (texts : List (List ℕ)) �
     → AllByRecursion IsPartText texts
 identifiers_bytes = all_zipped identifier_bytes
 
-same_identifier : (id other : IdentifierValue) (text : List ℕ) → SpellsIdentifier id text → SpellsIdentifier other text → id ≡ other
+pub same_identifier : (id other : IdentifierValue) (text : List ℕ) → SpellsIdentifier id text → SpellsIdentifier other text → id ≡ other
 same_identifier (numeric n) (numeric m) text a b = ap numeric (decimal_injective n m a.0 b.0 (sym a.1 ∙ b.1))
 same_identifier (numeric n) (alphanumeric kept) text a b = absurd (b.2 (n, a.0, sym b.0 ∙ a.1))
 same_identifier (alphanumeric kept) (numeric m) text a b = absurd (a.2 (m, b.0, sym a.0 ∙ b.1))

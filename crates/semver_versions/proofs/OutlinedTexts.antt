@@ -1,12 +1,13 @@
 -- The outline of a version, from the numbers and the parts of a text that spells it, and its parts back.
 use Rattle.std.proofs.Common.{◌≡◌, ◌<◌, ℕ, suc, ◌+◌, List, [], ◌∷◌, ◌++◌, length, take, drop, map, sym, refl, ap, ◌∙◌, subst, arith}
-use Rattle.std.proofs.Common.{⊎_elim, ◌⊎◌, inl, inr, append_assoc, length-append, length-drop, decimal, codes, ◌≤◌}
+use Rattle.std.proofs.Common.{⊎_elim, ◌⊎◌, inl, inr, append_assoc, length-append, length-drop, decimal, codes, ◌≤◌, rules}
 use Rattle.std.specs.Prelude.{Option, Some, None, Result, Ok, Err, IfOk, IfErr, false, ◌==◌, ◌↔◌, IfSome}
 use Rattle.std.specs.List.{AllZip, join_with_byte, prefix_len}
+use Rattle.std.proofs.lemmas.Bool.Decides.{nat_tests}
 use Rattle.std.proofs.lemmas.List.{take_at, drop_at}
 use Rattle.std.proofs.lemmas.List.Sums.{prefix_len-le-length}
 use Rattle.std.proofs.lemmas.List.Splits.{join_with_byte-slice_split}
-use Rattle.semver_texts.specs.Texts.{Text, marked, BeginsWithNumbers, is_space}
+use Rattle.semver_texts.specs.Texts.{Text, marked, BeginsWithNumbers, is_empty, is_space}
 use Rattle.semver_texts.specs.Versions.{IdentifierValue, VersionValue, numbers}
 use Rattle.semver_texts.specs.PrintedText.{identifier_text, plain_text}
 use Rattle.semver_texts.specs.VersionGrammar.{SpellsIdentifier, SpellsPart, SpellsVersion}
@@ -186,7 +187,7 @@ part_stands mark place (id ∷ ids) part lead rest text w whole at =
     (whole ∙ ap (λ t. lead ++ (t ++ rest)) (part_text (mark ∷ []) (id ∷ ids) part w)) at
 
 module _ (text : Text) (v : VersionValue) (w : SpellsVersion v text) where
-  its_outline : (o : OutlineValue) → IsOutlineOf text o → o ≡ outline_behind (prefix_len is_space text) v
+  pub its_outline : (o : OutlineValue) → IsOutlineOf text o → o ≡ outline_behind (prefix_len is_space text) v
   its_outline o is = is.2 ∙ ap (outline_behind (prefix_len is_space text)) (one_version is.0 v text is.1 w)
 
   its_pre : (o : OutlineValue) → IsOutlineOf text o → o.pre ≡ dotted_text v.plain.pre
@@ -202,6 +203,16 @@ module _ (text : Text) (v : VersionValue) (w : SpellsVersion v text) where
       let empty = empty_text (codes "-") v.plain.pre w.spells.pre_text w.spells.pre in
       (λ e. empty.0 (sym (its_pre o is) ∙ e), λ e. its_pre o is ∙ empty.1 e)
 
+  pub same_emptiness : (o : OutlineValue) → IsOutlineOf text o → (pre : Text) → pre ≡ o.pre → (length pre == 0) ≡ is_empty v.plain.pre
+  same_emptiness o is pre e =
+      let both = no_pre_release (Some o) is in at pre v.plain.pre (λ none. both.0 (sym e ∙ none)) (λ none. e ∙ both.1 none)
+    where
+      at : (t : Text) (ids : List IdentifierValue) → (t ≡ [] → ids ≡ []) → (ids ≡ [] → t ≡ []) → (length t == 0) ≡ is_empty ids
+      at [] [] f g = refl
+      at [] (id ∷ ids) f g = absurd (search rules)
+      at (b ∷ t) [] f g = absurd (search rules)
+      at (b ∷ t) (id ∷ ids) f g = grind (arith, nat_tests)
+
   pub no_build : (found : Option OutlineValue) → IsOutlined (prefix_len is_space text) text found
       → IfSome found (λ o. (o.build ≡ []) ↔ (v.build ≡ []))
   no_build None none = tt
@@ -210,12 +221,14 @@ module _ (text : Text) (v : VersionValue) (w : SpellsVersion v text) where
       (λ e. empty.0 (sym (its_build o is) ∙ e), λ e. its_build o is ∙ empty.1 e)
 
   -- what is cut from them are its identifiers
+  pub spelled_pre : (o : OutlineValue) → IsOutlineOf text o → AllZip SpellsIdentifier v.plain.pre (cut_at_dots o.pre)
+  spelled_pre o is =
+      subst (λ t. AllZip SpellsIdentifier v.plain.pre (cut_at_dots t)) (sym (its_pre o is))
+      (cut_dotted v.plain.pre w.spells.pre.texts w.spells.pre.each)
+
   pub cut_pre : (o : OutlineValue) → IsOutlineOf text o → (ids : List IdentifierValue) → AllZip SpellsIdentifier ids (cut_at_dots o.pre)
       → ids ≡ v.plain.pre
-  cut_pre o is ids each =
-      same_identifiers ids v.plain.pre (cut_at_dots o.pre) each
-      (subst (λ t. AllZip SpellsIdentifier v.plain.pre (cut_at_dots t)) (sym (its_pre o is))
-      (cut_dotted v.plain.pre w.spells.pre.texts w.spells.pre.each))
+  cut_pre o is ids each = same_identifiers ids v.plain.pre (cut_at_dots o.pre) each (spelled_pre o is)
 
   pub cut_build : (o : OutlineValue) → IsOutlineOf text o → (ids : List IdentifierValue) → AllZip SpellsIdentifier ids (cut_at_dots o.build)
       → ids ≡ v.build

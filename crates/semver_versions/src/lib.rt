@@ -2,6 +2,7 @@
 //! token.
 #![tactic(auto)]
 
+mod comparing;
 mod from_bytes;
 mod identifiers;
 pub mod laws;

@@ -1,15 +1,18 @@
 //! Versions in outline.
 
-ghost use Rattle.std.specs.Prelude.{◌≡◌, ◌⊎◌, ◌<◌, [], length, map, IfOk, IfErr};
-ghost use Rattle.semver_texts.specs.Texts.{Text};
+ghost use Rattle.std.specs.Prelude.{◌≡◌, ◌⊎◌, ◌<◌, [], length, map, not, IfOk, IfErr};
+ghost use Rattle.semver_texts.specs.Texts.{Text, is_empty};
 ghost use Rattle.semver_texts.specs.Versions.{VersionValue};
+ghost use Rattle.semver_texts.specs.Precedence.{precedence};
 ghost use Rattle.semver_texts.specs.VersionGrammar.{SpellsVersion};
 ghost use Rattle.semver_texts.specs.VersionViews.{identifier_value, version_value};
 ghost use Rattle.semver_versions.specs.Outlines.{IsOutlineOf};
 
+use crate::comparing::compare_pre_releases;
 use crate::identifiers::identifiers;
 use semver_texts::version::{Identifier, Version};
 use std::alloc::{AllocError, Global};
+use std::cmp::Ordering;
 use std::marker::Model;
 
 /// A version text in outline: the three numbers, and the texts of the pre-release and of the build
@@ -87,6 +90,17 @@ impl<'t> Outline<'t> {
         self.build
     }
 
+    /// Whether it has a pre-release: that of `1.2.3-rc.4+5aedf` has one, and that of `1.2.3+5aedf`
+    /// hasn't.
+    #[inline(always)]
+    pub fn is_pre_release(&self) -> bool
+        // It is so of the version of each text that has this outline.
+        ensures pre_release { (text : Text) (v : VersionValue) → IsOutlineOf text self.now
+            → SpellsVersion v text → result ≡ not (is_empty v.plain.pre) }
+    {
+        !self.pre.is_empty()
+    }
+
     /// How many bytes of the text that was read stand in front of the identifiers of the
     /// pre-release: 7 of ` 1.2.3-rc.4`. It is 0 where there is no pre-release.
     #[inline(always)]
@@ -153,5 +167,31 @@ impl<'t> Outline<'t> {
             pre: self.pre_identifiers(alloc)?,
             build: self.build_identifiers(alloc)?,
         })
+    }
+    /// How the version of this outline compares with another by precedence (SemVer 2.0.0, section
+    /// 11), as `version::cmp_precedence` tells it of two versions: the outline of `1.2.3-rc.4+5aedf`
+    /// is `Less` than 1.2.3-rc.11. Builds don't count. It takes no memory.
+    #[inline(always)]
+    pub fn cmp_precedence(&self, version: &Version) -> Ordering
+        // It is that of the version of each text that has this outline.
+        ensures precedence { (text : Text) (v : VersionValue) → IsOutlineOf text self.now
+            → SpellsVersion v text
+            → result ≡ precedence v.plain (version_value version.now).plain }
+    {
+        let Outline {
+            major,
+            minor,
+            patch,
+            pre,
+            ..
+        } = self;
+        let by_numbers = major
+            .cmp(&version.major)
+            .then(minor.cmp(&version.minor))
+            .then(patch.cmp(&version.patch));
+        if by_numbers.is_ne() {
+            return by_numbers;
+        }
+        compare_pre_releases(pre.as_bytes(), &version.pre)
     }
 }

@@ -5,5 +5,6 @@ mod SearchLaws
 mod Lists
 mod SetLaws
 mod BoundLaws
+mod OutlinedPlaces
 mod SameSets
 mod FirstSwitches

@@ -29,6 +29,11 @@ less_reverse Less e = absurd (true≢false e)
 less_reverse Equal e = absurd (true≢false e)
 less_reverse Greater e = refl
 
+pub reversed_ge : (r : Ordering) → is_ge (ordering_reverse r) ≡ is_le r
+reversed_ge Less = refl
+reversed_ge Equal = refl
+reversed_ge Greater = refl
+
 odd_next : (n : ℕ) → nat_eq (suc n % 2) 1 ≡ not (nat_eq (n % 2) 1)
 odd_next n = grind (arith, nat_tests)
 

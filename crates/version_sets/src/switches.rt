@@ -1,12 +1,18 @@
 //! Lists of switches: whether one has a place, and whether two are the same.
 
-ghost use Rattle.std.specs.Prelude.{◌≡◌, map};
+ghost use Rattle.std.specs.Prelude.{◌≡◌, ◌%◌, map, nat_eq};
 ghost use Rattle.std.specs.Ordering.{eq_by_cmp};
 ghost use Rattle.std.specs.Cmp.Lexicographic.{pointwise};
+ghost use Rattle.semver_parser.specs.Outlines.{IsOutlineOf};
 ghost use Rattle.semver_parser.specs.Precedence.{precedence};
+ghost use Rattle.semver_parser.specs.Texts.{Text};
+ghost use Rattle.semver_parser.specs.VersionGrammar.{SpellsVersion};
+ghost use Rattle.semver_parser.specs.Versions.{VersionValue};
+ghost use Rattle.version_sets.specs.Means.Places.{version_place};
 ghost use Rattle.version_sets.specs.Switches.{switched, IsIncreasing};
 
 use crate::switch::Switch;
+use semver_parser::version::{Outline, Version};
 
 /// Whether an odd number of the switches are at or below a place. It takes time in the logarithm of
 /// their number, and no memory.
@@ -14,8 +20,35 @@ pub(crate) fn has<T: Switch>(switches: &[T], place: &T) -> bool
     requires { IsIncreasing precedence (map T.place switches.now) }
     ensures { result ≡ switched precedence (map T.place switches.now) (T.place place.now) }
 {
-    let below = switches.partition_point(|switch| switch.compare(place).is_le());
-    below % 2 == 1
+    is_odd(switches.partition_point(|switch| switch.compare(place).is_le()))
+}
+
+/// Whether an odd number of the switches are at or below the version of an outline. It takes time in
+/// the logarithm of their number, and no memory.
+pub(crate) fn has_outline(switches: &[Version], outline: &Outline<'_>) -> bool
+    requires { IsIncreasing precedence (map version_place switches.now) }
+    ensures { (text : Text) (v : VersionValue) → IsOutlineOf text outline.now
+        → SpellsVersion v text
+        → result ≡ switched precedence (map version_place switches.now) v.plain }
+{
+    let mut low = 0;
+    let mut high = switches.len();
+    while low < high {
+        let middle = low + (high - low) / 2;
+        if outline.cmp_precedence(&switches[middle]).is_ge() {
+            low = middle + 1;
+        } else {
+            high = middle;
+        }
+    }
+    is_odd(low)
+}
+
+/// Whether a number is odd.
+fn is_odd(number: usize) -> bool
+    ensures { result ≡ nat_eq (number % 2) 1 }
+{
+    number % 2 == 1
 }
 
 /// Whether two lists of switches have the same places. It takes no memory.

@@ -1,14 +1,19 @@
 //! Sets of versions, and which versions are in them.
 
 ghost use Rattle.std.specs.Prelude.{◌≡◌, false};
-ghost use Rattle.semver_parser.specs.Versions.{PlainVersion};
+ghost use Rattle.semver_parser.specs.Texts.{Text};
+ghost use Rattle.semver_parser.specs.Versions.{PlainVersion, VersionValue};
+ghost use Rattle.semver_parser.specs.VersionGrammar.{SpellsVersion};
 ghost use Rattle.semver_parser.specs.VersionViews.{version_value};
+ghost use Rattle.semver_parser.specs.Outlines.{IsOutlineOf};
+ghost use Rattle.version_sets.specs.Releases.{release_value};
 ghost use Rattle.version_sets.specs.VersionSets.{has, IsNormal};
 ghost use Rattle.version_sets.specs.Means.Places.{set_of};
 
 use crate::release::Release;
 use crate::switches;
-use semver_parser::version::Version;
+use semver_parser::laws;
+use semver_parser::version::{Outline, Version};
 use std::alloc::Global;
 use std::marker::Model;
 
@@ -60,9 +65,36 @@ impl VersionSet {
     pub fn has(&self, version: &Version) -> bool
         ensures has { result ≡ has self.now (version_value version.now).plain }
     {
-        if !version.pre.is_empty() {
-            return switches::has(&self.pre_releases, version);
+        if version.pre.is_empty() {
+            return self.has_release(Release::of(version));
         }
-        switches::has(&self.releases, &Release::of(version))
+        switches::has(&self.pre_releases, version)
+    }
+
+    /// Whether a release is in the set, as [`VersionSet::has`] tells of a version.
+    #[inline(always)]
+    pub fn has_release(&self, release: Release) -> bool
+        ensures has { result ≡ has self.now (release_value release) }
+    {
+        switches::has(&self.releases, &release)
+    }
+
+    /// Whether the version of an outline is in the set, as [`VersionSet::has`] tells of a version.
+    /// Its identifiers are compared as they stand in the text. It takes no memory.
+    #[inline(always)]
+    pub fn has_outline(&self, outline: &Outline<'_>) -> bool
+        // It is that of the version of each text that has this outline.
+        ensures has { (text : Text) (v : VersionValue) → IsOutlineOf text outline.now
+            → SpellsVersion v text → result ≡ has self.now v.plain }
+    {
+        laws::one_version();
+        if outline.is_pre_release() {
+            return switches::has_outline(&self.pre_releases, outline);
+        }
+        self.has_release(Release {
+            major: outline.major(),
+            minor: outline.minor(),
+            patch: outline.patch(),
+        })
     }
 }

@@ -1,4 +1,4 @@
-use Rattle.std.proofs.Common.{rules}
+use Rattle.std.proofs.Common.{rules, ◌∙◌}
 use Rattle.std.proofs.lemmas.List.Sorted.{IsPartitionPoint-from_clause}
 use Rattle.semver_parser.specs.Precedence.{precedence}
 use Rattle.version_sets.proofs.SearchLaws.{is_passed, passed_before, odd_passed}
@@ -11,6 +11,6 @@ returns g c =
     let v = place c.args.place.now in
     let xs = c.args.switches.now in
     let point =
-    IsPartitionPoint-from_clause (is_passed precedence precedence_total place v) xs _ c.partition_point-below.ensures.partitioned
+    IsPartitionPoint-from_clause (is_passed precedence precedence_total place v) xs _ c.partition_point.ensures.partitioned
     (passed_before precedence precedence_total place v xs c.requires) (λ a r q k. search rules) in
-    odd_passed precedence precedence_total place v xs _ c.partition_point-below.ensures.bound point
+    c.is_odd.ensures ∙ odd_passed precedence precedence_total place v xs _ c.partition_point.ensures.bound point

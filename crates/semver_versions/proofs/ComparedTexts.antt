@@ -1,0 +1,138 @@
+-- Identifiers that still stand in a text, compared with others one by one.
+use Rattle.std.proofs.Common.{◌≡◌, ℕ, ◌+◌, ◌<◌, ◌≤◌, List, [], ◌∷◌, length, drop, get_or, map, refl, sym, ap, ◌∙◌, subst, arith}
+use Rattle.std.specs.Prelude.{Option, Some, None}
+use Rattle.std.specs.Borrow.{Bor}
+use Rattle.std.specs.Cmp.Lexicographic.{slice_cmp}
+use Rattle.std.specs.List.{AllByRecursion, AllZip, count_by, slice_split}
+use Rattle.std.proofs.lemmas.List.{drop_all, drop_more}
+use Rattle.std.proofs.lemmas.List.Splits.{length-slice_split}
+use Rattle.std.specs.Ordering.{nat_cmp, ordering_then}
+use Rattle.std.specs.declared.cmp.Ordering.{Ordering}
+use Rattle.std.specs.declared.cmp.Ordering.TheVariants.{Less, Equal, Greater}
+use Rattle.semver_texts.specs.Precedence.{identifier_cmp, pre_cmp, precedence}
+use Rattle.semver_texts.specs.Texts.{Text, is_dot}
+use Rattle.semver_texts.specs.VersionGrammar.{IsIdentifierText, SpellsIdentifier}
+use Rattle.semver_texts.specs.VersionViews.{identifier_value}
+use Rattle.semver_texts.specs.Versions.{IdentifierValue, PlainVersion}
+use Rattle.semver_texts.specs.declared.version.Identifier.{Identifier}
+use Rattle.semver_texts.proofs.DottedParts.{parts_behind, IsSplit}
+
+-- the first of two comparisons decides where it finds a difference
+first_decides : (o p : Ordering) → (o ≡ Equal → ⊥) → o ≡ ordering_then o p
+first_decides Less p n = refl
+first_decides Equal p n = absurd (n refl)
+first_decides Greater p n = refl
+
+-- what identifiers compare as with some others
+abbrev pub compared : List IdentifierValue → List Identifier → Ordering
+compared ids others = slice_cmp identifier_cmp ids (map identifier_value others)
+
+-- what is left of the text and of the others decides
+pub record IsLeft (text : Text) (others : List Identifier) (rest : Option (Bor Text)) (left : List Identifier) : Type 0 where
+  pub each : AllByRecursion IsIdentifierText (parts_behind rest)
+  pub decides : (ids : List IdentifierValue) → AllZip SpellsIdentifier ids (slice_split is_dot text)
+      → (behind : List IdentifierValue) × AllZip SpellsIdentifier behind (parts_behind rest) × (compared ids others ≡ compared behind left)
+
+-- one of them and those behind it
+pub at_item : (others : List Identifier) (i : ℕ) (x : Identifier) → i < length others → x ≡ get_or others i x
+    → drop i others ≡ x ∷ drop (i + 1) others
+at_item others i x inside is = drop_more others i x inside ∙ ap (λ y. y ∷ drop (i + 1) others) (sym is)
+
+-- a text in parts is its first part, and those behind it
+pub split_parts : (bytes part : Text) (behind : Option (Bor Text)) → IsSplit bytes part behind
+    → slice_split is_dot bytes ≡ part ∷ parts_behind behind
+split_parts bytes part None h = h.0
+split_parts bytes part (Some behind) h = h.0
+
+-- behind all of them there is none
+pub all_compared : {text : Text} (others : List Identifier) (rest : Option (Bor Text)) (i : ℕ) → length others ≤ i
+    → IsLeft text others rest (drop i others) → IsLeft text others rest []
+all_compared others rest i past w = subst (IsLeft _ others rest) (drop_all i others past) w
+
+module _ {text : Text} {others : List Identifier} where
+  -- the text has ended
+  pub ended : (left : List Identifier) → IsLeft text others None left → (ids : List IdentifierValue)
+      → AllZip SpellsIdentifier ids (slice_split is_dot text) → compared [] left ≡ compared ids others
+  ended left w ids all = at (w.decides ids all).0 (w.decides ids all).1 (w.decides ids all).2
+    where
+      at : (behind : List IdentifierValue) → AllZip SpellsIdentifier behind [] → compared ids others ≡ compared behind left
+          → compared [] left ≡ compared ids others
+      at [] none e = sym e
+      at (id ∷ behind) none e = absurd none
+
+  -- the others have ended before it
+  pub longer : (rest : Bor Text) → IsLeft text others (Some rest) [] → (ids : List IdentifierValue)
+      → AllZip SpellsIdentifier ids (slice_split is_dot text) → Greater ≡ compared ids others
+  longer rest w ids all = at (w.decides ids all).0 (slice_split is_dot rest.now) (length-slice_split is_dot rest.now) (w.decides ids all).1 (w.decides ids all).2
+    where
+      at : (left : List IdentifierValue) (parts : List Text) → length parts ≡ count_by is_dot rest.now + 1 → AllZip SpellsIdentifier left parts
+          → compared ids others ≡ compared left [] → Greater ≡ compared ids others
+      at left [] some all e = absurd (omega (arith, some))
+      at [] (part ∷ parts) some none e = absurd none
+      at (id ∷ left) (part ∷ parts) some both e = sym e
+
+  module _ (bytes : Bor Text) (part : Text) (behind : Option (Bor Text)) (split : IsSplit bytes.now part behind) {first : Identifier}
+      {left : List Identifier} (w : IsLeft text others (Some bytes) (first ∷ left)) where
+    cut : slice_split is_dot bytes.now ≡ part ∷ parts_behind behind
+    cut = split_parts bytes.now part behind split
+
+    parts : AllByRecursion IsIdentifierText (part ∷ parts_behind behind)
+    parts = subst (AllByRecursion IsIdentifierText) cut w.each
+
+    pub first_part : IsIdentifierText part
+    first_part = parts.0
+
+    module _ (ordering : Ordering)
+        (is : (id : IdentifierValue) → SpellsIdentifier id part → ordering ≡ identifier_cmp id (identifier_value first)) where
+      -- the first identifier decides
+      pub decided : (ordering ≡ Equal → ⊥) → (ids : List IdentifierValue) → AllZip SpellsIdentifier ids (slice_split is_dot text)
+          → ordering ≡ compared ids others
+      decided unequal ids all =
+          at (w.decides ids all).0 (subst (AllZip SpellsIdentifier (w.decides ids all).0) cut (w.decides ids all).1) (w.decides ids all).2
+        where
+          at : (ids' : List IdentifierValue) → AllZip SpellsIdentifier ids' (part ∷ parts_behind behind)
+              → compared ids others ≡ compared ids' (first ∷ left) → ordering ≡ compared ids others
+          at [] none e = absurd none
+          at (id ∷ more) both e =
+              first_decides ordering (compared more left) unequal ∙ ap (λ o. ordering_then o (compared more left)) (is id both.0) ∙ sym e
+
+      -- it doesn't
+      pub goes_on : ordering ≡ Equal → IsLeft text others behind left
+      goes_on equal = record {
+        each = parts.1;
+        decides = λ ids all. at ids (w.decides ids all).0
+            (subst (AllZip SpellsIdentifier (w.decides ids all).0) cut (w.decides ids all).1) (w.decides ids all).2;
+      }
+        where
+          at : (ids ids' : List IdentifierValue) → AllZip SpellsIdentifier ids' (part ∷ parts_behind behind)
+              → compared ids others ≡ compared ids' (first ∷ left)
+              → (more : List IdentifierValue) × AllZip SpellsIdentifier more (parts_behind behind)
+              × (compared ids others ≡ compared more left)
+          at ids [] none e = absurd none
+          at ids (id ∷ more) both e =
+              (more, both.1, e ∙ ap (λ o. ordering_then o (compared more left)) (sym (is id both.0) ∙ equal))
+
+-- ---- by the three numbers, and then by the pre-release
+
+then_same : (a b c p : Ordering) → ordering_then (ordering_then (ordering_then a b) c) p ≡ ordering_then a (ordering_then b (ordering_then c p))
+then_same Less b c p = refl
+then_same Equal Less c p = refl
+then_same Equal Equal c p = refl
+then_same Equal Greater c p = refl
+then_same Greater b c p = refl
+
+module _ (major minor patch : ℕ) (v w : PlainVersion) (at_major : major ≡ v.major) (at_minor : minor ≡ v.minor) (at_patch : patch ≡ v.patch)
+    (by_numbers : Ordering)
+    (is : by_numbers ≡ ordering_then (ordering_then (nat_cmp major w.major) (nat_cmp minor w.minor)) (nat_cmp patch w.patch)) where
+  whole : ordering_then by_numbers (pre_cmp v.pre w.pre) ≡ precedence v w
+  whole =
+      ap (λ o. ordering_then o (pre_cmp v.pre w.pre)) is
+      ∙ then_same (nat_cmp major w.major) (nat_cmp minor w.minor) (nat_cmp patch w.patch) (pre_cmp v.pre w.pre)
+      ∙ (λ i. ordering_then (nat_cmp (at_major i) w.major)
+      (ordering_then (nat_cmp (at_minor i) w.minor) (ordering_then (nat_cmp (at_patch i) w.patch) (pre_cmp v.pre w.pre))))
+
+  pub numbers_decide : (by_numbers ≡ Equal → ⊥) → by_numbers ≡ precedence v w
+  numbers_decide unequal = first_decides by_numbers (pre_cmp v.pre w.pre) unequal ∙ whole
+
+  pub pre_release_decides : by_numbers ≡ Equal → pre_cmp v.pre w.pre ≡ precedence v w
+  pre_release_decides equal = ap (λ o. ordering_then o (pre_cmp v.pre w.pre)) (sym equal) ∙ whole

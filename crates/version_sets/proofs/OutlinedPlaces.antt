@@ -1,0 +1,77 @@
+-- What an outline tells of the version that was read.
+use Rattle.std.proofs.Common.{◌≡◌, ℕ, ◌+◌, ◌<◌, ◌≤◌, Bool, true, false, not, List, [], ◌∷◌, length, get_or, refl, sym, ap, ◌∙◌, map, true≢false}
+use Rattle.std.proofs.Common.{arith, is_ge}
+use Rattle.std.specs.List.{AllWithin}
+use Rattle.std.specs.Prelude.{if◌then◌else◌}
+use Rattle.std.proofs.lemmas.List.{get_or_default}
+use Rattle.semver_parser.specs.Outlines.{OutlineValue, outline_behind}
+use Rattle.semver_parser.specs.Precedence.{precedence}
+use Rattle.semver_parser.specs.PrecedenceLaws.{precedence_total}
+use Rattle.semver_parser.specs.Texts.{is_empty}
+use Rattle.semver_parser.specs.Versions.{IdentifierValue, PlainVersion, VersionValue}
+use Rattle.semver_parser.specs.declared.version.Version.{Version}
+use Rattle.version_sets.specs.Means.Places.{version_place}
+use Rattle.version_sets.specs.Switches.{switched, IsIncreasing}
+use Rattle.version_sets.specs.VersionSets.{SetValue, has}
+use Rattle.version_sets.proofs.SearchLaws.{is_passed, passed_before, reversed_ge}
+
+-- a release is its numbers
+pub release_is : (v : VersionValue) (o : OutlineValue) (before : ℕ) → o ≡ outline_behind before v → (answer : Bool) → answer ≡ false
+    → answer ≡ not (is_empty v.plain.pre) → (major minor patch : ℕ) → major ≡ o.major → minor ≡ o.minor → patch ≡ o.patch
+    → ◌≡◌ {A = PlainVersion} (record { major = major; minor = minor; patch = patch; pre = [] }) v.plain
+release_is v o before is answer says told major minor patch at_major at_minor at_patch = λ i. record {
+  major = (at_major ∙ ap (λ (x : OutlineValue). x.major) is) i;
+  minor = (at_minor ∙ ap (λ (x : OutlineValue). x.minor) is) i;
+  patch = (at_patch ∙ ap (λ (x : OutlineValue). x.patch) is) i;
+  pre = none v.plain.pre (sym says ∙ told) i;
+}
+  where
+    none : (pre : List IdentifierValue) → false ≡ not (is_empty pre) → [] ≡ pre
+    none [] e = refl
+    none (id ∷ pre) e = absurd (true≢false (sym e))
+
+-- a pre-release is in the set where its switches say so
+pub pre_release_has : (v : VersionValue) (set : SetValue) (answer : Bool) → answer ≡ true → answer ≡ not (is_empty v.plain.pre)
+    → switched precedence set.pre_releases v.plain ≡ has set v.plain
+pre_release_has v set answer says told = at (is_empty v.plain.pre) (sym says ∙ told)
+  where
+    at : (b : Bool) → true ≡ not b
+        → switched precedence set.pre_releases v.plain
+        ≡ (if b then switched precedence set.releases v.plain else switched precedence set.pre_releases v.plain)
+    at true e = absurd (true≢false e)
+    at false e = refl
+
+-- ---- a search among switches
+
+-- whether a switch is at or below a version
+abbrev pub is_reached : PlainVersion → Version → Bool
+is_reached v = is_passed precedence precedence_total version_place v
+
+-- the switches in front of a place are at or below the version, those from another on are above it
+abbrev pub IsNarrowed : PlainVersion → List Version → ℕ → ℕ → Type 0
+IsNarrowed v switches low high =
+    AllWithin (λ s. is_reached v s ≡ true) switches 0 low × AllWithin (λ s. is_reached v s ≡ false) switches high (length switches)
+
+module _ (v : PlainVersion) (xs : List Version) where
+  module _ (increase : IsIncreasing precedence (map version_place xs)) (low high middle : ℕ) (known : IsNarrowed v xs low high) (x : Version)
+      (inside : middle < length xs) (is : x ≡ get_or xs middle x) (answer : Bool)
+      (told : answer ≡ is_ge (precedence v (version_place x))) where
+    at_middle : (d : Version) → is_reached v (get_or xs middle d) ≡ answer
+    at_middle d =
+        ap (is_reached v) (get_or_default xs middle d x inside ∙ sym is) ∙ sym (reversed_ge (precedence (version_place x) v))
+        ∙ ap is_ge (sym (precedence_total.antisymm v (version_place x))) ∙ sym told
+
+    pub narrowed_below : answer ≡ true → IsNarrowed v xs (middle + 1) high
+    narrowed_below says = (
+      λ k d low high. passed_before precedence precedence_total version_place v xs increase k middle d (omega arith) inside (at_middle d ∙ says),
+      known.1,
+    )
+
+    pub narrowed_above : answer ≡ false → IsNarrowed v xs low middle
+    narrowed_above says = (known.0, λ k d low high. at k d low high (is_reached v (get_or xs k d)) refl)
+      where
+        at : (k : ℕ) (d : Version) → middle ≤ k → k < length xs → (b : Bool) → is_reached v (get_or xs k d) ≡ b → b ≡ false
+        at k d low high true e =
+            absurd (true≢false (sym (passed_before precedence precedence_total version_place v xs increase middle k d low high e) ∙ at_middle d
+            ∙ says))
+        at k d low high false e = refl
