@@ -1,7 +1,6 @@
 mod GreatestSteps
 mod Tests
 mod Passing
-mod StoredRanges
 mod LineReading
 mod ShownLines
 mod LineSteps

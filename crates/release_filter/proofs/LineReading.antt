@@ -31,16 +31,16 @@ module _ (test : VersionValue → Bool) (prefix line : List ℕ) where
     dropped none = λ (v, (t, at, spells, passes)). none v (subst (SpellsVersion v) (same_text t at) spells) passes
 
     -- what is said of that text is so of the line
-    pub line_passes : (version : Version) (outline : OutlineValue) → IsJudged test text (Passes version outline)
+    pub line_passes : (version : Version) (outline : OutlineValue) → IsJudged test text (Passes outline)
+        → ((v : VersionValue) → SpellsVersion v text → (version_value version).plain ≡ v.plain)
         → SpellsPlain test prefix line (version_value version).plain
-    line_passes version outline ((v, spells, _), told) =
-        (v, (text, is, spells, (told v spells).0), ap (λ (w : VersionValue). w.plain) (told v spells).1)
+    line_passes version outline ((v, spells, _), told) made = (v, (text, is, spells, told v spells), made v spells)
 
     pub line_fails : (said : Judged) → (said ≡ NoVersion) ⊎ (said ≡ DoesNotPass) → IsJudged test text said
         → ¬ (IsKeptLine test prefix line)
     line_fails NoVersion either none = dropped (λ v spells _. none (v, spells))
     line_fails DoesNotPass either (_, fails) = dropped (λ v spells passes. not_both passes (fails v spells))
-    line_fails (Passes version outline) either _ = absurd (⊎_elim (λ none. cc) (λ fails. cc) either)
+    line_fails (Passes outline) either _ = absurd (⊎_elim (λ none. cc) (λ fails. cc) either)
 
 -- what `strip_prefix` tells of bytes
 abbrev pub Strips : List ℕ → List ℕ → Option (Bor (List ℕ)) → Type 0

@@ -1,4 +1,2 @@
-pub mod Majors
-pub mod PlainVersions
 pub mod Reading
-pub mod Tested
+pub mod Rules

@@ -1,50 +1,43 @@
 //! A range text read once, as a test on many versions.
 
-ghost use Rattle.std.specs.Prelude.{◌≡◌, ◌↔◌, ◌<◌, ◌^◌, map, filter, Any, IfOk, IfErr, IfSome};
+ghost use Rattle.std.specs.Prelude.{◌≡◌, ◌↔◌, map, filter, Any, IfOk, IfErr, IfSome};
 ghost use Rattle.std.specs.Prelude.{IsTrue, None, []};
 ghost use Rattle.semver_parser.specs.RangeTexts.{RefusesExactly};
 ghost use Rattle.semver_parser.specs.RangeTree.{SetTree, Spells};
-ghost use Rattle.semver_parser.specs.Versions.{PlainVersion, VersionValue};
-ghost use Rattle.semver_parser.specs.Meeting.{meets_set};
-ghost use Rattle.semver_parser.specs.RangeViews.{set_of};
+ghost use Rattle.semver_parser.specs.Versions.{VersionValue};
 ghost use Rattle.semver_parser.specs.VersionViews.{version_value};
 ghost use Rattle.version_sets.specs.PreReleaseRules.{meant_with};
 ghost use Rattle.release_filter.specs.KeptReleases.{kept_releases};
-ghost use Rattle.release_filter.specs.Filters.{FilterValue, passes};
+ghost use Rattle.release_filter.specs.Filters.{passes};
 ghost use Rattle.release_filter.specs.Greatest.{HasNone, IsGreatest, IsOneThat};
-ghost use Rattle.release_filter.specs.Means.Majors.{IsWithin};
-ghost use Rattle.release_filter.specs.Means.PlainVersions.{plain_of};
 
-use crate::majors::{self, Majors};
-use crate::meeting::{is_met, is_met_as_stated};
-use crate::plain::{self, Plain};
 use crate::precedence;
 use semver_parser::version::Version;
-use semver_parser::{Compat, RangeError, RangeSet, laws};
+use semver_parser::{Compat, RangeError, laws};
 use std::alloc::{AllocError, Global};
 use std::marker::Model;
-use version_sets::{PreReleases, read_set};
+use version_sets::{PreReleases, VersionSet};
 
 /// Which versions a range text means, by one of the three rules for pre-releases.
 ///
 /// It is read once, by [`Filter::new`], and then answers as often as is asked.
 #[derive(Drop)]
 pub struct Filter {
-    /// The comparators: with exact bounds wherever pre-releases can count.
-    set: RangeSet,
+    /// The versions that the text means.
+    pub(crate) versions: VersionSet,
     /// The rule.
-    pub(crate) pre_releases: PreReleases,
-    /// The first numbers that a version can have which meets the set.
-    pub(crate) majors: Majors,
+    pre_releases: PreReleases,
 }
 
 impl Model for Filter {
+    ghost use Rattle.release_filter.specs.Filters.{FilterValue};
+    ghost use Rattle.release_filter.specs.Means.Rules.{HeedsRule};
+
     ghost Value = { FilterValue };
 
-    ghost view = { λ f. record { set = set_of f.set; pre_releases = f.pre_releases } };
+    ghost view = { λ f. record { set = f.versions; pre_releases = f.pre_releases } };
 
-    ghost invariant = { λ f. (v : PlainVersion) → v.major < 2 ^ 64
-        → IsTrue (meets_set v (set_of f.set)) → IsWithin f.majors v.major };
+    ghost invariant = { λ f. HeedsRule f.pre_releases f.versions };
 }
 
 impl Filter {
@@ -68,12 +61,10 @@ impl Filter {
             → Spells tree range.now → passes filter v ≡ meant_with pre_releases compat tree v) }
         ensures rule { IfOk result (λ filter. filter.pre_releases ≡ pre_releases) }
     {
-        let set = read_set(alloc, range, compat, pre_releases)?;
-        let majors = majors::of_ranges(&set.ranges);
+        let versions = VersionSet::of_text(alloc, range, compat, pre_releases)?;
         Ok(Filter {
-            set,
+            versions,
             pre_releases,
-            majors,
         })
     }
 
@@ -81,18 +72,7 @@ impl Filter {
     pub fn meets(&self, version: &Version) -> bool
         ensures meets { result ≡ passes self.now (version_value version.now) }
     {
-        self.majors.has(version.major) && self.is_met_by(&plain::of(version))
-    }
-
-    /// Whether a version passes, of whatever first number.
-    pub(crate) fn is_met_by(&self, version: &Plain<'_>) -> bool
-        ensures { result ≡ passes self.now (record { plain = plain_of version.now; build = [] }) }
-    {
-        match self.pre_releases {
-            PreReleases::Excluded => version.pre.is_empty() && is_met(&self.set, version),
-            PreReleases::Stated => is_met_as_stated(&self.set, version),
-            PreReleases::Included => is_met(&self.set, version),
-        }
+        self.versions.has(version)
     }
 
     /// Those of the versions that pass, in their order and with repeats. Of 0.2.0, 0.3.0, 2.0.0-rc,

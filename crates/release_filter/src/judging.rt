@@ -1,17 +1,15 @@
 //! What a filter says of a version text.
 
-ghost use Rattle.std.specs.Prelude.{◌≡◌, ◌↔◌, ◌<◌, ◌⊎◌, [], length, option_map, true, false};
-ghost use Rattle.std.specs.Prelude.{IfOk, IfErr, IsTrue, MatchOption, Some, None, Result};
-ghost use Rattle.semver_parser.specs.Texts.{Text};
+ghost use Rattle.std.specs.Prelude.{◌≡◌, ◌↔◌, ◌<◌, ◌⊎◌, [], length, option_map, false};
+ghost use Rattle.std.specs.Prelude.{IfOk, IfErr, IsTrue, Some, None, Result};
 ghost use Rattle.semver_parser.specs.Versions.{VersionValue};
 ghost use Rattle.semver_parser.specs.VersionGrammar.{SpellsVersion};
 ghost use Rattle.semver_parser.specs.VersionViews.{version_value};
 ghost use Rattle.release_filter.specs.Filters.{passes};
 ghost use Rattle.release_filter.specs.Judging.{IsJudged};
-ghost use Rattle.release_filter.specs.Means.Tested.{IsReadAs, IsTested, release};
 
 use crate::filter::Filter;
-use crate::plain::{self, Plain};
+use semver_parser::laws;
 use semver_parser::version::{self, Outline, Version};
 use std::alloc::{AllocError, Global};
 use version_sets::PreReleases;
@@ -23,101 +21,30 @@ pub enum Judged<'t> {
     NoVersion,
     /// It spells a version that doesn't pass.
     DoesNotPass,
-    /// It spells a version that passes: this, without its build, and its outline.
-    Passes(Version, Outline<'t>),
+    /// It spells a version that passes: one of this outline.
+    Passes(Outline<'t>),
 }
 
 impl Filter {
     /// What the filter says of a text: one of `^1.2`, releases alone, says of `1.2` that it is no
-    /// version, of `2.0.0` and of `1.3.0-rc` that they don't pass, and of `1.9.0+b5` that 1.9.0
+    /// version, of `2.0.0` and of `1.3.0-rc` that they don't pass, and of `1.9.0+b5` that 1.9.0+b5
     /// passes.
     ///
-    /// The text is read as by `version::outline_bytes`, and needn't be UTF-8. Memory is taken only
-    /// for the identifiers of a pre-release, and only where one can pass by the first number and by
-    /// the rule. `Err` is want of it.
+    /// The text is read as by `version::outline_bytes`, and needn't be UTF-8. It takes no memory.
     #[inline(always)]
-    pub fn judge<'t>(&self, alloc: Global, text: &'t [u8]) -> Result<Judged<'t>, AllocError>
-        ensures judged { IfOk result (IsJudged (passes self.now) text.now) }
-        // Memory runs out only where the text spells a version with a pre-release,
-        ensures out_of_memory { IfErr result (λ _. (v : VersionValue) × SpellsVersion v text.now
-            × (0 < length v.plain.pre)) }
-        // and not where releases alone pass.
-        ensures releases { self.now.pre_releases ≡ PreReleases.Excluded → IfErr result (λ _. ⊥) }
+    pub fn judge<'t>(&self, text: &'t [u8]) -> Judged<'t>
+        ensures judged { IsJudged (passes self.now) text.now result }
+        // A pre-release doesn't pass where releases alone do.
+        ensures releases { (v : VersionValue) → SpellsVersion v text.now → ¬ (v.plain.pre ≡ [])
+            → self.now.pre_releases ≡ PreReleases.Excluded → result ≡ Judged.DoesNotPass }
     {
         let Some(outline) = version::outline_bytes(text) else {
-            return Ok(Judged::NoVersion);
+            return Judged::NoVersion;
         };
-        match self.passing(alloc, &outline)? {
-            Some(version) => Ok(Judged::Passes(version, outline)),
-            None => Ok(Judged::DoesNotPass),
-        }
-    }
-
-    /// The version of an outline, without its build, if it passes. It is made only of what passes,
-    /// or has to have its identifiers compared.
-    #[inline(always)]
-    fn passing(&self, alloc: Global, outline: &Outline<'_>) -> Result<Option<Version>, AllocError>
-        ensures found { IfOk result (λ found. (text : Text) (v : VersionValue)
-            → IsReadAs text v outline.now → IsTested (passes self.now) v found) }
-        ensures memory { IfErr result (λ _. 0 < length outline.now.pre) }
-        ensures releases { self.now.pre_releases ≡ PreReleases.Excluded → IfErr result (λ _. ⊥) }
-    {
-        let (major, minor, patch) = (outline.major(), outline.minor(), outline.patch());
-        if !self.majors.has(major) {
-            return Ok(None);
-        }
-        if outline.pre().is_empty() {
-            return Ok(self.passing_release(alloc, major, minor, patch));
-        }
-        if self.pre_releases == PreReleases::Excluded {
-            return Ok(None);
-        }
-        let pre = outline.pre_identifiers(alloc)?;
-        let build = Vec::new(alloc);
-        Ok(self.if_it_passes(Version {
-            major,
-            minor,
-            patch,
-            pre,
-            build,
-        }))
-    }
-
-    /// The release of these numbers, if it passes.
-    #[inline(always)]
-    fn passing_release(&self, alloc: Global, major: u64, minor: u64, patch: u64) -> Option<Version>
-        ensures { IsTested (passes self.now) (release major minor patch) result }
-    {
-        let pre = Vec::new(alloc);
-        let release = Plain {
-            major,
-            minor,
-            patch,
-            pre: &pre,
-        };
-        if !self.is_met_by(&release) {
-            return None;
-        }
-        let build = Vec::new(alloc);
-        Some(Version {
-            major,
-            minor,
-            patch,
-            pre,
-            build,
-        })
-    }
-
-    /// The version, if it passes.
-    #[inline(always)]
-    fn if_it_passes(&self, version: Version) -> Option<Version>
-        ensures { MatchOption result (passes self.now (version_value version) ≡ false)
-            (λ v. (v ≡ version) × (passes self.now (version_value version) ≡ true)) }
-    {
-        if self.is_met_by(&plain::of(&version)) {
-            Some(version)
+        if self.versions.has_outline(&outline) {
+            Judged::Passes(outline)
         } else {
-            None
+            Judged::DoesNotPass
         }
     }
 
@@ -145,11 +72,9 @@ impl Filter {
         ensures releases { (v : VersionValue) → SpellsVersion v text.now → ¬ (v.plain.pre ≡ [])
             → self.now.pre_releases ≡ PreReleases.Excluded → result ≡ Result.Ok None }
     {
-        match self.judge(alloc, text.as_bytes())? {
-            Judged::Passes(mut version, outline) => {
-                version.build = outline.build_identifiers(alloc)?;
-                Ok(Some(version))
-            }
+        laws::one_version();
+        match self.judge(text.as_bytes()) {
+            Judged::Passes(outline) => Ok(Some(outline.version(alloc)?)),
             Judged::NoVersion | Judged::DoesNotPass => Ok(None),
         }
     }

@@ -5,10 +5,8 @@
 mod filter;
 mod judging;
 mod lines;
-mod majors;
 mod meeting;
 mod next_line;
-mod plain;
 mod precedence;
 
 pub use filter::{Filter, filter_text};

@@ -9,9 +9,7 @@ ghost use Rattle.semver_parser.specs.StatedPreReleases.{meets_set_as_stated};
 ghost use Rattle.semver_parser.specs.RangeViews.{comparator_of, range_of, set_of};
 ghost use Rattle.semver_parser.specs.VersionViews.{version_value};
 ghost use Rattle.version_sets.specs.PreReleaseRules.{is_release};
-ghost use Rattle.release_filter.specs.Means.PlainVersions.{plain_of};
 
-use crate::plain::{self, Plain};
 use crate::precedence;
 use semver_parser::version::Version;
 use semver_parser::{Comparator, Op, Range, RangeSet};
@@ -40,7 +38,7 @@ pub fn release_meets(set: &RangeSet, version: &Version) -> bool
 pub fn version_meets(set: &RangeSet, version: &Version) -> bool
     ensures meets { result ≡ meets_set (version_value version.now).plain (set_of set.now) }
 {
-    is_met(set, &plain::of(version))
+    some_range_is_met(&set.ranges, version)
 }
 
 /// Whether a version meets a range set as npm and Cargo have it: some range of the set has all its
@@ -54,49 +52,35 @@ pub fn version_meets_as_stated(set: &RangeSet, version: &Version) -> bool
     ensures meets { result
         ≡ meets_set_as_stated (version_value version.now).plain (set_of set.now) }
 {
-    is_met_as_stated(set, &plain::of(version))
-}
-
-/// Whether a set is met.
-pub(crate) fn is_met(set: &RangeSet, version: &Plain<'_>) -> bool
-    ensures { result ≡ meets_set (plain_of version.now) (set_of set.now) }
-{
-    some_range_is_met(&set.ranges, version)
-}
-
-/// Whether a set is met, as npm and Cargo have it.
-pub(crate) fn is_met_as_stated(set: &RangeSet, version: &Plain<'_>) -> bool
-    ensures { result ≡ meets_set_as_stated (plain_of version.now) (set_of set.now) }
-{
     some_range_is_met_as_stated(&set.ranges, version)
 }
 
 /// Whether a version meets some range.
-fn some_range_is_met(ranges: &[Range], version: &Plain<'_>) -> bool
-    ensures { result ≡ list_any (λ range. meets_range (plain_of version.now)
+fn some_range_is_met(ranges: &[Range], version: &Version) -> bool
+    ensures { result ≡ list_any (λ range. meets_range (version_value version.now).plain
         (range_of range)) ranges.now }
 {
     ranges.iter().any(|range| range_is_met(range, version))
 }
 
 /// Whether a version meets some range in which it counts.
-fn some_range_is_met_as_stated(ranges: &[Range], version: &Plain<'_>) -> bool
-    ensures { result ≡ list_any (λ range. meets_range_as_stated (plain_of version.now)
+fn some_range_is_met_as_stated(ranges: &[Range], version: &Version) -> bool
+    ensures { result ≡ list_any (λ range. meets_range_as_stated (version_value version.now).plain
         (range_of range)) ranges.now }
 {
     ranges.iter().any(|range| range_is_met(range, version) && counts_beside(range, version))
 }
 
 /// Whether a version meets all comparators of a range.
-fn range_is_met(range: &Range, version: &Plain<'_>) -> bool
-    ensures { result ≡ meets_range (plain_of version.now) (range_of range.now) }
+fn range_is_met(range: &Range, version: &Version) -> bool
+    ensures { result ≡ meets_range (version_value version.now).plain (range_of range.now) }
 {
     each_comparator_is_met(&range.comparator_set, version)
 }
 
 /// Whether a version meets all comparators.
-fn each_comparator_is_met(comparators: &[Comparator], version: &Plain<'_>) -> bool
-    ensures { result ≡ list_all (λ comparator. meets_comparator (plain_of version.now)
+fn each_comparator_is_met(comparators: &[Comparator], version: &Version) -> bool
+    ensures { result ≡ list_all (λ comparator. meets_comparator (version_value version.now).plain
         (comparator_of comparator)) comparators.now }
 {
     comparators
@@ -106,8 +90,8 @@ fn each_comparator_is_met(comparators: &[Comparator], version: &Plain<'_>) -> bo
 
 /// Whether a version meets a comparator.
 #[inline(always)]
-fn comparator_is_met(comparator: &Comparator, version: &Plain<'_>) -> bool
-    ensures { result ≡ meets_comparator (plain_of version.now)
+fn comparator_is_met(comparator: &Comparator, version: &Version) -> bool
+    ensures { result ≡ meets_comparator (version_value version.now).plain
         (comparator_of comparator.now) }
 {
     let ordering = precedence::compare(version, comparator);
@@ -122,16 +106,16 @@ fn comparator_is_met(comparator: &Comparator, version: &Plain<'_>) -> bool
 
 /// Whether a version counts in a range: a release does, and a pre-release where a comparator has
 /// its three numbers and a pre-release.
-fn counts_beside(range: &Range, version: &Plain<'_>) -> bool
-    ensures { result ≡ counts_beside (plain_of version.now) (range_of range.now) }
+fn counts_beside(range: &Range, version: &Version) -> bool
+    ensures { result ≡ counts_beside (version_value version.now).plain (range_of range.now) }
 {
     version.pre.is_empty() || some_has_pre_release_at(&range.comparator_set, version)
 }
 
 /// Whether some comparator has the three numbers of a version, and a pre-release.
-fn some_has_pre_release_at(comparators: &[Comparator], version: &Plain<'_>) -> bool
+fn some_has_pre_release_at(comparators: &[Comparator], version: &Version) -> bool
     ensures { result ≡ list_any (λ comparator. has_pre_release_at
-        (plain_of version.now) (comparator_of comparator)) comparators.now }
+        (version_value version.now).plain (comparator_of comparator)) comparators.now }
 {
     comparators
         .iter()
@@ -139,8 +123,8 @@ fn some_has_pre_release_at(comparators: &[Comparator], version: &Plain<'_>) -> b
 }
 
 /// Whether a comparator has the three numbers of a version, and a pre-release.
-fn has_pre_release_at(comparator: &Comparator, version: &Plain<'_>) -> bool
-    ensures { result ≡ has_pre_release_at (plain_of version.now)
+fn has_pre_release_at(comparator: &Comparator, version: &Version) -> bool
+    ensures { result ≡ has_pre_release_at (version_value version.now).plain
         (comparator_of comparator.now) }
 {
     !comparator.pre.is_empty()

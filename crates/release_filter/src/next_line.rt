@@ -5,7 +5,10 @@ ghost use Rattle.std.specs.Prelude.{MatchResult, Option, None, List, ℕ, All};
 ghost use Rattle.std.specs.Io.{StartsWith};
 ghost use Rattle.std.specs.Io.KnownBytes.{Keeps};
 ghost use Rattle.std.specs.Io.BufRead.{strip_last};
+ghost use Rattle.semver_parser.specs.Outlines.{IsOutlineOf};
+ghost use Rattle.semver_parser.specs.VersionGrammar.{SpellsVersion};
 ghost use Rattle.semver_parser.specs.VersionViews.{version_value};
+ghost use Rattle.semver_parser.specs.Versions.{VersionValue};
 ghost use Rattle.release_filter.specs.Filters.{passes};
 ghost use Rattle.release_filter.specs.KeptLines.{line_text, IsKeptLine, IsNoWriting};
 ghost use Rattle.release_filter.specs.KeptLines.{SpellsOneThat};
@@ -17,7 +20,8 @@ ghost use Rattle.semver_parser.specs.Texts.{Text};
 use crate::filter::Filter;
 use crate::judging::Judged;
 use crate::lines::LineError;
-use semver_parser::version::Version;
+use semver_parser::laws;
+use semver_parser::version::{Outline, Version};
 use std::alloc::{AllocError, Global};
 use std::io::{self, BufRead, ErrorKind};
 
@@ -156,11 +160,28 @@ impl Filter {
         let Some(text) = text_behind(prefix, line) else {
             return Ok(None);
         };
-        match self.judge(alloc, text)? {
-            Judged::Passes(version, _) => Ok(Some(version)),
+        match self.judge(text) {
+            Judged::Passes(outline) => Ok(Some(without_build(alloc, &outline)?)),
             Judged::NoVersion | Judged::DoesNotPass => Ok(None),
         }
     }
+}
+
+/// The version of an outline, without its build.
+#[inline(always)]
+fn without_build(alloc: Global, outline: &Outline<'_>) -> Result<Version, AllocError>
+    ensures { IfOk result (λ version. (text : Text) (v : VersionValue)
+        → IsOutlineOf text outline.now → SpellsVersion v text
+        → (version_value version).plain ≡ v.plain) }
+{
+    laws::one_version();
+    Ok(Version {
+        major: outline.major(),
+        minor: outline.minor(),
+        patch: outline.patch(),
+        pre: outline.pre_identifiers(alloc)?,
+        build: Vec::new(alloc),
+    })
 }
 
 /// What stands behind the prefix in the text of a line, if the text begins with it.

@@ -7,9 +7,7 @@ ghost use Rattle.std.specs.Cmp.Lexicographic.{slice_cmp};
 ghost use Rattle.semver_parser.specs.Precedence.{identifier_cmp, pre_cmp, precedence};
 ghost use Rattle.semver_parser.specs.RangeViews.{identifier_of, comparator_of};
 ghost use Rattle.semver_parser.specs.VersionViews.{identifier_value, version_value};
-ghost use Rattle.release_filter.specs.Means.PlainVersions.{plain_of};
 
-use crate::plain::Plain;
 use semver_parser::version::{self, Version};
 use semver_parser::{Comparator, Identifier};
 use std::cmp::Ordering;
@@ -17,8 +15,8 @@ use std::cmp::Ordering;
 /// How a version compares with a comparator's: by the three numbers, and where these are equal by
 /// the pre-releases.
 #[inline(always)]
-pub fn compare(version: &Plain<'_>, comparator: &Comparator) -> Ordering
-    ensures { result ≡ precedence (plain_of version.now) (comparator_of comparator.now).version }
+pub fn compare(version: &Version, comparator: &Comparator) -> Ordering
+    ensures { result ≡ precedence (version_value version.now).plain (comparator_of comparator.now).version }
 {
     if version.major != comparator.major {
         return version.major.cmp(&comparator.major);
@@ -29,7 +27,7 @@ pub fn compare(version: &Plain<'_>, comparator: &Comparator) -> Ordering
     if version.patch != comparator.patch {
         return version.patch.cmp(&comparator.patch);
     }
-    compare_pre_releases(version.pre, &comparator.pre)
+    compare_pre_releases(&version.pre, &comparator.pre)
 }
 
 /// Whether a version is above another. Their builds don't count.

@@ -69,11 +69,10 @@ pub fn judge(alloc: Global, filter: &Filter, version: &[u8]) -> Result<bool, i32
     let Ok(text) = std::str::from_utf8(version) else {
         return Err(numbers::VERSION_NOT_UTF8);
     };
-    match filter.judge(alloc, text.as_bytes()) {
-        Ok(Judged::Passes(_, _)) => Ok(true),
-        Ok(Judged::DoesNotPass) => Ok(false),
-        Ok(Judged::NoVersion) => Err(version_text::fault(alloc, text)),
-        Err(_) => Err(numbers::VERSION_OUT_OF_MEMORY),
+    match filter.judge(text.as_bytes()) {
+        Judged::Passes(_) => Ok(true),
+        Judged::DoesNotPass => Ok(false),
+        Judged::NoVersion => Err(version_text::fault(alloc, text)),
     }
 }
 

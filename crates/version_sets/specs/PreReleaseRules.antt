@@ -1,8 +1,10 @@
--- The three rules for pre-releases: which versions a range text means by each, and which meet
+-- The three rules for pre-releases: which versions a range text means by each, and which meet it or
 -- comparators by it.
 use Rattle.std.specs.Prelude.{Bool, ◌&&◌}
 use Rattle.semver_parser.specs.Texts.{is_empty}
-use Rattle.semver_parser.specs.Versions.{VersionValue}
+use Rattle.std.specs.List.{list_all}
+use Rattle.semver_parser.specs.Versions.{PlainVersion, VersionValue, numbers}
+use Rattle.semver_parser.specs.Partials.{fits_u64}
 use Rattle.semver_parser.specs.declared.Compat.{Compat}
 use Rattle.semver_parser.specs.RangeTree.{SetTree}
 use Rattle.semver_parser.specs.RewritingTable.{PlainSet}
@@ -16,17 +18,26 @@ use Rattle.version_sets.specs.declared.rules.PreReleases.TheVariants.{Excluded, 
 abbrev pub is_release : VersionValue → Bool
 is_release v = is_empty v.plain.pre
 
--- whether a version is a release that meets the text's own meaning
-abbrev pub is_kept : Compat → SetTree → VersionValue → Bool
-is_kept mode tree v = is_release v && meets_tree mode tree v.plain
-
--- whether a text means a version by a rule for pre-releases: by the own meaning, of releases alone
+-- whether a version meets a text by a rule for pre-releases: by the own meaning, of releases alone
 -- or of all versions; or as stated, where a pre-release counts beside a term of the same three
 -- numbers and a pre-release
+abbrev pub meets_text_with : PreReleases → Compat → SetTree → VersionValue → Bool
+meets_text_with Excluded mode tree v = is_release v && meets_tree mode tree v.plain
+meets_text_with Stated mode tree v = meets_tree_as_stated mode tree v.plain
+meets_text_with Included mode tree v = meets_tree mode tree v.plain
+
+-- whether the numbers of a version fit 64 bits, as those of each `Version` and of each version text
+abbrev pub numbers_fit : PlainVersion → Bool
+numbers_fit v = list_all fits_u64 (numbers v)
+
+-- whether a text means a version by a rule for pre-releases: one whose numbers fit, and that meets
+-- it
 abbrev pub meant_with : PreReleases → Compat → SetTree → VersionValue → Bool
-meant_with Excluded mode tree v = is_kept mode tree v
-meant_with Stated mode tree v = meets_tree_as_stated mode tree v.plain
-meant_with Included mode tree v = meets_tree mode tree v.plain
+meant_with rule mode tree v = numbers_fit v.plain && meets_text_with rule mode tree v
+
+-- whether a text means a version by the first rule: a release that meets the text's own meaning
+abbrev pub is_kept : Compat → SetTree → VersionValue → Bool
+is_kept = meant_with Excluded
 
 -- whether a version meets comparators by a rule for pre-releases
 abbrev pub meets_with : PreReleases → PlainSet → VersionValue → Bool

@@ -5,7 +5,7 @@ ghost use Rattle.semver_parser.specs.RangeTexts.{RefusesExactly};
 ghost use Rattle.semver_parser.specs.RangeTree.{SetTree, Spells};
 ghost use Rattle.semver_parser.specs.RangeViews.{set_of};
 ghost use Rattle.semver_parser.specs.Versions.{VersionValue};
-ghost use Rattle.version_sets.specs.PreReleaseRules.{meant_with, meets_with};
+ghost use Rattle.version_sets.specs.PreReleaseRules.{meant_with, meets_text_with, meets_with};
 ghost use Rattle.version_sets.specs.VersionSets.{has, Fits};
 
 use crate::rules::PreReleases;
@@ -65,10 +65,10 @@ pub fn read_set(
     pre_releases: PreReleases,
 ) -> Result<RangeSet, RangeError>
     ensures refusals { RefusesExactly compat range.now result }
-    // What meets the comparators by the rule is what each tree of the text means by it.
+    // What meets the comparators by the rule is what meets each tree of the text by it.
     ensures meaning { IfOk result (λ set. (tree : SetTree) (v : VersionValue)
         → Spells tree range.now →
-        meets_with pre_releases (set_of set) v ≡ meant_with pre_releases compat tree v) }
+        meets_with pre_releases (set_of set) v ≡ meets_text_with pre_releases compat tree v) }
 {
     laws::stated_pre_releases_mean_the_text();
     match pre_releases {

@@ -7,7 +7,7 @@ ghost use Rattle.semver_parser.specs.VersionGrammar.{SpellsVersion};
 ghost use Rattle.semver_parser.specs.VersionViews.{version_value};
 ghost use Rattle.semver_parser.specs.Outlines.{IsOutlineOf};
 ghost use Rattle.version_sets.specs.Releases.{release_value};
-ghost use Rattle.version_sets.specs.VersionSets.{has, IsNormal};
+ghost use Rattle.version_sets.specs.VersionSets.{has, Fits, IsNormal};
 ghost use Rattle.version_sets.specs.Means.Places.{set_of};
 
 use crate::release::Release;
@@ -64,9 +64,16 @@ impl VersionSet {
     /// time in the logarithm of the number of switches, and no memory.
     pub fn has(&self, version: &Version) -> bool
         ensures has { result ≡ has self.now (version_value version.now).plain }
+        // The numbers of a version fit 64 bits.
+        ensures fits { Fits (version_value version.now).plain }
     {
+        let (major, minor, patch) = (version.major, version.minor, version.patch);
         if version.pre.is_empty() {
-            return self.has_release(Release::of(version));
+            return self.has_release(Release {
+                major,
+                minor,
+                patch,
+            });
         }
         switches::has(&self.pre_releases, version)
     }

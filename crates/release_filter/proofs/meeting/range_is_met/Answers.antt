@@ -4,11 +4,11 @@ use Rattle.std.proofs.lemmas.List.Folds.{list_all-map}
 use Rattle.semver_parser.specs.declared.Comparator.{Comparator}
 use Rattle.semver_parser.specs.Meeting.{meets_comparator}
 use Rattle.semver_parser.specs.RangeViews.{comparator_of}
-use Rattle.release_filter.specs.Means.PlainVersions.{plain_of}
+use Rattle.semver_parser.specs.VersionViews.{version_value}
 use Rattle.release_filter.proofs.meeting.range_is_met.Goals as goal
 
 pub returns : goal.returns
 returns c =
-    let met = meets_comparator (plain_of c.args.version.now) in
+    let met = meets_comparator (version_value c.args.version.now).plain in
     c.each_comparator_is_met.ensures ∙ sym (list_all-map met comparator_of c.deref.result.now)
     ∙ ap (λ (l : List Comparator). list_all met (map comparator_of l)) c.deref.ensures.value

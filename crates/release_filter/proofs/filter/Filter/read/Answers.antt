@@ -1,36 +1,45 @@
+use Rattle.std.proofs.Common.{◌<◌, sym, subst, ◌∙◌, inl, inr, length, ⊎_elim, ◌⊎◌}
+use Rattle.semver_parser.specs.Outlines.{OutlineValue}
 use Rattle.release_filter.specs.Filters.{passes}
 use Rattle.release_filter.specs.Judging.{IsJudged}
 use Rattle.release_filter.specs.declared.judging.Judged.TheVariants.{Passes}
-use Rattle.release_filter.proofs.Passing.{excluded_fails, not_both, exactly_that}
+use Rattle.semver_parser.specs.VersionGrammar.{SpellsVersion}
+use Rattle.release_filter.proofs.Passing.{apart, exactly_that, has_part, not_both, on_err}
 use Rattle.release_filter.proofs.filter.Filter.read.Goals as goal
 use Rattle.release_filter.proofs.filter.Filter.read.Goals.{In-Passes}
 
 -- what is said of the text
-told : (c : In-Passes) → IsJudged (passes c.args.self.now) c.args.text.now (Passes c.in-Passes.version c.in-Passes.outline)
-told c = rw (c.as_bytes.ensures.value, c.in-Passes.is) at c.in_ok-version.ensures.judged
+told : (c : In-Passes) → IsJudged (passes c.args.self.now) c.args.text.now (Passes c.in-Passes.outline)
+told c = rw (c.as_bytes.ensures.value, c.in-Passes.is) at c.judge.ensures.judged
+
+pub returns-in_err-version-in-Passes-clause-out_of_memory : goal.returns-in_err-version-in-Passes-clause-out_of_memory
+returns-in_err-version-in-Passes-clause-out_of_memory c =
+    let is = (told (goal.at.returns-in_err-version-in-Passes-clause-out_of_memory c).In-Passes).0 in
+    let v = is.0 in
+    let some : (0 < length v.plain.pre) ⊎ (0 < length v.build) =
+    ⊎_elim (λ pre. inl (has_part v.plain.pre (subst (λ (o : OutlineValue). 0 < length o.pre) is.2 pre)))
+    (λ build. inr (has_part v.build (subst (λ (o : OutlineValue). 0 < length o.build) is.2 build)))
+    c.in_err-version-in-Passes.ensures.out_of_memory in
+    on_err _ c.from_residual.result (v, is.1, some)
 
 pub returns-in_err-version-in-Passes-clause-releases : goal.returns-in_err-version-in-Passes-clause-releases
 returns-in_err-version-in-Passes-clause-releases c = λ v spells some only.
-    absurd (not_both ((told (goal.at.returns-in_err-version-in-Passes-clause-releases c).In-Passes).1 v spells).0
-    (excluded_fails c.args.self.now v only some))
-
-pub returns-in_ok-version-in-Passes-clause-releases : goal.returns-in_ok-version-in-Passes-clause-releases
-returns-in_ok-version-in-Passes-clause-releases c = λ v spells some only.
-    absurd (not_both ((told (goal.at.returns-in_ok-version-in-Passes-clause-releases c).In-Passes).1 v spells).0
-    (excluded_fails c.args.self.now v only some))
+    absurd (apart c.in-Passes.outline
+    (sym c.in-Passes.is ∙ c.judge.ensures.releases v (subst (SpellsVersion v) (sym c.as_bytes.ensures.value) spells) some only))
 
 pub returns-in_ok-version-in-Passes-clause-exact : goal.returns-in_ok-version-in-Passes-clause-exact
 returns-in_ok-version-in-Passes-clause-exact c =
     let is = told (goal.at.returns-in_ok-version-in-Passes-clause-exact c).In-Passes in
-    exactly_that _ c.args.text.now _ (is.0.0, is.0.1) (λ v spells. (
-      (is.1 v spells).0,
-      (λ i. record {
-        plain = ((is.1 v spells).1 i).plain;
-        build = c.in_ok-version-in-Passes.ensures.identifiers c.args.text.now v is.0 spells i;
-      }),
-    ))
+    let spelled = c.in_ok-version-in-Passes.ensures.version c.args.text.now is.0 in
+    exactly_that _ c.args.text.now _ (is.0.0, is.0.1)
+    (λ v spells. (is.1 v spells, c.one_version.ensures.same_version _ v c.args.text.now spelled spells))
 
 pub returns-in_ok-version-in-Passes-clause-none : goal.returns-in_ok-version-in-Passes-clause-none
 returns-in_ok-version-in-Passes-clause-none c =
     let is = told (goal.at.returns-in_ok-version-in-Passes-clause-none c).In-Passes in
-    (λ none. cc, λ fails. absurd (not_both (is.1 is.0.0 is.0.1).0 (fails is.0.0 is.0.1)))
+    (λ none. cc, λ fails. absurd (not_both (is.1 is.0.0 is.0.1) (fails is.0.0 is.0.1)))
+
+pub returns-in_ok-version-in-Passes-clause-releases : goal.returns-in_ok-version-in-Passes-clause-releases
+returns-in_ok-version-in-Passes-clause-releases c = λ v spells some only.
+    absurd (apart c.in-Passes.outline
+    (sym c.in-Passes.is ∙ c.judge.ensures.releases v (subst (SpellsVersion v) (sym c.as_bytes.ensures.value) spells) some only))
