@@ -55,8 +55,8 @@ const TEXTS: [(&str, PreReleases, &str, Option<&str>); 21] = [
     ("<0.1 || >=2", PreReleases::Included, "1.0.0", None),
 ];
 
-/// A text, and what a filter of `^1.2` says of it, releases alone: the printed version without its
-/// build, or why none passes.
+/// A text, and what a filter of `^1.2` says of it, releases alone: the printed version, or why
+/// none passes.
 const JUDGED: [(&[u8], &str); 7] = [
     (b"1.2", "no version"),
     (b"", "no version"),
@@ -64,7 +64,7 @@ const JUDGED: [(&[u8], &str); 7] = [
     (b"2.0.0+b5", "one that doesn't pass"),
     (b"1.3.0-rc", "one that doesn't pass"),
     (b"1.9.0", "1.9.0"),
-    (b" 1.9.0+b5\n", "1.9.0"),
+    (b" 1.9.0+b5\n", "1.9.0+b5"),
 ];
 
 /// Writes the places of the texts that are read as something else, and how many there were.
@@ -87,11 +87,12 @@ fn is_judged_as(alloc: Global, text: &[u8], wanted: &str) -> io::Result<bool> {
     let Ok(filter) = Filter::new(alloc, "^1.2", Compat::Cargo, PreReleases::Excluded) else {
         return Err(io::Error::from(ErrorKind::InvalidInput));
     };
-    match filter.judge(alloc, text)? {
+    match filter.judge(text) {
         Judged::NoVersion => Ok(wanted == "no version"),
         Judged::DoesNotPass => Ok(wanted == "one that doesn't pass"),
-        Judged::Passes(version, outline) => {
-            Ok(version.to_string(alloc)?.as_str() == wanted && outline.minor() == version.minor)
+        Judged::Passes(outline) => {
+            let version = outline.version(alloc)?;
+            Ok(version.to_string(alloc)?.as_str() == wanted)
         }
     }
 }
