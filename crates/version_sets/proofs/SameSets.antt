@@ -19,7 +19,7 @@ one_answer true q f g = sym (f refl)
 one_answer false true f g = g refl
 one_answer false false f g = refl
 
-both_true : (p q : Bool) → (p && q) ≡ true → (p ≡ true) × (q ≡ true)
+pub both_true : (p q : Bool) → (p && q) ≡ true → (p ≡ true) × (q ≡ true)
 both_true true q e = (refl, e)
 both_true false q e = absurd (true≢false (sym e))
 
@@ -70,11 +70,11 @@ tells_within a b k some = (
   λ e v h. (
     h.0,
     by_test (has b v) (λ t. t)
-        (λ f. absurd (true≢false (sym e ∙ ap not (some.1 (v, h.0, ap₂ (λ p q. p && not q) h.1 f))))),
+        (λ f. absurd (true≢false (sym e ∙ ap not (some.1 (v, (h.0, ap₂ (λ p q. p && not q) h.1 f)))))),
   ),
   λ h. by_test k
       (λ t. let found = some.0 t in
-      let parts = both_true _ _ found.2 in
-      absurd (true≢false (sym parts.1 ∙ ap not (h found.0 (found.1, parts.0)).1)))
+      let parts = both_true _ _ found.1.1 in
+      absurd (true≢false (sym parts.1 ∙ ap not (h found.0 (found.1.0, parts.0)).1)))
       (λ f. ap not f),
 )
