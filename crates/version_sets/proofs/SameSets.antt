@@ -19,7 +19,7 @@ one_answer true q f g = sym (f refl)
 one_answer false true f g = g refl
 one_answer false false f g = refl
 
-pub both_true : (p q : Bool) → (p && q) ≡ true → (p ≡ true) × (q ≡ true)
+both_true : (p q : Bool) → (p && q) ≡ true → (p ≡ true) × (q ≡ true)
 both_true true q e = (refl, e)
 both_true false q e = absurd (true≢false (sym e))
 

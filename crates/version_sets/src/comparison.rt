@@ -4,7 +4,7 @@ ghost use Rattle.std.specs.Prelude.{◌⊎◌, IfOk, IfErr};
 ghost use Rattle.semver_parser.specs.Versions.{PlainVersion};
 ghost use Rattle.version_sets.specs.VersionSets.{IsIn};
 ghost use Rattle.version_sets.specs.Comparisons.{TellsLeast, IsInFirstAlone, IsInBoth};
-ghost use Rattle.version_sets.specs.Means.Combined.{IsKept, KeepsSome};
+ghost use Rattle.version_sets.specs.Means.Combined.{IsKept};
 
 use crate::combination::Combination;
 use crate::version_set::VersionSet;
@@ -59,7 +59,8 @@ impl VersionSet {
         other: &VersionSet,
     ) -> Result<Option<Version>, AllocError>
         ensures least { IfOk result (TellsLeast (IsKept how self.now other.now)) }
-        ensures out_of_memory { IfErr result (λ _. KeepsSome how self.now other.now) }
+        ensures out_of_memory { IfErr result (λ _. (v : PlainVersion)
+            × (IsIn v self.now ⊎ IsIn v other.now)) }
     {
         self.combined(alloc, how, other)?.least(alloc)
     }
