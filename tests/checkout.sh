@@ -1,5 +1,5 @@
 # What the tests of the scripts share. Reading this file makes a checkout that nobody edits, `checkout`, in a folder with a blank in its name, and
-# goes there: the scripts, and what is built of both programs and the library. It proves nothing: in place of `rt` stands a script.
+# goes there: the scripts, and what is built of the programs and the library. It proves nothing: in place of `rt` stands a script.
 work=$(mktemp -d)
 trap 'rm -rf "$work"' EXIT
 umask 022
@@ -10,7 +10,7 @@ checkout="$work/a checkout"
 # What is built is copied last, so it is newest.
 copy_checkout() {
     mkdir -p "$checkout/crates/semver_parser_c/src" "$checkout/crates/semver_parser_c/specs" "$checkout/crates/semver_parser_c/proofs" "$work/bin"
-    cp -R crates.txt VERSION LICENSE-APACHE LICENSE-MIT install package release-filter semver-parser man tests tools "$checkout"
+    cp -R crates.txt VERSION LICENSE-APACHE LICENSE-MIT install package compare-ranges release-filter semver-parser man tests tools "$checkout"
     cp -R crates/semver_parser_c/c crates/semver_parser_c/include "$checkout/crates/semver_parser_c"
     [ ! -d python/semver_parser ] || cp -R python "$checkout"
     [ -d "$checkout/python/semver_parser" ] || make_package
@@ -26,7 +26,7 @@ make_package() {
 
 copy_built() {
     mkdir -p "$checkout/out/built"
-    for file in semver-parser release-filter libsemver_parser_c.a; do cp "$top/out/built/$file" "$checkout/out/built/$file"; done
+    for file in semver-parser release-filter compare-ranges libsemver_parser_c.a; do cp "$top/out/built/$file" "$checkout/out/built/$file"; done
 }
 
 # stub BODY: what runs as `rt` from now on.
@@ -82,7 +82,7 @@ told_prefix() {
     has "$1" stdout
 }
 
-# try_programs FOLDER: both programs run by themselves.
+# try_programs FOLDER: each program runs by itself.
 try_programs() {
     ends 0 env -i "$1/semver-parser" 1.2.3
     has 'version: 1.2.3
@@ -94,6 +94,11 @@ npm: =1.2.3' stdout
     has 1.9.0 stdout
     ends 0 env -i "$1/release-filter" --help
     ends 1 env -i "$1/release-filter" '^1' < /dev/null
+    ends 1 env -i "$1/compare-ranges" '^1.2.0' '>=1.4.0'
+    has 'lost: 1.2.0
+gained: 2.0.0
+shared: 1.4.0' stdout
+    ends 0 env -i "$1/compare-ranges" '^1.2' '>=1.2.0 <2.0.0'
 }
 
 # stopped_while_compiling COMMAND.. FOLDER: the command is stopped while a file of C is compiled. It ends by the signal, leaves no temporary file, and

@@ -184,13 +184,17 @@ build() {
     keep "$name" "$top/crates/$crate/out/$file" "$work/begun"
 }
 
-# build_semver_parser and build_release_filter: each of the two programs, which also runs once, and has to make status 0.
+# build_semver_parser, build_release_filter and build_compare_ranges: each of the three programs, which also runs once, and has to make status 0.
 build_semver_parser() {
     build semver-parser semver_parser_main semver_parser_main rt run -- 1.2.3
 }
 
 build_release_filter() {
     build release-filter release_filter_main release_filter_main rt run -- --help
+}
+
+build_compare_ranges() {
+    build compare-ranges compare_ranges_main compare_ranges_main rt run -- --help
 }
 
 # build_library: the library of the calls for C, as it is proved: without what c/ has.

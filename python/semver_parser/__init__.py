@@ -25,6 +25,7 @@ libraries.
 from .faults import RangeError, Text, VersionError
 from .filtering import AnyVersion, Filter, greatest, meets
 from .reading import parse_range, parse_version
+from .sets import least
 from .values import (
     Comparator,
     Compat,
@@ -54,6 +55,7 @@ __all__ = [
     "Version",
     "VersionError",
     "greatest",
+    "least",
     "meets",
     "parse_range",
     "parse_version",

@@ -10,7 +10,7 @@ from typing import Iterable, List, Optional, TypeVar, Union
 
 from .faults import Text, encoded, raise_fault
 from .library import LIBRARY, TextItem
-from .reading import is_npm, parse_version
+from .reading import is_npm, parse_version, rule_number
 from .values import Compat, PrecedenceKey, PreReleases, Version, precedence
 
 AnyVersion = Union[str, bytes, Version]
@@ -33,13 +33,6 @@ def _precedence(version: AnyVersion) -> PrecedenceKey:
     return precedence(parse_version(_text(version)))
 
 
-def _rule(pre_releases: PreReleases) -> int:
-    """The number of a rule for pre-releases."""
-    if isinstance(pre_releases, PreReleases):
-        return pre_releases.value
-    raise TypeError(f"a rule for pre-releases is a PreReleases, and not {pre_releases!r}")
-
-
 def meets(
     range: Text,
     version: AnyVersion,
@@ -58,7 +51,7 @@ def meets(
         range_bytes,
         len(range_bytes),
         is_npm(mode),
-        _rule(pre_releases),
+        rule_number(pre_releases),
         version_bytes,
         len(version_bytes),
         answered,
@@ -127,7 +120,7 @@ class Filter:
             range_bytes,
             len(range_bytes),
             is_npm(self.mode),
-            _rule(self.pre_releases),
+            rule_number(self.pre_releases),
             items,
             len(texts),
             answers,

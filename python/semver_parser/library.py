@@ -107,6 +107,7 @@ def _declare(library: ctypes.CDLL, path: str) -> None:
         "rewrite_with_comparators": [*text, flag, flag, *rooms],
         "meets": [*text, flag, number, *text, ctypes.POINTER(flag)],
         "meets_each": [*text, flag, number, ctypes.POINTER(TextItem), size, ctypes.c_char_p],
+        "least": [*text, flag, number, ctypes.c_char_p, size, counted],
         "fault_text": [number],
     }
     for name, takes in calls.items():

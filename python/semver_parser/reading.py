@@ -5,7 +5,7 @@ from typing import List, Tuple
 
 from .faults import NO_ROOM, Text, encoded, raise_fault
 from .library import LIBRARY, Part, ReadComparator, ReadVersion
-from .values import Comparator, Compat, Identifier, Op, Range, RangeSet, Version
+from .values import Comparator, Compat, Identifier, Op, PreReleases, Range, RangeSet, Version
 
 _OPS = (Op.LT, Op.LTE, Op.GT, Op.GTE, Op.EQ)
 _MOST = 2**64 - 1
@@ -21,6 +21,13 @@ def is_npm(mode: Compat) -> bool:
     if isinstance(mode, Compat):
         return mode is Compat.NPM
     raise TypeError(f"a mode is a Compat, and not {mode!r}")
+
+
+def rule_number(pre_releases: PreReleases) -> int:
+    """The number of a rule for pre-releases."""
+    if isinstance(pre_releases, PreReleases):
+        return pre_releases.value
+    raise TypeError(f"a rule for pre-releases is a PreReleases, and not {pre_releases!r}")
 
 
 def _identifier(text: str) -> Identifier:

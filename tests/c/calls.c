@@ -308,3 +308,43 @@ int32_t meets(const text *range, bool npm, int32_t pre_releases, const text *ver
     }
     return answer;
 }
+
+/* ---- the least version */
+
+/* Asks for it in a room of some length. What is behind what was written has to be as it was, and all of it at a fault. */
+static int32_t least_in(const text *range, bool npm, int32_t pre_releases, uint8_t *out, size_t room, size_t *length, bool at_null) {
+    uint8_t *range_bytes = alone(range);
+    memset(out, FILL, room + 1);
+    *length = 777;
+    int32_t answer = semver_parser_least(at_null && range->length == 0 ? NULL : range_bytes, range->length, npm, pre_releases,
+                                         at_null && room == 0 ? NULL : out, room, length);
+    free(range_bytes);
+    size_t written = answer == SEMVER_PARSER_OK ? *length : 0;
+    require(written <= room && is_filled(out + written, FILL, room + 1 - written), "a byte behind the version, or at a fault", range);
+    require(answer == SEMVER_PARSER_OK || answer == SEMVER_PARSER_NO_ROOM || *length == 777, "a length at a fault", range);
+    return answer;
+}
+
+int32_t least(const text *range, bool npm, int32_t pre_releases, text *printed) {
+    uint8_t none;
+    size_t wanted;
+    int32_t answer = least_in(range, npm, pre_releases, &none, 0, &wanted, true);
+    size_t bytes = answer == SEMVER_PARSER_OK || answer == SEMVER_PARSER_NO_ROOM ? wanted : 0;
+    require(answer != SEMVER_PARSER_NO_ROOM || wanted > 0, "no room for no byte", range);
+    for (size_t room = 0; room <= bytes + 1; room++) {
+        if (bytes > 300 && room > 2 && room + 1 < bytes) {
+            continue;
+        }
+        uint8_t *out = (uint8_t *)block(room + 1);
+        size_t length;
+        int32_t answered = least_in(range, npm, pre_releases, out, room, &length, room % 2 == 0);
+        bool fits = room >= bytes;
+        require(answered == (answer == SEMVER_PARSER_NO_ROOM && fits ? (int32_t)SEMVER_PARSER_OK : answer), "another answer in another room", range);
+        require(length == (bytes > 0 || answer == SEMVER_PARSER_OK ? bytes : 777), "another length in another room", range);
+        if (answered == SEMVER_PARSER_OK && room == bytes) {
+            text_add(printed, (const char *)out, length);
+        }
+        free(out);
+    }
+    return answer == SEMVER_PARSER_NO_ROOM ? (int32_t)SEMVER_PARSER_OK : answer;
+}

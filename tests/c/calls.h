@@ -26,4 +26,8 @@ const char *operator_text(int32_t op);
 /* Whether a version text meets a range text: SEMVER_PARSER_MEETS or _DOES_NOT_MEET, or the fault. It asks for one and for many, which have to agree. */
 int32_t meets(const text *range, bool npm, int32_t pre_releases, const text *version);
 
+/* The least version that a range text means: it is appended to `printed`, or the fault is answered. It tries a room of each length up to one past what is
+ * needed (of a version above 300 bytes, of some lengths), and at null where the room or the text is empty. */
+int32_t least(const text *range, bool npm, int32_t pre_releases, text *printed);
+
 #endif

@@ -85,6 +85,17 @@ static int32_t meets_version(void) {
     return semver_parser_meets(bytes_of("^1.2"), 4, true, SEMVER_PARSER_RELEASES_ALONE, NULL, 5, &meets);
 }
 
+static int32_t least_range(void) {
+    uint8_t out[64];
+    size_t length;
+    return semver_parser_least(NULL, 5, true, SEMVER_PARSER_RELEASES_ALONE, out, sizeof out, &length);
+}
+
+static int32_t least_out(void) {
+    size_t length;
+    return semver_parser_least(bytes_of("^1.2"), 4, true, SEMVER_PARSER_RELEASES_ALONE, NULL, 64, &length);
+}
+
 static int32_t each_of(const uint8_t *range, const semver_parser_text *versions, size_t count, uint8_t *answers) {
     return semver_parser_meets_each(range, 4, true, SEMVER_PARSER_RELEASES_ALONE, versions, count, answers);
 }
@@ -194,6 +205,8 @@ static void nulls_with_a_length(void) {
     ends_at_null(both_out, "the room of a set beside comparators");
     ends_at_null(meets_range, "the range of a version");
     ends_at_null(meets_version, "the version of a range");
+    ends_at_null(least_range, "the range of a least version");
+    ends_at_null(least_out, "the room of a least version");
     ends_at_null(each_range, "the range of many");
     ends_at_null(each_array, "the array of many");
     ends_at_null(each_text, "one of many");

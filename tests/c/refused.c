@@ -130,6 +130,24 @@ static void both_take(const char *range, bool some, const char *version, int ver
     check(!refused && (of_range > 0) == some && of_version == version_requests, "another number of requests", range, request);
 }
 
+/* A range whose least version takes requests, or takes none. */
+static void least_takes(const char *range, bool some, int32_t wanted, size_t bytes) {
+    int request = 0;
+    do {
+        uint8_t out[64];
+        memset(out, 'x', sizeof out);
+        size_t length = 777;
+        grant(request);
+        int32_t answered = semver_parser_least((const uint8_t *)range, strlen(range), true, SEMVER_PARSER_ALL_PRE_RELEASES, out, sizeof out, &length);
+        check(answered == (refused ? (int32_t)SEMVER_PARSER_RANGE_OUT_OF_MEMORY : wanted), "another answer of the least", range, request);
+        check(length == (answered == SEMVER_PARSER_OK ? bytes : 777), "another length of the least", range, request);
+        check(answered == SEMVER_PARSER_OK || (out[0] == 'x' && memcmp(out, out + 1, sizeof out - 1) == 0), "a byte at a fault", range, request);
+        check(taken == 0, "memory is kept", range, request);
+        request++;
+    } while (refused && request < 100);
+    check(!refused && (request > 1) == some, "another number of requests", range, request);
+}
+
 /* Many versions, of which the second takes requests, and one is at null where that is asked for: the texts are copied then, before the range is read. */
 static void many_take(const char *range, bool at_null, int32_t wanted) {
     const semver_parser_text versions[] = {{(const uint8_t *)"1.2.3", 5}, {(const uint8_t *)"1.2.3-rc.1", 10}, {at_null ? NULL : (const uint8_t *)"", 0},
@@ -177,6 +195,11 @@ int main(void) {
     both_take("1.2.3", true, "1.2.3+b.rc", 0, SEMVER_PARSER_OK, true);
     both_take("1.2.3", true, "2.0.0-rc", 0, SEMVER_PARSER_OK, false);
     both_take("v1", false, "1.2.3-rc", 0, SEMVER_PARSER_NOT_A_RANGE, false);
+    least_takes("^1.2", true, SEMVER_PARSER_OK, 5);
+    least_takes(">=1.2.3-rc.1 <2", true, SEMVER_PARSER_OK, 10);
+    least_takes(">2.0.0 <1.0.0", true, SEMVER_PARSER_OK, 0);
+    least_takes("v1", false, SEMVER_PARSER_NOT_A_RANGE, 0);
+    least_takes("<=18446744073709551615", false, SEMVER_PARSER_NUMBER_TOO_LARGE, 0);
     for (int at_null = 0; at_null < 2; at_null++) {
         many_take("1.2.3", at_null != 0, SEMVER_PARSER_OK);
         many_take("v1", at_null != 0, SEMVER_PARSER_NOT_A_RANGE);

@@ -424,6 +424,59 @@ static void very_many(bool at_null) {
 
 /* ---- what has no proof */
 
+/* ---- the least version */
+
+/* What the range means least by each rule: releases alone, as stated, and all. An empty text is none. */
+static void least_are(bool npm, const char *bytes, const char *releases, const char *stated, const char *all) {
+    const char *wanted[3] = {releases, stated, all};
+    text range = string(bytes);
+    for (int rule = 0; rule < 3; rule++) {
+        text printed = {NULL, 0, 0};
+        text_add(&printed, "", 0);
+        check(least(&range, npm, rule, &printed) == SEMVER_PARSER_OK, "no least version", &range);
+        check(strcmp(printed.bytes, wanted[rule]) == 0, "another least version", &range);
+        text_free(&printed);
+    }
+    text_free(&range);
+}
+
+static void least_fault_is(bool npm, const char *bytes, size_t length, int32_t rule, int32_t fault) {
+    text range = bytes_of(bytes, length);
+    text printed = {NULL, 0, 0};
+    check(least(&range, npm, rule, &printed) == fault, "another fault of a range", &range);
+    check(printed.length == 0, "a version at a fault", &range);
+    text_free(&printed);
+    text_free(&range);
+}
+
+static void least_versions(void) {
+    least_are(false, "^1.2.3", "1.2.3", "1.2.3", "1.2.3");
+    least_are(false, "", "0.0.0", "0.0.0", "0.0.0");
+    least_are(true, "*", "0.0.0", "0.0.0", "0.0.0");
+    least_are(false, "3.x || ^1.2 || >=2", "1.2.0", "1.2.0", "1.2.0");
+    least_are(false, "<2.0.0", "0.0.0", "0.0.0", "0.0.0-0");
+    least_are(false, ">1.0.0-rc.1", "1.0.0", "1.0.0-rc.1.0", "1.0.0-rc.1.0");
+    least_are(false, ">1.2.3", "1.2.4", "1.2.4", "1.2.4-0");
+    least_are(true, "=1.2.3-rc.01+b", "", "1.2.3-rc.1", "1.2.3-rc.1");
+    least_are(true, "=2.0.1-a || >=2.0.0", "2.0.0", "2.0.0", "2.0.0");
+    least_are(true, "=1.9.9-a || >=2.0.0", "2.0.0", "1.9.9-a", "1.9.9-a");
+    least_are(true, ">2.0.0 <1.0.0", "", "", "");
+    least_are(true, "<0.0.0", "", "", "0.0.0-0");
+    least_are(true, ">0.0.18446744073709551615", "0.1.0", "0.1.0", "0.1.0-0");
+    least_are(true, ">18446744073709551615.18446744073709551615.18446744073709551615", "", "", "");
+    least_are(true, "=0.0.18446744073709551615", "0.0.18446744073709551615", "0.0.18446744073709551615", "0.0.18446744073709551615");
+    text identifier = long_text(">=1.2.3-", "a", "");
+    least_are(false, identifier.bytes, "1.2.3", identifier.bytes + 2, identifier.bytes + 2);
+    text_free(&identifier);
+
+    least_fault_is(false, "v1", 2, SEMVER_PARSER_RELEASES_ALONE, SEMVER_PARSER_NOT_A_RANGE);
+    least_fault_is(false, "1.2.3\xC3", 6, SEMVER_PARSER_RELEASES_ALONE, SEMVER_PARSER_RANGE_NOT_UTF8);
+    least_fault_is(true, "<=18446744073709551615", 22, SEMVER_PARSER_STATED_PRE_RELEASES, SEMVER_PARSER_NUMBER_TOO_LARGE);
+    least_fault_is(false, "0.0.18446744073709551615", 24, SEMVER_PARSER_ALL_PRE_RELEASES, SEMVER_PARSER_NUMBER_TOO_LARGE);
+    least_fault_is(true, "v1", 2, 3, SEMVER_PARSER_NO_SUCH_RULE);
+    least_fault_is(true, "\xFF", 1, -1, SEMVER_PARSER_NO_SUCH_RULE);
+}
+
 static void sentences(void) {
     text none = string("");
     check(strcmp(semver_parser_library_version(), SEMVER_PARSER_VERSION) == 0, "another version of the library", &none);
@@ -451,6 +504,7 @@ int main(void) {
     many();
     very_many(false);
     very_many(true);
+    least_versions();
     sentences();
     printf("rules: %s\n", failed == 0 ? "passed" : "failed");
     return failed == 0 ? 0 : 1;

@@ -45,11 +45,20 @@ static int use_meeting(void) {
     return answers[0] == SEMVER_PARSER_MEETS && answers[1] == SEMVER_PARSER_UNEXPECTED_END ? 0 : 1;
 }
 
+static int use_least(void) {
+    uint8_t out[64];
+    size_t length = 0;
+    if (semver_parser_least(bytes_of("^1.2 || 3"), 9, true, SEMVER_PARSER_STATED_PRE_RELEASES, out, sizeof out, &length) != SEMVER_PARSER_OK) {
+        return 1;
+    }
+    return length == 5 && memcmp(out, "1.2.0", 5) == 0 ? 0 : 1;
+}
+
 int main(void) {
     semver_parser_version version;
     int32_t answer = semver_parser_parse_version(bytes_of("1.2"), 3, &version);
     int failed = strcmp(semver_parser_library_version(), SEMVER_PARSER_VERSION) != 0 || answer != SEMVER_PARSER_UNEXPECTED_END;
-    failed |= use_rewriting() | use_meeting();
+    failed |= use_rewriting() | use_meeting() | use_least();
     printf("uses: %s\n", failed ? "failed" : "passed");
     return failed;
 }

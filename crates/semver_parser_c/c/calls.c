@@ -53,6 +53,10 @@ int32_t semver_parser_meets(const uint8_t *range, size_t range_length, bool npm,
                                       meets);
 }
 
+int32_t semver_parser_least(const uint8_t *range, size_t range_length, bool npm, int32_t pre_releases, uint8_t *out, size_t room, size_t *length) {
+    return semver_parser_proved_least(text_at(range, range_length), range_length, npm, pre_releases, room_at(out, room), room, length);
+}
+
 /* ---- many versions */
 
 /* Whether some text is an empty one at null. */

@@ -26,6 +26,9 @@ int32_t semver_parser_proved_meets(const uint8_t *range, size_t range_length, bo
 int32_t semver_parser_proved_meets_each(const uint8_t *range, size_t range_length, bool npm, int32_t pre_releases,
                                         const semver_parser_text *versions, size_t count, uint8_t *answers, size_t answer_room);
 
+int32_t semver_parser_proved_least(const uint8_t *range, size_t range_length, bool npm, int32_t pre_releases, uint8_t *out, size_t room,
+                                   size_t *length);
+
 #ifdef __cplusplus
 }
 #endif

@@ -24,7 +24,7 @@
  * is said at each call: the most that was measured, on texts of 64 bytes to 2 MB that were made to take much, where a block that grows counts twice while
  * it is moved, and what `malloc` itself needs is left out.
  *
- * TIME. Each call reads its texts anew, in time linear in their lengths. `semver_parser_meets_each` reads its range once, and compares each version with one
+ * TIME. Each call but `semver_parser_least` reads its texts anew, in time linear in their lengths. `semver_parser_meets_each` reads its range once, and compares each version with one
  * comparator of it after the other: so its time is linear in the length of the range and, for each version, in that of the version and at most once more in
  * that of the range.
  *
@@ -285,6 +285,25 @@ int32_t semver_parser_meets(const uint8_t *range, size_t range_length, bool npm,
  */
 int32_t semver_parser_meets_each(const uint8_t *range, size_t range_length, bool npm, int32_t pre_releases, const semver_parser_text *versions, size_t count,
                                  uint8_t *answers);
+
+/* Prints the least version that a range text of `range_length` bytes means, by the rule for pre-releases that `pre_releases` names, into the `room` bytes at
+ * `out`. The mode is npm's where `npm` holds, and else Cargo's. `length` is never null.
+ *
+ * Least it is by precedence, and it has no build. It goes by what the range means by itself, as `semver_parser_meets` does, among all versions with numbers
+ * up to 2^64 - 1. `>1.0.0-rc.1` has 1.0.0 by SEMVER_PARSER_RELEASES_ALONE and 1.0.0-rc.1.0 by the other rules, and `>2.0.0 <1.0.0` has none.
+ *
+ * Answers
+ * - SEMVER_PARSER_OK: the version stands at the front of `out`, with no zero byte behind it, and `length` is how many bytes it has: 0 exactly where the range
+ *   means no version. What `out` has behind these is as it was.
+ * - SEMVER_PARSER_NO_ROOM: it has more than `room` bytes. `length` is how many it has, and `out` is as it was. So a call with `room` 0 asks for the length.
+ * - SEMVER_PARSER_NO_SUCH_RULE exactly where no rule for pre-releases has that number.
+ * - A fault of the range, as those of `semver_parser_rewrite`: SEMVER_PARSER_RANGE_NOT_UTF8, _NOT_A_RANGE, _NUMBER_TOO_LARGE or _RANGE_OUT_OF_MEMORY.
+ *
+ * After any answer but SEMVER_PARSER_OK `out` is as it was, and after any but the first two `length` is too.
+ *
+ * Time: that of sorting the comparators of the range.
+ */
+int32_t semver_parser_least(const uint8_t *range, size_t range_length, bool npm, int32_t pre_releases, uint8_t *out, size_t room, size_t *length);
 
 #ifdef __cplusplus
 }

@@ -3,3 +3,4 @@ mod PartBytes
 mod PrintedPlaces
 mod PrintedSets
 mod Steps
+mod LeastVersions

@@ -4,3 +4,4 @@ pub mod Places
 pub mod Printing
 pub mod Comparators
 pub mod Rules
+pub mod Sets

@@ -1,7 +1,7 @@
-//! The calls for C, proved: reading a version text, rewriting a range text, and which versions meet
-//! a range. `include/semver_parser.h` says them in C's words, without `proved_` in their names, and
-//! `c/calls.c` makes those of these: there null with a length of 0 is an empty text or an empty
-//! room.
+//! The calls for C, proved: reading a version text, rewriting a range text, which versions meet a
+//! range, and the least of them. `include/semver_parser.h` says them in C's words, without `proved_`
+//! in their names, and `c/calls.c` makes those of these: there null with a length of 0 is an empty
+//! text or an empty room.
 //!
 //! A text is bytes, and bytes that are no UTF-8 are a fault of their own. Each call answers one of
 //! the numbers in `numbers`. Nothing is kept between calls, and nothing is left for the caller to
@@ -12,12 +12,14 @@ mod comparators;
 mod meeting;
 mod numbers;
 mod range_text;
+mod sets;
 mod version_text;
 
 ghost use Rattle.std.specs.Prelude.{◌≡◌, ◌≢◌, ◌⊎◌, ◌↔◌, ◌<◌, ⊤, ℕ, [], ◌∷◌, ◌++◌, IsTrue};
-ghost use Rattle.std.specs.Prelude.{IfSome, IsUtf8, Result, drop, length, slice_get};
+ghost use Rattle.std.specs.Prelude.{IfSome, IsUtf8, Option, Result, drop, length, slice_get};
 ghost use Rattle.std.specs.Prelude.{slice_index, take};
 ghost use Rattle.semver_parser.specs.Versions.{VersionValue};
+ghost use Rattle.semver_parser.specs.declared.version.Version.{Version};
 ghost use Rattle.semver_parser.specs.VersionGrammar.{IsVersionText, SpellsVersion};
 ghost use Rattle.semver_parser.specs.Outlines.{OutlineValue, IsOutlineOf, dotted_text};
 ghost use Rattle.semver_parser.specs.VersionReading.{IsOutcomeOf, TextMayRunOut};
@@ -34,6 +36,8 @@ ghost use Rattle.semver_parser_c.specs.Places.{bytes_at, told};
 ghost use Rattle.semver_parser_c.specs.Comparators.{HasPreReleases, told_set};
 ghost use Rattle.semver_parser_c.specs.Printing.{Puts, PutsBoth};
 ghost use Rattle.semver_parser_c.specs.Rules.{IsAnswer, IsRule, rule_number};
+ghost use Rattle.semver_parser_c.specs.Sets.{IsMeant, text_of};
+ghost use Rattle.version_sets.specs.Comparisons.{TellsLeast};
 
 use std::alloc::Global;
 
@@ -398,4 +402,55 @@ pub extern "C" fn semver_parser_proved_meets_each(
     };
     meeting::judge_each(alloc, &filter_of_all, versions, answers);
     numbers::OK
+}
+
+/// Puts the text of the least version that a range means into a room, by the rule for pre-releases
+/// that a number names: `OK` with the text at the front of `out`. The mode is npm's where `npm`
+/// holds, and else Cargo's. Least is it by precedence (SemVer 2.0.0, section 11), and it has no
+/// build; numbers go up to 2^64 - 1.
+///
+/// `length` becomes the length of the text, also where `out` has no room for it (`NO_ROOM`). It is
+/// 0 exactly where the range means no version. `out` is as it was behind the text, and all of it
+/// after any answer but `OK`. `length` is as it was after a fault of the rule or of the text.
+///
+/// # Faults
+///
+/// `NO_SUCH_RULE`, whatever the text. Then those of `RangeSet::parse` and `RANGE_NOT_UTF8`, and
+/// `NO_ROOM`.
+#[unsafe(no_mangle)]
+pub extern "C" fn semver_parser_proved_least(
+    alloc: Global,
+    range: &[u8],
+    npm: bool,
+    pre_releases: i32,
+    out: &mut [u8],
+    length: &mut usize,
+) -> i32
+    ensures numbers { IsOneOf (number.ok ∷ number.no_room ∷ number.no_such_rule ∷ range_faults)
+        result }
+    // What is put into the room is the text of the least version that the range means by the rule,
+    // and an empty one exactly where it means none.
+    ensures least { (result ≡ number.ok) ⊎ (result ≡ number.no_room)
+        → (rule : Rule) → pre_releases ≡ rule_number rule
+        → (tree : SetTree) → Spells tree range.now
+        → (least : Option Version) × TellsLeast (IsMeant rule (mode_of npm) tree) least
+        × Puts (text_of least) out.old out.new length.new result }
+    ensures read { (result ≡ number.ok) ⊎ (result ≡ number.no_room) → IsRule pre_releases
+        × RangeIsRead (mode_of npm) range.now result }
+
+    // Faults of the rule, and of the range, whatever the room.
+    ensures no_such_rule { (result ≡ number.no_such_rule) ↔ ¬ (IsRule pre_releases) }
+    ensures refusals { RefusesRange (IsRule pre_releases) (mode_of npm) range.now result }
+    ensures room_unchanged { result ≢ number.ok → out.new ≡ out.old }
+    ensures length_unchanged { IsOneOf (number.no_such_rule ∷ range_faults) result
+        → length.new ≡ length.old }
+{
+    let meant = match sets::set_of(alloc, range, npm, pre_releases) {
+        Ok(set) => set,
+        Err(number) => return number,
+    };
+    match sets::print_least(alloc, &meant) {
+        Ok(printed) => range_text::put(printed.as_bytes(), out, length),
+        Err(_) => numbers::RANGE_OUT_OF_MEMORY,
+    }
 }

@@ -47,7 +47,7 @@ pub fn filter_of(alloc: Global, range: &[u8], npm: bool, pre_releases: i32) -> R
 }
 
 /// The rule of a number.
-fn rule_of(number: i32) -> Option<PreReleases>
+pub fn rule_of(number: i32) -> Option<PreReleases>
     ensures { MatchOption result (¬ (IsRule number)) (λ rule. number ≡ rule_number rule) }
 {
     match number {

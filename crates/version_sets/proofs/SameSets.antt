@@ -70,11 +70,11 @@ tells_within a b k some = (
   λ e v h. (
     h.0,
     by_test (has b v) (λ t. t)
-        (λ f. absurd (true≢false (sym e ∙ ap not (some.1 (v, h.0, ap₂ (λ p q. p && not q) h.1 f))))),
+        (λ f. absurd (true≢false (sym e ∙ ap not (some.1 (v, (h.0, ap₂ (λ p q. p && not q) h.1 f)))))),
   ),
   λ h. by_test k
       (λ t. let found = some.0 t in
-      let parts = both_true _ _ found.2 in
-      absurd (true≢false (sym parts.1 ∙ ap not (h found.0 (found.1, parts.0)).1)))
+      let parts = both_true _ _ found.1.1 in
+      absurd (true≢false (sym parts.1 ∙ ap not (h found.0 (found.1.0, parts.0)).1)))
       (λ f. ap not f),
 )

@@ -86,12 +86,12 @@ module _ (how : Combination) (a b : SetValue) (s : IsNormal a) (t : IsNormal b) 
   pub some_release : keeps_some how (pieces a.releases b.releases) ≡ true → KeepsSome how a b
   some_release e =
       let found = some_kept IsRelease how a.releases b.releases s.releases t.releases e in
-      (found.0, found.1.0, ap₂ (keeps how) (has-release a found.0 found.1.1) (has-release b found.0 found.1.1) ∙ found.2)
+      (found.0, (found.1.0, ap₂ (keeps how) (has-release a found.0 found.1.1) (has-release b found.0 found.1.1) ∙ found.2))
 
   pub some_pre_release : keeps_some how (pieces a.pre_releases b.pre_releases) ≡ true → KeepsSome how a b
   some_pre_release e =
       let found = some_kept IsPreRelease how a.pre_releases b.pre_releases s.pre_releases t.pre_releases e in
-      (found.0, found.1.0, ap₂ (keeps how) (has-pre_release a found.0 found.1.1) (has-pre_release b found.0 found.1.1) ∙ found.2)
+      (found.0, (found.1.0, ap₂ (keeps how) (has-pre_release a found.0 found.1.1) (has-pre_release b found.0 found.1.1) ∙ found.2))
 
   abbrev pub keeps_any : Bool
   keeps_any = keeps_some how (pieces a.releases b.releases) || keeps_some how (pieces a.pre_releases b.pre_releases)
@@ -112,7 +112,7 @@ module _ (how : Combination) (a b : SetValue) (s : IsNormal a) (t : IsNormal b) 
 
   -- the answer of both kinds tells whether some version is in the combination
   pub tells_some : (r : Bool) → r ≡ keeps_any → (r ≡ true) ↔ KeepsSome how a b
-  tells_some r e = (λ h. some_is (sym e ∙ h), λ k. e ∙ is_some k.0 k.2)
+  tells_some r e = (λ h. some_is (sym e ∙ h), λ k. e ∙ is_some k.0 k.1.1)
 
 pub by_first : (r p q : Bool) → r ≡ p → r ≡ true → r ≡ (p || q)
 by_first r p q e h = h ∙ sym (ap (λ b. b || q) (sym e ∙ h))

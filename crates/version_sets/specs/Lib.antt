@@ -1,5 +1,6 @@
 pub mod Switches
 pub mod Releases
 pub mod VersionSets
+pub mod Comparisons
 pub mod PreReleaseRules
 pub mod Means

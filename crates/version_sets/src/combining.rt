@@ -60,7 +60,7 @@ impl VersionSet {
     }
 
     /// The versions of a combination.
-    fn combined(
+    pub(crate) fn combined(
         &self,
         alloc: Global,
         how: Combination,

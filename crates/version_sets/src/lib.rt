@@ -7,6 +7,7 @@ mod bounds;
 mod combination;
 mod combining;
 mod comparing;
+mod comparison;
 mod least;
 mod of_comparators;
 mod reading;
@@ -17,6 +18,7 @@ mod switches;
 mod version_set;
 mod walk;
 
+pub use comparison::Comparison;
 pub use reading::read_set;
 pub use release::Release;
 pub use rules::PreReleases;

@@ -32,7 +32,10 @@ combined_sets how a b = record {
   pre_releases = combined how (pieces a.pre_releases b.pre_releases);
 }
 
+-- a version is in the combination of two sets
+abbrev pub IsKept : Combination → SetValue → SetValue → PlainVersion → Type 0
+IsKept how a b v = Fits v × (keeps how (has a v) (has b v) ≡ true)
+
 -- some version is in the combination of two sets
 abbrev pub KeepsSome : Combination → SetValue → SetValue → Type 0
-KeepsSome how a b =
-    (v : PlainVersion) × Fits v × (keeps how (has a v) (has b v) ≡ true)
+KeepsSome how a b = (v : PlainVersion) × IsKept how a b v

@@ -1,0 +1,26 @@
+-- What a comparison of two sets tells: the least of some versions, or that there is none.
+use Rattle.std.specs.Prelude.{◌≡◌, ◌≢◌, [], Option, Some, None}
+use Rattle.std.specs.declared.cmp.Ordering.TheVariants.{Less}
+use Rattle.semver_parser.specs.Versions.{PlainVersion, VersionValue}
+use Rattle.semver_parser.specs.Precedence.{precedence}
+use Rattle.semver_parser.specs.VersionViews.{version_value}
+use Rattle.semver_parser.specs.declared.version.Version.{Version}
+use Rattle.version_sets.specs.VersionSets.{SetValue, IsIn}
+
+-- it is one of those asked for, has no build, and none of them is below it by precedence
+pub record IsLeastOf (IsOne : PlainVersion → Type 0) (v : VersionValue) : Type 0 where
+  pub is_one : IsOne v.plain
+  pub no_build : v.build ≡ []
+  pub lowest : (w : PlainVersion) → IsOne w → precedence w v.plain ≢ Less
+
+-- an answer that is the least of those asked for, and none exactly where there are none
+abbrev pub TellsLeast : (PlainVersion → Type 0) → Option Version → Type 0
+TellsLeast IsOne None = (v : PlainVersion) → ¬ IsOne v
+TellsLeast IsOne (Some version) = IsLeastOf IsOne (version_value version)
+
+-- in the first set and not in the second
+abbrev pub IsInFirstAlone : SetValue → SetValue → PlainVersion → Type 0
+IsInFirstAlone first second v = IsIn v first × (¬ IsIn v second)
+
+abbrev pub IsInBoth : SetValue → SetValue → PlainVersion → Type 0
+IsInBoth first second v = IsIn v first × IsIn v second

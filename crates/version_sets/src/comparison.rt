@@ -1,0 +1,67 @@
+//! What a set loses, gains and keeps where a new one takes its place.
+
+ghost use Rattle.std.specs.Prelude.{◌⊎◌, IfOk, IfErr};
+ghost use Rattle.semver_parser.specs.Versions.{PlainVersion};
+ghost use Rattle.version_sets.specs.VersionSets.{IsIn};
+ghost use Rattle.version_sets.specs.Comparisons.{TellsLeast, IsInFirstAlone, IsInBoth};
+ghost use Rattle.version_sets.specs.Means.Combined.{IsKept};
+
+use crate::combination::Combination;
+use crate::version_set::VersionSet;
+use semver_parser::version::Version;
+use std::alloc::{AllocError, Global};
+
+/// How two sets differ, and what they share, each by the least version by precedence. None of these
+/// has a build.
+#[derive(Debug, Drop)]
+pub struct Comparison {
+    /// The least version that is in the old set and not in the new one; `None` where there is none.
+    pub lost: Option<Version>,
+    /// The least version that is in the new set and not in the old one; `None` where there is none.
+    pub gained: Option<Version>,
+    /// The least version that is in both; `None` where there is none.
+    pub shared: Option<Version>,
+}
+
+impl VersionSet {
+    /// Compares the set with a new one that is to take its place. It takes time in the number of
+    /// their switches.
+    ///
+    /// Where the set of `^1.2.0` is followed by that of `>=1.4.0`, 1.2.0 is lost, 2.0.0 is gained,
+    /// and 1.4.0 is shared. Both sets have the same versions exactly where nothing is lost or
+    /// gained.
+    ///
+    /// Memory is asked for what is in one set or in both, and for a pre-release that is answered,
+    /// and not at all where both sets are empty. `Err` is want of it.
+    pub fn compare(&self, alloc: Global, new: &VersionSet) -> Result<Comparison, AllocError>
+        ensures lost { IfOk result (λ answer.
+            TellsLeast (IsInFirstAlone self.now new.now) answer.lost) }
+        ensures gained { IfOk result (λ answer.
+            TellsLeast (IsInFirstAlone new.now self.now) answer.gained) }
+        ensures shared { IfOk result (λ answer.
+            TellsLeast (IsInBoth self.now new.now) answer.shared) }
+        // Memory runs out only where one of the sets has a version.
+        ensures out_of_memory { IfErr result (λ _. (v : PlainVersion)
+            × (IsIn v self.now ⊎ IsIn v new.now)) }
+    {
+        Ok(Comparison {
+            lost: self.least_combined(alloc, Combination::Difference, new)?,
+            gained: new.least_combined(alloc, Combination::Difference, self)?,
+            shared: self.least_combined(alloc, Combination::Intersection, new)?,
+        })
+    }
+
+    /// The least version of a combination.
+    fn least_combined(
+        &self,
+        alloc: Global,
+        how: Combination,
+        other: &VersionSet,
+    ) -> Result<Option<Version>, AllocError>
+        ensures least { IfOk result (TellsLeast (IsKept how self.now other.now)) }
+        ensures out_of_memory { IfErr result (λ _. (v : PlainVersion)
+            × (IsIn v self.now ⊎ IsIn v other.now)) }
+    {
+        self.combined(alloc, how, other)?.least(alloc)
+    }
+}
