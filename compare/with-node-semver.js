@@ -182,4 +182,5 @@ function compare (program, cases, { call, options }, seed) {
   for (const [departure, times] of occurred) console.log(`  ${times} times beside: ${departure}`)
 }
 
-main(process.argv.slice(2))
+module.exports = { Random, range, answers }
+if (require.main === module) main(process.argv.slice(2))

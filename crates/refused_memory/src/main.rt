@@ -10,12 +10,14 @@ mod identifiers;
 mod parsers;
 mod ranges;
 mod reports;
+mod sets;
 mod versions;
 
 use semver_parser::Compat;
 use std::alloc::Global;
 use std::io;
 use std::io::Read;
+use version_sets::VersionSet;
 
 /// How a call ended.
 #[derive(Clone, Copy, PartialEq, Eq)]
@@ -57,6 +59,10 @@ fn main(rt: HostRuntime) -> io::Result<()> {
     }
     tell(&rt, &of_versions(rt.alloc()))?;
     tell(&rt, &of_ranges(rt.alloc()))?;
+    match sets::of_texts(rt.alloc()) {
+        Ok((first, second)) => tell(&rt, &of_sets(rt.alloc(), &first, &second))?,
+        Err(ending) => tell(&rt, &[("sets_of_texts", ending)])?,
+    }
     rt.println("done")
 }
 
@@ -180,6 +186,22 @@ fn of_ranges(alloc: Global) -> [(&'static str, Ending); 26] {
         ("refused_filter_texts", filters::refused_texts(alloc)),
         ("report", reports::report(alloc)),
         ("report_of_faults", reports::report_of_faults(alloc)),
+    ]
+}
+
+/// How each call on sets of versions ends, beside the texts of these two.
+fn of_sets(alloc: Global, first: &VersionSet, second: &VersionSet) -> [(&'static str, Ending); 7] {
+    [
+        ("refused_set_texts", sets::of_refused_texts(alloc)),
+        ("set_of_comparators", sets::of_set(alloc)),
+        ("union", sets::union(alloc, first, second)),
+        ("intersection", sets::intersection(alloc, first, second)),
+        ("difference", sets::difference(alloc, first, second)),
+        ("least", sets::least(alloc, first)),
+        (
+            "sets_without_requests",
+            sets::without_requests(alloc, first, second),
+        ),
     ]
 }
 

@@ -132,7 +132,7 @@ pub fn write_copied<W: Write>(
 }
 
 /// The versions of a list, if each item is one.
-fn versions_of(alloc: Global, list: &str) -> io::Result<Option<Vec<Version>>> {
+pub fn versions_of(alloc: Global, list: &str) -> io::Result<Option<Vec<Version>>> {
     let mut versions = Vec::new(alloc);
     for item in list.split(' ').filter(|item| !item.is_empty()) {
         match version::parse(alloc, item) {

@@ -1,9 +1,9 @@
 //! Replays a table of cases. Each line of standard input has a name, a call and a text, parted by
-//! tabs, and for the calls of a parser its steps, for those of the filter the versions, for
-//! `concat` what is added; the line of standard output begins with the name and tells what the call
-//! answered. Of a call behind `sum-of-` it tells the length and the checksum of that. What is
-//! expected stands in the file beside this crate's input: it comes from the published rows and from
-//! the Rust crate.
+//! tabs, and for the calls of a parser its steps, for those of the filter and of sets the versions,
+//! for `concat` what is added, and for pairs of sets the other text; the line of standard output
+//! begins with the name and tells what the call answered. Of a call behind `sum-of-` it tells the
+//! length and the checksum of that. What is expected stands in the file beside this crate's input:
+//! it comes from the published rows, from the Rust crate, and of sets from `tools/set-rows`.
 #![tactic(auto)]
 
 mod checksum;
@@ -12,6 +12,7 @@ mod lexing;
 mod parsing;
 mod ranges;
 mod reporting;
+mod sets;
 mod text;
 mod versions;
 
@@ -112,6 +113,6 @@ fn answer<W: Write>(
         "meet-cargo" => filtering::write_met(alloc, text, Compat::Cargo, steps, out),
         "meet-npm" => filtering::write_met(alloc, text, Compat::Npm, steps, out),
         "report" => reporting::write_report(alloc, text, out),
-        _ => write!(out, "no such call"),
+        _ => sets::write_answer(alloc, call, text, steps, out),
     }
 }

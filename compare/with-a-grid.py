@@ -1,0 +1,133 @@
+"""Compares sets of versions with brute force: python3 with-a-grid.py PROGRAM COUNT SEED, where PROGRAM is the built `replayed_cases`.
+
+It makes COUNT random pairs of range texts. The numbers and identifiers in them are so few that a grid of versions has each place at which an answer can
+change. Each version of the grid is asked for by itself, of each term, by `meets_term` of tools/range_meaning.py. So the grid tells what each set has, and from that
+follows each answer: the least version that the first set has alone, the second alone, and both; within, overlaps and same; and of eight versions of
+the grid what they are in. Any difference is printed, and ends it.
+"""
+
+import random
+import subprocess
+import sys
+from itertools import product
+from pathlib import Path
+
+sys.path.insert(0, str(Path(__file__).resolve().parents[1] / "tools"))
+from range_meaning import RULES, meets_term, precedence, ranges, shown
+
+NUMBERS = (0, 1, 2)
+PRE_RELEASES = ((0,), (1,), ("a",), ("a", 0), ("a", "b"), ("b",))
+# With 3 the grid has the next numbers of each; with the identifier 0 it has the lowest pre-releases, and those right behind another.
+GRID_NUMBERS = (0, 1, 2, 3)
+OTHERS = ((2,), (7,), ("B",), ("Z",), (0, 0, 0), (0, "z"), (1, 1), (1, "a"), ("a", 0, 1), ("a", 1), ("a", "a"), ("a", "b", "c"), ("a", "c"), ("aa",), ("b", 1), ("b", "a"), ("b", "b"), ("c",), ("z",))
+GRID_PRE_RELEASES = sorted({*PRE_RELEASES, *(pre + (0,) for pre in PRE_RELEASES), *OTHERS}, key=str)
+GRID = sorted(((numbers, pre) for numbers in product(GRID_NUMBERS, repeat=3) for pre in ((), *GRID_PRE_RELEASES)), key=precedence)
+ASKED = 8
+
+
+def mask(holds):
+    """The versions of the grid for which this holds, as the bits of a number."""
+    return sum(1 << at for at, it in enumerate(GRID) if holds(it))
+
+
+RELEASES = mask(lambda it: not it[1])
+TERMS, STATED = {}, {}
+
+
+def of_term(term):
+    if term not in TERMS:
+        TERMS[term] = mask(lambda it: meets_term(it, term))
+    return TERMS[term]
+
+
+def of_numbers(stated):
+    if stated not in STATED:
+        STATED[stated] = mask(lambda it: it[0] == stated)
+    return STATED[stated]
+
+
+def of_text(text, mode, rule):
+    """The versions of the grid that a text means: of each range what meets each of its terms, and counts."""
+    found = 0
+    for terms in ranges(text, mode):
+        met, counting = -1, RELEASES
+        for term in terms:
+            met &= of_term(term)
+            if rule == "stated" and term[2]:
+                counting |= of_numbers(term[1])
+        found |= met if rule == "mean" else met & counting
+    return found & ((1 << len(GRID)) - 1)
+
+
+def least(bits):
+    return "none" if bits == 0 else shown(GRID[(bits & -bits).bit_length() - 1])
+
+
+def wanted(first, second, asked):
+    sets = (("first", first), ("second", second), ("lost", first & ~second), ("gained", second & ~first), ("shared", first & second), ("union", first | second))
+    lost, gained, shared = (bits for _, bits in sets[2:5])
+    told = (("within", not lost), ("overlaps", bool(shared)), ("same", first == second))
+    answer = f"lost {least(lost)}, gained {least(gained)}, shared {least(shared)}, " + ", ".join(f"{word} {str(so).lower()}" for word, so in told)
+    return answer + "".join(f"; {shown(GRID[at])}:" + "".join(f" {word}" for word, bits in sets if bits >> at & 1) for at in asked)
+
+
+# ---- random texts
+
+
+def partial(of):
+    stated = [str(of.choice(NUMBERS)) for _ in range(of.choice((0, 1, 2, 3, 3, 3)))]
+    if len(stated) == 3:
+        return ".".join(stated) + ("-" + ".".join(map(str, of.choice(PRE_RELEASES))) if of.random() < 0.4 else "")
+    return ".".join((*stated, of.choice("xX*"))) if not stated or of.random() < 0.5 else ".".join(stated)
+
+
+def one_range(of):
+    if of.random() < 0.15:
+        return f"{partial(of)} - {partial(of)}"
+    signs = ("", "=", "<", "<=", ">", ">=", "<", "<=", ">", ">=", "~", "^")
+    return " ".join(of.choice(signs) + partial(of) for _ in range(of.choice((1, 1, 2, 2, 3))))
+
+
+def one_text(of):
+    return of.choice(("||", " || ")).join(one_range(of) for _ in range(of.choice((1, 1, 1, 2, 3))))
+
+
+def another(of, text):
+    """A text by itself, or one beside another: with a part changed or left out, or in another order."""
+    parts = text.split("||")
+    how = of.random()
+    if how < 0.5:
+        return one_text(of)
+    if how < 0.6:
+        return "||".join(reversed(parts))
+    if how < 0.7:
+        return "||".join((*parts, one_range(of)))
+    if how < 0.8:
+        return text + " " + of.choice(("<", ">=", "^")) + partial(of) if " - " not in parts[-1] else text
+    parts[of.randrange(len(parts))] = one_range(of)
+    return "||".join(parts)
+
+
+def main(program, count, seed):
+    of = random.Random(seed)
+    lines, answers, met = [], [], {"lost": 0, "gained": 0, "shared": 0, "same": 0}
+    for _ in range(count):
+        text = one_text(of)
+        other, rule, mode = another(of, text), of.choice(RULES), of.choice(("cargo", "npm"))
+        first, second = of_text(text, mode, rule), of_text(other, mode, rule)
+        asked = [of.randrange(len(GRID)) for _ in range(ASKED)]
+        lines.append(f"-\tpair-{rule}-{mode}\t{text}\t{other};{' '.join(shown(GRID[at]) for at in asked)}")
+        answers.append(f"-: {wanted(first, second, asked)}")
+        for word, so in (("lost", first & ~second), ("gained", second & ~first), ("shared", first & second), ("same", first == second)):
+            met[word] += bool(so)
+    ran = subprocess.run([program], input="".join(f"{line}\n" for line in lines), capture_output=True, text=True, check=True)
+    answered = ran.stdout.split("\n")
+    assert len(answered) == count + 1
+    for line, answer, said in zip(lines, answers, answered):
+        if answer != said:
+            sys.exit(f"differ: {line}\n  the grid {answer}\n  answered {said}")
+    told = ", ".join(f"{word} {times}" for word, times in met.items())
+    print(f"{count} pairs of texts, seed {seed}, on {len(GRID)} versions, {len(TERMS)} terms: no difference; there was {told}")
+
+
+main(sys.argv[1], int(sys.argv[2]), int(sys.argv[3]))

@@ -1,0 +1,126 @@
+//! Sets of versions.
+
+use super::Ending;
+use semver_parser::{Compat, RangeError, RangeSet, version};
+use std::alloc::Global;
+use version_sets::{PreReleases, VersionSet};
+
+/// The sets of `>=1.2.0-b.c` as stated and of `<2.0.0` with all pre-releases, which the calls below
+/// are given.
+pub fn of_texts(alloc: Global) -> Result<(VersionSet, VersionSet), Ending> {
+    let first = set_of(alloc, ">=1.2.0-b.c", PreReleases::Stated)?;
+    let second = set_of(alloc, "<2.0.0", PreReleases::Included)?;
+    Ok((first, second))
+}
+
+/// The set of a text in npm mode.
+fn set_of(alloc: Global, text: &str, pre_releases: PreReleases) -> Result<VersionSet, Ending> {
+    match VersionSet::of_text(alloc, text, Compat::Npm, pre_releases) {
+        Ok(set) => Ok(set),
+        Err(RangeError::OutOfMemory) => Err(Ending::Refused),
+        Err(_) => Err(Ending::Wrong),
+    }
+}
+
+/// Texts that are refused are refused without a request.
+pub fn of_refused_texts(alloc: Global) -> Ending {
+    let pre_releases = PreReleases::Included;
+    let not_a_range = VersionSet::of_text(alloc, "|", Compat::Npm, pre_releases);
+    let too_large = VersionSet::of_text(
+        alloc,
+        "<=18446744073709551615",
+        Compat::Cargo,
+        pre_releases,
+    );
+    Ending::full_if(
+        matches!(not_a_range, Err(RangeError::NotARange))
+            && matches!(too_large, Err(RangeError::NumberTooLarge)),
+    )
+}
+
+/// The releases that meet the comparator `>=2.0.0`. Reading it is part of the call. The least of
+/// them is told without a request.
+pub fn of_set(alloc: Global) -> Ending {
+    let set = match RangeSet::parse(alloc, ">=2.0.0", Compat::Npm) {
+        Ok(set) => set,
+        Err(RangeError::OutOfMemory) => return Ending::Refused,
+        Err(_) => return Ending::Wrong,
+    };
+    match VersionSet::of_set(alloc, &set, PreReleases::Excluded) {
+        Ok(set) => Ending::full_if(begins_at(&set, 2) && matches!(set.least(alloc), Ok(Some(_)))),
+        Err(_) => Ending::Refused,
+    }
+}
+
+/// The union has both sets, and 0.0.0 of the second is its least release.
+pub fn union(alloc: Global, first: &VersionSet, second: &VersionSet) -> Ending {
+    match first.union(alloc, second) {
+        Ok(set) => Ending::full_if(
+            first.is_within(&set) && second.is_within(&set) && begins_at(&set, 0),
+        ),
+        Err(_) => Ending::Refused,
+    }
+}
+
+/// The intersection is within both sets, and 1.2.0 is its least release.
+pub fn intersection(alloc: Global, first: &VersionSet, second: &VersionSet) -> Ending {
+    match first.intersection(alloc, second) {
+        Ok(set) => Ending::full_if(
+            set.is_within(first) && set.is_within(second) && begins_at(&set, 1),
+        ),
+        Err(_) => Ending::Refused,
+    }
+}
+
+/// What the second set has alone is within it and apart from the first, and begins with 0.0.0.
+pub fn difference(alloc: Global, first: &VersionSet, second: &VersionSet) -> Ending {
+    match second.difference(alloc, first) {
+        Ok(set) => Ending::full_if(
+            set.is_within(second) && !set.overlaps(first) && begins_at(&set, 0),
+        ),
+        Err(_) => Ending::Refused,
+    }
+}
+
+/// The least version of the first set is 1.2.0-b.c.
+pub fn least(alloc: Global, first: &VersionSet) -> Ending {
+    match first.least(alloc) {
+        Ok(Some(least)) => Ending::full_if(least.minor == 2 && least.pre.len() == 2),
+        Ok(None) => Ending::Wrong,
+        Err(_) => Ending::Refused,
+    }
+}
+
+/// What is asked of sets without a request: also the least version where there is none, and a
+/// combination that has no version.
+pub fn without_requests(alloc: Global, first: &VersionSet, second: &VersionSet) -> Ending {
+    let empty = VersionSet::empty(alloc);
+    let is_told = empty.is_empty()
+        && !first.is_empty()
+        && !first.is_within(second)
+        && first.overlaps(second)
+        && first != second
+        && begins_at(first, 1);
+    let has_both = has(alloc, first, "1.9.0") && has(alloc, second, "1.9.0");
+    let has_one = has(alloc, first, "2.0.0") && !has(alloc, second, "2.0.0");
+    let is_least = matches!(empty.least(alloc), Ok(None));
+    let nothing = match first.difference(alloc, first) {
+        Ok(nothing) => nothing == empty,
+        Err(_) => false,
+    };
+    Ending::full_if(is_told && has_both && has_one && is_least && nothing)
+}
+
+/// Whether a version without identifiers, which is read without a request, is in a set.
+fn has(alloc: Global, set: &VersionSet, text: &str) -> bool {
+    match version::read(alloc, text) {
+        Ok(Some(version)) => set.has(&version),
+        _ => false,
+    }
+}
+
+/// Whether the least release of a set has this major number.
+fn begins_at(set: &VersionSet, major: u64) -> bool {
+    set.least_release()
+        .is_some_and(|release| release.major == major)
+}

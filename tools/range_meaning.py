@@ -1,0 +1,179 @@
+"""What range texts mean, by the definitions of docs/MEANING.md: a model of its own, beside the proved code.
+
+A version is a tuple `(numbers, identifiers)`: three numbers, and the identifiers of its pre-release, each a number or a text. A term is
+`(operator, stated numbers, identifiers)`. Whether a version meets a term is decided by the table "The text's own meaning" alone, one version at a
+time; no comparator and no bound list occurs here. The least version that has some property of this kind is looked for among all places at
+which an answer about the terms can change, which are few; `tools/set-rows` and `compare-sets-with-a-grid` check that against a grid of versions.
+"""
+
+import re
+
+LAST = 2**64 - 1
+RULES = ("releases", "stated", "mean")
+
+
+class Refused(Exception):
+    """A text that is no range, or whose numbers don't fit."""
+
+
+# ---- versions
+
+
+def identifiers(text, in_range):
+    """Those of the text of a pre-release. Digits are a number up to 2^64 - 1; in a version only without a leading zero."""
+    if text is None:
+        return ()
+    return tuple(
+        int(part) if part.isascii() and part.isdigit() and int(part) <= LAST and (in_range or part == str(int(part))) else part
+        for part in text.split(".")
+    )
+
+
+def version(text):
+    numbers, _, pre = text.partition("+")[0].partition("-")
+    return tuple(map(int, numbers.split("."))), identifiers(pre or None, False)
+
+
+def shown(it):
+    if it is None:
+        return "none"
+    numbers, pre = it
+    return ".".join(map(str, numbers)) + ("-" + ".".join(map(str, pre)) if pre else "")
+
+
+def precedence(it):
+    """A key: two versions compare by precedence as their keys do."""
+    numbers, pre = it
+    return numbers, not pre, tuple((isinstance(part, str), part) for part in pre)
+
+
+# ---- texts
+
+_PARTIAL = r"(?P<numbers>[0-9xX*]+(?:\.[0-9xX*]+){0,2})(?:-(?P<pre>[0-9A-Za-z.-]+))?(?:\+[0-9A-Za-z.-]+)?"
+_SIMPLE = re.compile(r"(?P<sign>>=|<=|~>|[<>=~^]?) *" + _PARTIAL)
+_SIDE = re.compile(_PARTIAL)
+
+
+def _partial(found):
+    stated = []
+    for word in found["numbers"].split("."):
+        if not word.isdigit():
+            break
+        stated.append(int(word))
+    return tuple(stated), identifiers(found["pre"], True) if len(stated) == 3 else ()
+
+
+def _range(text):
+    if " - " in text:
+        sides = [_partial(_SIDE.fullmatch(side.strip(" "))) for side in text.split(" - ")]
+        terms = [(sign, *side) for sign, side in zip((">=", "<="), sides)]
+        return [term for term in terms if term[1]] or terms[:1]
+    terms, at = [], 0
+    while text[at:].strip(" "):
+        found = _SIMPLE.match(text, at + len(text[at:]) - len(text[at:].lstrip(" ")))
+        terms.append((found["sign"].replace("~>", "~"), *_partial(found)))
+        at = found.end()
+    return terms or [("", (), ())]
+
+
+def ranges(text, mode):
+    """The terms of each range of a well-formed text. In Cargo mode a bare partial with three numbers is a caret."""
+    read = [_range(part) for part in text.split("||")]
+    return [[("^" if mode == "cargo" and sign == "" and len(stated) == 3 else sign or "=", stated, pre) for sign, stated, pre in terms] for terms in read]
+
+
+def fits(text, mode):
+    """Whether every stated number and every number of a raised bound is at most 2^64 - 1."""
+    for sign, stated, _ in sum(ranges(text, mode), []):
+        k = raised_place(sign, stated)
+        if any(number > LAST for number in stated) or (k and stated[k - 1] == LAST):
+            return False
+    return True
+
+
+def raised_place(sign, stated):
+    """The place, from 1, of the number that a term's raised bound raises; 0 where it has no such bound."""
+    n = len(stated)
+    if sign == "^":
+        return next((at + 1 for at, number in enumerate(stated) if number), n)
+    if sign == "~":
+        return min(n, 2)
+    return n if sign in ("=", "<=") and n < 3 else 0
+
+
+# ---- meaning
+
+
+def meets_term(it, term):
+    """The table of the text's own meaning, row by row."""
+    sign, stated, pre = term
+    n, numbers = len(stated), it[0]
+    z = stated + (0,) * (3 - n), pre
+    at = precedence(it)
+    if n == 0:
+        below = at < precedence(((0, 0, 0), ()))
+        return below if sign in "<>" else not below
+    if sign == "^":
+        k = next((place + 1 for place, number in enumerate(stated) if number), n)
+        return at >= precedence(z) and numbers[:k] == stated[:k]
+    if sign == "~":
+        return at >= precedence(z) and numbers[: min(n, 2)] == stated[:2]
+    if sign == "<":
+        return at < precedence(z)
+    if sign == ">":
+        return at > precedence(z)
+    if sign == ">=":
+        return at >= precedence(z)
+    if sign == "<=":
+        return at <= precedence(z) if n == 3 else numbers[:n] <= stated
+    assert sign == "="
+    return at == precedence(z) if n == 3 else numbers[:n] == stated and at >= precedence(z)
+
+
+def meets_range(it, terms, rule):
+    numbers, pre = it
+    if pre and rule == "releases":
+        return False
+    if pre and rule == "stated" and not any(stated == numbers and own for _, stated, own in terms):
+        return False
+    return all(meets_term(it, term) for term in terms)
+
+
+def meets(it, read, rule):
+    """Whether a version meets the ranges of a text by a rule for pre-releases."""
+    return any(meets_range(it, terms, rule) for terms in read)
+
+
+# ---- places
+
+
+def raised(front):
+    """The lowest numbers above all that begin with these, if there are such."""
+    front = list(front)
+    while front and front[-1] == LAST:
+        front.pop()
+    if not front:
+        return None
+    return tuple(front[:-1]) + (front[-1] + 1,) + (0,) * (3 - len(front))
+
+
+def places(*texts):
+    """The versions, by precedence, at which an answer about the terms of these texts can begin or end.
+
+    Each condition of the tables compares a version, or its first numbers, with z. So it begins or ends at z, right behind z, at the lowest version of
+    some numbers or right behind the highest.
+    """
+    numbers, found = {(0, 0, 0)}, set()
+    for _, stated, pre in (term for read in texts for terms in read for term in terms):
+        z = stated + (0,) * (3 - len(stated))
+        numbers |= {z[:k] + (0,) * (3 - k) for k in (1, 2, 3)} | {raised(z[:k]) for k in (1, 2, 3)}
+        if pre:
+            found |= {(z, pre), (z, pre + (0,))}
+    for these in numbers - {None}:
+        found |= {(these, ()), (these, (0,))}
+    return sorted(found, key=precedence)
+
+
+def least(found, holds):
+    """The least of some versions for which this holds."""
+    return next((it for it in found if holds(it)), None)
