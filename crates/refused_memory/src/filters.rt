@@ -35,30 +35,24 @@ fn is_wanted(version: &Version) -> bool {
     (version.major == 0 && version.minor == 2) || (version.major == 2 && version.minor == 5)
 }
 
-/// A filter of `>=0.2.0 <3.0.0` in two comparators.
-pub fn new_filter(alloc: Global) -> Ending {
-    match Filter::new(alloc, ">=0.2.0 <3.0.0", Compat::Cargo, PreReleases::Stated) {
-        Ok(_) => Ending::Full,
-        Err(RangeError::OutOfMemory) => Ending::Refused,
-        Err(_) => Ending::Wrong,
-    }
-}
-
-/// `>=0.2.0-a <3.0.0` keeps one of two versions, and it is the greatest. Making the filter and the
-/// list is part of the call.
-pub fn kept_versions(alloc: Global) -> Ending {
-    let filter = match Filter::new(
+/// The filter of the calls below: `>=1.2.0-rc <1.10.0`, as stated.
+pub fn of_lines(alloc: Global) -> Result<Filter, Ending> {
+    match Filter::new(
         alloc,
-        ">=0.2.0-a <3.0.0",
+        ">=1.2.0-rc <1.10.0",
         Compat::Cargo,
         PreReleases::Stated,
     ) {
-        Ok(filter) => filter,
-        Err(RangeError::OutOfMemory) => return Ending::Refused,
-        Err(_) => return Ending::Wrong,
-    };
+        Ok(filter) => Ok(filter),
+        Err(RangeError::OutOfMemory) => Err(Ending::Refused),
+        Err(_) => Err(Ending::Wrong),
+    }
+}
+
+/// It keeps one of two versions, and that is the greatest. Making the list is part of the call.
+pub fn kept_versions(alloc: Global, filter: &Filter) -> Ending {
     let mut versions = Vec::new(alloc);
-    for text in ["2.5.0-1", "0.2.0-b"] {
+    for text in ["1.5.0-1", "1.2.0-rc.b"] {
         match version::parse(alloc, text) {
             Ok(version) => {
                 if versions.push(version).is_err() {
@@ -78,13 +72,8 @@ pub fn kept_versions(alloc: Global) -> Ending {
     }
 }
 
-/// The filter of the lines below reads a text with a pre-release and a build. Making it is part of
-/// the call.
-pub fn read_version(alloc: Global) -> Ending {
-    let filter = match line_filter(alloc) {
-        Ok(filter) => filter,
-        Err(ending) => return ending,
-    };
+/// It reads a text with a pre-release and a build.
+pub fn read_version(alloc: Global, filter: &Filter) -> Ending {
     match filter.read(alloc, "1.2.0-rc.b+5.c") {
         Ok(Some(version)) => Ending::full_if(version.pre.len() == 2 && version.build.len() == 2),
         Ok(None) => Ending::Wrong,
@@ -112,27 +101,20 @@ pub fn read_without_requests(alloc: Global) -> Ending {
     }
 }
 
-/// The lines that are filtered. The pre-release of 1.3.0 has the first number of the range, and so
-/// it is read with its identifiers.
+/// The lines that are filtered. The pre-releases of 1.3.0 and 2.0.0 aren't kept, and take nothing.
 const LINES: &[u8] = b"1.2.0-rc.b\n1.3.0-rc.a\n2.0.0-rc.a\n1.9.0+build\n";
 
 /// What `>=1.2.0-rc <1.10.0` keeps of them, as stated.
 const KEPT_LINES: &[u8] = b"1.2.0-rc.b\n1.9.0+build\n";
 
-/// The first line, the lines behind it, and the last.
+/// The first line, and the last.
 const FIRST_LINE: &[u8] = b"1.2.0-rc.b\n";
-
-const LATER_LINES: &[u8] = b"1.3.0-rc.a\n2.0.0-rc.a\n1.9.0+build\n";
 
 const LAST_LINE: &[u8] = b"1.9.0+build\n";
 
 /// Two of the lines are copied. A refusal loses none: what was written before it and what is kept
-/// of the lines that are left is what is kept of all. Making the filter is part of the call.
-pub fn copied_lines(alloc: Global) -> Ending {
-    let filter = match line_filter(alloc) {
-        Ok(filter) => filter,
-        Err(ending) => return ending,
-    };
+/// of the lines that are left is what is kept of all.
+pub fn copied_lines(alloc: Global, filter: &Filter) -> Ending {
     let mut input = LINES;
     let mut out = Fixed::new();
     let ran = filter.copy_lines(alloc, &mut input, &mut out);
@@ -140,37 +122,27 @@ pub fn copied_lines(alloc: Global) -> Ending {
     match ran {
         Ok(true) => Ending::full_if(written == KEPT_LINES && input.is_empty()),
         Err(LineError::OutOfMemory) if written.is_empty() => Ending::refused_if(input == LINES),
-        Err(LineError::OutOfMemory) => Ending::refused_if(
-            written == FIRST_LINE && (input == LATER_LINES || input == LAST_LINE),
-        ),
-        _ => Ending::Wrong,
-    }
-}
-
-/// The last of the lines is the greatest. A refusal leaves the line that it met, and all behind it.
-/// Making the filter is part of the call.
-pub fn greatest_line(alloc: Global) -> Ending {
-    let filter = match line_filter(alloc) {
-        Ok(filter) => filter,
-        Err(ending) => return ending,
-    };
-    let mut input = LINES;
-    match filter.greatest_line(alloc, &mut input) {
-        Ok(Some(line)) => Ending::full_if(line.as_slice() == LAST_LINE && input.is_empty()),
         Err(LineError::OutOfMemory) => {
-            Ending::refused_if(input == LINES || input == LATER_LINES || input == LAST_LINE)
+            Ending::refused_if(written == FIRST_LINE && input == LAST_LINE)
         }
         _ => Ending::Wrong,
     }
 }
 
+/// The last of the lines is the greatest. A refusal leaves the line that it met, and all behind it.
+///
+pub fn greatest_line(alloc: Global, filter: &Filter) -> Ending {
+    let mut input = LINES;
+    match filter.greatest_line(alloc, &mut input) {
+        Ok(Some(line)) => Ending::full_if(line.as_slice() == LAST_LINE && input.is_empty()),
+        Err(LineError::OutOfMemory) => { Ending::refused_if(input == LINES || input == LAST_LINE) }
+        _ => Ending::Wrong,
+    }
+}
+
 /// A line without an end isn't shown whole, so it is copied to be judged. What was written before
-/// a refusal is nothing. Making the filter is part of the call.
-pub fn line_without_an_end(alloc: Global) -> Ending {
-    let filter = match line_filter(alloc) {
-        Ok(filter) => filter,
-        Err(ending) => return ending,
-    };
+/// a refusal is nothing.
+pub fn line_without_an_end(alloc: Global, filter: &Filter) -> Ending {
     let line = "1.2.0-rc.b".as_bytes();
     let mut input = line;
     let mut out = Fixed::new();
@@ -181,12 +153,8 @@ pub fn line_without_an_end(alloc: Global) -> Ending {
     }
 }
 
-/// Lines that aren't kept are judged where they stand: without a request but for the filter's own.
-pub fn lines_passed_over(alloc: Global) -> Ending {
-    let filter = match line_filter(alloc) {
-        Ok(filter) => filter,
-        Err(ending) => return ending,
-    };
+/// Lines that aren't kept are judged where they stand: without a request.
+pub fn lines_passed_over(alloc: Global, filter: &Filter) -> Ending {
     let mut input = "x\n1.2\n2.0.0-a\n1.10.0\n".as_bytes();
     let mut out = Fixed::new();
     match filter.copy_lines(alloc, &mut input, &mut out) {
@@ -195,32 +163,14 @@ pub fn lines_passed_over(alloc: Global) -> Ending {
     }
 }
 
-/// No version passes, so none is put on a list: without a request but for the filter's own.
-pub fn no_version_kept(alloc: Global) -> Ending {
-    let filter = match line_filter(alloc) {
-        Ok(filter) => filter,
-        Err(ending) => return ending,
-    };
+/// No version passes, so none is put on a list: without a request.
+pub fn no_version_kept(alloc: Global, filter: &Filter) -> Ending {
     let Ok(Some(version)) = version::read(alloc, "2.0.0") else {
         return Ending::Wrong;
     };
     match filter.kept(alloc, &[version]) {
         Ok(kept) => Ending::full_if(kept.is_empty()),
         Err(_) => Ending::Wrong,
-    }
-}
-
-/// The filter of the lines.
-fn line_filter(alloc: Global) -> Result<Filter, Ending> {
-    match Filter::new(
-        alloc,
-        ">=1.2.0-rc <1.10.0",
-        Compat::Cargo,
-        PreReleases::Stated,
-    ) {
-        Ok(filter) => Ok(filter),
-        Err(RangeError::OutOfMemory) => Err(Ending::Refused),
-        Err(_) => Err(Ending::Wrong),
     }
 }
 

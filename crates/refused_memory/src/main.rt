@@ -13,6 +13,7 @@ mod reports;
 mod sets;
 mod versions;
 
+use release_filter::Filter;
 use semver_parser::Compat;
 use std::alloc::Global;
 use std::io;
@@ -59,6 +60,10 @@ fn main(rt: HostRuntime) -> io::Result<()> {
     }
     tell(&rt, &of_versions(rt.alloc()))?;
     tell(&rt, &of_ranges(rt.alloc()))?;
+    match filters::of_lines(rt.alloc()) {
+        Ok(filter) => tell(&rt, &of_lines(rt.alloc(), &filter))?,
+        Err(ending) => tell(&rt, &[("filter_of_lines", ending)])?,
+    }
     match sets::of_texts(rt.alloc()) {
         Ok((first, second)) => tell(&rt, &of_sets(rt.alloc(), &first, &second))?,
         Err(ending) => tell(&rt, &[("sets_of_texts", ending)])?,
@@ -106,7 +111,7 @@ fn of_versions(alloc: Global) -> [(&'static str, Ending); 15] {
 }
 
 /// How each call on ranges and above them ends.
-fn of_ranges(alloc: Global) -> [(&'static str, Ending); 26] {
+fn of_ranges(alloc: Global) -> [(&'static str, Ending); 18] {
     [
         (
             "one_simple",
@@ -171,21 +176,32 @@ fn of_ranges(alloc: Global) -> [(&'static str, Ending); 26] {
         ("refused_range_texts", ranges::refused_texts(alloc)),
         ("range_set_clone", ranges::clone(alloc)),
         ("filter", filters::filter(alloc)),
-        ("new_filter", filters::new_filter(alloc)),
-        ("kept_versions", filters::kept_versions(alloc)),
-        ("read_version", filters::read_version(alloc)),
         (
             "read_without_requests",
             filters::read_without_requests(alloc),
         ),
-        ("no_version_kept", filters::no_version_kept(alloc)),
-        ("copied_lines", filters::copied_lines(alloc)),
-        ("greatest_line", filters::greatest_line(alloc)),
-        ("line_without_an_end", filters::line_without_an_end(alloc)),
-        ("lines_passed_over", filters::lines_passed_over(alloc)),
         ("refused_filter_texts", filters::refused_texts(alloc)),
         ("report", reports::report(alloc)),
         ("report_of_faults", reports::report_of_faults(alloc)),
+    ]
+}
+
+/// How each call on versions and lines ends of a filter.
+fn of_lines(alloc: Global, filter: &Filter) -> [(&'static str, Ending); 7] {
+    [
+        ("kept_versions", filters::kept_versions(alloc, filter)),
+        ("read_version", filters::read_version(alloc, filter)),
+        ("no_version_kept", filters::no_version_kept(alloc, filter)),
+        ("copied_lines", filters::copied_lines(alloc, filter)),
+        ("greatest_line", filters::greatest_line(alloc, filter)),
+        (
+            "line_without_an_end",
+            filters::line_without_an_end(alloc, filter),
+        ),
+        (
+            "lines_passed_over",
+            filters::lines_passed_over(alloc, filter),
+        ),
     ]
 }
 

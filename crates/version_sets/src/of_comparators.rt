@@ -1,6 +1,6 @@
 //! Sets of the versions that meet comparators, by a rule for pre-releases.
 
-ghost use Rattle.std.specs.Prelude.{◌≡◌, ◌||◌, IfOk};
+ghost use Rattle.std.specs.Prelude.{◌≡◌, ◌&&◌, ◌||◌, IfOk};
 ghost use Rattle.std.specs.List.{list_all, list_any};
 ghost use Rattle.semver_parser.specs.Meeting.{meets_comparator};
 ghost use Rattle.semver_parser.specs.RangeViews.{comparator_of, range_of, set_of};
@@ -70,7 +70,7 @@ fn of_range(
 {
     let meeting = of_comparators(alloc, &range.comparator_set)?;
     match pre_releases {
-        PreReleases::Excluded => releases(alloc)?.intersection(alloc, &meeting),
+        PreReleases::Excluded => Ok(releases_of(alloc, meeting)),
         PreReleases::Stated => {
             meeting.intersection(alloc, &counting_beside(alloc, &range.comparator_set)?)
         }
@@ -86,23 +86,37 @@ fn of_comparators(alloc: Global, comparators: &[Comparator]) -> Result<VersionSe
 {
     let mut set = all(alloc)?;
     for comparator in comparators {
-        set = set.intersection(alloc, &of_comparator(alloc, comparator)?)?;
+        set = narrowed(alloc, &set, comparator)?;
     }
     Ok(set)
 }
 
-/// The versions that meet a comparator.
-fn of_comparator(alloc: Global, comparator: &Comparator) -> Result<VersionSet, AllocError>
-    ensures { IfOk result (λ set. (v : PlainVersion) → Fits v
-        → has set v ≡ meets_comparator v (comparator_of comparator.now)) }
+/// Those of the versions that meet a comparator.
+fn narrowed(
+    alloc: Global,
+    set: &VersionSet,
+    comparator: &Comparator,
+) -> Result<VersionSet, AllocError>
+    ensures { IfOk result (λ narrowed. (v : PlainVersion) → Fits v → has narrowed v
+        ≡ (has set.now v && meets_comparator v (comparator_of comparator.now))) }
 {
     match comparator.op {
-        Op::Gte => at_or_above(alloc, comparator),
-        Op::Gt => above(alloc, comparator),
-        Op::Lt => all(alloc)?.difference(alloc, &at_or_above(alloc, comparator)?),
-        Op::Lte => all(alloc)?.difference(alloc, &above(alloc, comparator)?),
-        Op::Eq => { at_or_above(alloc, comparator)?.difference(alloc, &above(alloc, comparator)?) }
+        Op::Gte => set.intersection(alloc, &at_or_above(alloc, comparator)?),
+        Op::Gt => set.intersection(alloc, &above(alloc, comparator)?),
+        Op::Lt => set.difference(alloc, &at_or_above(alloc, comparator)?),
+        Op::Lte => set.difference(alloc, &above(alloc, comparator)?),
+        Op::Eq => {
+            let from = set.intersection(alloc, &at_or_above(alloc, comparator)?)?;
+            from.difference(alloc, &above(alloc, comparator)?)
+        }
     }
+}
+
+/// The releases of a set. It takes no memory.
+fn releases_of(alloc: Global, set: VersionSet) -> VersionSet
+    ensures { (v : PlainVersion) → has result v ≡ (is_empty v.pre && has set v) }
+{
+    VersionSet::of_switches(set.releases, Vec::new(alloc))
 }
 
 /// The versions that count beside comparators as stated: the releases, and what is at the numbers

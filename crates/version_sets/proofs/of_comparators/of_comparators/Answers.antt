@@ -8,6 +8,6 @@ use Rattle.version_sets.proofs.of_comparators.of_comparators.Goals as goal
 pub loop-comparator-preserved : goal.loop-comparator-preserved
 loop-comparator-preserved c = λ v fits.
     let p = λ (comparator : Comparator). meets_comparator v (comparator_of comparator) in
-    c.in_ok-set-2.ensures.has v
-    ∙ ap₂ (λ a b. a && b) (c.loop-comparator.invariant v fits) (c.in_ok-of_comparator.ensures v fits ∙ ap p c.comparator-item.is)
+    c.in_ok-set-2.ensures v fits
+    ∙ ap₂ (λ a b. a && b) (c.loop-comparator.invariant v fits) (ap p c.comparator-item.is)
     ∙ sym (list_all_more p c.args.comparators.now c.loop-comparator.comparator-index c.comparator-item.result c.loop-comparator-test.true)

@@ -29,16 +29,14 @@ stated v stored all is =
 abbrev IsOf : PreReleases → Range → SetValue → Type 0
 IsOf rule range set = (v : PlainVersion) → Fits v → has set v ≡ meets_range_with rule v (range_of range)
 
-pub returns-in_ok-releases-in-Excluded : goal.returns-in_ok-releases-in-Excluded
-returns-in_ok-releases-in-Excluded c =
-    answered_so (IsOf c.args.pre_releases c.args.range.now) c.intersection-in-Excluded.result c.intersection-in-Excluded.ensures.has
-    (λ set is v fits. is v
-    ∙ ap₂ (λ a b. a && b) (c.in_ok-releases-in-Excluded.ensures v) (c.in_ok-meeting.ensures v fits ∙ met v _ _ c.deref.ensures.value)
-    ∙ ap (λ rule. meets_range_with rule v (range_of c.args.range.now)) (sym c.in-Excluded.is))
+pub returns-in-Excluded : goal.returns-in-Excluded
+returns-in-Excluded c = λ v fits.
+    c.releases_of.ensures v ∙ ap (λ b. is_empty v.pre && b) (c.in_ok-meeting.ensures v fits ∙ met v _ _ c.deref.ensures.value)
+    ∙ ap (λ rule. meets_range_with rule v (range_of c.args.range.now)) (sym c.in-Excluded.is)
 
 pub returns-in_ok-counting_beside-in-Stated : goal.returns-in_ok-counting_beside-in-Stated
 returns-in_ok-counting_beside-in-Stated c =
-    answered_so (IsOf c.args.pre_releases c.args.range.now) c.intersection-in-Stated-2.result c.intersection-in-Stated-2.ensures.has
+    answered_so (IsOf c.args.pre_releases c.args.range.now) c.intersection-in-Stated.result c.intersection-in-Stated.ensures.has
     (λ set is v fits. is v
     ∙ ap₂ (λ a b. a && b) (c.in_ok-meeting.ensures v fits ∙ met v _ _ c.deref.ensures.value)
     (c.in_ok-counting_beside-in-Stated.ensures v fits ∙ ap (λ b. is_empty v.pre || b) (stated v _ _ c.deref-in-Stated.ensures.value))
