@@ -24,9 +24,9 @@
  * is said at each call: the most that was measured, on texts of 64 bytes to 2 MB that were made to take much, where a block that grows counts twice while
  * it is moved, and what `malloc` itself needs is left out.
  *
- * TIME. Each call but `semver_parser_least` reads its texts anew, in time linear in their lengths. `semver_parser_meets_each` reads its range once, and compares each version with one
- * comparator of it after the other: so its time is linear in the length of the range and, for each version, in that of the version and at most once more in
- * that of the range.
+ * TIME. Each call reads its texts anew, in time linear in their lengths. Those that ask which versions a range means make the set of these first, half of the
+ * range beside the other half, in time that grows as n log n for n comparators; a version is then searched for among its bounds, so `semver_parser_meets_each`
+ * takes time that grows as k log n more for k versions, beside that of reading them.
  *
  * Link: by what `pkg-config --cflags --libs semver_parser` tells where it is installed; else cc program.c c/calls.c c/heap.c out/libsemver_parser_c.a
  */
@@ -259,8 +259,8 @@ int32_t semver_parser_rewrite_with_comparators(const uint8_t *text, size_t text_
  *
  * After any answer but SEMVER_PARSER_OK `meets` is as it was.
  *
- * Memory: 74 bytes for each byte of the range, of `1 1 1 ..`, and while it is held the identifiers of a pre-release that can meet by the first number
- * and by the rule, or that of telling a fault of the version.
+ * Memory: 74 bytes for each byte of the range, of `1 1 1 ..`, while it is read, and the set of versions that it means while this is asked. A
+ * version takes some only where its fault is told.
  */
 int32_t semver_parser_meets(const uint8_t *range, size_t range_length, bool npm, int32_t pre_releases, const uint8_t *version, size_t version_length,
                             bool *meets);

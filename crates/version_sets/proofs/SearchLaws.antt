@@ -1,13 +1,14 @@
 -- A binary search among switches finds how many are at or below a place, and so whether it is in the set.
 use Rattle.std.proofs.Common.{◌≡◌, ℕ, zero, suc, ◌≤◌, ◌<◌, ◌%◌, Bool, true, false, not, nat_eq, List, [], ◌∷◌}
 use Rattle.std.proofs.Common.{map, length, get_or, refl, sym, ap, ◌∙◌, true≢false}
-use Rattle.std.proofs.Common.{Ordering, Less, Equal, Greater, is_ge, is_le, is_gt, arith}
+use Rattle.std.proofs.Common.{Ordering, Less, Equal, Greater, is_ge, is_le, is_lt, is_gt, arith, ap₂}
 use Rattle.std.proofs.lemmas.Bool.Decides.{nat_tests}
 use Rattle.std.specs.Cmp.{IsTotalOrder, upto}
 use Rattle.std.specs.List.Sorted.{IsPartitionedBy, IsPartitionPoint}
 use Rattle.std.specs.Ordering.{ordering_reverse}
 use Rattle.version_sets.specs.Switches.{switched, IsBelowFirst, IsIncreasing}
-use Rattle.version_sets.proofs.SwitchLaws.{switched-below, switched-at}
+use Rattle.version_sets.specs.Means.Walks.{differ}
+use Rattle.version_sets.proofs.SwitchLaws.{below-first, switched-below, switched-at}
 
 le-gt : (r : Ordering) → is_le r ≡ true → is_gt r ≡ false
 le-gt Less e = refl
@@ -71,3 +72,56 @@ module _ {T X : Type 0} (cmp : T → T → Ordering) (o : IsTotalOrder cmp) (f :
       ))
       ∙ sym (switched-at cmp v (f x) (map f xs) (ap is_ge (o.antisymm v (f x))
       ∙ ge_reverse (cmp (f x) v) (point.0 0 x (omega arith) (omega arith))))
+
+-- ---- switches asked one by one
+
+-- whether it is in the set is what is known, turned by what is left
+pub record IsTurned {T : Type 0} (cmp : T → T → Ordering) (v : T) (all left : List T) (known : Bool) : Type 0 where
+  pub increase : IsIncreasing cmp left
+  pub turned : switched cmp all v ≡ differ known (switched cmp left v)
+
+module _ {T : Type 0} (cmp : T → T → Ordering) (o : IsTotalOrder cmp) (v : T) (all : List T) where
+  pub turns_begin : IsIncreasing cmp all → IsTurned cmp v all all false
+  turns_begin increase = record { increase = increase; turned = refl }
+
+  -- the next switch is above it, and so are those behind, or it isn't
+  pub turn_next : (b : T) (left : List T) (known below : Bool) → below ≡ is_lt (cmp v b) → IsTurned cmp v all (b ∷ left) known
+      → IsTurned cmp v all left (differ known (not below))
+  turn_next b left known below told w = record {
+    increase = w.increase.1;
+    turned = w.turned ∙ at (cmp v b) refl;
+  }
+    where
+      lower : (known : Bool) → differ known false ≡ differ (differ known false) false
+      lower true = refl
+      lower false = refl
+
+      higher : (known x : Bool) → differ known (not x) ≡ differ (differ known true) x
+      higher true true = refl
+      higher true false = refl
+      higher false true = refl
+      higher false false = refl
+
+      above : cmp v b ≡ Less → differ known (switched cmp (b ∷ left) v) ≡ differ (differ known (not below)) (switched cmp left v)
+      above l =
+          ap (differ known) (switched-below cmp v (b ∷ left) l) ∙ lower known
+          ∙ ap₂ (λ x y. differ (differ known (not x)) y) (sym (told ∙ ap is_lt l))
+          (sym (switched-below cmp v left (below-first cmp o v b left l w.increase.0)))
+
+      reached : is_ge (cmp v b) ≡ true → is_lt (cmp v b) ≡ false
+          → differ known (switched cmp (b ∷ left) v) ≡ differ (differ known (not below)) (switched cmp left v)
+      reached g l =
+          ap (differ known) (switched-at cmp v b left g) ∙ higher known (switched cmp left v)
+          ∙ ap (λ x. differ (differ known (not x)) (switched cmp left v)) (sym (told ∙ l))
+
+      at : (r : Ordering) → cmp v b ≡ r → differ known (switched cmp (b ∷ left) v) ≡ differ (differ known (not below)) (switched cmp left v)
+      at Less e = above e
+      at Equal e = reached (ap is_ge e) (ap is_lt e)
+      at Greater e = reached (ap is_ge e) (ap is_lt e)
+
+  pub turns_end : (known : Bool) → IsTurned cmp v all [] known → known ≡ switched cmp all v
+  turns_end known w = sym (w.turned ∙ at known)
+    where
+      at : (b : Bool) → differ b false ≡ b
+      at true = refl
+      at false = refl

@@ -1,6 +1,8 @@
 //! Releases: versions without a pre-release and without a build.
 
 ghost use Rattle.std.specs.Prelude.{◌≡◌, []};
+ghost use Rattle.std.specs.Ordering.{is_lt};
+ghost use Rattle.semver_parser.specs.Precedence.{precedence};
 ghost use Rattle.semver_parser.specs.VersionViews.{version_value};
 ghost use Rattle.version_sets.specs.Releases.{release_value};
 
@@ -42,5 +44,16 @@ impl Release {
             pre: Vec::new(alloc),
             build: Vec::new(alloc),
         }
+    }
+    /// Whether a release is below another by precedence: by each number, so that the answer hangs
+    /// on no branch.
+    #[inline(always)]
+    pub(crate) fn is_below(&self, other: &Release) -> bool
+        ensures { result ≡ is_lt (precedence (release_value self.now) (release_value other.now)) }
+    {
+        (self.major < other.major)
+            | ((self.major == other.major)
+                & ((self.minor < other.minor)
+                    | ((self.minor == other.minor) & (self.patch < other.patch))))
     }
 }

@@ -9,8 +9,10 @@ ghost use Rattle.semver_parser.specs.Texts.{Text};
 ghost use Rattle.semver_parser.specs.VersionGrammar.{SpellsVersion};
 ghost use Rattle.semver_parser.specs.Versions.{VersionValue};
 ghost use Rattle.version_sets.specs.Means.Places.{version_place};
+ghost use Rattle.version_sets.specs.Releases.{release_value};
 ghost use Rattle.version_sets.specs.Switches.{switched, IsIncreasing};
 
+use crate::release::Release;
 use crate::switch::Switch;
 use semver_parser::version::{Outline, Version};
 
@@ -21,6 +23,27 @@ pub(crate) fn has<T: Switch>(switches: &[T], place: &T) -> bool
     ensures { result ≡ switched precedence (map T.place switches.now) (T.place place.now) }
 {
     is_odd(switches.partition_point(|switch| switch.compare(place).is_le()))
+}
+
+/// So many switches of releases are asked one by one, which is quicker than a search among them.
+const FEW: usize = 8;
+
+/// Whether an odd number of the switches are at or below a release. It takes time in the logarithm
+/// of their number, and no memory.
+#[inline(always)]
+pub(crate) fn has_release(switches: &[Release], release: &Release) -> bool
+    requires { IsIncreasing precedence (map release_value switches.now) }
+    ensures { result
+        ≡ switched precedence (map release_value switches.now) (release_value release.now) }
+{
+    if switches.len() > FEW {
+        return has(switches, release);
+    }
+    let mut is_in = false;
+    for switch in switches {
+        is_in ^= !release.is_below(switch);
+    }
+    is_in
 }
 
 /// Whether an odd number of the switches are at or below the version of an outline. It takes time in

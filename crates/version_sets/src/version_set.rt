@@ -83,7 +83,7 @@ impl VersionSet {
     pub fn has_release(&self, release: Release) -> bool
         ensures has { result ≡ has self.now (release_value release) }
     {
-        switches::has(&self.releases, &release)
+        switches::has_release(&self.releases, &release)
     }
 
     /// Whether the version of an outline is in the set, as [`VersionSet::has`] tells of a version.
