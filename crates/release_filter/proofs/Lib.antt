@@ -1,6 +1,7 @@
 mod GreatestSteps
 mod Tests
 mod Passing
+mod KeptVersions
 mod LineReading
 mod ShownLines
 mod LineSteps

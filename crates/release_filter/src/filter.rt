@@ -75,31 +75,6 @@ impl Filter {
         self.versions.has(version)
     }
 
-    /// Those of the versions that pass, in their order and with repeats. Of 0.2.0, 0.3.0, 2.0.0-rc,
-    /// 2.5.0 and 2.5.0 again, a filter of `^0.2 || 2.x` keeps 0.2.0, 2.5.0 and 2.5.0.
-    ///
-    /// Each version is judged once. Memory is asked for as the answer grows, and not at all where
-    /// no version passes. `Err` is want of it.
-    pub fn kept<'v>(
-        &self,
-        alloc: Global,
-        versions: &'v [Version],
-    ) -> Result<Vec<&'v Version>, AllocError>
-        ensures kept { IfOk result (λ kept. map (λ v. v.now) kept.items
-            ≡ filter (λ v. passes self.now (version_value v)) versions.now) }
-        // Memory runs out only where some version passes.
-        ensures out_of_memory { IfErr result (λ _.
-            Any (λ v. IsTrue (passes self.now (version_value v))) versions.now) }
-    {
-        let mut kept = Vec::new(alloc);
-        for version in versions {
-            if self.meets(version) {
-                kept.push(version)?;
-            }
-        }
-        Ok(kept)
-    }
-
     /// Of the versions that pass, the greatest by precedence (SemVer 2.0.0, section 11), and the
     /// first of those that are equal to it; builds don't count. `None` exactly where none passes.
     /// Of 1.2.0, 2.0.0, 1.9.0+a and 1.9.0+b, a filter of `^1.2` answers 1.9.0+a. It takes no

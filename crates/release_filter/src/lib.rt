@@ -4,6 +4,7 @@
 
 mod filter;
 mod judging;
+mod kept;
 mod lines;
 mod meeting;
 mod next_line;

@@ -2,6 +2,7 @@ mod SwitchLaws
 mod WalkLaws
 mod ClonedPlaces
 mod SearchLaws
+mod EachAnswer
 mod Lists
 mod SetLaws
 mod BoundLaws

@@ -8,6 +8,7 @@ mod combination;
 mod combining;
 mod comparing;
 mod comparison;
+mod each;
 mod least;
 mod of_comparators;
 mod reading;

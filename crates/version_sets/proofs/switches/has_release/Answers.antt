@@ -1,4 +1,4 @@
-use Rattle.std.proofs.Common.{◌≡◌, ℕ, ◌+◌, ◌<◌, ◌∷◌, Bool, true, false, not, List, length, get_or, is_lt, map, drop, refl, subst}
+use Rattle.std.proofs.Common.{◌≡◌, ℕ, ◌+◌, ◌<◌, Bool, true, false, not, List, length, get_or, is_lt, map, drop, refl, subst}
 use Rattle.std.specs.Bool.{beq}
 use Rattle.std.proofs.lemmas.List.{drop_more}
 use Rattle.semver_parser.specs.Precedence.{precedence}

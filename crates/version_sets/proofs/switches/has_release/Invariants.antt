@@ -1,5 +1,5 @@
 -- What is left of the switches turns what is known.
-use Rattle.std.proofs.Common.{◌≡◌, drop, map}
+use Rattle.std.proofs.Common.{drop, map}
 use Rattle.semver_parser.specs.Precedence.{precedence}
 use Rattle.version_sets.specs.Releases.{release_value}
 use Rattle.version_sets.proofs.SearchLaws.{IsTurned}

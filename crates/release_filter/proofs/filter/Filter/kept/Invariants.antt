@@ -1,9 +1,13 @@
-use Rattle.std.proofs.Common.{◌≡◌, map, take}
-use Rattle.std.specs.Prelude.{filter}
+-- The versions in front of the rest have been judged, and those that pass are kept.
+use Rattle.std.proofs.Common.{length}
 use Rattle.semver_parser.specs.VersionViews.{version_value}
 use Rattle.release_filter.specs.Filters.{passes}
+use Rattle.release_filter.proofs.KeptVersions.{IsJudgedUpTo}
 use Rattle.release_filter.proofs.filter.Filter.kept.Given as goal
 
-abbrev pub invariant-loop-version : goal.invariant-loop-version
-invariant-loop-version l =
-    map (λ v. v.now) l.kept.items ≡ filter (λ v. passes l.self (version_value v)) (take l.version-index l.versions)
+abbrev pub invariant-loop-rest : goal.invariant-loop-rest
+invariant-loop-rest l =
+    IsJudgedUpTo (λ v. passes l.self (version_value v)) (λ b. b.now) l.versions l.rest l.kept.items
+
+abbrev pub decreases-loop-rest : goal.decreases-loop-rest
+decreases-loop-rest l = length l.rest

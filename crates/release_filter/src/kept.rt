@@ -1,0 +1,72 @@
+//! Those of a list of versions that pass a filter.
+
+ghost use Rattle.std.specs.Prelude.{◌≡◌, ◌≤◌, ◌++◌, length, map, filter, Any, IfOk, IfErr, IsTrue};
+ghost use Rattle.semver_parser.specs.VersionViews.{version_value};
+ghost use Rattle.release_filter.specs.Filters.{passes};
+
+use crate::filter::Filter;
+use semver_parser::version::Version;
+use std::alloc::{AllocError, Global};
+
+/// So many versions are judged before those that pass are kept.
+const AT_ONCE: usize = 64;
+
+impl Filter {
+    /// Those of the versions that pass, in their order and with repeats. Of 0.2.0, 0.3.0, 2.0.0-rc,
+    /// 2.5.0 and 2.5.0 again, a filter of `^0.2 || 2.x` keeps 0.2.0, 2.5.0 and 2.5.0.
+    ///
+    /// Each version is judged once. Memory is asked for as the answer grows, and not at all where
+    /// no version passes. `Err` is want of it.
+    pub fn kept<'v>(
+        &self,
+        alloc: Global,
+        versions: &'v [Version],
+    ) -> Result<Vec<&'v Version>, AllocError>
+        ensures kept { IfOk result (λ kept. map (λ v. v.now) kept.items
+            ≡ filter (λ v. passes self.now (version_value v)) versions.now) }
+        // Memory runs out only where some version passes.
+        ensures out_of_memory { IfErr result (λ _.
+            Any (λ v. IsTrue (passes self.now (version_value v))) versions.now) }
+    {
+        let mut kept = Vec::new(alloc);
+        let mut rest = versions;
+        while !rest.is_empty() {
+            let (first, others) = rest.split_at(rest.len().min(AT_ONCE));
+            self.keep(first, &mut kept)?;
+            rest = others;
+        }
+        Ok(kept)
+    }
+
+    /// Adds those of a few versions that pass. All are judged, and those that pass put in front,
+    /// before one is added: so nothing but the end of a loop hangs on how they were judged.
+    fn keep<'v>(
+        &self,
+        versions: &'v [Version],
+        kept: &mut Vec<&'v Version>,
+    ) -> Result<(), AllocError>
+        requires { length versions.now ≤ 64 }
+        ensures kept { IfOk result (λ _. map (λ v. v.now) kept.new.items
+            ≡ map (λ v. v.now) kept.old.items
+            ++ filter (λ v. passes self.now (version_value v)) versions.now) }
+        ensures out_of_memory { IfErr result (λ _.
+            Any (λ v. IsTrue (passes self.now (version_value v))) versions.now) }
+    {
+        let Some(first) = versions.first() else {
+            return Ok(());
+        };
+        let mut passes = [false; AT_ONCE];
+        let passes = &mut passes[..versions.len()];
+        self.versions.has_each(versions, passes);
+        let mut passing = [first; AT_ONCE];
+        let mut count = 0;
+        for at in 0..versions.len() {
+            passing[count] = &versions[at];
+            count += usize::from(passes[at]);
+        }
+        for version in &passing[..count] {
+            kept.push(*version)?;
+        }
+        Ok(())
+    }
+}

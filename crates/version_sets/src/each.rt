@@ -1,0 +1,47 @@
+//! Which of many versions are in a set.
+
+ghost use Rattle.std.specs.Prelude.{◌≡◌, ◌&&◌, not, length, map};
+ghost use Rattle.std.specs.List.{AllByRecursion};
+ghost use Rattle.semver_parser.specs.VersionViews.{version_value};
+ghost use Rattle.version_sets.specs.VersionSets.{has as is_in, Fits};
+ghost use Rattle.version_sets.specs.Means.Between.{is_release_between as between};
+
+use crate::release::Release;
+use crate::version_set::VersionSet;
+use semver_parser::version::Version;
+
+/// Whether each version is in the set.
+pub(crate) fn has(set: &VersionSet, versions: &[Version], answers: &mut [bool])
+    requires { length answers.old ≡ length versions.now }
+    ensures each { answers.new
+        ≡ map (λ v. is_in set.now (version_value v).plain) versions.now }
+    ensures fit { AllByRecursion (λ v. Fits (version_value v).plain) versions.now }
+{
+    for at in 0..versions.len() {
+        answers[at] = set.has(&versions[at]);
+    }
+}
+
+/// Whether each version is a release that isn't below one, and that is below another, where there
+/// is another. No answer hangs on a branch.
+pub(crate) fn is_release_between(
+    from: Release,
+    to: Option<Release>,
+    versions: &[Version],
+    answers: &mut [bool],
+)
+    requires { length answers.old ≡ length versions.now }
+    ensures each { answers.new
+        ≡ map (λ v. between from to (version_value v).plain) versions.now }
+    ensures fit { AllByRecursion (λ v. Fits (version_value v).plain) versions.now }
+{
+    for at in 0..versions.len() {
+        let version = &versions[at];
+        let release = Release::of(version);
+        let is_below = match &to {
+            Some(to) => release.is_below(to),
+            None => true,
+        };
+        answers[at] = version.pre.is_empty() & (!release.is_below(&from) & is_below);
+    }
+}
