@@ -1,8 +1,19 @@
 -- Versions that pass, put in front of others and kept, some at a time.
-use Rattle.std.proofs.Common.{◌≡◌, ℕ, suc, ◌+◌, ◌<◌, ◌≤◌, Bool, true, false, List, [], ◌∷◌, ◌++◌, map, filter, take, drop, set, length, get_or}
-use Rattle.std.proofs.Common.{refl, sym, ap, ap₂, ◌∙◌, subst, arith, Any, IsTrue, cond, add-zero}
-use Rattle.std.proofs.lemmas.List.{append-nil, append_assoc, length-append, length-set, get_or-append-add, get_or_append_left, map-append, take-append-drop, take-set, take_more, take_more_set}
+use Rattle.std.proofs.Common.{◌≡◌, ℕ, zero, suc, ◌+◌, ◌<◌, ◌≤◌, Bool, true, false, List, [], ◌∷◌, ◌++◌, map, filter, take, drop, set, length, get_or}
+use Rattle.std.proofs.Common.{refl, sym, ap, ap₂, ◌∙◌, subst, arith, Any, IsTrue, cond, add-zero, Some}
+use Rattle.std.specs.Prelude.{slice_get}
+use Rattle.std.specs.Int.{from_bool}
+use Rattle.std.proofs.lemmas.Option.{slice_get-get_or, slice_get_within}
+use Rattle.std.proofs.lemmas.List.{append-nil, append_assoc, length-append, length-map, length-set, get_or-append-add, get_or_append_left, map-append, take-append-drop, take-set, take_more, take_more_set}
 use Rattle.std.proofs.lemmas.List.Elements.{filter-append}
+use Rattle.std.specs.List.{AllByRecursion}
+use Rattle.semver_parser.specs.VersionViews.{version_value}
+use Rattle.semver_parser.specs.declared.version.Version.{Version}
+use Rattle.version_sets.specs.declared.PreReleases.{PreReleases}
+use Rattle.version_sets.specs.VersionSets.{SetValue, has, Fits}
+use Rattle.release_filter.specs.Filters.{FilterValue, passes}
+use Rattle.release_filter.proofs.Passing.{passes_as_in, some_is}
+use Rattle.release_filter.proofs.Tests.{all_taken}
 
 -- what some item of the middle is, some item of the whole is
 pub any_within : {X : Type 0} (P : X → Type 0) (front xs back : List X) → Any P xs → Any P (front ++ (xs ++ back))
@@ -27,54 +38,76 @@ some_passes p (x ∷ xs) some = at (p x) refl (some_passes p xs)
     at true e others = (0, x, omega arith, refl, e)
     at false e others = later (others (subst (λ b. 0 < length (cond b (x ∷ filter p xs) (filter p xs))) e some))
 
--- what is kept of a list that has items is some item
-pub some_kept : {X B : Type 0} (f : B → X) (bs : List B) (xs : List X) (i : ℕ) → i < length bs → map f bs ≡ xs → 0 < length xs
-some_kept f [] xs i inside e = absurd (omega (arith, inside))
-some_kept f (b ∷ bs) xs i inside e = subst (λ l. 0 < length l) e (omega arith)
+-- ---- the places of those that pass are put in front
 
--- ---- those that pass are put in front
-
--- of the first items those that pass are in front, in order
-pub record AreInFront {X B : Type 0} (p : X → Bool) (f : B → X) (xs : List X) (in_front : List B) (count at : ℕ) : Type 0 where
+-- of the first items the places of those that pass are in front, in order
+pub record AreInFront {X : Type 0} (p : X → Bool) (xs : List X) (places : List ℕ) (count at : ℕ) : Type 0 where
   pub few : count ≤ at
-  pub long : length xs ≤ length in_front
-  pub put : map f (take count in_front) ≡ filter p (take at xs)
+  pub long : length xs ≤ length places
+  pub put : map (slice_get xs) (take count places) ≡ map Some (filter p (take at xs))
 
--- how many more are in front
-abbrev pub one_if : Bool → ℕ
-one_if true = 1
-one_if false = 0
+some_item : {X : Type 0} (xs : List X) (at : ℕ) → at < length xs → X
+some_item [] at inside = absurd (omega (arith, inside))
+some_item (x ∷ xs) at inside = x
 
-module _ {X B : Type 0} (p : X → Bool) (f : B → X) (xs : List X) where
-  pub none_in_front : (in_front : List B) → length xs ≤ length in_front → AreInFront p f xs in_front 0 0
-  none_in_front in_front long = record { few = omega arith; long = long; put = refl }
+module _ {X : Type 0} (p : X → Bool) (xs : List X) where
+  pub none_in_front : (places : List ℕ) → length xs ≤ length places → AreInFront p xs places 0 0
+  none_in_front places long = record { few = omega arith; long = long; put = refl }
 
-  pub in_front_more : (in_front : List B) (count at : ℕ) (x : X) (b : B) (passes : Bool) → at < length xs → x ≡ get_or xs at x → f b ≡ x
-      → passes ≡ p x → AreInFront p f xs in_front count at → AreInFront p f xs (set in_front count b) (count + one_if passes) (at + 1)
-  in_front_more in_front count at x b passes inside is same e before = by_test passes e
+  pub in_front_more : (places : List ℕ) (count at n : ℕ) (passes : Bool) → at < length xs → ((x : X) → passes ≡ p (get_or xs at x))
+      → n ≡ from_bool passes → AreInFront p xs places count at → AreInFront p xs (set places count at) (count + n) (at + 1)
+  in_front_more places count at n passes inside e told before =
+      subst (λ m. AreInFront p xs (set places count at) (count + m) (at + 1)) (sym told) (by_test passes (e x))
     where
-      room : count < length in_front
+      x : X
+      x = some_item xs at inside
+
+      y : X
+      y = get_or xs at x
+
+      room : count < length places
       room = omega (arith, inside, before.few, before.long)
 
-      ahead : filter p (take (at + 1) xs) ≡ filter p (take at xs) ++ cond (p x) (x ∷ []) []
-      ahead =
-          ap (filter p) (take_more xs at x inside ∙ ap (λ y. take at xs ++ y ∷ []) (sym is))
-          ∙ filter-append p (take at xs) (x ∷ [])
+      long : length xs ≤ length (set places count at)
+      long = subst (λ n. length xs ≤ n) (sym (length-set places count at)) before.long
 
-      by_test : (passes : Bool) → passes ≡ p x → AreInFront p f xs (set in_front count b) (count + one_if passes) (at + 1)
+      ahead : filter p (take (at + 1) xs) ≡ filter p (take at xs) ++ cond (p y) (y ∷ []) []
+      ahead = ap (filter p) (take_more xs at x inside) ∙ filter-append p (take at xs) (y ∷ [])
+
+      by_test : (passes : Bool) → passes ≡ p y → AreInFront p xs (set places count at) (count + from_bool passes) (at + 1)
       by_test true e = record {
         few = omega (arith, before.few);
-        long = subst (λ n. length xs ≤ n) (sym (length-set in_front count b)) before.long;
-        put = ap (map f) (take_more_set in_front count b room) ∙ map-append f (take count in_front) (b ∷ [])
-            ∙ ap₂ (λ l y. l ++ y ∷ []) before.put same
-            ∙ sym (ahead ∙ ap (λ c. filter p (take at xs) ++ cond c (x ∷ []) []) (sym e));
+        long = long;
+        put = ap (map (slice_get xs)) (take_more_set places count at room) ∙ map-append (slice_get xs) (take count places) (at ∷ [])
+            ∙ ap₂ (λ l o. l ++ o ∷ []) before.put (slice_get-get_or xs at x inside)
+            ∙ sym (ap (map Some) (ahead ∙ ap (λ c. filter p (take at xs) ++ cond c (y ∷ []) []) (sym e))
+            ∙ map-append Some (filter p (take at xs)) (y ∷ []));
       }
       by_test false e = record {
         few = omega (arith, before.few);
-        long = subst (λ n. length xs ≤ n) (sym (length-set in_front count b)) before.long;
-        put = ap (λ n. map f (take n (set in_front count b))) (add-zero count) ∙ ap (map f) (take-set in_front count b) ∙ before.put
-            ∙ sym (ahead ∙ ap (λ c. filter p (take at xs) ++ cond c (x ∷ []) []) (sym e) ∙ append-nil (filter p (take at xs)));
+        long = long;
+        put = ap (λ n. map (slice_get xs) (take n (set places count at))) (add-zero count)
+            ∙ ap (map (slice_get xs)) (take-set places count at) ∙ before.put
+            ∙ sym (ap (map Some) (ahead ∙ ap (λ c. filter p (take at xs) ++ cond c (y ∷ []) []) (sym e)
+            ∙ append-nil (filter p (take at xs))));
       }
+
+-- all of those that pass are in front
+pub all_in_front : {X : Type 0} (p : X → Bool) (xs : List X) (places : List ℕ) (count at : ℕ) → at ≤ length xs → length xs ≤ at
+    → AreInFront p xs places count at → map (slice_get xs) (take count places) ≡ map Some (filter p xs)
+all_in_front p xs places count at low high before = before.put ∙ ap (λ l. map Some (filter p l)) (all_taken xs at low high)
+
+-- what stands at a place in front
+pub stands_at : {X : Type 0} (xs : List X) (places : List ℕ) (ys : List X) (i d : ℕ) (e : X) → i < length places
+    → map (slice_get xs) places ≡ map Some ys → slice_get xs (get_or places i d) ≡ Some (get_or ys i e)
+stands_at xs [] ys i d e inside same = absurd (omega (arith, inside))
+stands_at xs (place ∷ places) [] i d e inside same = cc
+stands_at xs (place ∷ places) (y ∷ ys) zero d e inside same = cc
+stands_at xs (place ∷ places) (y ∷ ys) (suc i) d e inside same = stands_at xs places ys i d e (omega (arith, inside)) cc
+
+pub same_length : {X : Type 0} (xs : List X) (places : List ℕ) (ys : List X) → map (slice_get xs) places ≡ map Some ys
+    → length places ≡ length ys
+same_length xs places ys same = sym (length-map places (slice_get xs)) ∙ ap length same ∙ length-map ys Some
 
 -- ---- some at a time
 
@@ -110,3 +143,42 @@ module _ {X B : Type 0} (p : X → Bool) (f : B → X) (xs : List X) where
   pub all_judged : (rest : List X) (kept : List B) → length rest ≡ 0 → IsJudgedUpTo p f xs rest kept → map f kept ≡ filter p xs
   all_judged [] kept none before = before.keeps ∙ ap (filter p) (sym (before.whole ∙ append-nil before.front))
   all_judged (x ∷ rest) kept none before = absurd (omega (arith, none))
+
+-- where a place is in front, something passes
+pub some_kept : {X : Type 0} (xs : List X) (places : List ℕ) (ys : List X) (i : ℕ) → i < length places
+    → map (slice_get xs) places ≡ map Some ys → 0 < length ys
+some_kept xs places ys i inside same = omega (arith, inside, same_length xs places ys same)
+
+-- a place in front is one of the list
+pub in_bounds : {X : Type 0} (p : X → Bool) (xs : List X) (places : List ℕ) (i d place : ℕ) → i < length places
+    → map (slice_get xs) places ≡ map Some (filter p xs) → place ≡ get_or places i d → place < length xs
+in_bounds {X = X} p xs places i d place inside same is =
+    subst (λ n. n < length xs) (sym is) (at (filter p xs) (some_kept xs places (filter p xs) i inside same) same)
+  where
+    at : (ys : List X) → 0 < length ys → map (slice_get xs) places ≡ map Some ys → get_or places i d < length xs
+    at [] some e = absurd (omega (arith, some))
+    at (y ∷ ys) some e = slice_get_within xs (get_or places i d) (get_or (y ∷ ys) i y) (stands_at xs places (y ∷ ys) i d y inside e)
+
+-- the version at a place in front is the next of those that pass
+pub keeps_next : {X B : Type 0} (f : B → X) (xs : List X) (places : List ℕ) (ys : List X) (old kept : List B) (i d : ℕ) (b : B)
+    → i < length places → map (slice_get xs) places ≡ map Some ys → slice_get xs (get_or places i d) ≡ Some (f b)
+    → map f kept ≡ map f old ++ take i ys → map f (kept ++ b ∷ []) ≡ map f old ++ take (i + 1) ys
+keeps_next f xs places ys old kept i d b inside same is before =
+    map-append f kept (b ∷ []) ∙ ap (λ l. l ++ f b ∷ []) before ∙ append_assoc (map f old) (take i ys) (f b ∷ [])
+    ∙ ap (λ l. map f old ++ l) (ap (λ x. take i ys ++ x ∷ []) (some_is (sym is ∙ stands_at xs places ys i d (f b) inside same))
+    ∙ sym (take_more ys i (f b) (subst (λ n. i < n) (same_length xs places ys same) inside)))
+
+-- the answer on a version is whether it passes
+pub judged_at : (filter : FilterValue) (set : SetValue) (rule : PreReleases) (versions : List Version) (answers : List Bool) (i : ℕ)
+    (d : Bool) → record { set = set; pre_releases = rule } ≡ filter
+    → answers ≡ map (λ v. has set (version_value v).plain) versions → AllByRecursion (λ v. Fits (version_value v).plain) versions
+    → i < length versions → (e : Version) → get_or answers i d ≡ passes filter (version_value (get_or versions i e))
+judged_at filter set rule versions answers i d view told fit inside e =
+    ap (λ bs. get_or bs i d) told ∙ at versions i fit inside ∙ ap (λ f. passes f (version_value (get_or versions i e))) view
+  where
+    at : (versions : List Version) (i : ℕ) → AllByRecursion (λ v. Fits (version_value v).plain) versions → i < length versions
+        → get_or (map (λ v. has set (version_value v).plain) versions) i d
+        ≡ passes (record { set = set; pre_releases = rule }) (version_value (get_or versions i e))
+    at [] i fit inside = absurd (omega (arith, inside))
+    at (v ∷ versions) zero fit inside = sym (passes_as_in (record { set = set; pre_releases = rule }) (version_value v) fit.0)
+    at (v ∷ versions) (suc i) fit inside = at versions i fit.1 (omega (arith, inside))

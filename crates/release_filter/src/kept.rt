@@ -38,8 +38,9 @@ impl Filter {
         Ok(kept)
     }
 
-    /// Adds those of a few versions that pass. All are judged, and those that pass put in front,
-    /// before one is added: so nothing but the end of a loop hangs on how they were judged.
+    /// Adds those of a few versions that pass. All are judged, and the places of those that pass put
+    /// in front, before one is added: so nothing but the end of a loop hangs on how they were
+    /// judged.
     fn keep<'v>(
         &self,
         versions: &'v [Version],
@@ -52,20 +53,17 @@ impl Filter {
         ensures out_of_memory { IfErr result (λ _.
             Any (λ v. IsTrue (passes self.now (version_value v))) versions.now) }
     {
-        let Some(first) = versions.first() else {
-            return Ok(());
-        };
         let mut passes = [false; AT_ONCE];
         let passes = &mut passes[..versions.len()];
         self.versions.has_each(versions, passes);
-        let mut passing = [first; AT_ONCE];
+        let mut places = [0u8; AT_ONCE];
         let mut count = 0;
         for at in 0..versions.len() {
-            passing[count] = &versions[at];
+            places[count] = at as u8;
             count += usize::from(passes[at]);
         }
-        for version in &passing[..count] {
-            kept.push(*version)?;
+        for place in &places[..count] {
+            kept.push(&versions[usize::from(*place)])?;
         }
         Ok(())
     }

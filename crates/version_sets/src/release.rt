@@ -1,6 +1,6 @@
 //! Releases: versions without a pre-release and without a build.
 
-ghost use Rattle.std.specs.Prelude.{◌≡◌, []};
+ghost use Rattle.std.specs.Prelude.{◌≡◌, ◌+◌, ◌*◌, ◌<◌, []};
 ghost use Rattle.std.specs.Ordering.{is_lt};
 ghost use Rattle.semver_parser.specs.Precedence.{precedence};
 ghost use Rattle.semver_parser.specs.VersionViews.{version_value};
@@ -45,6 +45,7 @@ impl Release {
             build: Vec::new(alloc),
         }
     }
+
     /// Whether a release is below another by precedence: by each number, so that the answer hangs
     /// on no branch.
     #[inline(always)]
@@ -52,8 +53,15 @@ impl Release {
         ensures { result ≡ is_lt (precedence (release_value self.now) (release_value other.now)) }
     {
         (self.major < other.major)
-            | ((self.major == other.major)
-                & ((self.minor < other.minor)
-                    | ((self.minor == other.minor) & (self.patch < other.patch))))
+            | ((self.major == other.major) & (self.behind_major() < other.behind_major()))
+    }
+
+    /// The second and the third number as one, which two words compare as it.
+    #[inline(always)]
+    fn behind_major(&self) -> u128
+        ensures value { result ≡ self.now.minor * 18446744073709551616 + self.now.patch }
+        ensures fit { self.now.patch < 18446744073709551616 }
+    {
+        u128::from(self.minor) * 0x1_0000_0000_0000_0000 + u128::from(self.patch)
     }
 }
