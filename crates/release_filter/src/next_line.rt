@@ -218,10 +218,12 @@ fn whole_line(bytes: &[u8]) -> Option<&[u8]>
     ensures front { IfSome result (λ line. StartsWith bytes.now line.now) }
     ensures whole { IfSome result (λ line. IsWholeLine line.now) }
 {
-    match bytes.iter().position(|byte| *byte == b'\n') {
-        Some(place) => Some(&bytes[..place + 1]),
-        None => None,
+    for at in 0..bytes.len() {
+        if bytes[at] == b'\n' {
+            return Some(&bytes[..at + 1]);
+        }
     }
+    None
 }
 
 /// Reads the next line in place of another, with its end: whether there was one.

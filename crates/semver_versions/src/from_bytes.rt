@@ -24,7 +24,7 @@ fn are_spaces(bytes: &[u8]) -> bool
 
 /// The identifiers of the pre-release and those of the build that the bytes are, each with its
 /// mark, and white space behind them; nothing where there are none.
-#[inline(always)]
+#[inline(never)]
 fn parts(bytes: &[u8]) -> Option<(&[u8], &[u8])>
     ensures { MatchOption result ((pre build : Text) → ¬ (AreParts bytes.now pre build))
         (λ r. AreParts bytes.now r.0.now r.1.now) }
@@ -58,7 +58,7 @@ fn behind_mark_at(place: usize, part: &[u8]) -> usize
 
 /// The outline whose numbers are known, how many bytes there are up to their end, and what stands
 /// behind them.
-#[inline(never)]
+#[inline(always)]
 fn with_parts(
     major: u64,
     minor: u64,
