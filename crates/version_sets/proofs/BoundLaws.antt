@@ -1,5 +1,6 @@
 -- What sets say that begin at a place of each kind: what is at or above a version, and what is above it.
-use Rattle.std.proofs.Common.{rules, arith, ◌≡◌, zero, suc, Bool, true, false, ◌&&◌, not, List, [], ◌∷◌, ◌++◌, map, refl, sym, ap, ap₂, ◌∙◌, nat_cmp, Ordering, Less, Equal, Greater, is_eq, is_ge, is_gt, ℕ, nat_eq}
+use Rattle.std.proofs.Common.{rules, arith, ◌≡◌, zero, suc, Bool, true, false, ◌&&◌, not, List, [], ◌∷◌, ◌++◌, map, refl, sym, ap, ap₂, ◌∙◌}
+use Rattle.std.proofs.Common.{nat_cmp, Ordering, Less, Equal, Greater, is_eq, is_ge, is_gt, ℕ, nat_eq}
 use Rattle.std.specs.Prelude.{Option, Some, None, option_map, option_to_list}
 use Rattle.std.specs.Cmp.{nat_cmp_is}
 use Rattle.std.specs.Cmp.Lexicographic.{pointwise, slice_cmp}

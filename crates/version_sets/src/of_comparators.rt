@@ -84,11 +84,27 @@ fn of_comparators(alloc: Global, comparators: &[Comparator]) -> Result<VersionSe
         ≡ list_all (λ comparator. meets_comparator v (comparator_of comparator))
         comparators.now) }
 {
-    let mut set = all(alloc)?;
-    for comparator in comparators {
-        set = narrowed(alloc, &set, comparator)?;
+    let Some(first) = comparators.first() else {
+        return all(alloc);
+    };
+    let mut set = of_comparator(alloc, first)?;
+    for at in 1..comparators.len() {
+        set = narrowed(alloc, &set, &comparators[at])?;
     }
     Ok(set)
+}
+
+/// The versions that meet a comparator.
+fn of_comparator(alloc: Global, comparator: &Comparator) -> Result<VersionSet, AllocError>
+    ensures { IfOk result (λ set. (v : PlainVersion) → Fits v
+        → has set v ≡ meets_comparator v (comparator_of comparator.now)) }
+{
+    match comparator.op {
+        Op::Gte => at_or_above(alloc, comparator),
+        Op::Gt => above(alloc, comparator),
+        Op::Eq => at_or_above(alloc, comparator)?.difference(alloc, &above(alloc, comparator)?),
+        Op::Lt | Op::Lte => narrowed(alloc, &all(alloc)?, comparator),
+    }
 }
 
 /// Those of the versions that meet a comparator.
@@ -101,10 +117,10 @@ fn narrowed(
         ≡ (has set.now v && meets_comparator v (comparator_of comparator.now))) }
 {
     match comparator.op {
-        Op::Gte => set.intersection(alloc, &at_or_above(alloc, comparator)?),
-        Op::Gt => set.intersection(alloc, &above(alloc, comparator)?),
         Op::Lt => set.difference(alloc, &at_or_above(alloc, comparator)?),
         Op::Lte => set.difference(alloc, &above(alloc, comparator)?),
+        Op::Gte => set.intersection(alloc, &at_or_above(alloc, comparator)?),
+        Op::Gt => set.intersection(alloc, &above(alloc, comparator)?),
         Op::Eq => {
             let from = set.intersection(alloc, &at_or_above(alloc, comparator)?)?;
             from.difference(alloc, &above(alloc, comparator)?)

@@ -5,9 +5,9 @@ use Rattle.semver_parser.specs.Meeting.{meets_comparator}
 use Rattle.semver_parser.specs.RangeViews.{comparator_of}
 use Rattle.version_sets.proofs.of_comparators.of_comparators.Goals as goal
 
-pub loop-comparator-preserved : goal.loop-comparator-preserved
-loop-comparator-preserved c = λ v fits.
+pub loop-at-preserved : goal.loop-at-preserved
+loop-at-preserved c = λ v fits.
     let p = λ (comparator : Comparator). meets_comparator v (comparator_of comparator) in
     c.in_ok-set-2.ensures v fits
-    ∙ ap₂ (λ a b. a && b) (c.loop-comparator.invariant v fits) (ap p c.comparator-item.is)
-    ∙ sym (list_all_more p c.args.comparators.now c.loop-comparator.comparator-index c.comparator-item.result c.loop-comparator-test.true)
+    ∙ ap₂ (λ a b. a && b) (c.loop-at.invariant v fits) (ap p c.index-comparators-at.is)
+    ∙ sym (list_all_more p c.args.comparators.now c.loop-at.at c.index-comparators-at.result c.loop-at-test.true)

@@ -6,7 +6,7 @@ use Rattle.semver_parser.specs.Versions.{PlainVersion}
 use Rattle.version_sets.specs.VersionSets.{has, Fits}
 use Rattle.version_sets.proofs.of_comparators.of_comparators.Given as goal
 
-abbrev pub invariant-loop-comparator : goal.invariant-loop-comparator
-invariant-loop-comparator l =
+abbrev pub invariant-loop-at : goal.invariant-loop-at
+invariant-loop-at l =
     (v : PlainVersion) → Fits v
-    → has l.set v ≡ list_all (λ comparator. meets_comparator v (comparator_of comparator)) (take l.comparator-index l.comparators)
+    → has l.set v ≡ list_all (λ comparator. meets_comparator v (comparator_of comparator)) (take l.at l.comparators)
