@@ -1,4 +1,5 @@
 //! Sets of the versions that a range text means.
+use semver_parser::version::Version;
 use semver_parser::{Compat, version};
 use std::alloc::Global;
 use std::io::{self, ErrorKind};
@@ -85,6 +86,47 @@ const SAME: [(&str, &str); 3] = [
     ),
 ];
 
+/// Two ranges in Cargo mode, a rule, and the least versions that are lost, gained and shared where
+/// the second takes the place of the first. A text without bytes says that there is none.
+const COMPARED: [(&str, &str, PreReleases, [&str; 3]); 6] = [
+    (
+        "^1.2.0",
+        ">=1.4.0",
+        PreReleases::Excluded,
+        ["1.2.0", "2.0.0", "1.4.0"],
+    ),
+    (
+        "^1.2",
+        "~1.2",
+        PreReleases::Excluded,
+        ["1.3.0", "", "1.2.0"],
+    ),
+    (
+        "=1.0.0",
+        "=2.0.0",
+        PreReleases::Excluded,
+        ["1.0.0", "2.0.0", ""],
+    ),
+    (
+        ">1.2.3-a",
+        ">=1.2.3-a",
+        PreReleases::Included,
+        ["", "1.2.3-a", "1.2.3-a.0"],
+    ),
+    (
+        ">=1.2.3-rc",
+        ">=1.2.3",
+        PreReleases::Stated,
+        ["1.2.3-rc", "", "1.2.3"],
+    ),
+    (
+        "<0.0.0",
+        "<0.0.0-0",
+        PreReleases::Included,
+        ["0.0.0-0", "", ""],
+    ),
+];
+
 /// Writes the places of the texts whose sets are others, and how many texts there were.
 pub fn write_sets(rt: &impl Print, alloc: Global) -> io::Result<()> {
     for (place, (range, rule, text, wanted)) in TEXTS.iter().enumerate() {
@@ -99,7 +141,43 @@ pub fn write_sets(rt: &impl Print, alloc: Global) -> io::Result<()> {
             println!(rt; "same sets: wrong at {place}")?;
         }
     }
-    println!(rt; "sets: {} texts", TEXTS.len())
+    println!(rt; "sets: {} texts", TEXTS.len())?;
+    for (place, (old, new, rule, wanted)) in COMPARED.iter().enumerate() {
+        if !is_compared(alloc, old, new, *rule, wanted)? {
+            println!(rt; "compared sets: wrong at {place}")?;
+        }
+    }
+    println!(rt; "compared sets: {} pairs", COMPARED.len())
+}
+
+/// Whether the comparison of the sets of two ranges tells these versions.
+fn is_compared(
+    alloc: Global,
+    old: &str,
+    new: &str,
+    rule: PreReleases,
+    wanted: &[&str; 3],
+) -> io::Result<bool> {
+    let answer = set_of(alloc, old, rule)?.compare(alloc, &set_of(alloc, new, rule)?);
+    let Ok(answer) = answer else {
+        return Err(io::Error::from(ErrorKind::OutOfMemory));
+    };
+    Ok(
+        is_text(alloc, &answer.lost, wanted[0])?
+            && is_text(alloc, &answer.gained, wanted[1])?
+            && is_text(alloc, &answer.shared, wanted[2])?,
+    )
+}
+
+/// Whether a version has this text; none has a text without bytes.
+fn is_text(alloc: Global, version: &Option<Version>, wanted: &str) -> io::Result<bool> {
+    let Some(version) = version else {
+        return Ok(wanted.is_empty());
+    };
+    match version.to_string(alloc) {
+        Ok(text) => Ok(text.as_str() == wanted),
+        Err(_) => Err(io::Error::from(ErrorKind::OutOfMemory)),
+    }
 }
 
 /// Whether a version is in the set of a range.

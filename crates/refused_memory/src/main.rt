@@ -206,7 +206,7 @@ fn of_lines(alloc: Global, filter: &Filter) -> [(&'static str, Ending); 7] {
 }
 
 /// How each call on sets of versions ends, beside the texts of these two.
-fn of_sets(alloc: Global, first: &VersionSet, second: &VersionSet) -> [(&'static str, Ending); 7] {
+fn of_sets(alloc: Global, first: &VersionSet, second: &VersionSet) -> [(&'static str, Ending); 8] {
     [
         ("refused_set_texts", sets::of_refused_texts(alloc)),
         ("set_of_comparators", sets::of_set(alloc)),
@@ -214,6 +214,7 @@ fn of_sets(alloc: Global, first: &VersionSet, second: &VersionSet) -> [(&'static
         ("intersection", sets::intersection(alloc, first, second)),
         ("difference", sets::difference(alloc, first, second)),
         ("least", sets::least(alloc, first)),
+        ("compared", sets::compared(alloc, first, second)),
         (
             "sets_without_requests",
             sets::without_requests(alloc, first, second),

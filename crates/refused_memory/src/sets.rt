@@ -91,8 +91,23 @@ pub fn least(alloc: Global, first: &VersionSet) -> Ending {
     }
 }
 
-/// What is asked of sets without a request: also the least version where there is none, and a
-/// combination that has no version.
+/// From the first set to the second 2.0.0 is lost, 0.0.0-0 is gained, and 1.2.0-b.c is shared.
+pub fn compared(alloc: Global, first: &VersionSet, second: &VersionSet) -> Ending {
+    let Ok(answer) = first.compare(alloc, second) else {
+        return Ending::Refused;
+    };
+    let is_lost = answer.lost.is_some_and(|lost| lost.major == 2);
+    let is_gained = answer
+        .gained
+        .is_some_and(|gained| gained.major == 0 && gained.pre.len() == 1);
+    let is_shared = answer
+        .shared
+        .is_some_and(|shared| shared.minor == 2 && shared.pre.len() == 2);
+    Ending::full_if(is_lost && is_gained && is_shared)
+}
+
+/// What is asked of sets without a request: also the least version where there is none, a
+/// combination that has no version, and a comparison of sets that have none.
 pub fn without_requests(alloc: Global, first: &VersionSet, second: &VersionSet) -> Ending {
     let empty = VersionSet::empty(alloc);
     let is_told = empty.is_empty()
@@ -108,7 +123,11 @@ pub fn without_requests(alloc: Global, first: &VersionSet, second: &VersionSet) 
         Ok(nothing) => nothing == empty,
         Err(_) => false,
     };
-    Ending::full_if(is_told && has_both && has_one && is_least && nothing)
+    let is_compared = match empty.compare(alloc, &empty) {
+        Ok(answer) => answer.shared.is_none(),
+        Err(_) => false,
+    };
+    Ending::full_if(is_told && has_both && has_one && is_least && nothing && is_compared)
 }
 
 /// Whether a version without identifiers, which is read without a request, is in a set.
