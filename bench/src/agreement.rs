@@ -2,7 +2,7 @@
 //! the same numbers.
 
 use crate::calls::{
-    here_filter, here_read_kept, semver_filter, semver_read_kept, Call, REFUSED,
+    here_filter, here_has, here_read_kept, semver_filter, semver_read_kept, Call, REFUSED,
 };
 use crate::rows::Row;
 
@@ -31,6 +31,19 @@ pub fn check_filter(ranges: &str, versions: &str) -> Result<(), String> {
                 let (kept, semver) = (answer(kept), answer(semver));
                 return Err(format!("filters: {range:?}: {kept} are kept, and {semver} by semver"));
             }
+        }
+    }
+    Ok(())
+}
+
+/// Fails unless as many of the versions are in the set of each range here as match it by the crate
+/// `semver`.
+pub fn check_has(ranges: &str, versions: &str) -> Result<(), String> {
+    for range in ranges.lines() {
+        let (here, semver) = (here_has(range, versions), semver_filter(range, versions));
+        if here != semver || here == REFUSED {
+            let (here, semver) = (answer(here), answer(semver));
+            return Err(format!("sets: {range:?}: {here} are in it, and {semver} match by semver"));
         }
     }
     Ok(())

@@ -14,6 +14,14 @@ extern "C" {
     fn speed_version(text: *const u8, len: usize) -> u64;
     fn speed_is_version(text: *const u8, len: usize) -> u64;
     fn speed_range(text: *const u8, len: usize) -> u64;
+    fn speed_set(text: *const u8, len: usize) -> u64;
+    fn speed_within(text: *const u8, len: usize, times: u64) -> u64;
+    fn speed_has(
+        ranges: *const u8,
+        ranges_len: usize,
+        versions: *const u8,
+        versions_len: usize,
+    ) -> u64;
     fn speed_filter(
         ranges: *const u8,
         ranges_len: usize,
@@ -53,17 +61,17 @@ pub fn semver_version(text: &str) -> u64 {
 /// 1 where a text is a version here, by the call that only asks so. A version that was read is
 /// dropped at once.
 pub fn here_is_version(text: &str) -> u64 {
-    is_version(unsafe { speed_is_version(text.as_ptr(), text.len()) } == 1)
+    is_read(unsafe { speed_is_version(text.as_ptr(), text.len()) } == 1)
 }
 
 /// 1 where a text is a version to the crate `semver-parser`.
 pub fn parser_is_version(text: &str) -> u64 {
-    is_version(version::parse(text).is_ok())
+    is_read(version::parse(text).is_ok())
 }
 
 /// 1 where a text is a version to the crate `semver`.
 pub fn semver_is_version(text: &str) -> u64 {
-    is_version(Version::parse(text).is_ok())
+    is_read(Version::parse(text).is_ok())
 }
 
 /// A range set here, in Cargo mode: how many comparators it has.
@@ -81,6 +89,32 @@ pub fn parser_range(text: &str) -> u64 {
 /// A requirement of the crate `semver`: how many comparators it has, before any rewriting.
 pub fn semver_range(text: &str) -> u64 {
     VersionReq::parse(text).map_or(REFUSED, |requirement| requirement.comparators.len() as u64)
+}
+
+/// 1 where a text has a set of versions here, in Cargo mode and as stated. The set is made.
+pub fn here_set(text: &str) -> u64 {
+    is_read(unsafe { speed_set(text.as_ptr(), text.len()) } == 1)
+}
+
+/// 1 where a text is a range set to the crate `semver-parser`, in Cargo mode.
+pub fn parser_is_range(text: &str) -> u64 {
+    is_read(RangeSet::parse(text, Compat::Cargo).is_ok())
+}
+
+/// 1 where a text is a requirement to the crate `semver`.
+pub fn semver_is_range(text: &str) -> u64 {
+    is_read(VersionReq::parse(text).is_ok())
+}
+
+/// Versions read, and asked of each whether it is in the set of each of the ranges here, a line
+/// each, in Cargo mode and as stated: how often one is.
+pub fn here_has(ranges: &str, versions: &str) -> u64 {
+    unsafe { speed_has(ranges.as_ptr(), ranges.len(), versions.as_ptr(), versions.len()) }
+}
+
+/// How often of so many times the set of a text is within one of the same text.
+pub fn here_within(text: &str, times: u64) -> u64 {
+    unsafe { speed_within(text.as_ptr(), text.len(), times) }
 }
 
 /// Versions read and filtered by each of the ranges here, a line each: how many are kept in all.
@@ -120,7 +154,7 @@ pub fn semver_read_kept(range: &str, versions: &str) -> u64 {
     })
 }
 
-fn is_version(is_read: bool) -> u64 {
+fn is_read(is_read: bool) -> u64 {
     if is_read {
         1
     } else {

@@ -1,45 +1,63 @@
 //! How the work grows with a text: the instructions of one call, counted by callgrind.
 
-use crate::calls::{here_range, here_version, Call, REFUSED};
+use crate::calls::{here_range, here_set, here_version, here_within, Call, REFUSED};
 use crate::cells::grouped;
 use std::env;
 use std::process::Command;
 
-/// A text of so many elements, and the call that reads it.
+/// A text of so many elements, and what is called so often on it: whether no call refused it.
 struct Form {
     name: &'static str,
     text: fn(usize) -> String,
-    call: Call,
+    calls: fn(&str, u64) -> bool,
 }
 
-const FORMS: [Form; 5] = [
+const FORMS: [Form; 7] = [
     Form {
         name: "identifiers",
         text: |count| format!("1.2.3-{}", joined("rc", ".", count)),
-        call: here_version,
+        calls: |text, times| reads(here_version, text, times),
     },
     Form {
         name: "runs",
         text: |count| format!("1.2.3-{}", joined("rc", "-", count)),
-        call: here_version,
+        calls: |text, times| reads(here_version, text, times),
     },
     Form {
         name: "digits",
         text: |count| format!("1.2.3-{}", joined("7", "", count)),
-        call: here_version,
+        calls: |text, times| reads(here_version, text, times),
     },
-    Form { name: "simples", text: |count| joined("^1.2.3", " ", count), call: here_range },
-    Form { name: "ranges", text: |count| joined("^1.2.3", " || ", count), call: here_range },
+    Form {
+        name: "simples",
+        text: |count| joined("^1.2.3", " ", count),
+        calls: |text, times| reads(here_range, text, times),
+    },
+    Form {
+        name: "ranges",
+        text: |count| joined("^1.2.3", " || ", count),
+        calls: |text, times| reads(here_range, text, times),
+    },
+    Form {
+        name: "ranges, made into a set",
+        text: distinct_ranges,
+        calls: |text, times| reads(here_set, text, times),
+    },
+    Form {
+        name: "ranges, one set within another",
+        text: distinct_ranges,
+        calls: |text, times| here_within(text, times) == times,
+    },
 ];
 
-const COUNTS: [usize; 3] = [1_000, 10_000, 100_000];
+const COUNTS: [usize; 4] = [10, 1_000, 10_000, 100_000];
 
 /// Prints the instructions of a call on each form of text, at each count of elements, and the
 /// instructions for one element.
 pub fn print_table() -> Result<(), String> {
-    print!("| instructions for a text of | 1,000 | for each ");
+    print!("| instructions for a text of | 10 | for each | 1,000 | for each ");
     println!("| 10,000 | for each | 100,000 | for each |");
-    println!("|---|---|---|---|---|---|---|");
+    println!("|---|---|---|---|---|---|---|---|---|");
     for form in &FORMS {
         print!("| {} |", form.name);
         for count in COUNTS {
@@ -51,19 +69,21 @@ pub fn print_table() -> Result<(), String> {
     Ok(())
 }
 
-/// Makes a text of a form, and calls the call of that form on it so often: what callgrind is run
-/// on.
+/// Makes a text of a form, and calls on it what that form calls, so often: what callgrind is run on.
 pub fn run(name: &str, count: &str, calls: &str) -> Result<(), String> {
     let form = FORMS.iter().find(|form| form.name == name).ok_or("no such form")?;
     let count = count.parse().map_err(|_| "no count")?;
-    let calls: usize = calls.parse().map_err(|_| "no count of calls")?;
-    let text = (form.text)(count);
-    for _ in 0..calls {
-        if (form.call)(&text) == REFUSED {
-            return Err(format!("a text of {count} {name} was refused"));
-        }
+    let calls = calls.parse().map_err(|_| "no count of calls")?;
+    if (form.calls)(&(form.text)(count), calls) {
+        Ok(())
+    } else {
+        Err(format!("a text of {count} {name} was refused"))
     }
-    Ok(())
+}
+
+/// Whether a call reads a text each of so many times.
+fn reads(call: Call, text: &str, times: u64) -> bool {
+    (0..times).all(|_| call(text) != REFUSED)
 }
 
 /// The instructions of one call: what a run with it takes more than a run without.
@@ -92,4 +112,10 @@ fn counted(name: &str, count: usize, calls: &str) -> Result<u64, String> {
 
 fn joined(element: &str, between: &str, count: usize) -> String {
     vec![element; count].join(between)
+}
+
+/// Ranges of which no two meet: `~0.1.0 || ~1.1.0`, and so on.
+fn distinct_ranges(count: usize) -> String {
+    let ranges: Vec<String> = (0..count).map(|major| format!("~{major}.1.0")).collect();
+    ranges.join(" || ")
 }

@@ -1,8 +1,9 @@
 //! The rows whose texts are read one by one, and what reads them.
 
 use crate::calls::{
-    here_is_version, here_range, here_version, parser_is_version, parser_range, parser_version,
-    semver_is_version, semver_range, semver_version, Call,
+    here_is_version, here_range, here_set, here_version, parser_is_range, parser_is_version,
+    parser_range, parser_version, semver_is_range, semver_is_version, semver_range, semver_version,
+    Call,
 };
 use crate::generation::Make;
 
@@ -16,7 +17,7 @@ pub struct Row {
 }
 
 /// The rows, in the order of the table.
-pub const ROWS: [Row; 7] = [
+pub const ROWS: [Row; 10] = [
     versions("plain versions", Make::Plain),
     versions("versions, plain and with identifiers", Make::Mixed),
     versions("refused versions", Make::Refused),
@@ -30,6 +31,9 @@ pub const ROWS: [Row; 7] = [
     ranges("simple ranges", Make::Simples),
     ranges("range sets", Make::Ranges),
     ranges("three and more simples or ranges", Make::Many),
+    sets("sets of versions of simple ranges", Make::Simples),
+    sets("sets of versions of range sets", Make::Ranges),
+    sets("sets of versions of three and more simples or ranges", Make::Many),
 ];
 
 impl Row {
@@ -45,4 +49,9 @@ const fn versions(title: &'static str, make: Make) -> Row {
 
 const fn ranges(title: &'static str, make: Make) -> Row {
     Row { title, make, here: here_range, parser: parser_range, semver: semver_range }
+}
+
+/// A row of texts that are made into sets of versions here, and read there.
+const fn sets(title: &'static str, make: Make) -> Row {
+    Row { title, make, here: here_set, parser: parser_is_range, semver: semver_is_range }
 }

@@ -1,7 +1,9 @@
 //! The table of times.
 
-use crate::agreement::{check_filter, check_row, count_read};
-use crate::calls::{here_filter, here_read_kept, semver_filter, semver_read_kept, Call};
+use crate::agreement::{check_filter, check_has, check_row, count_read};
+use crate::calls::{
+    here_filter, here_has, here_read_kept, semver_filter, semver_read_kept, Call,
+};
 use crate::cells::grouped;
 use crate::generation::Make;
 use crate::rows::{Row, ROWS};
@@ -29,12 +31,14 @@ struct Times {
 /// Checks that all sides agree, times them, and prints a table.
 pub fn print_table(seed: u64) -> Result<(), String> {
     let (filters, released) = (texts::filters()?, Make::Released.texts(seed, COUNT));
+    let mixed = Make::Mixed.texts(seed, COUNT);
     let made: Vec<String> = ROWS.iter().map(|row| row.make.texts(seed, COUNT)).collect();
     let made: Vec<Vec<&str>> = made.iter().map(|text| text.lines().collect()).collect();
     for (row, texts) in ROWS.iter().zip(&made) {
         check_row(row, texts)?;
     }
     check_filter(&filters, &released)?;
+    check_has(&filters, &mixed)?;
 
     print_head();
     for (row, texts) in ROWS.iter().zip(&made) {
@@ -44,6 +48,7 @@ pub fn print_table(seed: u64) -> Result<(), String> {
     for times in filter_times(&filters, &released) {
         print_times(&times);
     }
+    print_times(&has_times(&filters, &mixed));
     Ok(())
 }
 
@@ -79,25 +84,39 @@ fn reading_times(filters: &str, released: &str) -> Times {
     filtering("reading and filtering at once,", best[0] / count, best[1] / count, released)
 }
 
-/// The times of the filter: versions read and filtered by the first range, and a filter alone,
-/// which is the mean of what each further range takes more. The crate `semver-parser` has no
-/// filter.
+/// The times of the filter: versions read and filtered by the first range, and a filter alone.
 fn filter_times(filters: &str, released: &str) -> [Times; 2] {
-    let first = filters.lines().next().unwrap_or("");
-    let stretches = stretches(released);
-    let sides: [Side<String>; 4] = [
-        Box::new(|versions| here_filter(first, versions)),
-        Box::new(|versions| semver_filter(first, versions)),
-        Box::new(|versions| here_filter(filters, versions)),
-        Box::new(|versions| semver_filter(filters, versions)),
-    ];
-    let best = best(&stretches, &sides);
-    let further = (filters.lines().count() - 1) as f64;
-    let (here, semver) = ((best[2] - best[0]) / further, (best[3] - best[1]) / further);
+    let (first, further) = first_and_further(here_filter, filters, released);
     [
-        filtering("reading all, and then filtering,", best[0], best[1], released),
-        filtering("filtering alone,", here, semver, released),
+        filtering("reading all, and then filtering,", first[0], first[1], released),
+        filtering("filtering alone,", further[0], further[1], released),
     ]
+}
+
+/// The times of asking whether versions, with pre-releases, are in a set.
+fn has_times(filters: &str, mixed: &str) -> Times {
+    let (_, further) = first_and_further(here_has, filters, mixed);
+    filtering("asking whether they are in a set,", further[0], further[1], mixed)
+}
+
+/// The times of versions that are read and asked by the first range, here and by the crate
+/// `semver`, and the mean of what each further range takes more. The crate `semver-parser` doesn't
+/// tell whether a version meets a range.
+fn first_and_further(
+    here: fn(&str, &str) -> u64,
+    ranges: &str,
+    versions: &str,
+) -> ([f64; 2], [f64; 2]) {
+    let first = ranges.lines().next().unwrap_or("");
+    let sides: [Side<String>; 4] = [
+        Box::new(|versions| here(first, versions)),
+        Box::new(|versions| semver_filter(first, versions)),
+        Box::new(|versions| here(ranges, versions)),
+        Box::new(|versions| semver_filter(ranges, versions)),
+    ];
+    let best = best(&stretches(versions), &sides);
+    let further = (ranges.lines().count() - 1) as f64;
+    ([best[0], best[1]], [(best[2] - best[0]) / further, (best[3] - best[1]) / further])
 }
 
 /// A row of filters, of the nanoseconds for all versions.

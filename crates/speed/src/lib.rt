@@ -12,6 +12,7 @@ use release_filter::{Filter, PreReleases, filter_text};
 use semver_parser::version::Version;
 use semver_parser::{Compat, RangeSet, version};
 use std::alloc::Global;
+use version_sets::VersionSet;
 
 /// The sum of the numbers and of the counts of identifiers of the version that the text is;
 /// `u64::MAX` where it is none.
@@ -58,6 +59,62 @@ pub extern "C" fn speed_range(alloc: Global, text: &[u8]) -> u64
         }
         Err(_) => u64::MAX,
     }
+}
+
+/// 1 where the text has a set of versions in Cargo mode, as stated, and else 0. The set is made.
+#[unsafe(no_mangle)]
+pub extern "C" fn speed_set(alloc: Global, text: &[u8]) -> u64
+    requires { IsUtf8 text.now }
+{
+    let text = unsafe { std::str::from_utf8_unchecked(text) };
+    u64::from(set_of(alloc, text).is_some())
+}
+
+/// Reads the versions, and asks of each whether it is in the set of each of the ranges, in Cargo
+/// mode and as stated: how often one is. Each version and each range is a line. `u64::MAX` where a
+/// line isn't read.
+#[unsafe(no_mangle)]
+pub extern "C" fn speed_has(alloc: Global, ranges: &[u8], versions: &[u8]) -> u64
+    requires ranges_are_text { IsUtf8 ranges.now }
+    requires versions_are_text { IsUtf8 versions.now }
+{
+    let ranges = unsafe { std::str::from_utf8_unchecked(ranges) };
+    let versions = unsafe { std::str::from_utf8_unchecked(versions) };
+    let Some(versions) = read_versions(alloc, versions) else {
+        return u64::MAX;
+    };
+    let mut count = 0u64;
+    for range in ranges.lines() {
+        let Some(set) = set_of(alloc, range) else {
+            return u64::MAX;
+        };
+        for version in &versions {
+            count = count.wrapping_add(u64::from(set.has(version)));
+        }
+    }
+    count
+}
+
+/// Makes the set of the text twice, and asks so often whether the one is within the other: how often
+/// it is. `u64::MAX` where the text isn't read.
+#[unsafe(no_mangle)]
+pub extern "C" fn speed_within(alloc: Global, text: &[u8], times: u64) -> u64
+    requires { IsUtf8 text.now }
+{
+    let text = unsafe { std::str::from_utf8_unchecked(text) };
+    let (Some(set), Some(other)) = (set_of(alloc, text), set_of(alloc, text)) else {
+        return u64::MAX;
+    };
+    let mut count = 0u64;
+    for _ in 0..times {
+        count = count.wrapping_add(u64::from(set.is_within(&other)));
+    }
+    count
+}
+
+/// The set of the versions that the text means in Cargo mode, as stated.
+fn set_of(alloc: Global, text: &str) -> Option<VersionSet> {
+    VersionSet::of_text(alloc, text, Compat::Cargo, PreReleases::Stated).ok()
 }
 
 /// Reads the versions, and filters them by each of the ranges in Cargo mode: how many are kept in
