@@ -1,8 +1,8 @@
-mod GreatestSteps
+mod ExtremeSteps
 mod Tests
 mod Passing
 mod KeptVersions
 mod LineReading
 mod ShownLines
 mod LineSteps
-mod GreatestLines
+mod ExtremeLines

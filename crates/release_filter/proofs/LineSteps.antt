@@ -16,11 +16,11 @@ use Rattle.semver_parser.specs.Versions.{VersionValue}
 use Rattle.semver_parser.specs.Writing.{AppendsBeginning}
 use Rattle.release_filter.specs.declared.lines.LineError.{LineError}
 use Rattle.release_filter.specs.declared.lines.LineError.TheVariants.{OutOfMemory, Read, Write, TooManyLines}
-use Rattle.release_filter.specs.Greatest.{HasNone}
+use Rattle.release_filter.specs.Extremes.{HasNone}
 use Rattle.release_filter.specs.KeptLines.{onto_first, lines_of, AreThose, CopiesLines, StandsBehind, StandsIn, IsKeptLine, IsNoWriting}
 use Rattle.release_filter.specs.KeptLines.{SpellsOneThat}
 use Rattle.release_filter.specs.Means.Reading.{ReadsPart, ReadsLine, FindsEnd, StopsInLine, PassesOver, FindsNext, IsOfOneLine}
-use Rattle.release_filter.proofs.GreatestSteps.{none_more}
+use Rattle.release_filter.proofs.ExtremeSteps.{none_more}
 
 -- the first line, and the lines behind it
 lines_from : (x : ℕ) (xs : List ℕ) → lines_of (x ∷ xs) ≡ take_through 10 (x ∷ xs) ∷ lines_of (drop_through 10 (x ∷ xs))

@@ -2,14 +2,16 @@
 use Rattle.std.specs.Prelude.{◌≡◌, ℕ, ◌==◌, ◌≤◌, ◌-◌, ◌^◌, ◌⊎◌, ⊤, Bool, not, List, [], ◌∷◌, ◌++◌}
 use Rattle.std.specs.Prelude.{if◌then◌else◌, Option, Some, None, Result, Ok, Err, IsTrue, Vec}
 use Rattle.std.specs.Prelude.{length}
+use Rattle.std.specs.declared.cmp.Ordering.{Ordering}
 use Rattle.std.specs.List.{concat}
 use Rattle.std.specs.Io.{StopsAt}
 use Rattle.std.specs.Io.KnownBytes.{Appends}
 use Rattle.std.specs.Io.BufRead.{strip_last}
 use Rattle.semver_parser.specs.Texts.{Text, is_empty}
-use Rattle.semver_parser.specs.Versions.{VersionValue}
+use Rattle.semver_parser.specs.Versions.{PlainVersion, VersionValue}
 use Rattle.semver_parser.specs.VersionGrammar.{SpellsVersion}
-use Rattle.release_filter.specs.Greatest.{IsGreatest, HasNone}
+use Rattle.release_filter.specs.Extremes.{IsGreatestBy, HasNone, order_of}
+use Rattle.release_filter.specs.declared.extremes.Extreme.TheVariants.{Greatest, Least}
 use Rattle.release_filter.specs.declared.lines.LineError.{LineError}
 use Rattle.release_filter.specs.declared.lines.LineError.TheVariants.{OutOfMemory, Read, Write}
 use Rattle.release_filter.specs.declared.lines.LineError.TheVariants.{TooManyLines}
@@ -93,13 +95,29 @@ CopiesLines IsKept bytes left old new (Err TooManyLines) =
     (lines kept : List (List ℕ)) × AreThose IsKept lines kept × StandsBehind bytes lines left
     × Appends old new (concat kept) × AreTooMany lines
 
--- what a search for the greatest line of these bytes answers, and what it left of them. With an
--- answer it has read every line
+-- what is left of these bytes where a fault ends a search. It stands behind lines that it is done
+-- with, or in the line behind them; and behind them where these are too many
+abbrev pub StopsBy : LineError → List ℕ → Option (List ℕ) → Type 0
+StopsBy TooManyLines bytes left =
+    (lines : List (List ℕ)) × StandsBehind bytes lines left × AreTooMany lines
+StopsBy error bytes left = (lines : List (List ℕ)) × StandsIn bytes lines left
+
+-- what a search for the greatest line of these bytes by an order answers, and what it left of them.
+-- With an answer it has read every line
+abbrev pub FindsGreatestBy : {Z : Type 0} → (PlainVersion → PlainVersion → Ordering)
+    → (List ℕ → VersionValue → Type 0) → List ℕ → Option (List ℕ)
+    → Result (Option (Vec ℕ Z)) LineError → Type 0
+FindsGreatestBy order Has bytes left (Ok None) = HasNone Has (lines_of bytes) × (left ≡ Some [])
+FindsGreatestBy order Has bytes left (Ok (Some line)) =
+    IsGreatestBy order Has (lines_of bytes) line.items × (left ≡ Some [])
+FindsGreatestBy order Has bytes left (Err error) = StopsBy error bytes left
+
+-- the same of the greatest by precedence
 abbrev pub FindsGreatest : {Z : Type 0} → (List ℕ → VersionValue → Type 0) → List ℕ
     → Option (List ℕ) → Result (Option (Vec ℕ Z)) LineError → Type 0
-FindsGreatest Has bytes left (Ok None) = HasNone Has (lines_of bytes) × (left ≡ Some [])
-FindsGreatest Has bytes left (Ok (Some line)) =
-    IsGreatest Has (lines_of bytes) line.items × (left ≡ Some [])
-FindsGreatest Has bytes left (Err TooManyLines) =
-    (lines : List (List ℕ)) × StandsBehind bytes lines left × AreTooMany lines
-FindsGreatest Has bytes left (Err error) = (lines : List (List ℕ)) × StandsIn bytes lines left
+FindsGreatest Has bytes left result = FindsGreatestBy (order_of Greatest) Has bytes left result
+
+-- and of the least
+abbrev pub FindsLeast : {Z : Type 0} → (List ℕ → VersionValue → Type 0) → List ℕ
+    → Option (List ℕ) → Result (Option (Vec ℕ Z)) LineError → Type 0
+FindsLeast Has bytes left result = FindsGreatestBy (order_of Least) Has bytes left result

@@ -1,7 +1,7 @@
 pub mod KeptReleases
 pub mod Filters
 pub mod Judging
-pub mod Greatest
+pub mod Extremes
 pub mod Means
 pub mod KeptLines
 pub use Rattle.version_sets.specs.PreReleaseRules

@@ -9,7 +9,7 @@ ghost use Rattle.semver_parser.specs.VersionViews.{version_value};
 ghost use Rattle.version_sets.specs.PreReleaseRules.{meant_with};
 ghost use Rattle.release_filter.specs.KeptReleases.{kept_releases};
 ghost use Rattle.release_filter.specs.Filters.{passes};
-ghost use Rattle.release_filter.specs.Greatest.{HasNone, IsGreatest, IsOneThat};
+ghost use Rattle.release_filter.specs.Extremes.{HasNone, IsGreatest, IsOneThat};
 
 use crate::precedence;
 use semver_parser::version::Version;

@@ -2,6 +2,7 @@
 //! and of the lines of a stream, and the greatest of them; and which versions meet a range set.
 #![tactic(auto)]
 
+mod extremes;
 mod filter;
 mod judging;
 mod kept;

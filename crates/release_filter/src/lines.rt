@@ -1,21 +1,13 @@
 //! A filter over the lines of a stream.
 
-ghost use Rattle.std.specs.Prelude.{◌≡◌, ◌↔◌, [], true, IfErr, IfSome, MatchOption};
-ghost use Rattle.std.specs.declared.cmp.Ordering.TheVariants.{Less};
-ghost use Rattle.semver_parser.specs.Precedence.{precedence};
-ghost use Rattle.semver_parser.specs.VersionViews.{version_value};
+ghost use Rattle.std.specs.Prelude.{[], IfSome};
 ghost use Rattle.release_filter.specs.Filters.{passes};
-ghost use Rattle.release_filter.specs.KeptLines.{SpellsOneThat, IsKeptLine, CopiesLines};
-ghost use Rattle.release_filter.specs.KeptLines.{FindsGreatest, IsNoWriting};
+ghost use Rattle.release_filter.specs.KeptLines.{IsKeptLine, CopiesLines};
 
 use crate::filter::Filter;
-use crate::precedence;
-use semver_parser::laws;
-use semver_parser::version::Version;
 use semver_parser::writing::write_whole;
 use std::alloc::Global;
 use std::io::{self, BufRead, Write};
-use std::mem;
 use thiserror::Error;
 
 /// Why a filter of lines ended before the end of its input.
@@ -108,73 +100,5 @@ impl Filter {
             has_kept = true;
         }
         Err(LineError::TooManyLines)
-    }
-
-    /// Of the lines that spell a version which passes, the one with the greatest by precedence
-    /// (SemVer 2.0.0, section 11), and the first of those with an equal one; builds don't count. It
-    /// is answered as it stands, with its end. `None` exactly where no line is kept.
-    ///
-    /// Which lines are kept [`Filter::copy_lines`] says. A filter of `^1.2` answers of the input
-    /// `"1.2.0\n1.9.0+a\n1.9.0+b\n2.0.0"` the line `"1.9.0+a\n"`.
-    ///
-    /// # Errors
-    ///
-    /// `Read`, `OutOfMemory` and `TooManyLines`, as of [`Filter::copy_lines`]; `input` stands
-    /// behind the lines that are done with, or in the next one. `Write` never comes.
-    pub fn greatest_line<R: BufRead>(
-        &self,
-        alloc: Global,
-        input: &mut R,
-    ) -> Result<Option<Vec<u8>>, LineError>
-        ensures finds { IfSome (R.remaining input.old) (λ bytes.
-            FindsGreatest (SpellsOneThat (passes self.now) []) bytes (R.remaining input.new)
-            result) }
-        ensures no_writing { IfErr result IsNoWriting }
-    {
-        self.greatest_line_behind(alloc, "", input)
-    }
-
-    /// What [`Filter::greatest_line`] answers, of lines that begin with a prefix: a line is kept
-    /// where its text is the prefix and then the text of a version that passes.
-    pub fn greatest_line_behind<R: BufRead>(
-        &self,
-        alloc: Global,
-        prefix: &str,
-        input: &mut R,
-    ) -> Result<Option<Vec<u8>>, LineError>
-        ensures finds { IfSome (R.remaining input.old) (λ bytes.
-            FindsGreatest (SpellsOneThat (passes self.now) prefix.now) bytes
-            (R.remaining input.new) result) }
-        ensures no_writing { IfErr result IsNoWriting }
-    {
-        laws::precedence_is_total();
-        laws::one_version();
-        let mut line = Vec::new(alloc);
-        let mut greatest_line = Vec::new(alloc);
-        let mut greatest = None;
-        'lines: for _kept in 0..u64::MAX {
-            let version = match self.next_kept(alloc, prefix, input, &mut line) {
-                Ok(Some(version)) => version,
-                Ok(None) if greatest.is_some() => return Ok(Some(greatest_line)),
-                Ok(None) => return Ok(None),
-                Err(error) => return Err(error),
-            };
-            if is_greatest(&version, &greatest) {
-                mem::swap(&mut line, &mut greatest_line);
-                greatest = Some(version);
-            }
-        }
-        Err(LineError::TooManyLines)
-    }
-}
-
-/// Whether a version is above another, if there is one.
-fn is_greatest(version: &Version, greatest: &Option<Version>) -> bool
-    ensures { MatchOption greatest.now (result ≡ true) (λ other. (result ≡ true) ↔
-        (precedence (version_value other).plain (version_value version.now).plain ≡ Less)) }
-{
-    match greatest {
-        Some(other) => precedence::is_above(version, other),
-        None => true,
     }
 }

@@ -7,7 +7,7 @@ use Rattle.semver_parser.specs.Texts.{Text}
 use Rattle.semver_parser.specs.Versions.{PlainVersion, VersionValue}
 use Rattle.semver_parser.specs.VersionViews.{version_value}
 use Rattle.semver_parser.specs.declared.version.Version.{Version}
-use Rattle.release_filter.specs.Greatest.{HasNone}
+use Rattle.release_filter.specs.Extremes.{HasNone}
 use Rattle.release_filter.specs.KeptLines.{SpellsOneThat, IsKeptLine, StandsBehind}
 use Rattle.release_filter.specs.declared.next_line.Taken.{Taken}
 use Rattle.release_filter.specs.declared.next_line.Taken.TheVariants.{Nothing, PassedOver, Kept}

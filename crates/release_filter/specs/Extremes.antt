@@ -1,24 +1,28 @@
--- The greatest of those items of a list that have a version which passes.
+-- The greatest and the least of those items of a list that have a version which passes.
 use Rattle.std.specs.Prelude.{◌≡◌, ◌≢◌, List, ◌∷◌, ◌++◌, IsTrue, Bool}
 use Rattle.std.specs.List.{AllByRecursion}
+use Rattle.std.specs.Ordering.{flip_args}
+use Rattle.std.specs.declared.cmp.Ordering.{Ordering}
 use Rattle.std.specs.declared.cmp.Ordering.TheVariants.{Less, Greater}
-use Rattle.semver_parser.specs.Versions.{VersionValue}
+use Rattle.semver_parser.specs.Versions.{PlainVersion, VersionValue}
 use Rattle.semver_parser.specs.VersionViews.{version_value}
 use Rattle.semver_parser.specs.declared.version.Version.{Version}
 use Rattle.semver_parser.specs.Precedence.{precedence}
+use Rattle.release_filter.specs.declared.extremes.Extreme.{Extreme}
+use Rattle.release_filter.specs.declared.extremes.Extreme.TheVariants.{Greatest, Least}
 
-module _ {X : Type 0} (Has : X → VersionValue → Type 0) where
-  -- each version that an item has is below this one, by precedence
+module _ {X : Type 0} (order : PlainVersion → PlainVersion → Ordering) (Has : X → VersionValue → Type 0) where
+  -- each version that an item has is below this one, by the order
   abbrev pub IsBelow : VersionValue → X → Type 0
-  IsBelow v x = (w : VersionValue) → Has x w → precedence w.plain v.plain ≡ Less
+  IsBelow v x = (w : VersionValue) → Has x w → order w.plain v.plain ≡ Less
 
   -- no version that an item has is above this one
   abbrev pub IsNotAbove : VersionValue → X → Type 0
-  IsNotAbove v x = (w : VersionValue) → Has x w → precedence w.plain v.plain ≢ Greater
+  IsNotAbove v x = (w : VersionValue) → Has x w → order w.plain v.plain ≢ Greater
 
   -- the item stands in the list and has a version that passes; those of earlier items are below it,
   -- and none of a later item is above it. So it is the first among equals
-  pub record IsGreatest (items : List X) (item : X) : Type 0 where
+  pub record IsGreatestBy (items : List X) (item : X) : Type 0 where
     pub version : VersionValue
     pub has : Has item version
     pub before : List X
@@ -27,9 +31,19 @@ module _ {X : Type 0} (Has : X → VersionValue → Type 0) where
     pub earlier : AllByRecursion (IsBelow version) before
     pub later : AllByRecursion (IsNotAbove version) after
 
+module _ {X : Type 0} (Has : X → VersionValue → Type 0) where
+  -- the greatest by precedence, and the least: the greatest by precedence the other way round
+  abbrev pub IsGreatest : List X → X → Type 0
+  IsGreatest items item = IsGreatestBy precedence Has items item
+
   -- no item has one
   abbrev pub HasNone : List X → Type 0
   HasNone items = AllByRecursion (λ x. (w : VersionValue) → ¬ (Has x w)) items
+
+-- the order by which the one that is wanted is the greatest
+abbrev pub order_of : Extreme → PlainVersion → PlainVersion → Ordering
+order_of Greatest = precedence
+order_of Least = flip_args precedence
 
 -- the version is this value, and passes a test
 abbrev pub IsOneThat : (VersionValue → Bool) → Version → VersionValue → Type 0
