@@ -15,13 +15,12 @@ use Rattle.semver_parser.specs.Precedence.{precedence}
 use Rattle.release_filter.specs.declared.extremes.Extreme.{Extreme}
 use Rattle.release_filter.specs.declared.extremes.Extreme.TheVariants.{Greatest, Least}
 use Rattle.release_filter.specs.declared.lines.LineError.{LineError}
-use Rattle.release_filter.specs.declared.lines.LineError.TheVariants.{OutOfMemory, Read, Write, TooManyLines}
 use Rattle.semver_parser.specs.Texts.{Text}
 use Rattle.release_filter.specs.Extremes.{IsGreatestBy, HasNone, IsNotAbove, order_of}
 use Rattle.release_filter.specs.KeptLines.{FindsGreatestBy, StandsBehind}
 use Rattle.release_filter.specs.Means.Reading.{ReadsLine, FindsEnd, PassesOver, FindsNext}
 use Rattle.release_filter.proofs.ExtremeSteps.{all_append, all_map, begins, stays, stays_over, replaces, not_above}
-use Rattle.release_filter.proofs.LineSteps.{one_line, more_lines, in_line, at_last}
+use Rattle.release_filter.proofs.LineSteps.{one_line, more_lines, stops_by, at_last}
 use Rattle.release_filter.proofs.Passing.{not_both}
 
 -- by precedence the other way round versions are as well ordered
@@ -89,12 +88,8 @@ module _ (order : PlainVersion → PlainVersion → Ordering) (Has : List ℕ �
       pub at_fault : (Z : Type 0) (test : VersionValue → Bool) (prefix : Text) (e : LineError) (more : ℕ) (line : List ℕ)
           → IsAt a b best found count → more ≤ count → FindsNext test prefix more b c line (Err e)
           → IfSome a (λ bytes. FindsGreatestBy {Z = Z} order Has bytes c (Err e))
-      at_fault Z test prefix OutOfMemory more line h many n = IfSome_then a h (λ xs at. (at.read, in_line xs b c at.read at.behind n))
-      at_fault Z test prefix (Read error) more line h many n = IfSome_then a h (λ xs at. (at.read, in_line xs b c at.read at.behind n))
-      at_fault Z test prefix (Write error) more line h many n = IfSome_then a h (λ xs at. (at.read, in_line xs b c at.read at.behind n))
-      at_fault Z test prefix TooManyLines more line h many n =
-          IfSome_then a h
-          (λ xs at. (at.read, subst (StandsBehind xs at.read) (sym n.0) at.behind, omega (arith, at.many, many, n.1)))
+      at_fault Z test prefix e more line h many n =
+          IfSome_then a h (λ xs at. stops_by xs b c at.read test prefix e more line at.behind (omega (arith, many, at.many)) n)
 
       -- lines that aren't kept
       pub at_passed : (more total : ℕ) → total ≤ max count more → IsAt a b best found count → PassesOver Has more b c

@@ -50,7 +50,8 @@ module _ {X : Type 0} (order : PlainVersion → PlainVersion → Ordering) (Has 
         later = all_append (IsNotAbove order Has h.version) h.after ys h.later low;
       }
 
-  abbrev pub stays : (xs : List X) (x g : X) (h : IsGreatestBy order Has xs g) → IsNotAbove order Has h.version x → IsGreatestBy order Has (xs ++ x ∷ []) g
+  abbrev pub stays : (xs : List X) (x g : X) (h : IsGreatestBy order Has xs g) → IsNotAbove order Has h.version x
+      → IsGreatestBy order Has (xs ++ x ∷ []) g
   stays xs x g h low = stays_over xs (x ∷ []) g h (low, tt)
 
   -- an item that is above
@@ -68,7 +69,8 @@ module _ {X : Type 0} (order : PlainVersion → PlainVersion → Ordering) (Has 
             (all_map (IsBelow order Has h.version) (IsBelow order Has v)
             (λ x low w k. total.trans w.plain h.version.plain v.plain (low w k) above) h.before h.earlier) (
               (λ w k. subst (λ u. order u.plain v.plain ≡ Less) (one g h.version w h.has k) above),
-              all_map (IsNotAbove order Has h.version) (IsBelow order Has v) (λ x low w k. below w (order w.plain h.version.plain) refl (low w k))
+              all_map (IsNotAbove order Has h.version) (IsBelow order Has v)
+                  (λ x low w k. below w (order w.plain h.version.plain) refl (low w k))
                   h.after h.later,
             ));
         later = tt;
@@ -90,7 +92,8 @@ module _ {X : Type 0} (order : PlainVersion → PlainVersion → Ordering) (Has 
   passed_over xs x (Some g) h none = stays xs x g h (λ w k. absurd (none w k))
 
   module _ {Y : Type 0} (item : Y → X) where
-    pub greatest_is : (xs : List X) (found : Option Y) → IsSoFar xs (option_map item found) → IfSome found (λ y. IsGreatestBy order Has xs (item y))
+    pub greatest_is : (xs : List X) (found : Option Y) → IsSoFar xs (option_map item found)
+        → IfSome found (λ y. IsGreatestBy order Has xs (item y))
     greatest_is xs None h = tt
     greatest_is xs (Some y) h = h
 
@@ -104,5 +107,6 @@ module _ {X : Type 0} (order : PlainVersion → PlainVersion → Ordering) (Has 
         at_place (b ∷ before) none = at_place before none.1
 
 -- what isn't below isn't above the other way round
-pub not_above : (order : PlainVersion → PlainVersion → Ordering) → IsTotalOrder order → (v w : PlainVersion) → ¬ (order w v ≡ Less) → order v w ≢ Greater
+pub not_above : (order : PlainVersion → PlainVersion → Ordering) → IsTotalOrder order → (v w : PlainVersion) → ¬ (order w v ≡ Less)
+    → order v w ≢ Greater
 not_above order total v w low = λ e. low (total.antisymm w v ∙ ap ordering_reverse e)

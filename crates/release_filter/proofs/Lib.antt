@@ -6,3 +6,5 @@ mod LineReading
 mod ShownLines
 mod LineSteps
 mod ExtremeLines
+mod SortedSteps
+mod SortedLineSteps

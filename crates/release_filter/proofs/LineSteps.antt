@@ -18,7 +18,7 @@ use Rattle.release_filter.specs.declared.lines.LineError.{LineError}
 use Rattle.release_filter.specs.declared.lines.LineError.TheVariants.{OutOfMemory, Read, Write, TooManyLines}
 use Rattle.release_filter.specs.Extremes.{HasNone}
 use Rattle.release_filter.specs.KeptLines.{onto_first, lines_of, AreThose, CopiesLines, StandsBehind, StandsIn, IsKeptLine, IsNoWriting}
-use Rattle.release_filter.specs.KeptLines.{SpellsOneThat}
+use Rattle.release_filter.specs.KeptLines.{SpellsOneThat, StopsBy}
 use Rattle.release_filter.specs.Means.Reading.{ReadsPart, ReadsLine, FindsEnd, StopsInLine, PassesOver, FindsNext, IsOfOneLine}
 use Rattle.release_filter.proofs.ExtremeSteps.{none_more}
 
@@ -42,7 +42,7 @@ first_line [] some = absurd (omega arith)
 first_line (x ∷ xs) some = lines_from x xs
 
 -- what one list of lines keeps and then another
-those_append : (IsKept : List ℕ → Type 0) (xs ys kept more : List (List ℕ)) → AreThose IsKept xs kept → AreThose IsKept ys more
+pub those_append : (IsKept : List ℕ → Type 0) (xs ys kept more : List (List ℕ)) → AreThose IsKept xs kept → AreThose IsKept ys more
     → AreThose IsKept (xs ++ ys) (kept ++ more)
 those_append IsKept [] ys kept more none those = subst (λ l. AreThose IsKept ys (l ++ more)) (sym none) those
 those_append IsKept (x ∷ xs) ys kept more (inl (rest, is, whole, those)) later =
@@ -96,6 +96,15 @@ module _ (bytes : List ℕ) (b c : Option (List ℕ)) (read : List (List ℕ)) w
       let end : (rest ≡ []) × (c ≡ Some []) = subst (λ o. FindsEnd o c) left n in
       (lines ∙ ap (λ l. read ++ lines_of l) end.0 ∙ append-nil read, end.1)
 
+  -- and there some fault ends a search behind so many lines
+  pub stops_by : (test : VersionValue → Bool) (prefix : Text) (e : LineError) (more : ℕ) (line : List ℕ) → StandsBehind bytes read b
+      → more ≤ length read → FindsNext test prefix more b c line (Err e) → StopsBy e bytes c
+  stops_by test prefix OutOfMemory more line behind many n = (read, in_line behind n)
+  stops_by test prefix (Read error) more line behind many n = (read, in_line behind n)
+  stops_by test prefix (Write error) more line behind many n = (read, in_line behind n)
+  stops_by test prefix TooManyLines more line behind many n =
+      (read, subst (StandsBehind bytes read) (sym n.0) behind, omega (arith, many, n.1))
+
 -- nothing was read
 pub stops_before : (b : Option (List ℕ)) → StopsInLine b b
 stops_before None = ([], tt)
@@ -133,7 +142,7 @@ module _ (test : VersionValue → Bool) (prefix : Text) where
   Has line v = SpellsOneThat test prefix line v
 
   -- of lines that were passed over none is kept
-  none_those : (lines : List (List ℕ)) → HasNone Has lines → AreThose IsKept lines []
+  pub none_those : (lines : List (List ℕ)) → HasNone Has lines → AreThose IsKept lines []
   none_those [] none = refl
   none_those (line ∷ lines) none = inr ((λ is. none.0 is.0 is.1), none_those lines none.1)
 

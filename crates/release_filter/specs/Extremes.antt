@@ -11,7 +11,8 @@ use Rattle.semver_parser.specs.Precedence.{precedence}
 use Rattle.release_filter.specs.declared.extremes.Extreme.{Extreme}
 use Rattle.release_filter.specs.declared.extremes.Extreme.TheVariants.{Greatest, Least}
 
-module _ {X : Type 0} (order : PlainVersion → PlainVersion → Ordering) (Has : X → VersionValue → Type 0) where
+module _ {X : Type 0} (order : PlainVersion → PlainVersion → Ordering)
+    (Has : X → VersionValue → Type 0) where
   -- each version that an item has is below this one, by the order
   abbrev pub IsBelow : VersionValue → X → Type 0
   IsBelow v x = (w : VersionValue) → Has x w → order w.plain v.plain ≡ Less

@@ -1,5 +1,6 @@
 //! Which versions a range text means, by one of three rules for pre-releases: a filter of versions
-//! and of the lines of a stream, and the greatest of them; and which versions meet a range set.
+//! and of the lines of a stream, the greatest of them, the least line and the lines sorted; and
+//! which versions meet a range set.
 #![tactic(auto)]
 
 mod extremes;
@@ -10,9 +11,11 @@ mod lines;
 mod meeting;
 mod next_line;
 mod precedence;
+mod sorting;
 
 pub use filter::{Filter, filter_text};
 pub use judging::Judged;
 pub use lines::LineError;
 pub use meeting::{release_meets, version_meets, version_meets_as_stated};
+pub use sorting::write_lines;
 pub use version_sets::PreReleases;

@@ -263,7 +263,7 @@ fn text_of(line: &[u8]) -> &[u8]
 
 /// The bytes without this one at their end, if they have it there.
 #[inline(always)]
-fn without_last(bytes: &[u8], byte: u8) -> &[u8]
+pub(crate) fn without_last(bytes: &[u8], byte: u8) -> &[u8]
     ensures { result.now ≡ strip_last byte bytes.now }
 {
     match bytes.split_last() {

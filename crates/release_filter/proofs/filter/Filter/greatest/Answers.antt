@@ -41,7 +41,8 @@ loop-version-preserved c =
           let low = not_above precedence total v.plain (version_value w.in-Some.other.now).plain
           (λ e. not_both (w.is_above.ensures.1 e) w.if-is_above.false) in
           rw (w.greatest-is, w.in-Some.is) (subst (λ xs. IsSoFar precedence has xs (Some w.in-Some.other.now)) (sym seen)
-          (stays precedence has before x w.in-Some.other.now so_far (λ u p. subst (λ u. precedence u.plain so_far.version.plain ≢ Greater) p.0
+          (stays precedence has before x w.in-Some.other.now so_far
+          (λ u p. subst (λ u. precedence u.plain so_far.version.plain ≢ Greater) p.0
           (subst (λ u. precedence v.plain u.plain ≢ Greater) so_far.has.0 low))))
       | in-None w ↦
           let so_far = rw w.in-None.is at c.loop-version.invariant in
