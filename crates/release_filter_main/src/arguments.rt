@@ -25,6 +25,28 @@ pub struct Wanted {
     pub options: Options,
 }
 
+/// Which of the kept lines are wanted, where not all are, as they come.
+#[derive(Clone, Copy, PartialEq)]
+pub enum Selection {
+    /// The line of the greatest version.
+    Greatest,
+    /// The line of the least version.
+    Least,
+    /// All, from the least to the greatest.
+    Sorted,
+}
+
+impl Selection {
+    /// The option that asks for it.
+    pub fn option(self) -> &'static str {
+        match self {
+            Selection::Greatest => "--greatest",
+            Selection::Least => "--least",
+            Selection::Sorted => "--sort",
+        }
+    }
+}
+
 /// What the options ask for.
 #[derive(Drop)]
 pub struct Options {
@@ -34,8 +56,8 @@ pub struct Options {
     pub pre_releases: PreReleases,
     /// What stands in front of each version, if something does.
     pub prefix: Option<String>,
-    /// Whether the greatest alone is wanted.
-    pub is_greatest: bool,
+    /// Which lines are wanted, if not all as they come.
+    pub selection: Option<Selection>,
     /// Whether each line is written at once.
     pub is_line_buffered: bool,
     /// Whether the next argument is the prefix.
@@ -51,26 +73,41 @@ impl Options {
             compat: Compat::Cargo,
             pre_releases: PreReleases::Excluded,
             prefix: None,
-            is_greatest: false,
+            selection: None,
             is_line_buffered: false,
             wants_prefix: false,
             has_more: true,
         }
     }
 
-    /// Takes an option, and tells whether it is known.
-    fn take(&mut self, option: &str) -> bool {
+    /// Takes an option, and tells whether it is known. It is refused where it contradicts one that
+    /// was taken.
+    fn take(&mut self, option: &str) -> Result<bool, Refusal> {
         match option {
             "--" => self.has_more = false,
             "--npm" => self.compat = Compat::Npm,
             "--pre" => self.pre_releases = PreReleases::Included,
             "--pre-stated" => self.pre_releases = PreReleases::Stated,
-            "--greatest" => self.is_greatest = true,
+            "--greatest" => self.select(Selection::Greatest)?,
+            "--least" => self.select(Selection::Least)?,
+            "--sort" => self.select(Selection::Sorted)?,
             "--line-buffered" => self.is_line_buffered = true,
             "--prefix" => self.wants_prefix = true,
-            _ => return false,
+            _ => return Ok(false),
         }
-        true
+        Ok(true)
+    }
+
+    /// Takes which lines are wanted.
+    fn select(&mut self, selection: Selection) -> Result<(), Refusal> {
+        let earlier = self.selection;
+        self.selection = Some(selection);
+        match earlier {
+            Some(earlier) if earlier != selection => {
+                Err(Refusal::Contradiction(earlier, selection))
+            }
+            _ => Ok(()),
+        }
     }
 }
 
@@ -81,6 +118,8 @@ pub enum Refusal {
     Unreadable,
     /// This option is unknown.
     UnknownOption(String),
+    /// These two ask for different lines.
+    Contradiction(Selection, Selection),
     /// `--prefix` is the last argument.
     NoPrefix,
     /// There is no range text.
@@ -108,7 +147,7 @@ pub fn requested(rt: &(impl Env + AllocGlobal)) -> Result<Request, Refusal> {
             "-h" | "--help" if options.has_more => return Ok(Request::Help),
             "--version" if options.has_more => return Ok(Request::Version),
             text if options.has_more && text.starts_with('-') => {
-                if !options.take(text) {
+                if !options.take(text)? {
                     return Err(Refusal::UnknownOption(argument));
                 }
             }

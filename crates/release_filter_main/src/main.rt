@@ -1,13 +1,14 @@
 //! The program `release-filter`: arguments, standard input and output, and exit status, nothing
-//! else. What it does with a filter is `copy_lines_behind` and `greatest_line_behind` of the
-//! library, on the input behind a byte order mark.
+//! else. What it does with a filter is `copy_lines_behind`, `greatest_line_behind`,
+//! `least_line_behind`, and `sorted_lines_behind` with `write_lines` of the library, on the input
+//! behind a byte order mark.
 #![tactic(auto)]
 
 mod arguments;
 mod mark;
 
-use arguments::{Refusal, Request, Wanted};
-use release_filter::{Filter, LineError};
+use arguments::{Refusal, Request, Selection, Wanted};
+use release_filter::{Filter, LineError, write_lines};
 use semver_parser::RangeError;
 use semver_parser::writing::write_whole;
 use std::io::{self, BufReader, BufWriter, ErrorKind, LineWriter, Write};
@@ -15,7 +16,8 @@ use std::process::ExitCode;
 
 /// How the program is called.
 const USAGE: &str = "\
-usage: release-filter [--npm] [--pre | --pre-stated] [--greatest]
+usage: release-filter [--npm] [--pre | --pre-stated]
+                      [--greatest | --least | --sort]
                       [--prefix TEXT] [--line-buffered] RANGE";
 
 /// What the program does.
@@ -30,6 +32,11 @@ that spell a release which RANGE means.
                      three numbers and a pre-release
     --greatest       write the one line of the greatest version alone, by
                      precedence, and the first of those that are equal
+    --least          write the one line of the least version alone, and the
+                     first of those that are equal
+    --sort           write the lines from the least version to the greatest,
+                     those of equal versions in their order, once all are
+                     read; a last line without a line feed gets one
     --prefix TEXT    read a line without TEXT in front, and pass over lines
                      that don't begin with it
     --line-buffered  write each line at once
@@ -94,17 +101,17 @@ fn filtered(rt: &HostRuntime, wanted: &Wanted) -> Result<bool, Fault> {
         let Ok(mut output) = LineWriter::new(rt.alloc(), io::writer(rt)) else {
             return Err(Fault::Lines(LineError::OutOfMemory));
         };
-        write_lines(rt, wanted, &filter, &mut input, &mut output).map_err(Fault::Lines)
+        write_wanted(rt, wanted, &filter, &mut input, &mut output).map_err(Fault::Lines)
     } else {
         let Ok(mut output) = BufWriter::new(rt.alloc(), io::writer(rt)) else {
             return Err(Fault::Lines(LineError::OutOfMemory));
         };
-        write_lines(rt, wanted, &filter, &mut input, &mut output).map_err(Fault::Lines)
+        write_wanted(rt, wanted, &filter, &mut input, &mut output).map_err(Fault::Lines)
     }
 }
 
 /// Writes the lines that are wanted, and tells whether there was one.
-fn write_lines<R: io::BufRead, W: Write>(
+fn write_wanted<R: io::BufRead, W: Write>(
     rt: &HostRuntime,
     wanted: &Wanted,
     filter: &Filter,
@@ -116,19 +123,35 @@ fn write_lines<R: io::BufRead, W: Write>(
         .prefix
         .as_ref()
         .map_or("", |prefix| prefix.as_str());
-    let has_written = if wanted.options.is_greatest {
-        match filter.greatest_line_behind(rt.alloc(), prefix, input)? {
-            Some(line) => {
-                write_whole(output, line.as_slice()).map_err(LineError::Write)?;
-                true
-            }
-            None => false,
+    let has_written = match wanted.options.selection {
+        None => filter.copy_lines_behind(rt.alloc(), prefix, input, output)?,
+        Some(Selection::Greatest) => {
+            let line = filter.greatest_line_behind(rt.alloc(), prefix, input)?;
+            write_found(output, &line).map_err(LineError::Write)?
         }
-    } else {
-        filter.copy_lines_behind(rt.alloc(), prefix, input, output)?
+        Some(Selection::Least) => {
+            let line = filter.least_line_behind(rt.alloc(), prefix, input)?;
+            write_found(output, &line).map_err(LineError::Write)?
+        }
+        Some(Selection::Sorted) => {
+            let lines = filter.sorted_lines_behind(rt.alloc(), prefix, input)?;
+            write_lines(output, &lines).map_err(LineError::Write)?;
+            !lines.is_empty()
+        }
     };
     output.flush().map_err(LineError::Write)?;
     Ok(has_written)
+}
+
+/// Writes a line if one was found, and tells whether it was.
+fn write_found<W: Write>(output: &mut W, found: &Option<Vec<u8>>) -> io::Result<bool> {
+    match found {
+        Some(line) => {
+            write_whole(output, line.as_slice())?;
+            Ok(true)
+        }
+        None => Ok(false),
+    }
 }
 
 /// Says on standard error what the fault is, in one line, of a range text with the text.
@@ -159,6 +182,11 @@ fn refused(rt: &impl Eprint, refusal: &Refusal) -> ExitCode {
     let _ = match refusal {
         Refusal::UnknownOption(option) => eprintln!(rt;
             "release-filter: unknown option: {option:?}; see release-filter --help"
+        ),
+        Refusal::Contradiction(first, second) => eprintln!(rt;
+            "release-filter: {} contradicts {}; see release-filter --help",
+            second.option(),
+            first.option()
         ),
         Refusal::Unreadable => eprintln!(rt; "release-filter: cannot read arguments"),
         Refusal::NoPrefix => misused(rt, "--prefix wants a text"),
