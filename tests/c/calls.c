@@ -348,3 +348,97 @@ int32_t least(const text *range, bool npm, int32_t pre_releases, text *printed) 
     }
     return answer == SEMVER_PARSER_NO_ROOM ? (int32_t)SEMVER_PARSER_OK : answer;
 }
+
+/* ---- two ranges */
+
+/* Compares in a room of some length. What is behind what was written has to be as it was, and all of it at a fault. */
+static int32_t compare_in(const text *old_range, const text *new_range, bool npm, int32_t pre_releases, uint8_t *out, size_t room, size_t *length,
+                          semver_parser_comparison *told, bool at_null) {
+    uint8_t *old_bytes = alone(old_range);
+    uint8_t *new_bytes = alone(new_range);
+    memset(out, FILL, room + 1);
+    memset(told, FILL, sizeof *told);
+    *length = 777;
+    int32_t answer = semver_parser_compare(at_null && old_range->length == 0 ? NULL : old_bytes, old_range->length,
+                                           at_null && new_range->length == 0 ? NULL : new_bytes, new_range->length, npm, pre_releases,
+                                           at_null && room == 0 ? NULL : out, room, length, told);
+    free(old_bytes);
+    free(new_bytes);
+    size_t written = answer == SEMVER_PARSER_OK ? *length : 0;
+    require(written <= room && is_filled(out + written, FILL, room + 1 - written), "a byte behind the versions, or at a fault", old_range);
+    bool is_told = answer == SEMVER_PARSER_OK || answer == SEMVER_PARSER_NO_ROOM;
+    require(is_told || (*length == 777 && is_filled(told, FILL, sizeof *told)), "a comparison at a fault", old_range);
+    return answer;
+}
+
+/* A part has to lie at the place, or nowhere where it is empty. What is behind it is the next place. */
+static size_t place_behind(semver_parser_part part, size_t place, const text *of) {
+    require(part.offset == (part.length == 0 ? 0 : place), "a version in another place", of);
+    return place + part.length;
+}
+
+static void require_places(const semver_parser_comparison *told, size_t length, const text *of) {
+    size_t end = place_behind(told->shared, place_behind(told->gained, place_behind(told->lost, 0, of), of), of);
+    require(end == length, "another length than that of the three versions", of);
+}
+
+static void add_part(text *to, const uint8_t *bytes, semver_parser_part part) {
+    text_add(to, "", 0);
+    text_add(to, (const char *)bytes + part.offset, part.length);
+}
+
+static bool is_same_part(semver_parser_part one, semver_parser_part other) {
+    return one.offset == other.offset && one.length == other.length;
+}
+
+static bool is_same_comparison(const semver_parser_comparison *one, const semver_parser_comparison *other) {
+    return is_same_part(one->lost, other->lost) && is_same_part(one->gained, other->gained) && is_same_part(one->shared, other->shared);
+}
+
+/* A fault, which has to come in each room. */
+static int32_t require_no_comparison(const text *old_range, const text *new_range, bool npm, int32_t pre_releases, int32_t fault) {
+    uint8_t out[65];
+    for (size_t room = 0; room <= 64; room += 32) {
+        semver_parser_comparison told;
+        size_t length;
+        int32_t answer = compare_in(old_range, new_range, npm, pre_releases, out, room, &length, &told, room == 0);
+        require(answer == fault, "another fault in another room", old_range);
+    }
+    return fault;
+}
+
+int32_t compare(const text *old_range, const text *new_range, bool npm, int32_t pre_releases, compared *told) {
+    uint8_t none;
+    size_t bytes;
+    semver_parser_comparison wanted;
+    int32_t answer = compare_in(old_range, new_range, npm, pre_releases, &none, 0, &bytes, &wanted, true);
+    if (answer != SEMVER_PARSER_OK && answer != SEMVER_PARSER_NO_ROOM) {
+        return require_no_comparison(old_range, new_range, npm, pre_releases, answer);
+    }
+    require((answer == SEMVER_PARSER_OK) == (bytes == 0), "no room for no byte", old_range);
+    require_places(&wanted, bytes, old_range);
+    for (size_t room = 0; room <= bytes + 1; room++) {
+        if (!is_tried(room, bytes, 300) && room != bytes + 1) {
+            continue;
+        }
+        uint8_t *out = (uint8_t *)block(room + 1);
+        size_t length;
+        semver_parser_comparison here;
+        int32_t answered = compare_in(old_range, new_range, npm, pre_releases, out, room, &length, &here, room % 2 == 0);
+        require(answered == (room >= bytes ? (int32_t)SEMVER_PARSER_OK : (int32_t)SEMVER_PARSER_NO_ROOM), "another answer in another room", old_range);
+        require(length == bytes && is_same_comparison(&here, &wanted), "another comparison in another room", old_range);
+        if (room == bytes) {
+            add_part(&told->lost, out, here.lost);
+            add_part(&told->gained, out, here.gained);
+            add_part(&told->shared, out, here.shared);
+        }
+        free(out);
+    }
+    return SEMVER_PARSER_OK;
+}
+
+void free_compared(compared *told) {
+    text_free(&told->lost);
+    text_free(&told->gained);
+    text_free(&told->shared);
+}

@@ -30,4 +30,16 @@ int32_t meets(const text *range, bool npm, int32_t pre_releases, const text *ver
  * needed (of a version above 300 bytes, of some lengths), and at null where the room or the text is empty. */
 int32_t least(const text *range, bool npm, int32_t pre_releases, text *printed);
 
+/* What an old range text and a new one mean alone and together: the text of each of the three versions, empty where there is none. */
+typedef struct {
+    text lost;
+    text gained;
+    text shared;
+} compared;
+
+/* Compares two range texts, or answers the fault and leaves `told` alone. It tries a room of each length up to one past what is needed (of more than 300
+ * bytes, of some lengths), and at null where the room or a text is empty. The parts have to lie one behind the other. */
+int32_t compare(const text *old_range, const text *new_range, bool npm, int32_t pre_releases, compared *told);
+void free_compared(compared *told);
+
 #endif

@@ -96,6 +96,25 @@ static int32_t least_out(void) {
     return semver_parser_least(bytes_of("^1.2"), 4, true, SEMVER_PARSER_RELEASES_ALONE, NULL, 64, &length);
 }
 
+static int32_t compare_texts(const uint8_t *old_range, const uint8_t *new_range, bool has_room) {
+    uint8_t out[64];
+    size_t length;
+    semver_parser_comparison comparison;
+    return semver_parser_compare(old_range, 4, new_range, 4, true, SEMVER_PARSER_RELEASES_ALONE, has_room ? out : NULL, sizeof out, &length, &comparison);
+}
+
+static int32_t compare_old(void) {
+    return compare_texts(NULL, bytes_of("^1.2"), true);
+}
+
+static int32_t compare_new(void) {
+    return compare_texts(bytes_of("^1.2"), NULL, true);
+}
+
+static int32_t compare_out(void) {
+    return compare_texts(bytes_of("^1.2"), bytes_of("^1.3"), false);
+}
+
 static int32_t each_of(const uint8_t *range, const semver_parser_text *versions, size_t count, uint8_t *answers) {
     return semver_parser_meets_each(range, 4, true, SEMVER_PARSER_RELEASES_ALONE, versions, count, answers);
 }
@@ -207,6 +226,9 @@ static void nulls_with_a_length(void) {
     ends_at_null(meets_version, "the version of a range");
     ends_at_null(least_range, "the range of a least version");
     ends_at_null(least_out, "the room of a least version");
+    ends_at_null(compare_old, "the old range of two");
+    ends_at_null(compare_new, "the new range of two");
+    ends_at_null(compare_out, "the room of two ranges");
     ends_at_null(each_range, "the range of many");
     ends_at_null(each_array, "the array of many");
     ends_at_null(each_text, "one of many");

@@ -148,9 +148,38 @@ static void least_takes(const char *range, bool some, int32_t wanted, size_t byt
     check(!refused && (request > 1) == some, "another number of requests", range, request);
 }
 
-/* Many versions, of which the second takes requests, and one is at null where that is asked for: the texts are copied then, before the range is read. */
+/* Two ranges whose comparison takes requests, or takes none: those of the old range come first, and what is asked for later is told of the new one. */
+static void comparison_takes(const char *old_range, const char *new_range, bool of_old, bool of_new, int32_t wanted, size_t bytes) {
+    int request = 0;
+    int by_old = 0;
+    int by_new = 0;
+    do {
+        uint8_t out[64];
+        semver_parser_comparison told;
+        const uint8_t *put = (const uint8_t *)&told;
+        memset(out, 'x', sizeof out);
+        memset(&told, 'x', sizeof told);
+        size_t length = 777;
+        grant(request);
+        int32_t answered = semver_parser_compare((const uint8_t *)old_range, strlen(old_range), (const uint8_t *)new_range, strlen(new_range), true,
+                                                 SEMVER_PARSER_ALL_PRE_RELEASES, out, sizeof out, &length, &told);
+        bool is_old = answered == SEMVER_PARSER_RANGE_OUT_OF_MEMORY;
+        bool is_new = answered == SEMVER_PARSER_NEW_RANGE_OUT_OF_MEMORY;
+        check(refused ? (is_old && by_new == 0) || is_new : answered == wanted, "another answer of a comparison", old_range, request);
+        check(length == (answered == SEMVER_PARSER_OK ? bytes : 777), "another length of a comparison", old_range, request);
+        bool is_kept = out[0] == 'x' && memcmp(out, out + 1, sizeof out - 1) == 0 && put[0] == 'x' && memcmp(put, put + 1, sizeof told - 1) == 0;
+        check(answered == SEMVER_PARSER_OK || is_kept, "something changed at a fault", old_range, request);
+        check(taken == 0, "memory is kept", old_range, request);
+        by_old += is_old;
+        by_new += is_new;
+        request++;
+    } while (refused && request < 200);
+    check(!refused && (by_old > 0) == of_old && (by_new > 0) == of_new, "another number of requests", old_range, request);
+}
+
+/* Many texts, of which the second takes requests to tell its fault, and one is at null where that is asked for: the texts are copied then, before the range is read. */
 static void many_take(const char *range, bool at_null, int32_t wanted) {
-    const semver_parser_text versions[] = {{(const uint8_t *)"1.2.3", 5}, {(const uint8_t *)"1.2.3-rc.1", 10}, {at_null ? NULL : (const uint8_t *)"", 0},
+    const semver_parser_text versions[] = {{(const uint8_t *)"1.2.3", 5}, {(const uint8_t *)"1.2.3-rc.1/", 11}, {at_null ? NULL : (const uint8_t *)"", 0},
                                            {(const uint8_t *)"1.2.4", 5}};
     int request = 0;
     do {
@@ -160,7 +189,7 @@ static void many_take(const char *range, bool at_null, int32_t wanted) {
         check(answered == wanted || (refused && answered == SEMVER_PARSER_RANGE_OUT_OF_MEMORY), "another answer of many", range, request);
         if (answered == SEMVER_PARSER_OK) {
             check(answers[0] == SEMVER_PARSER_MEETS && answers[2] == SEMVER_PARSER_UNEXPECTED_END, "another version's answer", range, request);
-            check(answers[1] == (refused ? (int)SEMVER_PARSER_VERSION_OUT_OF_MEMORY : (int)SEMVER_PARSER_DOES_NOT_MEET), "the answer of a refusal", range, request);
+            check(answers[1] == (refused ? (int)SEMVER_PARSER_VERSION_OUT_OF_MEMORY : (int)SEMVER_PARSER_UNEXPECTED_CHAR), "the answer of a refusal", range, request);
             check(answers[3] == SEMVER_PARSER_DOES_NOT_MEET, "the answer behind a refusal", range, request);
         } else {
             check(memcmp(answers, "xxxx", 4) == 0, "an answer at a fault", range, request);
@@ -191,7 +220,8 @@ int main(void) {
         }
     }
     both_take("1.2.3", true, "1.2.3", 0, SEMVER_PARSER_OK, true);
-    both_take("1.2.3", true, "1.2.3-rc", 2, SEMVER_PARSER_OK, false);
+    both_take("1.2.3", true, "1.2.3-rc", 0, SEMVER_PARSER_OK, false);
+    both_take("1.2.3", true, "1.2.3-rc.1/", 2, SEMVER_PARSER_UNEXPECTED_CHAR, false);
     both_take("1.2.3", true, "1.2.3+b.rc", 0, SEMVER_PARSER_OK, true);
     both_take("1.2.3", true, "2.0.0-rc", 0, SEMVER_PARSER_OK, false);
     both_take("v1", false, "1.2.3-rc", 0, SEMVER_PARSER_NOT_A_RANGE, false);
@@ -200,6 +230,13 @@ int main(void) {
     least_takes(">2.0.0 <1.0.0", true, SEMVER_PARSER_OK, 0);
     least_takes("v1", false, SEMVER_PARSER_NOT_A_RANGE, 0);
     least_takes("<=18446744073709551615", false, SEMVER_PARSER_NUMBER_TOO_LARGE, 0);
+    comparison_takes("^1.2.0", ">=1.4.0", true, true, SEMVER_PARSER_OK, 17);
+    comparison_takes("=1.2.3-a.b", "=1.2.3-b", true, true, SEMVER_PARSER_OK, 16);
+    comparison_takes(">2.0.0 <1.0.0", ">3.0.0 <1.0.0", true, true, SEMVER_PARSER_OK, 0);
+    comparison_takes("v1", "^1", false, false, SEMVER_PARSER_NOT_A_RANGE, 0);
+    comparison_takes("^1", "v1", true, false, SEMVER_PARSER_NEW_NOT_A_RANGE, 0);
+    comparison_takes("<=18446744073709551615", "", false, false, SEMVER_PARSER_NUMBER_TOO_LARGE, 0);
+    comparison_takes("^1", "<=18446744073709551615", true, false, SEMVER_PARSER_NEW_NUMBER_TOO_LARGE, 0);
     for (int at_null = 0; at_null < 2; at_null++) {
         many_take("1.2.3", at_null != 0, SEMVER_PARSER_OK);
         many_take("v1", at_null != 0, SEMVER_PARSER_NOT_A_RANGE);

@@ -422,8 +422,6 @@ static void very_many(bool at_null) {
     text_free(&range);
 }
 
-/* ---- what has no proof */
-
 /* ---- the least version */
 
 /* What the range means least by each rule: releases alone, as stated, and all. An empty text is none. */
@@ -477,13 +475,135 @@ static void least_versions(void) {
     least_fault_is(true, "\xFF", 1, -1, SEMVER_PARSER_NO_SUCH_RULE);
 }
 
+/* ---- two ranges */
+
+/* What is lost, gained and shared by each rule: releases alone, as stated, and all. An empty text is none. */
+typedef struct {
+    const char *lost;
+    const char *gained;
+    const char *shared;
+} three;
+
+static three differ_by(const char *lost, const char *gained, const char *shared) {
+    three made = {lost, gained, shared};
+    return made;
+}
+
+static void rule_compares(bool npm, int32_t rule, const text *old_range, const text *new_range, three wanted) {
+    compared told = {{NULL, 0, 0}, {NULL, 0, 0}, {NULL, 0, 0}};
+    check(compare(old_range, new_range, npm, rule, &told) == SEMVER_PARSER_OK, "no comparison", old_range);
+    check(strcmp(told.lost.bytes, wanted.lost) == 0, "another version is lost", old_range);
+    check(strcmp(told.gained.bytes, wanted.gained) == 0, "another version is gained", old_range);
+    check(strcmp(told.shared.bytes, wanted.shared) == 0, "another version is shared", old_range);
+    free_compared(&told);
+}
+
+/* What is lost one way round is gained the other way round. */
+static void compare_are(bool npm, const char *old_bytes, const char *new_bytes, three releases, three stated, three all) {
+    const three wanted[3] = {releases, stated, all};
+    text old_range = string(old_bytes);
+    text new_range = string(new_bytes);
+    for (int rule = 0; rule < 3; rule++) {
+        rule_compares(npm, rule, &old_range, &new_range, wanted[rule]);
+        rule_compares(npm, rule, &new_range, &old_range, differ_by(wanted[rule].gained, wanted[rule].lost, wanted[rule].shared));
+    }
+    text_free(&old_range);
+    text_free(&new_range);
+}
+
+/* So of ranges that no rule for pre-releases tells apart. */
+static void differ_alike(bool npm, const char *old_bytes, const char *new_bytes, const char *lost, const char *gained, const char *shared) {
+    three wanted = differ_by(lost, gained, shared);
+    compare_are(npm, old_bytes, new_bytes, wanted, wanted, wanted);
+}
+
+static void compare_fault_is(bool npm, const char *old_bytes, const char *new_bytes, int32_t rule, int32_t fault) {
+    text old_range = string(old_bytes);
+    text new_range = string(new_bytes);
+    compared told = {{NULL, 0, 0}, {NULL, 0, 0}, {NULL, 0, 0}};
+    check(compare(&old_range, &new_range, npm, rule, &told) == fault, "another fault of two ranges", &old_range);
+    check(told.lost.length + told.gained.length + told.shared.length == 0, "a version at a fault", &old_range);
+    free_compared(&told);
+    text_free(&old_range);
+    text_free(&new_range);
+}
+
+#define MOST "18446744073709551615"
+#define LAST MOST "." MOST "." MOST
+
+/* Pairs of which no rule sees a pre-release that differs, or is the least. */
+static void compared_releases(void) {
+    differ_alike(false, "^1.2.3", "^1.2.3", "", "", "1.2.3");
+    differ_alike(false, "3.x || ^1.2", "^1.2 || 3.x", "", "", "1.2.0");
+    differ_alike(false, "", "*", "", "", "0.0.0");
+    differ_alike(true, "1.2.3+a", "1.2.3+b", "", "", "1.2.3");
+    differ_alike(false, ">2 <1", ">3 <2", "", "", "");
+    differ_alike(true, "0.0." MOST, "=0.0." MOST, "", "", "0.0." MOST);
+    differ_alike(false, "^1", ">2 <1", "1.0.0", "", "");
+    differ_alike(false, "^1", "^2", "1.0.0", "2.0.0", "");
+    differ_alike(true, "=1.2.3", "=1.2.4", "1.2.3", "1.2.4", "");
+    differ_alike(false, ">=" LAST, ">" LAST, LAST, "", "");
+}
+
+/* Pairs that the rules tell apart: releases alone, as stated, and all. */
+static void compared_pre_releases(void) {
+    compare_are(false, "^1.2.0", ">=1.4.0", differ_by("1.2.0", "2.0.0", "1.4.0"), differ_by("1.2.0", "2.0.0", "1.4.0"),
+                differ_by("1.2.0", "2.0.0-0", "1.4.0"));
+    compare_are(false, "~1.2.0", "^1.2.0", differ_by("", "1.3.0", "1.2.0"), differ_by("", "1.3.0", "1.2.0"), differ_by("", "1.3.0-0", "1.2.0"));
+    compare_are(false, "<2.0.0", "<2.0.0-0", differ_by("", "", "0.0.0"), differ_by("", "", "0.0.0"), differ_by("2.0.0-0", "", "0.0.0-0"));
+    compare_are(false, "^1.2", ">=1.2.0 <2.0.0", differ_by("", "", "1.2.0"), differ_by("", "", "1.2.0"), differ_by("", "2.0.0-0", "1.2.0"));
+    compare_are(false, ">1.0.0-rc.1", ">=1.0.0-rc.1", differ_by("", "", "1.0.0"), differ_by("", "1.0.0-rc.1", "1.0.0-rc.1.0"),
+                differ_by("", "1.0.0-rc.1", "1.0.0-rc.1.0"));
+    compare_are(false, "^1.2.3", "^1.2.3-beta", differ_by("", "", "1.2.3"), differ_by("", "1.2.3-beta", "1.2.3"), differ_by("", "1.2.3-beta", "1.2.3"));
+    compare_are(true, "=2.0.1-a || >=2.0.0", ">=2.0.0", differ_by("", "", "2.0.0"), differ_by("2.0.1-a", "", "2.0.0"), differ_by("", "", "2.0.0"));
+    compare_are(true, "=1.2.3-a", "=1.2.3-b", differ_by("", "", ""), differ_by("1.2.3-a", "1.2.3-b", ""), differ_by("1.2.3-a", "1.2.3-b", ""));
+    compare_are(true, ">=1.0.0-2 <1.0.0", ">=1.0.0-10 <1.0.0", differ_by("", "", ""), differ_by("1.0.0-2", "", "1.0.0-10"),
+                differ_by("1.0.0-2", "", "1.0.0-10"));
+    compare_are(true, "=1.2.3-01", "=1.2.3-1", differ_by("", "", ""), differ_by("", "", "1.2.3-1"), differ_by("", "", "1.2.3-1"));
+    text with_a = long_text("=1.2.3-", "a", "");
+    text with_b = long_text("=1.2.3-", "b", "");
+    three both = differ_by(with_a.bytes + 1, with_b.bytes + 1, "");
+    compare_are(true, with_a.bytes, with_b.bytes, differ_by("", "", ""), both, both);
+    text_free(&with_a);
+    text_free(&with_b);
+}
+
+/* Bare versions, which the modes read apart. */
+static void compared_in_modes(void) {
+    three releases = differ_by("", "1.2.4", "1.2.3");
+    compare_are(true, "1.2.3", "^1.2.3", releases, releases, differ_by("", "1.2.4-0", "1.2.3"));
+    differ_alike(false, "1.2.3", "^1.2.3", "", "", "1.2.3");
+}
+
+/* A fault of the rule goes before any of the old range, and that before any of the new one. */
+static void faults_of_two_ranges(void) {
+    const char *no_number = "<=" MOST;
+    for (int32_t rule = 0; rule < 3; rule++) {
+        compare_fault_is(false, "v1", "^1", rule, SEMVER_PARSER_NOT_A_RANGE);
+        compare_fault_is(false, "^1", "v1", rule, SEMVER_PARSER_NEW_NOT_A_RANGE);
+        compare_fault_is(false, "\xFF", "^1", rule, SEMVER_PARSER_RANGE_NOT_UTF8);
+        compare_fault_is(false, "^1", "\xFF", rule, SEMVER_PARSER_NEW_RANGE_NOT_UTF8);
+        compare_fault_is(false, no_number, "", rule, SEMVER_PARSER_NUMBER_TOO_LARGE);
+        compare_fault_is(false, "", no_number, rule, SEMVER_PARSER_NEW_NUMBER_TOO_LARGE);
+        compare_fault_is(false, "0.0." MOST, "*", rule, SEMVER_PARSER_NUMBER_TOO_LARGE);
+        compare_fault_is(false, "*", "0.0." MOST, rule, SEMVER_PARSER_NEW_NUMBER_TOO_LARGE);
+        compare_fault_is(false, no_number, "\xFF", rule, SEMVER_PARSER_NUMBER_TOO_LARGE);
+        compare_fault_is(false, "v1", "|", rule, SEMVER_PARSER_NOT_A_RANGE);
+    }
+    compare_fault_is(true, "v1", "^1", 3, SEMVER_PARSER_NO_SUCH_RULE);
+    compare_fault_is(true, "^1", "v1", -1, SEMVER_PARSER_NO_SUCH_RULE);
+    compare_fault_is(true, "", "", INT32_MIN, SEMVER_PARSER_NO_SUCH_RULE);
+}
+
+/* ---- what has no proof */
+
 static void sentences(void) {
     text none = string("");
     check(strcmp(semver_parser_library_version(), SEMVER_PARSER_VERSION) == 0, "another version of the library", &none);
-    for (int32_t answer = -1; answer <= 17; answer++) {
+    for (int32_t answer = -1; answer <= 21; answer++) {
         const char *sentence = semver_parser_fault_text(answer);
         check(sentence != NULL && sentence[0] != 0, "no sentence", &none);
-        bool is_named = answer == 0 || (answer >= 2 && answer <= 15);
+        bool is_named = answer == 0 || (answer >= 2 && answer <= 19);
         check(is_named == (strcmp(sentence, semver_parser_fault_text(1)) != 0), "the sentence of no answer", &none);
         for (int32_t other = 0; other < answer && is_named; other++) {
             check(strcmp(sentence, semver_parser_fault_text(other)) != 0, "a sentence of two answers", &none);
@@ -505,6 +625,10 @@ int main(void) {
     very_many(false);
     very_many(true);
     least_versions();
+    compared_releases();
+    compared_pre_releases();
+    compared_in_modes();
+    faults_of_two_ranges();
     sentences();
     printf("rules: %s\n", failed == 0 ? "passed" : "failed");
     return failed == 0 ? 0 : 1;

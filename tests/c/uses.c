@@ -54,11 +54,29 @@ static int use_least(void) {
     return length == 5 && memcmp(out, "1.2.0", 5) == 0 ? 0 : 1;
 }
 
+static int use_compare(void) {
+    uint8_t out[64];
+    size_t length = 0;
+    semver_parser_comparison comparison;
+    int32_t answer = semver_parser_compare(bytes_of("^1.2.0"), 6, bytes_of(">=1.4.0"), 7, true, SEMVER_PARSER_STATED_PRE_RELEASES, out, sizeof out, &length,
+                                           &comparison);
+    if (answer != SEMVER_PARSER_OK || length != 15 || memcmp(out, "1.2.02.0.01.4.0", 15) != 0) {
+        return 1;
+    }
+    if (comparison.lost.offset != 0 || comparison.gained.offset != 5 || comparison.shared.offset != 10 || comparison.shared.length != 5) {
+        return 1;
+    }
+    return semver_parser_compare(NULL, 0, bytes_of("v1"), 2, true, SEMVER_PARSER_ALL_PRE_RELEASES, NULL, 0, &length, &comparison) ==
+                   SEMVER_PARSER_NEW_NOT_A_RANGE
+               ? 0
+               : 1;
+}
+
 int main(void) {
     semver_parser_version version;
     int32_t answer = semver_parser_parse_version(bytes_of("1.2"), 3, &version);
     int failed = strcmp(semver_parser_library_version(), SEMVER_PARSER_VERSION) != 0 || answer != SEMVER_PARSER_UNEXPECTED_END;
-    failed |= use_rewriting() | use_meeting() | use_least();
+    failed |= use_rewriting() | use_meeting() | use_least() | use_compare();
     printf("uses: %s\n", failed ? "failed" : "passed");
     return failed;
 }

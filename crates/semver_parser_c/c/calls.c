@@ -57,6 +57,12 @@ int32_t semver_parser_least(const uint8_t *range, size_t range_length, bool npm,
     return semver_parser_proved_least(text_at(range, range_length), range_length, npm, pre_releases, room_at(out, room), room, length);
 }
 
+int32_t semver_parser_compare(const uint8_t *old_range, size_t old_range_length, const uint8_t *new_range, size_t new_range_length, bool npm,
+                              int32_t pre_releases, uint8_t *out, size_t room, size_t *length, semver_parser_comparison *comparison) {
+    return semver_parser_proved_compare(text_at(old_range, old_range_length), old_range_length, text_at(new_range, new_range_length), new_range_length, npm,
+                                        pre_releases, room_at(out, room), room, length, comparison);
+}
+
 /* ---- many versions */
 
 /* Whether some text is an empty one at null. */
@@ -124,6 +130,10 @@ const char *semver_parser_fault_text(int32_t answer) {
     case SEMVER_PARSER_RANGE_OUT_OF_MEMORY: return "out of memory at the range";
     case SEMVER_PARSER_NO_ROOM: return "the room is too small";
     case SEMVER_PARSER_NO_SUCH_RULE: return "no rule for pre-releases has this number";
+    case SEMVER_PARSER_NEW_RANGE_NOT_UTF8: return "the new range isn't UTF-8";
+    case SEMVER_PARSER_NEW_NOT_A_RANGE: return "the new range is not a range";
+    case SEMVER_PARSER_NEW_NUMBER_TOO_LARGE: return "the new range has a number that is too large";
+    case SEMVER_PARSER_NEW_RANGE_OUT_OF_MEMORY: return "out of memory at the new range";
     default: return "no call answers this number";
     }
 }

@@ -29,6 +29,9 @@ int32_t semver_parser_proved_meets_each(const uint8_t *range, size_t range_lengt
 int32_t semver_parser_proved_least(const uint8_t *range, size_t range_length, bool npm, int32_t pre_releases, uint8_t *out, size_t room,
                                    size_t *length);
 
+int32_t semver_parser_proved_compare(const uint8_t *old_range, size_t old_range_length, const uint8_t *new_range, size_t new_range_length, bool npm,
+                                     int32_t pre_releases, uint8_t *out, size_t room, size_t *length, semver_parser_comparison *comparison);
+
 #ifdef __cplusplus
 }
 #endif

@@ -13,9 +13,9 @@
  *
  * WHAT THE CALLER OWES. No check of a proof or of a compiler sees it:
  * - A text has as many bytes as is said, an array as many items, and a room has room for as many. They don't change while the call runs, but by the call.
- * - What a call writes to (`out`, `length`, `comparators`, `count`, `meets`, `answers`) overlaps with nothing else that it is given. It is aligned as its
+ * - What a call writes to (`out`, `length`, `comparators`, `count`, `meets`, `answers`, `comparison`) overlaps with nothing else that it is given. It is aligned as its
  *   type is, and so is the array `versions`.
- * - Where a call writes one object (`out` of a version, `length`, `count`, `meets`), its pointer is never null.
+ * - Where a call writes one object (`out` of a version, `length`, `count`, `meets`, `comparison`), its pointer is never null.
  * - A bool is 0 or 1.
  * - No call is made from a signal handler, nor from the forked child of a process that has several threads: calls take memory from `malloc`.
  *
@@ -88,7 +88,18 @@ enum {
     /* A room is too small for what is to be put there. */
     SEMVER_PARSER_NO_ROOM = 14,
     /* No rule for pre-releases has that number. */
-    SEMVER_PARSER_NO_SUCH_RULE = 15
+    SEMVER_PARSER_NO_SUCH_RULE = 15,
+
+    /* Faults of the new range text where two are compared. */
+
+    /* The bytes aren't UTF-8. */
+    SEMVER_PARSER_NEW_RANGE_NOT_UTF8 = 16,
+    /* The text isn't in the range grammar. */
+    SEMVER_PARSER_NEW_NOT_A_RANGE = 17,
+    /* It is, and a number that it states, or an upper bound that is raised by one, is above 2^64 - 1. */
+    SEMVER_PARSER_NEW_NUMBER_TOO_LARGE = 18,
+    /* Memory ran out at the new range, or where both are compared. */
+    SEMVER_PARSER_NEW_RANGE_OUT_OF_MEMORY = 19
 };
 
 /* The rules for pre-releases, one of which is passed as `pre_releases`. A version without pre-release counts by each of them (docs/MEANING.md, "Three
@@ -154,6 +165,17 @@ typedef struct {
     /* Where the printed set has the identifiers of the pre-release, joined by dots, without the `-` in front of them. */
     semver_parser_part pre;
 } semver_parser_comparator;
+
+/* What an old range and a new one mean alone and together, each by where the text of the least such version lies. Where there is no such version, both
+ * fields of its part are 0. */
+typedef struct {
+    /* The least version that the old range means and the new one doesn't. */
+    semver_parser_part lost;
+    /* The least version that the new range means and the old one doesn't. */
+    semver_parser_part gained;
+    /* The least version that both mean. */
+    semver_parser_part shared;
+} semver_parser_comparison;
 
 /* A text in an array of texts. */
 typedef struct {
@@ -304,6 +326,35 @@ int32_t semver_parser_meets_each(const uint8_t *range, size_t range_length, bool
  * Time: that of sorting the comparators of the range.
  */
 int32_t semver_parser_least(const uint8_t *range, size_t range_length, bool npm, int32_t pre_releases, uint8_t *out, size_t room, size_t *length);
+
+/* Compares what an old range text means with what a new one means, by the rule for pre-releases that `pre_releases` names, and prints three versions into the
+ * `room` bytes at `out`, one behind the other: the least that the old range means and the new one doesn't, the least that the new one means and the old one
+ * doesn't, and the least that both mean. `comparison` tells where each lies. Both texts are read in npm's mode where `npm` holds, and else in Cargo's.
+ * Neither `length` nor `comparison` is null.
+ *
+ * `^1.2.0` and `>=1.4.0` give `1.2.02.0.01.4.0`: 1.2.0 is lost, at offset 0, 2.0.0 is gained, at offset 5, and 1.4.0 is shared, at offset 10, each with length
+ * 5. Every version of the old range is one of the new range exactly where nothing is lost, and both mean the same exactly where nothing is gained either.
+ *
+ * Least they are by precedence, and they have no build. It goes by what the ranges mean by themselves, as `semver_parser_meets` does, among all versions
+ * with numbers up to 2^64 - 1.
+ *
+ * Answers
+ * - SEMVER_PARSER_OK: the texts stand at the front of `out`, with no zero byte between or behind them, `length` is how many bytes they have together, and
+ *   `comparison` has where each lies. What `out` has behind these is as it was.
+ * - SEMVER_PARSER_NO_ROOM: they have more than `room` bytes. `length` and `comparison` are told all the same, and `out` is as it was. So a call with `room` 0
+ *   answers which of the three there are.
+ * - SEMVER_PARSER_NO_SUCH_RULE exactly where no rule for pre-releases has that number, whatever the texts are.
+ * - A fault of the old range, as those of `semver_parser_rewrite`, whatever the new one is: SEMVER_PARSER_RANGE_NOT_UTF8, _NOT_A_RANGE, _NUMBER_TOO_LARGE
+ *   or _RANGE_OUT_OF_MEMORY. The old range is read first.
+ * - Where the old range has none, a fault of the new one: SEMVER_PARSER_NEW_RANGE_NOT_UTF8, _NEW_NOT_A_RANGE or _NEW_NUMBER_TOO_LARGE, exactly as the
+ *   first three of the old one; or SEMVER_PARSER_NEW_RANGE_OUT_OF_MEMORY where memory ran out at the new range, which is one that fits, or later.
+ *
+ * After any answer but SEMVER_PARSER_OK `out` is as it was, and after any but the first two `length` and `comparison` are too.
+ *
+ * Time: that of sorting the comparators of both ranges.
+ */
+int32_t semver_parser_compare(const uint8_t *old_range, size_t old_range_length, const uint8_t *new_range, size_t new_range_length, bool npm,
+                              int32_t pre_releases, uint8_t *out, size_t room, size_t *length, semver_parser_comparison *comparison);
 
 #ifdef __cplusplus
 }

@@ -4,3 +4,5 @@ mod PrintedPlaces
 mod PrintedSets
 mod Steps
 mod LeastVersions
+mod ComparedVersions
+mod NewRanges

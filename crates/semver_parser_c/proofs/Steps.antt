@@ -26,7 +26,7 @@ use Rattle.semver_parser.proofs.VersionMemory.{may_run_out}
 use Rattle.release_filter.specs.declared.PreReleases.{PreReleases}
 use Rattle.semver_parser_c.specs.Numbers.{ok, no_room, version_not_utf8, version_out_of_memory, no_such_rule}
 use Rattle.semver_parser_c.specs.Faults.{IsOneOf, RangeIsRead, fault_number, range_fault_number, outcome_number, version_faults}
-use Rattle.semver_parser_c.specs.Faults.{range_faults, RefusesRange, RefusesVersion}
+use Rattle.semver_parser_c.specs.Faults.{range_faults, RangeNumbers, RefusesBy, RefusesRange, RefusesVersion, range_numbers}
 use Rattle.semver_parser_c.specs.Rules.{IsAnswer, IsMeeting, IsRule}
 
 -- ---- the faults that a version text has
@@ -90,7 +90,7 @@ not_among [] n one none = one
 not_among (m ∷ ms) n one none = ⊎_elim none.0 (λ later. not_among ms n later none.1) one
 
 -- what is so of each number of a list is so of one of them
-among : (P : ℤ → Type 0) (ms : List ℤ) → AllByRecursion P ms → (n : ℤ) → IsOneOf ms n → P n
+pub among : (P : ℤ → Type 0) (ms : List ℤ) → AllByRecursion P ms → (n : ℤ) → IsOneOf ms n → P n
 among P [] all n one = absurd one
 among P (m ∷ ms) all n one = ⊎_elim (λ is. subst P (sym is) all.0) (λ later. among P ms all.1 n later) one
 
@@ -211,30 +211,36 @@ isnt_read Asked mode text z n same one asked refused read = not_among range_faul
   ),
 )
 
+-- a number that says nothing against a range but that its memory wasn't found
+abbrev pub IsApart : RangeNumbers → ℤ → Type 0
+IsApart by m = ((m ≡ by.not_utf8) → ⊥) × ((m ≡ by.not_a_range) → ⊥) × ((m ≡ by.too_large) → ⊥)
+
+-- by such a number a range that fits isn't refused
+pub not_refused : (by : RangeNumbers) (Asked : Type 0) (mode : Compat) (range : Text) (n : ℤ) → IsApart by n → IsUtf8 range
+    → HasSet mode range → RefusesBy by Asked mode range n
+not_refused by Asked mode range n (bytes, text, large) utf8 (tree, spells, fit) = record {
+  not_utf8 = λ _. (λ is. absurd (bytes is), λ bad. absurd (bad utf8));
+  not_a_range = λ _ _. (λ is. absurd (text is), λ bad. absurd (bad (tree, spells)));
+  too_large = λ _ _. (λ is. absurd (large is), λ h. clash (sym h.2 ∙ ap (fits mode) (same_tree h.0 tree range h.1 spells) ∙ fit));
+  out_of_memory = λ _. (tree, spells, fit);
+}
+
 -- a range that was read isn't refused where the version is
 pub range_stands : (Asked : Type 0) (mode : Compat) (range : Text) (n : ℤ) → IsOneOf version_faults n → IsUtf8 range → HasSet mode range
     → RefusesRange Asked mode range n
-range_stands Asked mode range n one utf8 (tree, spells, fit) =
-    let (bytes, text, large, memory) = among IsNone version_faults (
+range_stands Asked mode range n one utf8 set =
+    not_refused range_numbers Asked mode range n
+    (among (IsApart range_numbers) version_faults (
       none 2 (omega arith),
       (none 3 (omega arith), (none 4 (omega arith), (none 5 (omega arith), (none 6 (omega arith), (none 9 (omega arith), tt))))),
-    ) n one in
-    record {
-      not_utf8 = λ _. (λ is. absurd (bytes is), λ bad. absurd (bad utf8));
-      not_a_range = λ _ _. (λ is. absurd (text is), λ bad. absurd (bad (tree, spells)));
-      too_large = λ _ _. (λ is. absurd (large is), λ h. clash (sym h.2 ∙ ap (fits mode) (same_tree h.0 tree range h.1 spells) ∙ fit));
-      out_of_memory = λ is. absurd (memory is);
-    }
+    ) n one)
+    utf8 set
   where
-    IsNone : ℤ → Type 0
-    IsNone m = ((m ≡ pos 10) → ⊥) × ((m ≡ pos 11) → ⊥) × ((m ≡ pos 12) → ⊥) × ((m ≡ pos 13) → ⊥)
-
-    none : (m : ℕ) → m < 10 → IsNone (pos m)
+    none : (m : ℕ) → m < 10 → IsApart range_numbers (pos m)
     none m small = (
       differ m 10 (λ e. omega (arith, e, small)),
       differ m 11 (λ e. omega (arith, e, small)),
       differ m 12 (λ e. omega (arith, e, small)),
-      differ m 13 (λ e. omega (arith, e, small)),
     )
 
 -- and one that was refused for the rule or the range isn't

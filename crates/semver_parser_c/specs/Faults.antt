@@ -16,7 +16,7 @@ use Rattle.semver_parser.specs.RangeTexts.{IsRangeText, HasSet, IsTooLarge}
 use Rattle.semver_parser.specs.RewritingTable.{fits, rewritten, PlainSet}
 use Rattle.semver_parser.specs.ExactBounds.{rewritten_exactly}
 use Rattle.semver_parser_c.specs.Numbers as number
-use Rattle.semver_parser_c.specs.Numbers.{range_out_of_memory, version_out_of_memory}
+use Rattle.semver_parser_c.specs.Numbers.{version_out_of_memory}
 
 -- the number of a fault of a version text
 abbrev pub fault_number : Fault → ℤ
@@ -55,11 +55,42 @@ version_faults =
     number.version_not_utf8 ∷ number.unexpected_end ∷ number.unexpected_token
     ∷ number.unexpected_char ∷ number.more_input ∷ number.version_out_of_memory ∷ []
 
+-- the numbers of the faults of a range text
+pub record RangeNumbers : Type 0 where
+  pub not_utf8 : ℤ
+  pub not_a_range : ℤ
+  pub too_large : ℤ
+  pub out_of_memory : ℤ
+
+-- those of a range, and of the old one where two are compared
+abbrev pub range_numbers : RangeNumbers
+range_numbers = record {
+  not_utf8 = number.range_not_utf8;
+  not_a_range = number.not_a_range;
+  too_large = number.number_too_large;
+  out_of_memory = number.range_out_of_memory;
+}
+
+-- those of the new range where two are compared
+abbrev pub new_range_numbers : RangeNumbers
+new_range_numbers = record {
+  not_utf8 = number.new_range_not_utf8;
+  not_a_range = number.new_not_a_range;
+  too_large = number.new_number_too_large;
+  out_of_memory = number.new_range_out_of_memory;
+}
+
+-- them as a list
+abbrev pub listed : RangeNumbers → List ℤ
+listed r = r.not_utf8 ∷ r.not_a_range ∷ r.too_large ∷ r.out_of_memory ∷ []
+
 -- the numbers that reading a range text answers, but for `ok`
 abbrev pub range_faults : List ℤ
-range_faults =
-    number.range_not_utf8 ∷ number.not_a_range ∷ number.number_too_large
-    ∷ number.range_out_of_memory ∷ []
+range_faults = listed range_numbers
+
+-- and of the new one, where two are compared
+abbrev pub new_range_faults : List ℤ
+new_range_faults = listed new_range_numbers
 
 -- the mode that C names by a bool
 abbrev pub mode_of : Bool → Compat
@@ -74,11 +105,26 @@ set_for false mode tree = rewritten mode tree
 -- what a call refuses of a range text by the number that it answers, where it is asked for: bytes
 -- that are no UTF-8, texts that are no range, and numbers that are too large, all exactly. Memory
 -- runs out only where the text is a range that fits
-pub record RefusesRange (Asked : Type 0) (mode : Compat) (text : Text) (n : ℤ) : Type 0 where
-  pub not_utf8 : Asked → (n ≡ number.range_not_utf8) ↔ ¬ (IsUtf8 text)
-  pub not_a_range : Asked → IsUtf8 text → (n ≡ number.not_a_range) ↔ ¬ (IsRangeText text)
-  pub too_large : Asked → IsUtf8 text → (n ≡ number.number_too_large) ↔ IsTooLarge mode text
-  pub out_of_memory : n ≡ range_out_of_memory → HasSet mode text
+pub record RefusesBy (by : RangeNumbers) (Asked : Type 0) (mode : Compat) (text : Text) (n : ℤ)
+    : Type 0 where
+  pub not_utf8 : Asked → (n ≡ by.not_utf8) ↔ ¬ (IsUtf8 text)
+  pub not_a_range : Asked → IsUtf8 text → (n ≡ by.not_a_range) ↔ ¬ (IsRangeText text)
+  pub too_large : Asked → IsUtf8 text → (n ≡ by.too_large) ↔ IsTooLarge mode text
+  pub out_of_memory : n ≡ by.out_of_memory → HasSet mode text
+
+-- so of a range, and of the new one where two are compared
+abbrev pub RefusesRange : Type 0 → Compat → Text → ℤ → Type 0
+RefusesRange = RefusesBy range_numbers
+
+abbrev pub RefusesNewRange : Type 0 → Compat → Text → ℤ → Type 0
+RefusesNewRange = RefusesBy new_range_numbers
+
+-- a number of the new range that stands for one of a range, at the same place of their lists
+abbrev pub IsNumberOfNew : ℤ → ℤ → Type 0
+IsNumberOfNew m n = ((m ≡ number.range_not_utf8) × (n ≡ number.new_range_not_utf8))
+    ⊎ (((m ≡ number.not_a_range) × (n ≡ number.new_not_a_range))
+    ⊎ (((m ≡ number.number_too_large) × (n ≡ number.new_number_too_large))
+    ⊎ ((m ≡ number.range_out_of_memory) × (n ≡ number.new_range_out_of_memory))))
 
 -- what a call refuses of a version text by the number that it answers: bytes that are no UTF-8,
 -- exactly; of a text that spells no version the fault that is its outcome; and a version for want
@@ -92,9 +138,16 @@ pub record RefusesVersion (text : Text) (n : ℤ) : Type 0 where
   pub out_of_memory : n ≡ version_out_of_memory → TextMayRunOut text
 
 -- the text is a range that fits, and its memory was found
-pub record RangeIsRead (mode : Compat) (text : Text) (answer : ℤ) : Type 0 where
+pub record IsReadBy (by : RangeNumbers) (mode : Compat) (text : Text) (answer : ℤ) : Type 0 where
   pub utf8 : IsUtf8 text
   pub tree : SetTree
   pub spells : Spells tree text
   pub fit : IsTrue (fits mode tree)
-  pub memory : answer ≢ range_out_of_memory
+  pub memory : answer ≢ by.out_of_memory
+
+-- so of a range, and of the new one where two are compared
+abbrev pub RangeIsRead : Compat → Text → ℤ → Type 0
+RangeIsRead = IsReadBy range_numbers
+
+abbrev pub NewRangeIsRead : Compat → Text → ℤ → Type 0
+NewRangeIsRead = IsReadBy new_range_numbers

@@ -5,3 +5,4 @@ pub mod Printing
 pub mod Comparators
 pub mod Rules
 pub mod Sets
+pub mod Compared

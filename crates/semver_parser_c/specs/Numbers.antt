@@ -62,6 +62,22 @@ no_room = pos 14
 abbrev pub no_such_rule : ℤ
 no_such_rule = pos 15
 
+-- the bytes of the new range aren't UTF-8, where two are compared
+abbrev pub new_range_not_utf8 : ℤ
+new_range_not_utf8 = pos 16
+
+-- the new range isn't in the range grammar
+abbrev pub new_not_a_range : ℤ
+new_not_a_range = pos 17
+
+-- a stated number of the new range, or a raised bound, is above 2^64 - 1
+abbrev pub new_number_too_large : ℤ
+new_number_too_large = pos 18
+
+-- memory ran out at the new range, or where both are compared
+abbrev pub new_range_out_of_memory : ℤ
+new_range_out_of_memory = pos 19
+
 -- the rules for pre-releases: none meets
 abbrev pub releases_alone : ℤ
 releases_alone = pos 0

@@ -1,7 +1,7 @@
 //! The calls for C, proved: reading a version text, rewriting a range text, which versions meet a
-//! range, and the least of them. `include/semver_parser.h` says them in C's words, without `proved_`
-//! in their names, and `c/calls.c` makes those of these: there null with a length of 0 is an empty
-//! text or an empty room.
+//! range, the least of them, and how two ranges compare. `include/semver_parser.h` says them in C's
+//! words, without `proved_` in their names, and `c/calls.c` makes those of these: there null with a
+//! length of 0 is an empty text or an empty room.
 //!
 //! A text is bytes, and bytes that are no UTF-8 are a fault of their own. Each call answers one of
 //! the numbers in `numbers`. Nothing is kept between calls, and nothing is left for the caller to
@@ -9,6 +9,7 @@
 #![tactic(auto)]
 
 mod comparators;
+mod compared;
 mod meeting;
 mod numbers;
 mod range_text;
@@ -30,14 +31,18 @@ ghost use Rattle.semver_parser.specs.PrintedRanges.{set_text};
 ghost use Rattle.release_filter.specs.PreReleaseRules.{meant_with};
 ghost use Rattle.release_filter.specs.declared.PreReleases.{PreReleases as Rule};
 ghost use Rattle.semver_parser_c.specs.Numbers as number;
-ghost use Rattle.semver_parser_c.specs.Faults.{IsOneOf, RangeIsRead, mode_of, outcome_number};
-ghost use Rattle.semver_parser_c.specs.Faults.{RefusesRange, range_faults, set_for, version_faults};
+ghost use Rattle.semver_parser_c.specs.Faults.{IsOneOf, NewRangeIsRead, RangeIsRead, mode_of};
+ghost use Rattle.semver_parser_c.specs.Faults.{RefusesNewRange, RefusesRange, new_range_faults};
+ghost use Rattle.semver_parser_c.specs.Faults.{outcome_number, range_faults, set_for};
+ghost use Rattle.semver_parser_c.specs.Faults.{version_faults};
 ghost use Rattle.semver_parser_c.specs.Places.{bytes_at, told};
 ghost use Rattle.semver_parser_c.specs.Comparators.{HasPreReleases, told_set};
 ghost use Rattle.semver_parser_c.specs.Printing.{Puts, PutsBoth};
 ghost use Rattle.semver_parser_c.specs.Rules.{IsAnswer, IsRule, rule_number};
 ghost use Rattle.semver_parser_c.specs.Sets.{IsMeant, text_of};
+ghost use Rattle.semver_parser_c.specs.Compared.{Compares, joined_texts, places_of};
 ghost use Rattle.version_sets.specs.Comparisons.{TellsLeast};
+ghost use Rattle.version_sets.specs.declared.comparison.Comparison.{Comparison};
 
 use std::alloc::Global;
 
@@ -86,6 +91,19 @@ pub struct PrintedComparator {
     /// Where the printed set has the identifiers of the pre-release, joined by dots, without the
     /// `-` in front of them.
     pub pre: Part,
+}
+
+/// What an old range and a new one mean alone and together, each by where the text of the least
+/// such version lies; its place and its length are 0 where there is no such version.
+#[repr(C)]
+#[derive(Clone, Copy)]
+pub struct ComparedRanges {
+    /// The least version that the old range means and the new one doesn't.
+    pub lost: Part,
+    /// The least version that the new range means and the old one doesn't.
+    pub gained: Part,
+    /// The least version that both mean.
+    pub shared: Part,
 }
 
 /// Reads a version text: `OK` with the version in `out`, or the number of a fault with `out` as it
@@ -452,5 +470,76 @@ pub extern "C" fn semver_parser_proved_least(
     match sets::print_least(alloc, &meant) {
         Ok(printed) => range_text::put(printed.as_bytes(), out, length),
         Err(_) => numbers::RANGE_OUT_OF_MEMORY,
+    }
+}
+
+/// Compares what an old range means with what a new one means, by the rule for pre-releases that a
+/// number names: `OK` with three texts at the front of `out`, one behind the other, and where each
+/// lies in `comparison`. They are the least version that the old range means and the new one
+/// doesn't, the least that the new one means and the old one doesn't, and the least that both mean.
+/// Both are read in npm's mode where `npm` holds, and else in Cargo's. Least are they by precedence
+/// (SemVer 2.0.0, section 11), and they have no build; numbers go up to 2^64 - 1.
+///
+/// `^1.2.0` and `>=1.4.0` give `1.2.02.0.01.4.0`: 1.2.0 is lost, 2.0.0 is gained, 1.4.0 is shared.
+///
+/// `length` becomes the length of the three texts together and `comparison` where they lie, also
+/// where `out` has no room for them (`NO_ROOM`), so a call with an empty `out` asks which there are.
+/// `out` is as it was behind the texts, and all of it after any answer but `OK`. `length` and
+/// `comparison` are as they were after a fault of the rule or of a text.
+///
+/// # Faults
+///
+/// `NO_SUCH_RULE`, whatever the texts. Then the old range is read: `RANGE_NOT_UTF8`, `NOT_A_RANGE`,
+/// `NUMBER_TOO_LARGE` and `RANGE_OUT_OF_MEMORY`, whatever the new one. Then the new one:
+/// `NEW_RANGE_NOT_UTF8`, `NEW_NOT_A_RANGE`, `NEW_NUMBER_TOO_LARGE` and `NEW_RANGE_OUT_OF_MEMORY`,
+/// which also tells want of memory while both are compared. Then `NO_ROOM`.
+#[unsafe(no_mangle)]
+pub extern "C" fn semver_parser_proved_compare(
+    alloc: Global,
+    old_range: &[u8],
+    new_range: &[u8],
+    npm: bool,
+    pre_releases: i32,
+    out: &mut [u8],
+    length: &mut usize,
+    comparison: &mut ComparedRanges,
+) -> i32
+    ensures numbers { IsOneOf (number.ok ∷ number.no_room ∷ number.no_such_rule
+        ∷ range_faults ++ new_range_faults) result }
+    // What is put into the room are the texts of what is lost, gained and shared by what both
+    // ranges themselves mean by the rule, and where each lies is told.
+    ensures told { (result ≡ number.ok) ⊎ (result ≡ number.no_room)
+        → (rule : Rule) → pre_releases ≡ rule_number rule
+        → (old new : SetTree) → Spells old old_range.now → Spells new new_range.now
+        → (told : Comparison) × Compares rule (mode_of npm) old new told
+        × Puts (joined_texts told) out.old out.new length.new result
+        × (comparison.new ≡ places_of told) }
+    ensures read { (result ≡ number.ok) ⊎ (result ≡ number.no_room) → IsRule pre_releases
+        × RangeIsRead (mode_of npm) old_range.now result
+        × NewRangeIsRead (mode_of npm) new_range.now result }
+
+    // Faults of the rule, of the old range, and where that is read of the new one, whatever the
+    // room.
+    ensures no_such_rule { (result ≡ number.no_such_rule) ↔ ¬ (IsRule pre_releases) }
+    ensures refusals { RefusesRange (IsRule pre_releases) (mode_of npm) old_range.now result }
+    ensures new_refusals { RefusesNewRange
+        (IsRule pre_releases × RangeIsRead (mode_of npm) old_range.now result)
+        (mode_of npm) new_range.now result }
+    ensures room_unchanged { result ≢ number.ok → out.new ≡ out.old }
+    ensures length_unchanged { IsOneOf (number.no_such_rule ∷ range_faults ++ new_range_faults)
+        result → length.new ≡ length.old }
+    ensures comparison_unchanged { IsOneOf (number.no_such_rule ∷ range_faults ++ new_range_faults)
+        result → comparison.new ≡ comparison.old }
+{
+    let (old_set, new_set) = match sets::sets_of(alloc, old_range, new_range, npm, pre_releases) {
+        Ok(sets) => sets,
+        Err(number) => return number,
+    };
+    match compared::compare(alloc, &old_set, &new_set) {
+        Ok(compared) => {
+            *comparison = compared.places;
+            range_text::put(compared.text.as_bytes(), out, length)
+        }
+        Err(_) => numbers::NEW_RANGE_OUT_OF_MEMORY,
     }
 }

@@ -30,6 +30,14 @@ pub const RANGE_OUT_OF_MEMORY: i32 = 13;
 pub const NO_ROOM: i32 = 14;
 /// No rule for pre-releases has that number.
 pub const NO_SUCH_RULE: i32 = 15;
+/// The bytes of the new range aren't UTF-8, where two are compared.
+pub const NEW_RANGE_NOT_UTF8: i32 = 16;
+/// The new range isn't in the range grammar.
+pub const NEW_NOT_A_RANGE: i32 = 17;
+/// A stated number of the new range, or a raised bound, is above 2^64 - 1.
+pub const NEW_NUMBER_TOO_LARGE: i32 = 18;
+/// Memory ran out at the new range, or where both are compared.
+pub const NEW_RANGE_OUT_OF_MEMORY: i32 = 19;
 
 /// The rule for pre-releases by which none meets a range.
 pub const RELEASES_ALONE: i32 = 0;

@@ -1,0 +1,52 @@
+-- What is compared of two sets is compared of what the texts themselves mean.
+use Rattle.std.proofs.Common.{◌≡◌, ◌↔◌, ℕ, ℤ, List, Option, Some, None, IsTrue, subst, sym}
+use Rattle.semver_parser.specs.Texts.{Text}
+use Rattle.semver_parser.specs.Versions.{PlainVersion}
+use Rattle.semver_parser.specs.declared.version.Version.{Version}
+use Rattle.semver_parser.specs.declared.Compat.{Compat}
+use Rattle.semver_parser.specs.RangeTree.{SetTree, Spells}
+use Rattle.version_sets.specs.VersionSets.{SetValue, IsIn}
+use Rattle.version_sets.specs.Comparisons.{TellsLeast, IsInFirstAlone, IsInBoth}
+use Rattle.version_sets.specs.declared.comparison.Comparison.{Comparison}
+use Rattle.release_filter.specs.declared.PreReleases.{PreReleases}
+use Rattle.semver_parser_c.specs.Printing.{Puts}
+use Rattle.semver_parser_c.specs.Sets.{IsMeant, IsSetOf, plain}
+use Rattle.semver_parser_c.specs.Compared.{Compares, ComparesSets}
+
+-- what is put into a room is so of the same items, by the number that C gets
+pub puts_same : {A : Type 0} (items wanted old new : List A) (told : ℕ) (z n : ℤ) → items ≡ wanted → z ≡ n → Puts items old new told n
+    → Puts wanted old new told z
+puts_same items wanted old new told z n same is puts =
+    subst (Puts wanted old new told) (sym is) (subst (λ i. Puts i old new told n) same puts)
+
+-- the least of some versions is the least of those that are the same
+told_alike : (P Q : PlainVersion → Type 0) → ((v : PlainVersion) → P v ↔ Q v) → (o : Option Version) → TellsLeast P o → TellsLeast Q o
+told_alike P Q same None none = λ v q. none v ((same v).1 q)
+told_alike P Q same (Some x) least = record {
+  is_one = (same _).0 least.is_one;
+  no_build = least.no_build;
+  lowest = λ w q. least.lowest w ((same w).1 q);
+}
+
+-- what is in the set of a text is what its tree means
+meant : (set : SetValue) (rule : PreReleases) (mode : Compat) (text : Text) (tree : SetTree) → IsSetOf set rule mode text → Spells tree text
+    → (v : PlainVersion) → IsIn v set ↔ IsMeant rule mode tree v
+meant set rule mode text tree is spells v = (
+  λ h. (h.0, subst IsTrue (is tree (plain v) spells h.0) h.1),
+  λ h. (h.0, subst IsTrue (sym (is tree (plain v) spells h.0)) h.1),
+)
+
+pub compared_texts : (old_set new_set : SetValue) (rule : PreReleases) (mode : Compat) (old_text new_text : Text) (old new : SetTree)
+    (told : Comparison) → IsSetOf old_set rule mode old_text → IsSetOf new_set rule mode new_text → Spells old old_text
+    → Spells new new_text → ComparesSets old_set new_set told → Compares rule mode old new told
+compared_texts old_set new_set rule mode old_text new_text old new told old_is new_is old_spells new_spells c =
+    let in_old = meant old_set rule mode old_text old old_is old_spells in
+    let in_new = meant new_set rule mode new_text new new_is new_spells in
+    record {
+      lost = told_alike _ _ (λ v. (λ h. ((in_old v).0 h.0, λ m. h.1 ((in_new v).1 m)), λ h. ((in_old v).1 h.0, λ m. h.1 ((in_new v).0 m))))
+          told.lost c.lost;
+      gained = told_alike _ _ (λ v. (λ h. ((in_new v).0 h.0, λ m. h.1 ((in_old v).1 m)), λ h. ((in_new v).1 h.0, λ m. h.1 ((in_old v).0 m))))
+          told.gained c.gained;
+      shared = told_alike _ _ (λ v. (λ h. ((in_old v).0 h.0, (in_new v).0 h.1), λ h. ((in_old v).1 h.0, (in_new v).1 h.1)))
+          told.shared c.shared;
+    }

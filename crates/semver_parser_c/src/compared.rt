@@ -1,0 +1,78 @@
+//! The texts of what two sets have alone and together, one behind the other.
+
+ghost use Rattle.std.specs.Prelude.{◌≡◌, ◌++◌, IfOk, OnOk, length, string_bytes};
+ghost use Rattle.version_sets.specs.declared.comparison.Comparison.{Comparison as SomeComparison};
+ghost use Rattle.semver_parser_c.specs.Sets.{text_of};
+ghost use Rattle.semver_parser_c.specs.Compared.{ComparesSets, joined_texts, place_behind};
+ghost use Rattle.semver_parser_c.specs.Compared.{places_of};
+
+use crate::{ComparedRanges, Part};
+use semver_parser::version::Version;
+use std::alloc::{AllocError, Global};
+use std::fmt::Write;
+use version_sets::{Comparison, VersionSet};
+
+/// The texts of three versions, one behind the other, and where each lies.
+#[derive(Drop)]
+pub struct Printed {
+    /// The texts.
+    pub text: String,
+    /// Where each lies.
+    pub places: ComparedRanges,
+}
+
+/// Compares two sets, and prints what one has alone, the other has alone, and both have.
+pub fn compare(
+    alloc: Global,
+    old_set: &VersionSet,
+    new_set: &VersionSet,
+) -> Result<Printed, AllocError>
+    ensures { IfOk result (λ printed. (told : SomeComparison)
+        × ComparesSets old_set.now new_set.now told
+        × (string_bytes printed.text ≡ joined_texts told)
+        × (printed.places ≡ places_of told)) }
+{
+    let comparison = old_set.compare(alloc, new_set)?;
+    print(alloc, &comparison)
+}
+
+/// Prints what was compared.
+fn print(alloc: Global, comparison: &Comparison) -> Result<Printed, AllocError>
+    ensures text { IfOk result (λ printed.
+        string_bytes printed.text ≡ joined_texts comparison.now) }
+    ensures places { IfOk result (λ printed. printed.places ≡ places_of comparison.now) }
+{
+    let mut text = String::new(alloc);
+    let lost = append(&mut text, &comparison.lost)?;
+    let gained = append(&mut text, &comparison.gained)?;
+    let shared = append(&mut text, &comparison.shared)?;
+    Ok(Printed {
+        text,
+        places: ComparedRanges {
+            lost,
+            gained,
+            shared,
+        },
+    })
+}
+
+/// Appends the text of a version, if there is one, and tells where it lies.
+fn append(text: &mut String, version: &Option<Version>) -> Result<Part, AllocError>
+    ensures text { OnOk result
+        (string_bytes text.new ≡ string_bytes text.old ++ text_of version.now) }
+    ensures place { IfOk result (λ part.
+        part ≡ place_behind (length (string_bytes text.old)) version.now) }
+{
+    let Some(version) = version else {
+        return Ok(Part {
+            offset: 0,
+            length: 0,
+        });
+    };
+    let offset = text.as_bytes().len();
+    write!(text, "{version}")?;
+    Ok(Part {
+        offset,
+        length: text.as_bytes().len() - offset,
+    })
+}
