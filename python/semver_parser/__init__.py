@@ -25,7 +25,7 @@ libraries.
 from .faults import RangeError, Text, VersionError
 from .filtering import AnyVersion, Filter, greatest, meets
 from .reading import parse_range, parse_version
-from .sets import least
+from .sets import Comparison, compare_ranges, least
 from .values import (
     Comparator,
     Compat,
@@ -43,6 +43,7 @@ __version__ = "0.1.0"
 __all__ = [
     "AnyVersion",
     "Comparator",
+    "Comparison",
     "Compat",
     "Filter",
     "Identifier",
@@ -54,6 +55,7 @@ __all__ = [
     "Text",
     "Version",
     "VersionError",
+    "compare_ranges",
     "greatest",
     "least",
     "meets",

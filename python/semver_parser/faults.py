@@ -1,6 +1,6 @@
 """Why a text is refused: the faults of versions and of ranges, as exceptions."""
 
-from typing import ClassVar, Dict, Union
+from typing import ClassVar, Dict, Optional, Union
 
 from .library import LIBRARY
 
@@ -11,6 +11,7 @@ OK = 0
 VERSION_OUT_OF_MEMORY = 9
 RANGE_OUT_OF_MEMORY = 13
 NO_ROOM = 14
+NEW_RANGE_OUT_OF_MEMORY = 19
 
 _LONGEST_SHOWN = 80
 
@@ -29,10 +30,14 @@ class _TextError(ValueError):
 
     _NUMBERS: ClassVar[Dict[str, int]] = {}
 
-    def __init__(self, name: str, text: Text) -> None:
-        super().__init__(name, text)
+    def __init__(self, name: str, text: Text, place: Union[str, int, None]) -> None:
+        super().__init__(*((name, text) if place is None else (name, text, place)))
         self.name = name
         self.text = text
+
+    def _place(self) -> str:
+        """Which of several texts it is."""
+        return ""
 
     @property
     def sentence(self) -> str:
@@ -44,11 +49,12 @@ class _TextError(ValueError):
         shown = repr(self.text)
         if len(shown) > _LONGEST_SHOWN:
             shown = f"{shown[:_LONGEST_SHOWN]}.. (of length {len(self.text)})"
-        return f"{self.sentence}: {shown}"
+        return f"{self.sentence}{self._place()}: {shown}"
 
 
 class VersionError(_TextError):
-    """A text that is no version. `text` is that text, and `name` is the name of its fault:
+    """A text that is no version. `text` is that text, `index` is its place where many versions were
+    given, counted from 0, and else None, and `name` is the name of its fault:
 
     - `not-utf8`: the bytes aren't UTF-8, or the `str` has a surrogate by itself.
     - `unexpected-end`: the text ends where a version can't, as `1.2`.
@@ -65,9 +71,17 @@ class VersionError(_TextError):
         "more-input": 6,
     }
 
+    def __init__(self, name: str, text: Text, index: Optional[int] = None) -> None:
+        super().__init__(name, text, index)
+        self.index = index
+
+    def _place(self) -> str:
+        return "" if self.index is None else f", at index {self.index}"
+
 
 class RangeError(_TextError):
-    """A text that gives no range. `text` is that text, and `name` is the name of its fault:
+    """A text that gives no range. `text` is that text, `which` is `old` or `new` where two ranges
+    were compared, and else None, and `name` is the name of its fault:
 
     - `not-utf8`: the bytes aren't UTF-8, or the `str` has a surrogate by itself.
     - `not-a-range`: the text isn't in the grammar of ranges, as `1.2.3 -4`.
@@ -77,19 +91,36 @@ class RangeError(_TextError):
 
     _NUMBERS = {"not-utf8": 10, "not-a-range": 11, "number-too-large": 12}
 
+    def __init__(self, name: str, text: Text, which: Optional[str] = None) -> None:
+        super().__init__(name, text, which)
+        self.which = which
+
+    def _place(self) -> str:
+        return "" if self.which is None else f", in the {self.which} range"
+
 
 _VERSION_FAULTS = {number: name for name, number in VersionError._NUMBERS.items()}
 _RANGE_FAULTS = {number: name for name, number in RangeError._NUMBERS.items()}
+_NEW_RANGE_FAULTS = {16: "not-utf8", 17: "not-a-range", 18: "number-too-large"}
 
 
-def raise_fault(answer: int, range: Text = "", version: Text = "") -> None:
-    """Raises what the answer of a call says, unless that is OK."""
+def raise_fault(
+    answer: int,
+    range: Text = "",
+    version: Text = "",
+    index: Optional[int] = None,
+    new_range: Optional[Text] = None,
+) -> None:
+    """Raises what the answer of a call says, unless that is OK. The index is that of the version
+    among many, and the new range is given where two are compared."""
     if answer == OK:
         return
     if answer in _VERSION_FAULTS:
-        raise VersionError(_VERSION_FAULTS[answer], version)
+        raise VersionError(_VERSION_FAULTS[answer], version, index)
     if answer in _RANGE_FAULTS:
-        raise RangeError(_RANGE_FAULTS[answer], range)
-    if answer in (VERSION_OUT_OF_MEMORY, RANGE_OUT_OF_MEMORY):
+        raise RangeError(_RANGE_FAULTS[answer], range, None if new_range is None else "old")
+    if answer in _NEW_RANGE_FAULTS and new_range is not None:
+        raise RangeError(_NEW_RANGE_FAULTS[answer], new_range, "new")
+    if answer in (VERSION_OUT_OF_MEMORY, RANGE_OUT_OF_MEMORY, NEW_RANGE_OUT_OF_MEMORY):
         raise MemoryError
     raise AssertionError(f"the library answered {answer}")

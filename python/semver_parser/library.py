@@ -45,6 +45,12 @@ class ReadComparator(ctypes.Structure):
     ]
 
 
+class ComparedRanges(ctypes.Structure):
+    """What two ranges mean alone and together, each by where the text of a version lies."""
+
+    _fields_ = [("lost", Part), ("gained", Part), ("shared", Part)]
+
+
 class TextItem(ctypes.Structure):
     """A text in an array of texts. Its bytes have to be kept as long as it is used."""
 
@@ -100,7 +106,7 @@ def _declare(library: ctypes.CDLL, path: str) -> None:
     """Sets what the calls take and answer. `bytes` are passed as they are: a pointer to them."""
     text = [ctypes.c_char_p, ctypes.c_size_t]
     size, flag, number = ctypes.c_size_t, ctypes.c_bool, ctypes.c_int32
-    counted = ctypes.POINTER(ctypes.c_size_t)
+    counted, compared = ctypes.POINTER(ctypes.c_size_t), ctypes.POINTER(ComparedRanges)
     rooms = [ctypes.POINTER(ReadComparator), size, counted, ctypes.c_char_p, size, counted]
     calls = {
         "parse_version": [*text, ctypes.POINTER(ReadVersion)],
@@ -108,6 +114,7 @@ def _declare(library: ctypes.CDLL, path: str) -> None:
         "meets": [*text, flag, number, *text, ctypes.POINTER(flag)],
         "meets_each": [*text, flag, number, ctypes.POINTER(TextItem), size, ctypes.c_char_p],
         "least": [*text, flag, number, ctypes.c_char_p, size, counted],
+        "compare": [*text, *text, flag, number, ctypes.c_char_p, size, counted, compared],
         "fault_text": [number],
     }
     for name, takes in calls.items():

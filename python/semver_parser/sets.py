@@ -1,17 +1,18 @@
-"""The versions that a range means, as a set: the least of them.
+"""The versions that a range means, as a set: the least, and how those of two ranges compare.
 
 A range is given as its text, and judged by what that means by itself, and not by its comparators.
 """
 
 import ctypes
+from dataclasses import dataclass
 from typing import Optional
 
 from .faults import NO_ROOM, Text, encoded, raise_fault
-from .library import LIBRARY
+from .library import LIBRARY, ComparedRanges, Part
 from .reading import is_npm, parse_version, rule_number
 from .values import Compat, PreReleases, Version
 
-# The room for a printed version that is tried first.
+# The room for printed versions that is tried first.
 _BYTES = 64
 
 
@@ -41,3 +42,75 @@ def least(
         )
     raise_fault(answer, range=range)
     return parse_version(printed.raw[: length.value]) if length.value else None
+
+
+@dataclass(frozen=True)
+class Comparison:
+    """How what an old range means compares with what a new one means, by the least version of each
+    kind; None where there is no such version, so these tell all that is asked below.
+
+    - `lost`: the least version that the old range means and the new one doesn't.
+    - `gained`: the least version that the new range means and the old one doesn't.
+    - `shared`: the least version that both mean.
+    """
+
+    lost: Optional[Version]
+    gained: Optional[Version]
+    shared: Optional[Version]
+
+    @property
+    def overlaps(self) -> bool:
+        """Whether some version is meant by both."""
+        return self.shared is not None
+
+    @property
+    def is_within(self) -> bool:
+        """Whether each version that the old range means is one that the new range means: nothing is
+        lost. It is so of an old range that means none."""
+        return self.lost is None
+
+    @property
+    def means_same(self) -> bool:
+        """Whether both mean the same versions: nothing is lost, and nothing is gained."""
+        return self.lost is None and self.gained is None
+
+
+def compare_ranges(
+    old: Text,
+    new: Text,
+    mode: Compat = Compat.CARGO,
+    pre_releases: PreReleases = PreReleases.STATED,
+) -> Comparison:
+    """What is lost, gained and shared where a new range takes the place of an old one, both read in
+    a mode, by a rule for pre-releases. Each is told by the least such version by precedence, among
+    all versions with numbers up to 2^64 - 1, and none has a build.
+
+    Raises `RangeError` where one of the texts is no range; its `which` tells which one, and the old
+    one goes first.
+    """
+    old_bytes, new_bytes = encoded(old), encoded(new)
+    length, compared = ctypes.c_size_t(3 * _BYTES), ComparedRanges()
+    answer = NO_ROOM
+    while answer == NO_ROOM:
+        printed = ctypes.create_string_buffer(length.value)
+        answer = LIBRARY.semver_parser_compare(
+            old_bytes,
+            len(old_bytes),
+            new_bytes,
+            len(new_bytes),
+            is_npm(mode),
+            rule_number(pre_releases),
+            printed,
+            len(printed),
+            length,
+            compared,
+        )
+    raise_fault(answer, range=old, new_range=new)
+    texts = printed.raw
+    return Comparison(*(_at(texts, it) for it in (compared.lost, compared.gained, compared.shared)))
+
+
+def _at(texts: bytes, part: Part) -> Optional[Version]:
+    """The version whose text lies there, if there is one."""
+    text = texts[part.offset : part.offset + part.length]
+    return parse_version(text) if text else None

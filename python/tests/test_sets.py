@@ -1,8 +1,19 @@
-"""The least version that a range means, by each rule."""
+"""The least version that a range means, and how two ranges compare, by each rule."""
 
+import pickle
 import unittest
+from typing import Optional, Tuple
 
-from semver_parser import Compat, PreReleases, RangeError, Version, least
+from semver_parser import (
+    Comparison,
+    Compat,
+    PreReleases,
+    RangeError,
+    Version,
+    compare_ranges,
+    least,
+)
+from semver_parser.faults import raise_fault
 
 # A range in npm mode, and the least version by each rule: releases alone, as stated, and all.
 LEAST = [
@@ -19,6 +30,120 @@ LEAST = [
     (">2.0.0 <1.0.0", (None, None, None)),
     (">=1.2.3-" + 1000 * "a" + " <1.2.3", (None, *2 * ("1.2.3-" + 1000 * "a",))),
 ]
+
+
+MOST = str(2**64 - 1)
+LAST = ".".join([MOST] * 3)
+
+Three = Tuple[Optional[str], Optional[str], Optional[str]]
+
+# Two ranges, and what is lost, gained and shared, whatever the rule and the mode.
+ALIKE = [
+    ("^1.2.3", "^1.2.3", (None, None, "1.2.3")),
+    ("3.x || ^1.2", "^1.2 || 3.x", (None, None, "1.2.0")),
+    ("", "*", (None, None, "0.0.0")),
+    ("=1.2.3+a", "=1.2.3+b", (None, None, "1.2.3")),
+    (">2 <1", ">3 <2", (None, None, None)),
+    ("^1", ">2 <1", ("1.0.0", None, None)),
+    ("^1", "^2", ("1.0.0", "2.0.0", None)),
+    ("=1.2.3", "=1.2.4", ("1.2.3", "1.2.4", None)),
+    (f">={LAST}", f">{LAST}", (LAST, None, None)),
+]
+
+# The same by each rule: releases alone, as stated, and all.
+BY_RULE = [
+    ("^1.2.0", ">=1.4.0", (*2 * (("1.2.0", "2.0.0", "1.4.0"),), ("1.2.0", "2.0.0-0", "1.4.0"))),
+    ("~1.2.0", "^1.2.0", (*2 * ((None, "1.3.0", "1.2.0"),), (None, "1.3.0-0", "1.2.0"))),
+    ("<2.0.0", "<2.0.0-0", (*2 * ((None, None, "0.0.0"),), ("2.0.0-0", None, "0.0.0-0"))),
+    (
+        ">1.0.0-rc.1",
+        ">=1.0.0-rc.1",
+        ((None, None, "1.0.0"), *2 * ((None, "1.0.0-rc.1", "1.0.0-rc.1.0"),)),
+    ),
+    ("^1.2.3", "^1.2.3-beta", ((None, None, "1.2.3"), *2 * ((None, "1.2.3-beta", "1.2.3"),))),
+    (
+        "=2.0.1-a || >=2.0.0",
+        ">=2.0.0",
+        ((None, None, "2.0.0"), ("2.0.1-a", None, "2.0.0"), (None, None, "2.0.0")),
+    ),
+    ("=1.2.3-a", "=1.2.3-b", ((None, None, None), *2 * (("1.2.3-a", "1.2.3-b", None),))),
+    (
+        ">=1.0.0-2 <1.0.0",
+        ">=1.0.0-10 <1.0.0",
+        ((None, None, None), *2 * (("1.0.0-2", None, "1.0.0-10"),)),
+    ),
+    ("=1.2.3-01", "=1.2.3-1", ((None, None, None), *2 * ((None, None, "1.2.3-1"),))),
+]
+
+
+class ComparedTest(unittest.TestCase):
+    def compares(self, old: str, new: str, mode: Compat, rule: PreReleases, wanted: Three) -> None:
+        """What is lost one way round is gained the other way round."""
+        lost, gained, shared = wanted
+        for one, other, told in ((old, new, wanted), (new, old, (gained, lost, shared))):
+            with self.subTest(old=one, new=other, mode=mode, rule=rule):
+                answered = compare_ranges(one, other, mode, rule)
+                them = (answered.lost, answered.gained, answered.shared)
+                self.assertEqual(tuple(it and str(it) for it in them), told)
+                self.assertIs(answered.overlaps, shared is not None)
+                self.assertIs(answered.is_within, told[0] is None)
+                self.assertIs(answered.means_same, lost is None and gained is None)
+
+    def test_rules(self) -> None:
+        for mode in Compat:
+            for old, new, wanted in ALIKE:
+                for rule in PreReleases:
+                    self.compares(old, new, mode, rule, wanted)
+            for old, new, by_rule in BY_RULE:
+                for rule, wanted in zip(PreReleases, by_rule):
+                    self.compares(old, new, mode, rule, wanted)
+
+    def test_modes_and_defaults(self) -> None:
+        version = Version(1, 2, 3)
+        self.assertEqual(compare_ranges("1.2.3", b"^1.2.3"), Comparison(None, None, version))
+        npm = compare_ranges("1.2.3", "^1.2.3", Compat.NPM)
+        self.assertEqual(npm, Comparison(None, Version(1, 2, 4), version))
+        self.assertEqual(compare_ranges("<2.0.0", "<2.0.0-0").lost, None)
+
+    def test_sizes(self) -> None:
+        for length in (50, 170, 200, 100_000):
+            texts = ["1.2.3-" + letter * length for letter in "ab"]
+            compared = compare_ranges(f"={texts[0]}", f"={texts[1]}")
+            self.assertEqual([str(compared.lost), str(compared.gained)], texts)
+        many = [f"={number}.0.0" for number in range(2000)]
+        compared = compare_ranges("||".join(many), "||".join(many[1998::-1]))
+        self.assertEqual(compared, Comparison(Version(1999, 0, 0), None, Version(0, 0, 0)))
+
+    def test_faults(self) -> None:
+        raised_bound = f"<={MOST}"
+        for old, new, which, name in [
+            ("v1", "^1", "old", "not-a-range"),
+            ("^1", "v1", "new", "not-a-range"),
+            ("v1", "|", "old", "not-a-range"),
+            (b"\xff", "^1", "old", "not-utf8"),
+            ("^1", "\ud800", "new", "not-utf8"),
+            (raised_bound, b"\xff", "old", "number-too-large"),
+            ("", raised_bound, "new", "number-too-large"),
+        ]:
+            with self.assertRaises(RangeError) as raised:
+                compare_ranges(old, new)
+            told = raised.exception
+            text = old if which == "old" else new
+            self.assertEqual((told.which, told.name, told.text), (which, name, text))
+            again = pickle.loads(pickle.dumps(told))
+            self.assertEqual((again.which, str(again)), (which, str(told)))
+        with self.assertRaisesRegex(RangeError, r"^not a range, in the new range: 'v1'$"):
+            compare_ranges("^1", "v1")
+        with self.assertRaises(MemoryError):
+            raise_fault(19, range="^1", new_range="^1")
+        with self.assertRaises(RangeError) as alone:
+            least("v1")
+        self.assertIsNone(alone.exception.which)
+
+    def test_types(self) -> None:
+        for arguments in ((1, "1"), ("1", None), ("1", "1", "npm"), ("1", "1", Compat.NPM, 1)):
+            with self.assertRaises(TypeError):
+                compare_ranges(*arguments)  # type: ignore[arg-type]
 
 
 class LeastTest(unittest.TestCase):
