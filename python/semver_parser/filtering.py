@@ -80,22 +80,27 @@ class Filter:
         """Whether a version meets the range. Raises `VersionError` where the version is none."""
         return meets(self.range, version, self.mode, self.pre_releases)
 
+    def __contains__(self, version: AnyVersion) -> bool:
+        """What `meets` answers, so that it can be asked as `version in chosen`."""
+        return self.meets(version)
+
     def kept(self, versions: Iterable[_Given], pass_over: bool = False) -> List[_Given]:
         """Those versions that meet the range, in their order and with repeats.
 
-        A text that is no version raises `VersionError`, or counts as one that doesn't meet the
-        range where such are to be passed over.
+        A text that is no version raises `VersionError`, whose `index` tells its place among the
+        versions; with `pass_over=True` it counts as one that doesn't meet the range. What is no
+        text raises `TypeError`, and want of memory `MemoryError`, also then.
         """
         if isinstance(versions, (str, bytes)):
             raise TypeError("versions are an iterable of versions, and not one text")
         given = list(versions)
-        texts = [_text(it) for it in given]
+        texts = [_item_text(index, it) for index, it in enumerate(given)]
         kept = []
-        for version, text, answer in zip(given, texts, self._answers(texts)):
+        for index, answer in enumerate(self._answers(texts)):
             if answer == _MEETS:
-                kept.append(version)
+                kept.append(given[index])
             elif answer != _DOES_NOT_MEET:
-                _refuse(answer, text, pass_over)
+                _refuse(answer, texts[index], index, pass_over)
         return kept
 
     def greatest(self, versions: Iterable[_Given], pass_over: bool = False) -> Optional[_Given]:
@@ -129,10 +134,18 @@ class Filter:
         return answers.raw[: len(texts)]
 
 
-def _refuse(answer: int, text: Text, pass_over: bool) -> None:
+def _item_text(index: int, version: object) -> Text:
+    """The text of one of many versions."""
+    if isinstance(version, (str, bytes, Version)):
+        return _text(version)
+    what = type(version).__name__
+    raise TypeError(f"a version is a str, bytes or Version, and not {what}, at index {index}")
+
+
+def _refuse(answer: int, text: Text, index: int, pass_over: bool) -> None:
     """Raises the fault of a version, unless it is passed over. Want of memory never is."""
     try:
-        raise_fault(answer, version=text)
+        raise_fault(answer, version=text, index=index)
     except ValueError:
         if not pass_over:
             raise
@@ -145,5 +158,7 @@ def greatest(
     pre_releases: PreReleases = PreReleases.STATED,
     pass_over: bool = False,
 ) -> Optional[_Given]:
-    """The greatest of the versions that meet a range: what `Filter.greatest` answers."""
+    """The greatest of the versions that meet a range: what `Filter.greatest` answers. A text that
+    is no version raises `VersionError` with its `index`, or is passed over with `pass_over=True`.
+    """
     return Filter(range, mode, pre_releases).greatest(versions, pass_over)

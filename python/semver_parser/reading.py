@@ -5,11 +5,19 @@ from typing import List, Tuple
 
 from .faults import NO_ROOM, Text, encoded, raise_fault
 from .library import LIBRARY, Part, ReadComparator, ReadVersion
-from .values import Comparator, Compat, Identifier, Op, PreReleases, Range, RangeSet, Version
+from .values import (
+    Comparator,
+    Compat,
+    Identifier,
+    Op,
+    PreReleases,
+    Range,
+    RangeSet,
+    Version,
+    identifier_of,
+)
 
 _OPS = (Op.LT, Op.LTE, Op.GT, Op.GTE, Op.EQ)
-_MOST = 2**64 - 1
-_LONGEST_NUMBER = len(str(_MOST))
 
 # The room for comparators and for the printed text that is tried first.
 _COMPARATORS = 8
@@ -30,20 +38,12 @@ def rule_number(pre_releases: PreReleases) -> int:
     raise TypeError(f"a rule for pre-releases is a PreReleases, and not {pre_releases!r}")
 
 
-def _identifier(text: str) -> Identifier:
-    """An identifier: a number where it is the canonical decimal of one that fits."""
-    if not text.isdigit() or len(text) > _LONGEST_NUMBER or (text[0] == "0" and text != "0"):
-        return text
-    number = int(text)
-    return number if number <= _MOST else text
-
-
 def _identifiers(text: bytes, part: Part) -> Tuple[Identifier, ...]:
     """The identifiers of a part of a text, in which dots stand between them."""
     if part.length == 0:
         return ()
     joined = text[part.offset : part.offset + part.length].decode("ascii")
-    return tuple(map(_identifier, joined.split(".")))
+    return tuple(map(identifier_of, joined.split(".")))
 
 
 def parse_version(text: Text) -> Version:

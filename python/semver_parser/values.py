@@ -1,12 +1,16 @@
 """Versions and ranges as plain data, with the field names of the Rust crate.
 
-Each value prints by `str()` as the library prints it. None is checked when it is made: a value that
-was made by hand prints what it was given, and where it is judged its printed text decides.
+Each value prints by `str()` as the library prints it. A `Version` is checked when it is made; the
+others aren't: one that was made by hand prints what it was given, and where it is judged its
+printed text decides.
 """
 
 import enum
+import re
 from dataclasses import dataclass
 from typing import Tuple, Union
+
+from .faults import Text
 
 Identifier = Union[int, str]
 """An identifier of a pre-release or a build.
@@ -14,6 +18,42 @@ Identifier = Union[int, str]
 It is an `int` where it is the canonical decimal of a number up to 2**64 - 1, as `7`, and else a
 `str`, as `rc`, `07` and `18446744073709551616`.
 """
+
+_MOST = 2**64 - 1
+_LONGEST_NUMBER = len(str(_MOST))
+
+# An identifier of a version: runs of letters and digits, joined by single hyphens.
+_IDENTIFIER = re.compile(r"[0-9A-Za-z]+(-[0-9A-Za-z]+)*")
+
+
+def identifier_of(text: str) -> Identifier:
+    """The identifier that a text spells, which has ASCII characters alone: a number where it is the
+    canonical decimal of one that fits."""
+    if not text.isdigit() or len(text) > _LONGEST_NUMBER or (text[0] == "0" and text != "0"):
+        return text
+    number = int(text)
+    return number if number <= _MOST else text
+
+
+def _check_number(name: str, value: object) -> None:
+    """Raises where it is no number that fits. A `bool` is none, since it prints as a word."""
+    if not isinstance(value, int) or isinstance(value, bool):
+        raise TypeError(f"{name} is an int, and not {type(value).__name__}")
+    if not 0 <= value <= _MOST:
+        raise ValueError(f"{name} is a number from 0 to 2**64 - 1, and not {value}")
+
+
+def _check_identifiers(name: str, identifiers: object) -> None:
+    """Raises where they are no identifiers of a version."""
+    if not isinstance(identifiers, tuple):
+        raise TypeError(f"{name} is a tuple, and not {type(identifiers).__name__}")
+    for it in identifiers:
+        if not isinstance(it, str):
+            _check_number(f"an identifier of {name} that isn't a str", it)
+        elif not _IDENTIFIER.fullmatch(it):
+            raise ValueError(f"no identifier of a version, in {name}: {it!r}")
+        elif isinstance(identifier_of(it), int):
+            raise ValueError(f"an identifier of {name} is a number, so it is an int: {it!r}")
 
 
 class Compat(enum.Enum):
@@ -66,8 +106,14 @@ class Version:
     """A version: the numbers `major`, `minor` and `patch`, and the identifiers of its pre-release
     (`pre`) and its build (`build`).
 
-    Two versions are equal where all their fields are. They have no order of their own: that of the
-    standard doesn't see the build, and is the order of what `precedence` answers.
+    Each is one that `parse_version` reads from its printed text. What no text spells raises when it
+    is made: `TypeError` where a number is no `int`, the identifiers are no `tuple`, or one is
+    neither `int` nor `str`; and `ValueError` where a number isn't from 0 to 2**64 - 1, or a `str`
+    is no identifier of a version, or one that is read as an `int`.
+
+    `<`, `<=`, `>` and `>=` go by precedence (SemVer 2.0.0, section 11), which doesn't see the
+    build, and so do `sorted`, `min` and `max`. Two versions are equal (`==`) where all their fields
+    are. So of two that differ in their builds alone each is `<=` the other, and they aren't equal.
     """
 
     major: int
@@ -76,9 +122,35 @@ class Version:
     pre: Tuple[Identifier, ...] = ()
     build: Tuple[Identifier, ...] = ()
 
+    def __post_init__(self) -> None:
+        for name in ("major", "minor", "patch"):
+            _check_number(name, getattr(self, name))
+        for name in ("pre", "build"):
+            _check_identifiers(name, getattr(self, name))
+
     def __str__(self) -> str:
         numbers = f"{self.major}.{self.minor}.{self.patch}"
         return numbers + _printed_part("-", self.pre) + _printed_part("+", self.build)
+
+    def __lt__(self, other: "Version") -> bool:
+        if not isinstance(other, Version):
+            return NotImplemented
+        return precedence(self) < precedence(other)
+
+    def __le__(self, other: "Version") -> bool:
+        if not isinstance(other, Version):
+            return NotImplemented
+        return precedence(self) <= precedence(other)
+
+    def __gt__(self, other: "Version") -> bool:
+        if not isinstance(other, Version):
+            return NotImplemented
+        return precedence(self) > precedence(other)
+
+    def __ge__(self, other: "Version") -> bool:
+        if not isinstance(other, Version):
+            return NotImplemented
+        return precedence(self) >= precedence(other)
 
 
 @dataclass(frozen=True)
@@ -116,7 +188,14 @@ class Range:
 @dataclass(frozen=True)
 class RangeSet:
     """A range set: ranges of which a version meets one (`ranges`), and the mode that it was read in
-    (`compat`)."""
+    (`compat`).
+
+    `version in range_set` tells whether a version meets the comparators, by the rule of npm and
+    Cargo for pre-releases (`PreReleases.STATED`): what `meets` answers of the printed set. What the
+    text means that it was read from can differ in pre-releases of a raised bound, unless bounds are
+    exact. A version is given as its text or as a `Version`; a text that is none raises
+    `VersionError`.
+    """
 
     ranges: Tuple[Range, ...]
     compat: Compat
@@ -124,16 +203,28 @@ class RangeSet:
     def __str__(self) -> str:
         return " || ".join(map(str, self.ranges))
 
+    def __contains__(self, version: Union[Text, Version]) -> bool:
+        # The calls stand on these values, so they are only there once this is asked.
+        from .filtering import meets
+        from .reading import parse_version
+
+        if not self.ranges:
+            parse_version(str(version) if isinstance(version, Version) else version)
+            return False
+        return meets(str(self), version, self.compat)
+
 
 PrecedenceKey = Tuple[int, int, int, bool, Tuple[Tuple[bool, int, str], ...]]
 """What `precedence` answers: values to be compared with each other, and nothing else."""
 
 
 def precedence(version: Version) -> PrecedenceKey:
-    """What stands for a version in the precedence of the standard (SemVer 2.0.0, section 11).
+    """What stands for a version in the precedence of the standard (SemVer 2.0.0, section 11), as
+    the order of versions has it.
 
-    `sorted(versions, key=precedence)` goes from the lowest version to the greatest. Two versions
-    that differ in their builds alone have the same precedence. It is Python code, and not proved.
+    Two versions that differ in their builds alone have the same precedence, so this tells where
+    neither is below the other, and makes keys of a `dict` or of `groupby`. It is Python code, and
+    not proved.
 
     A text is no `Version`: it raises `TypeError`, as anything else does. `parse_version` reads it.
     """

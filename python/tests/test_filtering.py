@@ -1,18 +1,24 @@
 """Which versions meet a range by each rule, in order and with repeats, and the greatest of them."""
 
+import operator
+import pickle
 import threading
 import unittest
+from functools import partial
 from typing import List
 
 from semver_parser import (
     Compat,
     Filter,
     PreReleases,
+    Range,
     RangeError,
+    RangeSet,
     Version,
     VersionError,
     greatest,
     meets,
+    parse_range,
     parse_version,
     precedence,
 )
@@ -75,10 +81,42 @@ class Meeting(unittest.TestCase):
             self.assertEqual(of_version.exception.text, b"1.2.3\xff")
 
     def test_versions_made_by_hand(self) -> None:
-        self.assertTrue(meets("=1.2.3-5", Version(1, 2, 3, ("5",))))
-        with self.assertRaises(VersionError) as caught:
-            meets("*", Version(-1, 2, 3))
-        self.assertEqual(caught.exception.text, "-1.2.3")
+        self.assertTrue(meets("=1.2.3-5", Version(1, 2, 3, (5,))))
+        self.assertTrue(meets("=1.2.3", Version(1, 2, 3, (), ("05", "b-c"))))
+
+    def test_in_a_filter(self) -> None:
+        for text, version, wanted in THREE_RULES:
+            for rule, met in zip(PreReleases, wanted):
+                chosen = Filter(text, Compat.NPM, rule)
+                for asked in (version, version.encode(), parse_version(version)):
+                    self.assertIs(asked in chosen, met, (text, version, rule))
+        with self.assertRaises(VersionError):
+            "1.2" in Filter("^1")
+        with self.assertRaises(TypeError):
+            1 in Filter("^1")
+
+    def test_in_a_range_set(self) -> None:
+        """It goes by the comparators, which differ from the text in pre-releases of a raised bound
+        alone, and not where bounds are exact."""
+        for mode in Compat:
+            for text, version, wanted in THREE_RULES:
+                for exact in (False, True):
+                    answered = parse_range(text, mode, exact)
+                    self.assertIs(version in answered, wanted[1], (text, version, exact))
+                    self.assertIs(parse_version(version) in answered, wanted[1])
+        self.assertIn("2.0.0-a", parse_range("^1.2 <2.0.0-b"))
+        self.assertNotIn("2.0.0-a", parse_range("^1.2 <2.0.0-b", exact=True))
+        self.assertIn("1.9.0", parse_range("1.2.3"))
+        self.assertNotIn("1.9.0", parse_range("1.2.3", Compat.NPM))
+        for version in ("0.0.0", b"1.0.0", Version(1, 0, 0)):
+            self.assertIn(version, parse_range(""))
+            self.assertIn(version, RangeSet((Range((), Compat.NPM),), Compat.NPM))
+            self.assertNotIn(version, RangeSet((), Compat.NPM))
+        for answered in (parse_range("^1"), RangeSet((), Compat.CARGO)):
+            with self.assertRaises(VersionError):
+                "1.2" in answered
+            with self.assertRaises(TypeError):
+                1 in answered
 
     def test_other_types(self) -> None:
         for arguments in (("1", 1), (None, "1.2.3"), ("1", "1.2.3", "npm")):
@@ -103,11 +141,20 @@ class Kept(unittest.TestCase):
         with self.assertRaises(VersionError) as caught:
             Filter("^1.2").kept(given)
         self.assertEqual((caught.exception.name, caught.exception.text), ("unexpected-end", "1.2"))
+        self.assertEqual(caught.exception.index, 1)
+        self.assertEqual(str(caught.exception), "the version ends too early, at index 1: '1.2'")
+        again = pickle.loads(pickle.dumps(caught.exception))
+        self.assertEqual((again.index, str(again)), (1, str(caught.exception)))
         self.assertEqual(Filter("^1.2").kept(given, pass_over=True), ["1.2.0", "1.4.0"])
+        self.assertEqual(Filter("^1.2").greatest(given, pass_over=True), "1.4.0")
         with self.assertRaises(RangeError):
             Filter("v1")
-        with self.assertRaises(TypeError):
-            Filter("^1").kept(["1.2.3", None], pass_over=True)
+        for pass_over in (False, True):
+            with self.assertRaisesRegex(TypeError, "NoneType, at index 2$"):
+                Filter("^1").kept(["1.2.3", "x", None], pass_over=pass_over)
+        with self.assertRaises(VersionError) as alone:
+            Filter("^1").meets("1.2")
+        self.assertIsNone(alone.exception.index)
         for one in ("1.2.3", b"1.2.3"):
             with self.assertRaises(TypeError):
                 Filter("^1").greatest(one)
@@ -152,6 +199,32 @@ class Greatest(unittest.TestCase):
     def test_builds_do_not_count(self) -> None:
         one, other = parse_version("1.0.0-a+1"), parse_version("1.0.0-a+2")
         self.assertEqual(precedence(one), precedence(other))
+        self.assertTrue(one <= other and other <= one and one >= other and other >= one)
+        self.assertFalse(one < other or one > other or one == other)
+        self.assertIs(min(one, other), one)
+        self.assertIs(max(other, one), other)
+        self.assertEqual(sorted([other, one]), [other, one])
+
+    def test_order(self) -> None:
+        versions = list(map(parse_version, ORDERED))
+        self.assertEqual(sorted(reversed(versions)), versions)
+        self.assertEqual((min(versions), max(versions)), (versions[0], versions[-1]))
+        for at, one in enumerate(versions):
+            for behind, other in enumerate(versions):
+                self.assertIs(one < other, at < behind)
+                self.assertIs(one <= other, at <= behind)
+                self.assertIs(one > other, at > behind)
+                self.assertIs(one >= other, at >= behind)
+
+    def test_order_of_other_types(self) -> None:
+        version = parse_version("1.2.3")
+        for value in ("1.2.3", (1, 2, 3), 1, None):
+            for compare in (operator.lt, operator.le, operator.gt, operator.ge):
+                with self.assertRaises(TypeError):
+                    compare(version, value)
+                with self.assertRaises(TypeError):
+                    compare(value, version)
+            self.assertNotEqual(version, value)
 
     def test_greatest(self) -> None:
         self.assertEqual(greatest("*", ORDERED[::-1]), "2.1.1")
@@ -168,8 +241,10 @@ class Greatest(unittest.TestCase):
         self.assertEqual(greatest("^1", given), Version(1, 2, 0))
 
     def test_faults(self) -> None:
-        with self.assertRaises(VersionError):
-            greatest("*", ["1.2.3", "x"])
+        for call in (Filter("*").greatest, Filter("*").kept, partial(greatest, "*")):
+            with self.assertRaises(VersionError) as caught:
+                call(["1.2.3", "x"])
+            self.assertEqual((caught.exception.index, caught.exception.text), (1, "x"))
         self.assertEqual(greatest("*", ["1.2.3", "x"], pass_over=True), "1.2.3")
 
 

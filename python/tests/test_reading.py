@@ -44,6 +44,43 @@ class Versions(unittest.TestCase):
         for text in ("1.2.3", "1.2.3-rc.1.07+b5.5", "0.0.0-0", "1.2.3+a-b.0"):
             self.assertEqual(str(parse_version(f" {text} ")), text)
 
+    def refuses_parts(self, kind: type, part: object) -> None:
+        """As a pre-release and as a build."""
+        for parts in ((part, ()), ((), part)):
+            with self.assertRaises(kind):
+                Version(1, 2, 3, *parts)
+
+    def test_made_by_hand(self) -> None:
+        """A version is made exactly where its printed text is read as that version."""
+        numbers = (0, 7, MOST)
+        identifiers = (0, MOST, "a", "00", "1-2", "a-b-3", str(MOST + 1), "9" * 100)
+        for number in numbers:
+            for identifier in identifiers:
+                for made in (
+                    Version(number, 0, number, (identifier,)),
+                    Version(0, number, 1, (), (identifier, "b")),
+                ):
+                    self.assertEqual(parse_version(str(made)), made)
+
+    def test_no_version(self) -> None:
+        for wrong in (-1, MOST + 1):
+            for numbers in ((wrong, 0, 0), (0, wrong, 0), (0, 0, wrong)):
+                with self.assertRaises(ValueError):
+                    Version(*numbers)
+        for wrong in ("1", 1.0, True, None, b"1"):
+            for numbers in ((wrong, 0, 0), (0, wrong, 0), (0, 0, wrong)):
+                with self.assertRaises(TypeError):
+                    Version(*numbers)
+        words = ("", "-", "a-", "-a", "a--b", "a.b", "a b", "a+b", "é", "١", "a\n", "\n", "a_b")
+        for wrong in (*words, "7", "0", str(MOST), -1, MOST + 1):
+            self.refuses_parts(ValueError, ("a", wrong))
+        for wrong in (b"a", True, 1.0, None, ("a",)):
+            self.refuses_parts(TypeError, (wrong,))
+        for wrong in (["a"], "a", None, 1):
+            self.refuses_parts(TypeError, wrong)
+        with self.assertRaises(ValueError):
+            dataclasses.replace(parse_version("1.2.3"), major=-1)
+
     def test_plain_data(self) -> None:
         version = parse_version("1.2.3-rc+b")
         self.assertEqual(hash(version), hash(Version(1, 2, 3, ("rc",), ("b",))))
