@@ -69,6 +69,30 @@ int32_t read_version(const text *of, semver_parser_version *out) {
     return answer;
 }
 
+static int32_t precedence_at(const text *version, const text *other, int32_t *order, bool *in_other, bool before, bool at_null) {
+    uint8_t *bytes = alone(version);
+    uint8_t *other_bytes = alone(other);
+    *order = UNTOLD;
+    *in_other = before;
+    int32_t answer = semver_parser_precedence(at_null && version->length == 0 ? NULL : bytes, version->length,
+                                              at_null && other->length == 0 ? NULL : other_bytes, other->length, order, in_other);
+    free(bytes);
+    free(other_bytes);
+    bool is_ok = answer == SEMVER_PARSER_OK;
+    require(is_ok ? *order >= -1 && *order <= 1 : *order == UNTOLD, "an order at a fault, or none", version);
+    require(!is_ok || *in_other == before, "a text at fault where none is", version);
+    return answer;
+}
+
+int32_t precedence(const text *version, const text *other, int32_t *order, bool *in_other) {
+    int32_t answer = precedence_at(version, other, order, in_other, false, false);
+    int32_t again_order;
+    bool again_in_other;
+    require(precedence_at(version, other, &again_order, &again_in_other, true, true) == answer, "another answer at null", version);
+    require(again_order == *order && (answer == SEMVER_PARSER_OK || again_in_other == *in_other), "another order at null", version);
+    return answer;
+}
+
 /* ---- rewriting */
 
 /* A room for bytes and one for comparators, each with a guard behind it; at null where it is empty and that is asked for. */

@@ -9,6 +9,10 @@
 /* Reads a version. An empty text is read at null too. */
 int32_t read_version(const text *of, semver_parser_version *out);
 
+/* How a version text compares with another: OK with -1, 0 or 1 in `order`, or the fault with whether it is the other's in `in_other`. An empty text is passed at
+ * null too. */
+int32_t precedence(const text *version, const text *other, int32_t *order, bool *in_other);
+
 /* Comparators in order. */
 typedef struct {
     semver_parser_comparator *items;

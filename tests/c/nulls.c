@@ -31,6 +31,20 @@ static int32_t read_text(void) {
     return semver_parser_parse_version(NULL, 5, &out);
 }
 
+static int32_t precedence_of(const uint8_t *version, const uint8_t *other) {
+    int32_t order;
+    bool in_other;
+    return semver_parser_precedence(version, 5, other, 5, &order, &in_other);
+}
+
+static int32_t precedence_version(void) {
+    return precedence_of(NULL, bytes_of("1.2.3"));
+}
+
+static int32_t precedence_other(void) {
+    return precedence_of(bytes_of("1.2.3"), NULL);
+}
+
 static int32_t rewrite_text(void) {
     uint8_t out[64];
     size_t length;
@@ -215,6 +229,8 @@ static void nulls_with_a_length(void) {
     sum_before = (uint64_t *)malloc(sizeof *sum_before);
     check(sum_before != NULL, "no memory", "");
     ends_at_null(read_text, "the text of a version");
+    ends_at_null(precedence_version, "the first of two versions");
+    ends_at_null(precedence_other, "the other of two versions");
     ends_at_null(rewrite_text, "the text of a range");
     ends_at_null(rewrite_out, "the room of a set");
     ends_at_null(comparators_text, "the text of a range, for comparators");

@@ -77,6 +77,21 @@ static void version_takes(const char *bytes, int requests, int32_t wanted) {
     text_free(&of);
 }
 
+/* Two versions whose order takes this many requests, all for the other one. */
+static void order_takes(const char *bytes, const char *other, int requests, int32_t wanted, bool is_other) {
+    for (int request = 0; request <= requests; request++) {
+        int32_t order = 777;
+        bool in_other = !is_other;
+        grant(request);
+        int32_t answered = semver_parser_precedence((const uint8_t *)bytes, strlen(bytes), (const uint8_t *)other, strlen(other), &order, &in_other);
+        check(refused == (request < requests), "another number of requests", other, request);
+        check(answered == (refused ? (int32_t)SEMVER_PARSER_VERSION_OUT_OF_MEMORY : wanted), "another answer of an order", other, request);
+        check((order == 777) == (answered != SEMVER_PARSER_OK), "another order", other, request);
+        check(in_other == (answered == SEMVER_PARSER_OK ? !is_other : is_other), "another text at fault", other, request);
+        check(taken == 0, "memory is kept", other, request);
+    }
+}
+
 /* A range whose rewriting takes requests, or takes none, by the call that prints, by that of comparators, or by both. */
 static void range_takes(const char *bytes, bool npm, bool exact, int which, bool some, int32_t wanted) {
     int request = 0;
@@ -207,6 +222,12 @@ int main(void) {
     version_takes("1.2.3-rc.1/", 2, SEMVER_PARSER_UNEXPECTED_CHAR);
     version_takes("1.2.3 a", 1, SEMVER_PARSER_MORE_INPUT);
     version_takes("1.2", 0, SEMVER_PARSER_UNEXPECTED_END);
+    order_takes("1.2.3-rc.1+b", "1.2.3", 0, SEMVER_PARSER_OK, true);
+    order_takes("1.2.3", "1.2.3-1", 1, SEMVER_PARSER_OK, true);
+    order_takes("1.2.3", "1.2.3-rc.1", 2, SEMVER_PARSER_OK, true);
+    order_takes("1.2.3", "1.2.3-rc.1/", 2, SEMVER_PARSER_UNEXPECTED_CHAR, true);
+    order_takes("1.2.3-rc.1/", "1.2.3-rc", 2, SEMVER_PARSER_UNEXPECTED_CHAR, false);
+    order_takes("1.2", "1.2.3-rc", 0, SEMVER_PARSER_UNEXPECTED_END, false);
     for (int modes = 0; modes < 4; modes++) {
         bool npm = (modes & 1) != 0;
         bool exact = (modes & 2) != 0;

@@ -128,6 +128,69 @@ static void versions(void) {
     version_fault_is("1.2.3\xC0\xAE", 7, SEMVER_PARSER_VERSION_NOT_UTF8);
 }
 
+/* ---- precedence */
+
+static void order_is(const char *bytes, const char *other_bytes, int32_t wanted) {
+    text version = string(bytes);
+    text other = string(other_bytes);
+    int32_t order;
+    bool in_other;
+    check(precedence(&version, &other, &order, &in_other) == SEMVER_PARSER_OK && order == wanted, "another order", &version);
+    check(precedence(&other, &version, &order, &in_other) == SEMVER_PARSER_OK && order == -wanted, "another order the other way round", &version);
+    text_free(&version);
+    text_free(&other);
+}
+
+/* Each is above those in front of it, by the examples of the standard's section 11, and as its rules go on: numbers as numbers, texts by ASCII, a number below
+ * any text, and more identifiers above fewer. */
+static void versions_in_order(void) {
+    static const char *const ordered[] = {"0.0.0-0", "0.0.0", "0.0.1", "1.0.0-0", "1.0.0-2", "1.0.0-10", "1.0.0-18446744073709551615",
+                                          "1.0.0-01", "1.0.0-18446744073709551616", "1.0.0-A", "1.0.0-alpha", "1.0.0-alpha.1", "1.0.0-alpha.beta", "1.0.0-beta",
+                                          "1.0.0-beta.2", "1.0.0-beta.11", "1.0.0-rc.1", "1.0.0", "1.0.10", "1.2.0", "1.10.0", "2.0.0", "2.1.0", "2.1.1",
+                                          "18446744073709551615.0.0"};
+    enum { COUNT = sizeof ordered / sizeof *ordered };
+    for (int at = 0; at < COUNT; at++) {
+        for (int behind = at; behind < COUNT; behind++) {
+            order_is(ordered[at], ordered[behind], at == behind ? 0 : -1);
+        }
+    }
+    order_is("1.2.3+a", "1.2.3+b.1", 0);
+    order_is("1.2.3-rc+a", " 1.2.3-rc\n", 0);
+    order_is("1.2.3-rc+z", "1.2.3+a", -1);
+    text with_a = long_text("1.2.3-", "a", "");
+    text with_b = long_text("1.2.3-", "a", "b");
+    order_is(with_a.bytes, with_b.bytes, -1);
+    order_is(with_a.bytes, with_a.bytes, 0);
+    text_free(&with_a);
+    text_free(&with_b);
+}
+
+/* A fault of one of two texts, where the other is a version; and of both, where the first one's is told. */
+static void order_fault_is(const char *bytes, size_t length, int32_t fault) {
+    text faulty = bytes_of(bytes, length);
+    text version = string("1.2.3-rc.1+b");
+    text empty = string("");
+    int32_t order;
+    bool in_other;
+    check(precedence(&faulty, &version, &order, &in_other) == fault && !in_other, "another fault of a version", &faulty);
+    check(precedence(&version, &faulty, &order, &in_other) == fault && in_other, "another fault of the other version", &faulty);
+    check(precedence(&faulty, &empty, &order, &in_other) == fault && !in_other, "another fault of both", &faulty);
+    check(precedence(&empty, &faulty, &order, &in_other) == SEMVER_PARSER_UNEXPECTED_END && !in_other, "another fault of an empty text", &faulty);
+    text_free(&faulty);
+    text_free(&version);
+    text_free(&empty);
+}
+
+static void faults_of_orders(void) {
+    order_fault_is("", 0, SEMVER_PARSER_UNEXPECTED_END);
+    order_fault_is("1.2.3-", 6, SEMVER_PARSER_UNEXPECTED_END);
+    order_fault_is("v1.2.3", 6, SEMVER_PARSER_UNEXPECTED_TOKEN);
+    order_fault_is("1.2.3--1", 8, SEMVER_PARSER_UNEXPECTED_TOKEN);
+    order_fault_is("1.2.3\0", 6, SEMVER_PARSER_UNEXPECTED_CHAR);
+    order_fault_is("1.2.3 4", 7, SEMVER_PARSER_MORE_INPUT);
+    order_fault_is("1.2.3\xFF", 6, SEMVER_PARSER_VERSION_NOT_UTF8);
+}
+
 /* ---- ranges */
 
 static void range_is(bool npm, bool exact, const char *bytes, const char *wanted) {
@@ -615,6 +678,8 @@ static void sentences(void) {
 int main(void) {
     versions();
     long_versions();
+    versions_in_order();
+    faults_of_orders();
     ranges();
     long_ranges();
     comparators();

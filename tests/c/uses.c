@@ -54,6 +54,15 @@ static int use_least(void) {
     return length == 5 && memcmp(out, "1.2.0", 5) == 0 ? 0 : 1;
 }
 
+static int use_precedence(void) {
+    int32_t order = 0;
+    bool in_other = false;
+    if (semver_parser_precedence(bytes_of("1.2.3-rc.4"), 10, bytes_of("1.2.3-rc.11"), 11, &order, &in_other) != SEMVER_PARSER_OK || order != -1) {
+        return 1;
+    }
+    return semver_parser_precedence(bytes_of("1.2.3"), 5, NULL, 0, &order, &in_other) == SEMVER_PARSER_UNEXPECTED_END && in_other ? 0 : 1;
+}
+
 static int use_compare(void) {
     uint8_t out[64];
     size_t length = 0;
@@ -76,7 +85,7 @@ int main(void) {
     semver_parser_version version;
     int32_t answer = semver_parser_parse_version(bytes_of("1.2"), 3, &version);
     int failed = strcmp(semver_parser_library_version(), SEMVER_PARSER_VERSION) != 0 || answer != SEMVER_PARSER_UNEXPECTED_END;
-    failed |= use_rewriting() | use_meeting() | use_least() | use_compare();
+    failed |= use_rewriting() | use_meeting() | use_least() | use_precedence() | use_compare();
     printf("uses: %s\n", failed ? "failed" : "passed");
     return failed;
 }

@@ -30,6 +30,10 @@ int32_t semver_parser_parse_version(const uint8_t *text, size_t text_length, sem
     return semver_parser_proved_parse_version(text_at(text, text_length), text_length, out);
 }
 
+int32_t semver_parser_precedence(const uint8_t *version, size_t version_length, const uint8_t *other, size_t other_length, int32_t *order, bool *in_other) {
+    return semver_parser_proved_precedence(text_at(version, version_length), version_length, text_at(other, other_length), other_length, order, in_other);
+}
+
 int32_t semver_parser_rewrite(const uint8_t *text, size_t text_length, bool npm, bool exact, uint8_t *out, size_t room, size_t *length) {
     return semver_parser_proved_rewrite(text_at(text, text_length), text_length, npm, exact, room_at(out, room), room, length);
 }

@@ -13,9 +13,9 @@
  *
  * WHAT THE CALLER OWES. No check of a proof or of a compiler sees it:
  * - A text has as many bytes as is said, an array as many items, and a room has room for as many. They don't change while the call runs, but by the call.
- * - What a call writes to (`out`, `length`, `comparators`, `count`, `meets`, `answers`, `comparison`) overlaps with nothing else that it is given. It is aligned as its
+ * - What a call writes to (`out`, `length`, `comparators`, `count`, `meets`, `answers`, `comparison`, `order`, `in_other`) overlaps with nothing else that it is given. It is aligned as its
  *   type is, and so is the array `versions`.
- * - Where a call writes one object (`out` of a version, `length`, `count`, `meets`, `comparison`), its pointer is never null.
+ * - Where a call writes one object (`out` of a version, `length`, `count`, `meets`, `comparison`, `order`, `in_other`), its pointer is never null.
  * - A bool is 0 or 1.
  * - No call is made from a signal handler, nor from the forked child of a process that has several threads: calls take memory from `malloc`.
  *
@@ -208,6 +208,23 @@ const char *semver_parser_fault_text(int32_t answer);
  * something else, for the tokens behind it that tell SEMVER_PARSER_MORE_INPUT, 24 bytes for each byte.
  */
 int32_t semver_parser_parse_version(const uint8_t *text, size_t text_length, semver_parser_version *out);
+
+/* How a version text compares with another by precedence (SemVer 2.0.0, section 11). Neither `order` nor `in_other` is null.
+ *
+ * 1.2.3-rc.4 is below 1.2.3-rc.11, and that is below 1.2.3. Builds don't count: 1.2.3+a and 1.2.3+b are equal by precedence.
+ *
+ * Answers
+ * - SEMVER_PARSER_OK exactly where both texts spell versions, want of memory aside. Then `order` is -1 where the version is below the other one, 0 where both
+ *   are equal, and 1 where it is above.
+ * - A fault of one of the texts, as those of `semver_parser_parse_version`: SEMVER_PARSER_VERSION_NOT_UTF8, _UNEXPECTED_END, _UNEXPECTED_TOKEN,
+ *   _UNEXPECTED_CHAR, _MORE_INPUT or _VERSION_OUT_OF_MEMORY. `in_other` is then whether it is that of `other`: the first text is read first, so it holds exactly
+ *   where that spells a version. Of two versions the answer is SEMVER_PARSER_VERSION_OUT_OF_MEMORY only where the other one has a pre-release or a build.
+ *
+ * After any answer but SEMVER_PARSER_OK `order` is as it was, and after SEMVER_PARSER_OK `in_other` is.
+ *
+ * Memory: none for the first version, and the identifiers of the other one.
+ */
+int32_t semver_parser_precedence(const uint8_t *version, size_t version_length, const uint8_t *other, size_t other_length, int32_t *order, bool *in_other);
 
 /* Rewrites a range text of `text_length` bytes into plain comparators, and prints them into the `room` bytes at `out`. `length` is never null.
  *

@@ -6,7 +6,7 @@ use Rattle.semver_parser.specs.declared.version.Version.{Version}
 use Rattle.semver_parser.specs.declared.Compat.{Compat}
 use Rattle.semver_parser.specs.RangeTree.{SetTree, Spells}
 use Rattle.version_sets.specs.VersionSets.{SetValue, IsIn}
-use Rattle.version_sets.specs.Comparisons.{TellsLeast, IsInFirstAlone, IsInBoth}
+use Rattle.version_sets.specs.Comparisons.{TellsLeast}
 use Rattle.version_sets.specs.declared.comparison.Comparison.{Comparison}
 use Rattle.release_filter.specs.declared.PreReleases.{PreReleases}
 use Rattle.semver_parser_c.specs.Printing.{Puts}
@@ -36,6 +36,9 @@ meant set rule mode text tree is spells v = (
   λ h. (h.0, subst IsTrue (sym (is tree (plain v) spells h.0)) h.1),
 )
 
+alone : {P P' Q Q' : Type 0} → P ↔ P' → Q ↔ Q' → (P × (¬ Q)) ↔ (P' × (¬ Q'))
+alone p q = (λ h. (p.0 h.0, λ m. h.1 (q.1 m)), λ h. (p.1 h.0, λ m. h.1 (q.0 m)))
+
 pub compared_texts : (old_set new_set : SetValue) (rule : PreReleases) (mode : Compat) (old_text new_text : Text) (old new : SetTree)
     (told : Comparison) → IsSetOf old_set rule mode old_text → IsSetOf new_set rule mode new_text → Spells old old_text
     → Spells new new_text → ComparesSets old_set new_set told → Compares rule mode old new told
@@ -43,10 +46,8 @@ compared_texts old_set new_set rule mode old_text new_text old new told old_is n
     let in_old = meant old_set rule mode old_text old old_is old_spells in
     let in_new = meant new_set rule mode new_text new new_is new_spells in
     record {
-      lost = told_alike _ _ (λ v. (λ h. ((in_old v).0 h.0, λ m. h.1 ((in_new v).1 m)), λ h. ((in_old v).1 h.0, λ m. h.1 ((in_new v).0 m))))
-          told.lost c.lost;
-      gained = told_alike _ _ (λ v. (λ h. ((in_new v).0 h.0, λ m. h.1 ((in_old v).1 m)), λ h. ((in_new v).1 h.0, λ m. h.1 ((in_old v).0 m))))
-          told.gained c.gained;
+      lost = told_alike _ _ (λ v. alone (in_old v) (in_new v)) told.lost c.lost;
+      gained = told_alike _ _ (λ v. alone (in_new v) (in_old v)) told.gained c.gained;
       shared = told_alike _ _ (λ v. (λ h. ((in_old v).0 h.0, (in_new v).0 h.1), λ h. ((in_old v).1 h.0, (in_new v).1 h.1)))
           told.shared c.shared;
     }

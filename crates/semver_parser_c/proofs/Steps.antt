@@ -11,7 +11,7 @@ use Rattle.semver_parser.specs.declared.parser.Error.TheVariants as error
 use Rattle.semver_parser.specs.declared.lexer.Error.TheVariants as lexer_error
 use Rattle.semver_parser.specs.declared.RangeError.{RangeError}
 use Rattle.semver_parser.specs.declared.RangeError.TheVariants as range_error
-use Rattle.semver_parser.specs.Versions.{VersionValue}
+use Rattle.semver_parser.specs.Versions.{IdentifierValue, VersionValue}
 use Rattle.semver_parser.specs.VersionGrammar.{SpellsVersion, IsVersionText}
 use Rattle.semver_parser.specs.VersionReading.{Refuses, ReadsVersion, IsOutcomeOf, TextMayRunOut, whole_answer}
 use Rattle.semver_parser.specs.ParserState as fault
@@ -22,7 +22,9 @@ use Rattle.semver_parser.specs.declared.Compat.{Compat}
 use Rattle.semver_parser.specs.RangeTexts.{HasSet}
 use Rattle.semver_parser.specs.RewritingTable.{fits}
 use Rattle.semver_parser.proofs.ReadingComplete.{same_tree}
+use Rattle.semver_parser.proofs.OneVersion.{one_version}
 use Rattle.semver_parser.proofs.VersionMemory.{may_run_out}
+use Rattle.semver_parser.specs.Outlines.{OutlineValue, outline_behind, dotted_text}
 use Rattle.release_filter.specs.declared.PreReleases.{PreReleases}
 use Rattle.semver_parser_c.specs.Numbers.{ok, no_room, version_not_utf8, version_out_of_memory, no_such_rule}
 use Rattle.semver_parser_c.specs.Faults.{IsOneOf, RangeIsRead, fault_number, range_fault_number, outcome_number, version_faults}
@@ -145,15 +147,31 @@ module _ (text : Text) (z n : ℤ) (same : z ≡ n) (refused : RefusesVersion te
         let h = refused_fault in
         (Err h.0, h.1, h.2)
 
+-- a version that has a pre-release or a build, as its outline has
+abbrev pub HasPart : VersionValue → Type 0
+HasPart v = (0 < length v.plain.pre) ⊎ (0 < length v.build)
+
+some_identifiers : (ids : List IdentifierValue) → 0 < length (dotted_text ids) → 0 < length ids
+some_identifiers [] h = absurd (omega (arith, h))
+some_identifiers (id ∷ ids) h = omega arith
+
+pub has_part : (o : OutlineValue) (u v : VersionValue) (at : ℕ) (text : Text) → o ≡ outline_behind at u → SpellsVersion u text
+    → SpellsVersion v text → (0 < length o.pre) ⊎ (0 < length o.build) → HasPart v
+has_part o u v at text is read spells parts =
+    let same : u ≡ v = one_version u v text read spells in
+    subst HasPart same
+    (⊎_elim (λ h. inl (some_identifiers u.plain.pre (subst (λ (x : OutlineValue). 0 < length x.pre) is h)))
+    (λ h. inr (some_identifiers u.build (subst (λ (x : OutlineValue). 0 < length x.build) is h))) parts)
+
 -- a version whose memory wasn't found
-pub refused_memory : (text : Text) → IsUtf8 text → (v : VersionValue) → SpellsVersion v text → 0 < length v.plain.pre
+pub refused_memory : (text : Text) → IsUtf8 text → (v : VersionValue) → SpellsVersion v text → HasPart v
     → RefusesVersion text version_out_of_memory
 refused_memory text utf8 v spells some = record {
   one = inr (inr (inr (inr (inr (inl refl)))));
   not_utf8 = (λ is. absurd (differ 9 2 (λ e. omega (arith, e)) is), λ bad. absurd (bad utf8));
   accepted = λ _ _ _. refl;
   refused = λ _ other. absurd (other refl);
-  out_of_memory = λ _. may_run_out v text spells (inl some);
+  out_of_memory = λ _. may_run_out v text spells some;
 }
 
 -- the number that C gets of a fault is that number

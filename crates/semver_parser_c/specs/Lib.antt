@@ -6,3 +6,4 @@ pub mod Comparators
 pub mod Rules
 pub mod Sets
 pub mod Compared
+pub mod Orders

@@ -23,6 +23,7 @@ ghost use Rattle.semver_parser.specs.Versions.{VersionValue};
 ghost use Rattle.semver_parser.specs.declared.version.Version.{Version};
 ghost use Rattle.semver_parser.specs.VersionGrammar.{IsVersionText, SpellsVersion};
 ghost use Rattle.semver_parser.specs.Outlines.{OutlineValue, IsOutlineOf, dotted_text};
+ghost use Rattle.semver_parser.specs.Precedence.{precedence};
 ghost use Rattle.semver_parser.specs.VersionReading.{IsOutcomeOf, TextMayRunOut};
 ghost use Rattle.semver_parser.specs.ParserState.{Fault};
 ghost use Rattle.semver_parser.specs.RangeTree.{SetTree, Spells};
@@ -34,7 +35,8 @@ ghost use Rattle.semver_parser_c.specs.Numbers as number;
 ghost use Rattle.semver_parser_c.specs.Faults.{IsOneOf, NewRangeIsRead, RangeIsRead, mode_of};
 ghost use Rattle.semver_parser_c.specs.Faults.{RefusesNewRange, RefusesRange, new_range_faults};
 ghost use Rattle.semver_parser_c.specs.Faults.{outcome_number, range_faults, set_for};
-ghost use Rattle.semver_parser_c.specs.Faults.{version_faults};
+ghost use Rattle.semver_parser_c.specs.Faults.{RefusesVersion, version_faults};
+ghost use Rattle.semver_parser_c.specs.Orders.{at_fault, order_number};
 ghost use Rattle.semver_parser_c.specs.Places.{bytes_at, told};
 ghost use Rattle.semver_parser_c.specs.Comparators.{HasPreReleases, told_set};
 ghost use Rattle.semver_parser_c.specs.Printing.{Puts, PutsBoth};
@@ -45,6 +47,7 @@ ghost use Rattle.version_sets.specs.Comparisons.{TellsLeast};
 ghost use Rattle.version_sets.specs.declared.comparison.Comparison.{Comparison};
 
 use std::alloc::Global;
+use std::cmp::Ordering;
 
 /// Where a part of a text lies: `length` bytes from `offset` on. Both are 0 where there is no such
 /// part.
@@ -483,8 +486,8 @@ pub extern "C" fn semver_parser_proved_least(
 /// `^1.2.0` and `>=1.4.0` give `1.2.02.0.01.4.0`: 1.2.0 is lost, 2.0.0 is gained, 1.4.0 is shared.
 ///
 /// `length` becomes the length of the three texts together and `comparison` where they lie, also
-/// where `out` has no room for them (`NO_ROOM`), so a call with an empty `out` asks which there are.
-/// `out` is as it was behind the texts, and all of it after any answer but `OK`. `length` and
+/// where `out` has no room for them (`NO_ROOM`), so a call with an empty `out` asks which there
+/// are. `out` is as it was behind the texts, and all of it after any answer but `OK`. `length` and
 /// `comparison` are as they were after a fault of the rule or of a text.
 ///
 /// # Faults
@@ -541,5 +544,76 @@ pub extern "C" fn semver_parser_proved_compare(
             range_text::put(compared.text.as_bytes(), out, length)
         }
         Err(_) => numbers::NEW_RANGE_OUT_OF_MEMORY,
+    }
+}
+
+/// How a version compares with another by precedence (SemVer 2.0.0, section 11): `OK` with the
+/// answer in `order`, which is -1 where it is below the other, 0 where both are equal, and 1 where
+/// it is above. Builds don't count.
+///
+/// After a fault `in_other` tells whether it is that of `other`, and `order` is as it was. The
+/// first text is read first, so `in_other` holds exactly where that spells a version. After `OK`
+/// `in_other` is as it was.
+///
+/// # Faults
+///
+/// Those of `semver_parser_proved_parse_version`. `VERSION_OUT_OF_MEMORY` comes for two versions
+/// only where the other one has a pre-release or a build.
+#[unsafe(no_mangle)]
+pub extern "C" fn semver_parser_proved_precedence(
+    alloc: Global,
+    version: &[u8],
+    other: &[u8],
+    order: &mut i32,
+    in_other: &mut bool,
+) -> i32
+    ensures numbers { IsOneOf (number.ok ∷ version_faults) result }
+    // What is answered is the precedence of the versions that both texts spell.
+    ensures precedence { result ≡ number.ok → (v w : VersionValue) → SpellsVersion v version.now
+        → SpellsVersion w other.now → order.new ≡ order_number (precedence v.plain w.plain) }
+    ensures both_read { result ≡ number.ok → IsVersionText version.now × IsVersionText other.now }
+    ensures accepted { (v w : VersionValue) → IsUtf8 version.now → SpellsVersion v version.now
+        → IsUtf8 other.now → SpellsVersion w other.now
+        → IsOneOf (number.ok ∷ number.version_out_of_memory ∷ []) result }
+    // Memory runs out at two versions only where the other has a pre-release or a build.
+    ensures plain { (v w : VersionValue) → IsUtf8 version.now → SpellsVersion v version.now
+        → IsUtf8 other.now → SpellsVersion w other.now → w.plain.pre ≡ [] → w.build ≡ []
+        → result ≡ number.ok }
+
+    // A fault is that of the first text, or of the other where the first spells a version.
+    ensures refused { result ≢ number.ok
+        → RefusesVersion (at_fault in_other.new version.now other.now) result }
+    ensures in_other { result ≢ number.ok
+        → (IsTrue in_other.new ↔ (IsUtf8 version.now × IsVersionText version.now)) }
+    ensures order_unchanged { result ≢ number.ok → order.new ≡ order.old }
+    ensures in_other_unchanged { result ≡ number.ok → in_other.new ≡ in_other.old }
+{
+    let first = match version_text::outline(alloc, version) {
+        Ok(outline) => outline,
+        Err(number) => {
+            *in_other = false;
+            return number;
+        }
+    };
+    match version_text::version(alloc, other) {
+        Ok(second) => {
+            *order = order_number(first.cmp_precedence(&second));
+            numbers::OK
+        }
+        Err(number) => {
+            *in_other = true;
+            number
+        }
+    }
+}
+
+/// The number of an order.
+fn order_number(ordering: Ordering) -> i32
+    ensures { result ≡ order_number ordering }
+{
+    match ordering {
+        Ordering::Less => -1,
+        Ordering::Equal => 0,
+        Ordering::Greater => 1,
     }
 }

@@ -1,14 +1,16 @@
-//! Version texts: the outline of one, or the number of its fault.
+//! Version texts: the outline of one or the version, or the number of its fault.
 
-ghost use Rattle.std.specs.Prelude.{◌≡◌, IfOk, IfErr, IsUtf8};
+ghost use Rattle.std.specs.Prelude.{◌≡◌, ◌<◌, ◌⊎◌, IfOk, IfErr, IsUtf8, length};
+ghost use Rattle.semver_parser.specs.Versions.{VersionValue};
+ghost use Rattle.semver_parser.specs.VersionViews.{version_value};
 ghost use Rattle.semver_parser.specs.Outlines.{IsOutlineOf, StandsAt};
-ghost use Rattle.semver_parser.specs.VersionGrammar.{IsVersionText};
+ghost use Rattle.semver_parser.specs.VersionGrammar.{IsVersionText, SpellsVersion};
 ghost use Rattle.semver_parser.specs.ParserViews.{fault_of};
 ghost use Rattle.semver_parser_c.specs.Faults.{RefusesVersion, fault_number};
 
 use crate::numbers;
 use semver_parser::parser::Error;
-use semver_parser::version::{self, Outline};
+use semver_parser::version::{self, Outline, Version};
 use std::alloc::Global;
 
 /// The outline of a text, or the number of its fault.
@@ -26,6 +28,24 @@ pub fn outline(alloc: Global, text: &[u8]) -> Result<Outline<'_>, i32>
     match version::outline(text) {
         Some(outline) => Ok(outline),
         None => Err(fault(alloc, text)),
+    }
+}
+
+/// The version of a text, or the number of its fault.
+pub fn version(alloc: Global, text: &[u8]) -> Result<Version, i32>
+    ensures version { IfOk result (λ version. SpellsVersion (version_value version) text.now) }
+    ensures refused { IfErr result (RefusesVersion text.now) }
+    // Memory runs out at a version only where that has a pre-release or a build.
+    ensures plain { IfErr result (λ _. IsUtf8 text.now → (v : VersionValue)
+        → SpellsVersion v text.now → (0 < length v.plain.pre) ⊎ (0 < length v.build)) }
+{
+    let outline = match outline(alloc, text) {
+        Ok(outline) => outline,
+        Err(number) => return Err(number),
+    };
+    match outline.version(alloc) {
+        Ok(version) => Ok(version),
+        Err(_) => Err(numbers::VERSION_OUT_OF_MEMORY),
     }
 }
 
