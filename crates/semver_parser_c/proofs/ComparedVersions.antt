@@ -1,7 +1,9 @@
 -- What is compared of two sets is compared of what the texts themselves mean.
-use Rattle.std.proofs.Common.{◌≡◌, ◌↔◌, ℕ, ℤ, List, Option, Some, None, IsTrue, subst, sym}
+use Rattle.std.proofs.Common.{◌≡◌, ◌↔◌, ℕ, ℤ, List, Option, Some, None, IsTrue, subst, sym, arith, refl, length, decimal, ◌++◌, ◌∷◌, ◌<◌, length-append}
 use Rattle.semver_parser.specs.Texts.{Text}
-use Rattle.semver_parser.specs.Versions.{PlainVersion}
+use Rattle.semver_parser.specs.Versions.{PlainVersion, VersionValue}
+use Rattle.semver_parser.specs.VersionViews.{version_value}
+use Rattle.semver_parser.specs.PrintedText.{version_text}
 use Rattle.semver_parser.specs.declared.version.Version.{Version}
 use Rattle.semver_parser.specs.declared.Compat.{Compat}
 use Rattle.semver_parser.specs.RangeTree.{SetTree, Spells}
@@ -11,7 +13,8 @@ use Rattle.version_sets.specs.declared.comparison.Comparison.{Comparison}
 use Rattle.release_filter.specs.declared.PreReleases.{PreReleases}
 use Rattle.semver_parser_c.specs.Printing.{Puts}
 use Rattle.semver_parser_c.specs.Sets.{IsMeant, IsSetOf, plain}
-use Rattle.semver_parser_c.specs.Compared.{Compares, ComparesSets}
+use Rattle.semver_parser_c.specs.declared.ComparedRanges.{ComparedRanges}
+use Rattle.semver_parser_c.specs.Compared.{Compares, ComparesSets, IsEmptyWithout, TellsWhich, place_behind, places_of}
 
 -- what is put into a room is so of the same items, by the number that C gets
 pub puts_same : {A : Type 0} (items wanted old new : List A) (told : ℕ) (z n : ℤ) → items ≡ wanted → z ≡ n → Puts items old new told n
@@ -51,3 +54,30 @@ compared_texts old_set new_set rule mode old_text new_text old new told old_is n
       shared = told_alike _ _ (λ v. (λ h. ((in_old v).0 h.0, (in_new v).0 h.1), λ h. ((in_old v).1 h.0, (in_new v).1 h.1)))
           told.shared c.shared;
     }
+
+-- ---- which of the three there are
+
+in_the_midst : (a r m n : List ℕ) (x : ℕ) → 0 < length (((a ++ (x ∷ r)) ++ m) ++ n)
+in_the_midst a r m n x = omega (
+  arith,
+  length-append ((a ++ (x ∷ r)) ++ m) n,
+  length-append (a ++ (x ∷ r)) m,
+  length-append a (x ∷ r),
+)
+
+-- the text of a version has a dot
+some_text : (v : VersionValue) → 0 < length (version_text v)
+some_text v = in_the_midst (decimal v.plain.major) _ _ _ 46
+
+empty_without : (IsOne : PlainVersion → Type 0) (o : Option Version) (at : ℕ) → TellsLeast IsOne o → IsEmptyWithout IsOne (place_behind at o)
+empty_without IsOne None at none = (λ _. none, λ _. refl)
+empty_without IsOne (Some x) at least = (λ empty. absurd (omega (arith, empty, some_text (version_value x))), λ none. absurd (none _ least.is_one))
+
+pub tells_which : (rule : PreReleases) (mode : Compat) (old new : SetTree) (told : Comparison) (places : ComparedRanges)
+    → Compares rule mode old new told → places ≡ places_of told → TellsWhich rule mode old new places
+tells_which rule mode old new told places c is =
+    subst (TellsWhich rule mode old new) (sym is) (record {
+      lost = empty_without _ told.lost _ c.lost;
+      gained = empty_without _ told.gained _ c.gained;
+      shared = empty_without _ told.shared _ c.shared;
+    })

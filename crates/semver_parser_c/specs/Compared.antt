@@ -1,5 +1,5 @@
 -- What two range texts mean alone and together, and the texts of the least versions of these.
-use Rattle.std.specs.Prelude.{ℕ, ◌++◌, Option, Some, None, length}
+use Rattle.std.specs.Prelude.{◌≡◌, ◌↔◌, ℕ, ◌++◌, Option, Some, None, length}
 use Rattle.semver_parser.specs.Texts.{Text}
 use Rattle.semver_parser.specs.Versions.{PlainVersion}
 use Rattle.semver_parser.specs.declared.version.Version.{Version}
@@ -35,6 +35,17 @@ pub record Compares (rule : PreReleases) (mode : Compat) (old new : SetTree) (to
   pub lost : TellsLeast (IsMeantAlone rule mode old new) told.lost
   pub gained : TellsLeast (IsMeantAlone rule mode new old) told.gained
   pub shared : TellsLeast (IsMeantByBoth rule mode old new) told.shared
+
+-- a part is empty exactly where no version is one of those asked for
+abbrev pub IsEmptyWithout : (PlainVersion → Type 0) → Part → Type 0
+IsEmptyWithout IsOne part = (part.length ≡ 0) ↔ ((v : PlainVersion) → ¬ IsOne v)
+
+-- so are the three parts
+pub record TellsWhich (rule : PreReleases) (mode : Compat) (old new : SetTree)
+    (places : ComparedRanges) : Type 0 where
+  pub lost : IsEmptyWithout (IsMeantAlone rule mode old new) places.lost
+  pub gained : IsEmptyWithout (IsMeantAlone rule mode new old) places.gained
+  pub shared : IsEmptyWithout (IsMeantByBoth rule mode old new) places.shared
 
 -- the texts of the three, one behind the other
 abbrev pub joined_texts : Comparison → Text

@@ -42,7 +42,7 @@ ghost use Rattle.semver_parser_c.specs.Comparators.{HasPreReleases, told_set};
 ghost use Rattle.semver_parser_c.specs.Printing.{Puts, PutsBoth};
 ghost use Rattle.semver_parser_c.specs.Rules.{IsAnswer, IsRule, rule_number};
 ghost use Rattle.semver_parser_c.specs.Sets.{IsMeant, text_of};
-ghost use Rattle.semver_parser_c.specs.Compared.{Compares, joined_texts, places_of};
+ghost use Rattle.semver_parser_c.specs.Compared.{Compares, TellsWhich, joined_texts, places_of};
 ghost use Rattle.version_sets.specs.Comparisons.{TellsLeast};
 ghost use Rattle.version_sets.specs.declared.comparison.Comparison.{Comparison};
 
@@ -517,6 +517,11 @@ pub extern "C" fn semver_parser_proved_compare(
         → (told : Comparison) × Compares rule (mode_of npm) old new told
         × Puts (joined_texts told) out.old out.new length.new result
         × (comparison.new ≡ places_of told) }
+    // A part has no length exactly where there is no such version.
+    ensures which { (result ≡ number.ok) ⊎ (result ≡ number.no_room)
+        → (rule : Rule) → pre_releases ≡ rule_number rule
+        → (old new : SetTree) → Spells old old_range.now → Spells new new_range.now
+        → TellsWhich rule (mode_of npm) old new comparison.new }
     ensures read { (result ≡ number.ok) ⊎ (result ≡ number.no_room) → IsRule pre_releases
         × RangeIsRead (mode_of npm) old_range.now result
         × NewRangeIsRead (mode_of npm) new_range.now result }

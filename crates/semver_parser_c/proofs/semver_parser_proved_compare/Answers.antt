@@ -1,6 +1,6 @@
 use Rattle.std.proofs.Common.{rules, ◌≡◌, ◌∙◌, ⊎_elim, inl, inr, w32, to_z, of_z}
 use Rattle.semver_parser_c.proofs.Steps.{refused_alike}
-use Rattle.semver_parser_c.proofs.ComparedVersions.{compared_texts, puts_same}
+use Rattle.semver_parser_c.proofs.ComparedVersions.{compared_texts, puts_same, tells_which}
 use Rattle.semver_parser_c.proofs.NewRanges.{new_alike, new_stands, new_without_memory, nothing_put}
 use Rattle.semver_parser_c.proofs.semver_parser_proved_compare.Goals as goal
 
@@ -34,6 +34,13 @@ returns-in-Ok-compare-clause-told c = λ _ rule is old new old_spells new_spells
       puts_same _ _ _ _ _ _ _ (c.as_bytes.ensures.value ∙ text) same c.put.ensures,
       places,
     )
+
+pub returns-in-Ok-compare-clause-which : goal.returns-in-Ok-compare-clause-which
+returns-in-Ok-compare-clause-which c = λ _ rule is old new old_spells new_spells.
+    let given : to_z w32 (of_z w32 c.args.pre_releases) ≡ c.args.pre_releases = search rules in
+    let meaning = c.in-Ok.ensures.meaning rule (given ∙ is) in
+    let (told, compares, text, places) = c.in-Ok-compare.ensures in
+    tells_which rule _ old new told _ (compared_texts _ _ rule _ _ _ old new told meaning.0 meaning.1 old_spells new_spells compares) places
 
 pub returns-in-Ok-compare-clause-new_refusals : goal.returns-in-Ok-compare-clause-new_refusals
 returns-in-Ok-compare-clause-new_refusals c =
