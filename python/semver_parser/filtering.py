@@ -66,7 +66,7 @@ class Filter:
     (`pre_releases`), to be asked about many versions.
 
     Raises `RangeError` where the range is none. `kept` and `greatest` read it once for all versions
-    that they are given.
+    that they are given. `version in chosen` is what `meets` answers.
     """
 
     range: Text
