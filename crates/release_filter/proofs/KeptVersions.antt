@@ -1,10 +1,12 @@
 -- Versions that pass, put in front of others and kept, some at a time.
-use Rattle.std.proofs.Common.{◌≡◌, ℕ, zero, suc, ◌+◌, ◌<◌, ◌≤◌, Bool, true, false, List, [], ◌∷◌, ◌++◌, map, filter, take, drop, set, length, get_or}
+use Rattle.std.proofs.Common.{◌≡◌, ℕ, zero, suc, ◌+◌, ◌<◌, ◌≤◌, Bool, true, false, List, [], ◌∷◌, ◌++◌, map, filter, take, drop, set}
+use Rattle.std.proofs.Common.{length, get_or}
 use Rattle.std.proofs.Common.{refl, sym, ap, ap₂, ◌∙◌, subst, arith, Any, IsTrue, cond, add-zero, Some}
 use Rattle.std.specs.Prelude.{slice_get}
 use Rattle.std.specs.Int.{from_bool}
 use Rattle.std.proofs.lemmas.Option.{slice_get-get_or, slice_get_within}
-use Rattle.std.proofs.lemmas.List.{append-nil, append_assoc, length-append, length-map, length-set, get_or-append-add, get_or_append_left, map-append, take-append-drop, take-set, take_more, take_more_set}
+use Rattle.std.proofs.lemmas.List.{append-nil, append_assoc, length-append, length-map, length-set, get_or-append-add, get_or_append_left}
+use Rattle.std.proofs.lemmas.List.{map-append, take-append-drop, take-set, take_more, take_more_set}
 use Rattle.std.proofs.lemmas.List.Elements.{filter-append}
 use Rattle.std.specs.List.{AllByRecursion}
 use Rattle.semver_parser.specs.VersionViews.{version_value}

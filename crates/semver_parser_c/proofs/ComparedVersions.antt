@@ -1,5 +1,6 @@
 -- What is compared of two sets is compared of what the texts themselves mean.
-use Rattle.std.proofs.Common.{◌≡◌, ◌↔◌, ℕ, ℤ, List, Option, Some, None, IsTrue, subst, sym, arith, refl, length, decimal, ◌++◌, ◌∷◌, ◌<◌, length-append}
+use Rattle.std.proofs.Common.{◌≡◌, ◌↔◌, ℕ, ℤ, List, Option, Some, None, IsTrue, subst, sym, arith, refl, length, decimal, ◌++◌, ◌∷◌, ◌<◌}
+use Rattle.std.proofs.Common.{length-append}
 use Rattle.semver_parser.specs.Texts.{Text}
 use Rattle.semver_parser.specs.Versions.{PlainVersion, VersionValue}
 use Rattle.semver_parser.specs.VersionViews.{version_value}

@@ -1,5 +1,6 @@
 -- What an outline tells of the version that was read.
-use Rattle.std.proofs.Common.{◌≡◌, ℕ, ◌+◌, ◌<◌, ◌≤◌, Bool, true, false, not, List, [], ◌∷◌, length, get_or, refl, sym, ap, ◌∙◌, map, true≢false}
+use Rattle.std.proofs.Common.{◌≡◌, ℕ, ◌+◌, ◌<◌, ◌≤◌, Bool, true, false, not, List, [], ◌∷◌, length, get_or, refl, sym, ap, ◌∙◌, map}
+use Rattle.std.proofs.Common.{true≢false}
 use Rattle.std.proofs.Common.{arith, is_ge}
 use Rattle.std.specs.List.{AllWithin}
 use Rattle.std.specs.Prelude.{if◌then◌else◌}
