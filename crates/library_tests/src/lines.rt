@@ -1,6 +1,6 @@
 //! The filter of lines at a reader that fails, and at a writer that refuses.
 use super::writers::{Limited, Refusal};
-use release_filter::{Filter, LineError, PreReleases};
+use release_filter::{Filter, LineError, PreReleases, write_lines as write_all};
 use semver_parser::Compat;
 use std::alloc::Global;
 use std::io;
@@ -11,6 +11,10 @@ const INPUT: &str = "1.2.0\r\nx\n1.3.0-rc\n1.9.0\n2.0.0\n1.4.0";
 
 /// What is written of it.
 const OUTPUT: &str = "1.2.0\r\n1.9.0\n1.4.0";
+
+/// What is written of it from the least version to the greatest. The last line of the input has no
+/// end, and gets one.
+const SORTED: &str = "1.2.0\r\n1.4.0\n1.9.0\n";
 
 /// Lines that spell no version: nothing, bytes that are no UTF-8, a bad character, more than a
 /// version, less, and a word.
@@ -231,7 +235,32 @@ fn goes_on(alloc: Global, place: usize, shown: usize) -> io::Result<bool> {
         _ => false,
     };
     let end = INPUT.len();
-    Ok(is_copied && is_found && is_left(alloc, input, end)? && is_left(alloc, searched, end)?)
+    Ok(
+        is_copied
+            && is_found
+            && is_left(alloc, input, end)?
+            && is_left(alloc, searched, end)?
+            && least_and_sorted(alloc, place, shown)?,
+    )
+}
+
+/// Whether the least line and the lines sorted are found, though a signal interrupts the reader
+/// behind so many bytes.
+fn least_and_sorted(alloc: Global, place: usize, shown: usize) -> io::Result<bool> {
+    let mut searched = halting_reader(alloc, place, shown, ErrorKind::Interrupted)?;
+    let is_least = match filter(alloc)?.least_line(alloc, &mut searched) {
+        Ok(Some(line)) => line.as_slice() == "1.2.0\r\n".as_bytes(),
+        _ => false,
+    };
+    let mut sorted = halting_reader(alloc, place, shown, ErrorKind::Interrupted)?;
+    let mut out = Vec::new(alloc);
+    match filter(alloc)?.sorted_lines(alloc, &mut sorted) {
+        Ok(lines) => write_all(&mut out, &lines)?,
+        Err(_) => return Ok(false),
+    }
+    let is_sorted = out.as_slice() == SORTED.as_bytes();
+    let end = INPUT.len();
+    Ok(is_least && is_sorted && is_left(alloc, searched, end)? && is_left(alloc, sorted, end)?)
 }
 
 /// Whether a fault behind so many bytes is told, nothing of the input is lost by it, and of the
@@ -246,7 +275,19 @@ fn ends_at_a_halt(alloc: Global, place: usize, shown: usize) -> io::Result<bool>
     let found = filter(alloc)?.greatest_line(alloc, &mut searched);
     let has_ended = found.is_err_and(|error| is_reset(&error));
     let is_whole = is_left(alloc, input, place)? && is_left(alloc, searched, place)?;
-    Ok(is_told && is_written && has_ended && is_whole)
+    Ok(is_told && is_written && has_ended && is_whole && others_end_at_a_halt(alloc, place, shown)?)
+}
+
+/// Whether the search for the least line and that for the lines sorted tell the fault, too, and lose
+/// nothing of the input.
+fn others_end_at_a_halt(alloc: Global, place: usize, shown: usize) -> io::Result<bool> {
+    let mut searched = halting_reader(alloc, place, shown, ErrorKind::ConnectionReset)?;
+    let least = filter(alloc)?.least_line(alloc, &mut searched);
+    let mut gathered = halting_reader(alloc, place, shown, ErrorKind::ConnectionReset)?;
+    let sorted = filter(alloc)?.sorted_lines(alloc, &mut gathered);
+    let have_ended = least.is_err_and(|error| is_reset(&error))
+        && sorted.is_err_and(|error| is_reset(&error));
+    Ok(have_ended && is_left(alloc, searched, place)? && is_left(alloc, gathered, place)?)
 }
 
 /// The filter of `^1.2` in Cargo mode, releases alone.
@@ -283,6 +324,28 @@ fn ends_at_a_writer(
         is_told
             && is_left(alloc, input, read)?
             && out.late_calls == 0
-            && Some(out.taken.as_slice()) == OUTPUT.as_bytes().get(..left),
+            && Some(out.taken.as_slice()) == OUTPUT.as_bytes().get(..left)
+            && sorted_end_at_a_writer(alloc, left, most, refusal)?,
+    )
+}
+
+/// Whether of the lines sorted, too, so many bytes are written, and nothing after the fault of the
+/// writer.
+fn sorted_end_at_a_writer(
+    alloc: Global,
+    left: usize,
+    most: usize,
+    refusal: Refusal,
+) -> io::Result<bool> {
+    let mut out = Limited::new(alloc, left, most, refusal);
+    let sorted = match filter(alloc)?.sorted_lines(alloc, &mut INPUT.as_bytes()) {
+        Ok(lines) => lines,
+        Err(_) => return Ok(false),
+    };
+    let has_failed = write_all(&mut out, &sorted).is_err();
+    Ok(
+        has_failed == (left < SORTED.len())
+            && out.late_calls == 0
+            && Some(out.taken.as_slice()) == SORTED.as_bytes().get(..left),
     )
 }

@@ -2,7 +2,7 @@
 
 use super::Ending;
 use super::fixed::Fixed;
-use release_filter::{Filter, LineError, PreReleases, filter_text};
+use release_filter::{Filter, LineError, PreReleases, filter_text, write_lines};
 use semver_parser::version::Version;
 use semver_parser::{Compat, RangeError, parser, version};
 use std::alloc::Global;
@@ -138,6 +138,56 @@ pub fn greatest_line(alloc: Global, filter: &Filter) -> Ending {
         Err(LineError::OutOfMemory) => { Ending::refused_if(input == LINES || input == LAST_LINE) }
         _ => Ending::Wrong,
     }
+}
+
+/// The first of the lines is the least. A refusal leaves the line that it met, and all behind it.
+pub fn least_line(alloc: Global, filter: &Filter) -> Ending {
+    let mut input = LINES;
+    match filter.least_line(alloc, &mut input) {
+        Ok(Some(line)) => Ending::full_if(line.as_slice() == FIRST_LINE && input.is_empty()),
+        Err(LineError::OutOfMemory) => { Ending::refused_if(input == LINES || input == LAST_LINE) }
+        _ => Ending::Wrong,
+    }
+}
+
+/// The lines are sorted, of which the last has no end and comes in front. Nothing is written before
+/// all are sorted. A refusal leaves a line that it met, or what is behind it.
+pub fn sorted_lines(alloc: Global, filter: &Filter) -> Ending {
+    let lines: &[u8] = b"1.9.0+build\n1.2.0-rc.b";
+    let mut input = lines;
+    let mut out = Fixed::new();
+    match filter.sorted_lines(alloc, &mut input) {
+        Ok(sorted) => {
+            let has_written = write_lines(&mut out, &sorted).is_ok();
+            Ending::full_if(has_written && out.as_bytes() == KEPT_LINES && input.is_empty())
+        }
+        Err(LineError::OutOfMemory) => {
+            Ending::refused_if(
+                input == lines || input == "1.2.0-rc.b".as_bytes() || input.is_empty(),
+            )
+        }
+        _ => Ending::Wrong,
+    }
+}
+
+/// More than 20 lines, which are sorted with a buffer. The least of them is the last.
+pub fn many_sorted_lines(alloc: Global, filter: &Filter) -> Ending {
+    let mut input =
+        "1.3.0\n1.3.1\n1.3.2\n1.3.3\n1.3.4\n1.3.5\n1.3.6\n1.3.7\n1.3.8\n1.3.9\n1.4.0\n1.4.1\n\
+        1.4.2\n1.4.3\n1.4.4\n1.4.5\n1.4.6\n1.4.7\n1.4.8\n1.4.9\n1.2.0\n"
+            .as_bytes();
+    match filter.sorted_lines(alloc, &mut input) {
+        Ok(sorted) => Ending::full_if(
+            sorted.len() == 21 && sorted.first().is_some_and(|line| is_least_of_many(line)),
+        ),
+        Err(LineError::OutOfMemory) => Ending::refused_if(input.len() % 6 == 0),
+        _ => Ending::Wrong,
+    }
+}
+
+/// Whether it is the last of the many lines.
+fn is_least_of_many(line: &Vec<u8>) -> bool {
+    line.as_slice() == "1.2.0\n".as_bytes()
 }
 
 /// A line without an end isn't shown whole, so it is copied to be judged. What was written before

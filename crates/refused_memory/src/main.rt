@@ -187,13 +187,19 @@ fn of_ranges(alloc: Global) -> [(&'static str, Ending); 18] {
 }
 
 /// How each call on versions and lines ends of a filter.
-fn of_lines(alloc: Global, filter: &Filter) -> [(&'static str, Ending); 7] {
+fn of_lines(alloc: Global, filter: &Filter) -> [(&'static str, Ending); 10] {
     [
         ("kept_versions", filters::kept_versions(alloc, filter)),
         ("read_version", filters::read_version(alloc, filter)),
         ("no_version_kept", filters::no_version_kept(alloc, filter)),
         ("copied_lines", filters::copied_lines(alloc, filter)),
         ("greatest_line", filters::greatest_line(alloc, filter)),
+        ("least_line", filters::least_line(alloc, filter)),
+        ("sorted_lines", filters::sorted_lines(alloc, filter)),
+        (
+            "many_sorted_lines",
+            filters::many_sorted_lines(alloc, filter),
+        ),
         (
             "line_without_an_end",
             filters::line_without_an_end(alloc, filter),
