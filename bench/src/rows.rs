@@ -31,9 +31,9 @@ pub const ROWS: [Row; 10] = [
     ranges("simple ranges", Make::Simples),
     ranges("range sets", Make::Ranges),
     ranges("three and more simples or ranges", Make::Many),
-    sets("sets of versions of simple ranges", Make::Simples),
-    sets("sets of versions of range sets", Make::Ranges),
-    sets("sets of versions of three and more simples or ranges", Make::Many),
+    sets("simple ranges, made into sets", Make::Simples),
+    sets("range sets, made into sets", Make::Ranges),
+    sets("three and more, made into sets", Make::Many),
 ];
 
 impl Row {
