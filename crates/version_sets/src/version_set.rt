@@ -83,6 +83,9 @@ impl VersionSet {
     /// Whether each of some versions is in the set, as [`VersionSet::has`] tells of one. Of many
     /// versions it is quicker to ask so: where the set has no pre-release and at most two switches
     /// of releases, as that of `^1.2.0` has, no answer hangs on a branch. It takes no memory.
+    ///
+    /// `answers` has to have as many places as there are versions. Of 1.1.0, 1.9.0 and 2.0.0 the
+    /// set of `^1.2.0` answers `false`, `true` and `false`.
     pub fn has_each(&self, versions: &[Version], answers: &mut [bool])
         requires { length answers.old ≡ length versions.now }
         ensures each { answers.new
