@@ -43,6 +43,9 @@ pub fn write_bytes(rt: &impl Print, alloc: Global) -> io::Result<()> {
             println!(rt; "parts: wrong of {text}")?;
         }
     }
+    if !are_read_behind_numbers() {
+        println!(rt; "parts: wrong behind numbers")?;
+    }
     println!(rt; "bytes: {} texts and others", BYTES.len())
 }
 
@@ -76,6 +79,19 @@ fn has_parts(text: &str, pre: (&str, usize), build: (&str, usize)) -> bool {
         && outline.pre_offset() == pre.1
         && outline.build() == build.0
         && outline.build_offset() == build.1
+}
+
+/// Whether the parts of `1.2.3-rc.4+b5` are read behind its numbers, and none of `1.2.3.4`.
+fn are_read_behind_numbers() -> bool {
+    let Some(outline) = version::outline_behind_numbers(1, 2, 3, 5, b"-rc.4+b5") else {
+        return false;
+    };
+    outline.patch() == 3
+        && outline.pre() == "rc.4"
+        && outline.pre_offset() == 6
+        && outline.build() == "b5"
+        && outline.build_offset() == 11
+        && version::outline_behind_numbers(1, 2, 3, 5, b".4").is_none()
 }
 
 /// Whether the identifiers that a text's parts are cut to print as these.

@@ -4,6 +4,7 @@ mod Passing
 mod KeptVersions
 mod LineReading
 mod ShownLines
+mod NumberedLines
 mod LineSteps
 mod ExtremeLines
 mod SortedSteps

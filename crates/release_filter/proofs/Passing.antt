@@ -1,17 +1,18 @@
 -- What passes a filter, and what is said of a text by it.
-use Rattle.std.proofs.Common.{◌≡◌, ◌<◌, ◌==◌, ◌∷◌, arith, length, ℕ, List, [], Some, IfErr, Result, Ok, Err}
+use Rattle.std.proofs.Common.{◌≡◌, ◌<◌, ◌==◌, ◌∷◌, arith, length, ℕ, List, [], Option, Some, None, IfErr, Result, Ok, Err}
 use Rattle.std.proofs.Common.{◌↔◌, subst, IsTrue, Bool, true, false, refl, sym, ap, ◌∙◌, rules}
 use Rattle.std.specs.Prelude.{◌&&◌}
 use Rattle.semver_parser.specs.Texts.{Text, is_empty}
 use Rattle.semver_parser.specs.Versions.{IdentifierValue, PlainVersion, VersionValue}
 use Rattle.semver_parser.specs.VersionGrammar.{SpellsVersion, IsVersionText}
 use Rattle.std.proofs.lemmas.Bool.Decides.{nat_tests}
-use Rattle.semver_parser.specs.Outlines.{OutlineValue, dotted_text}
+use Rattle.semver_parser.specs.Outlines.{OutlineValue, IsOutlineOf, dotted_text}
 use Rattle.semver_parser.specs.OwnMeaning.{meets_tree}
 use Rattle.semver_parser.specs.RangeTree.{SetTree}
 use Rattle.semver_parser.specs.declared.Compat.{Compat}
 use Rattle.version_sets.specs.PreReleaseRules.{meant_with, numbers_fit}
 use Rattle.release_filter.specs.declared.judging.Judged.TheVariants.{DoesNotPass, Passes}
+use Rattle.release_filter.specs.Means.Reading.{IsOutlined}
 use Rattle.version_sets.specs.VersionSets.{has, Fits}
 use Rattle.version_sets.specs.declared.PreReleases.TheVariants.{Excluded}
 use Rattle.release_filter.specs.Filters.{FilterValue, passes}
@@ -91,3 +92,9 @@ has_part (id ∷ ids) some = omega arith
 
 pub apart : (o : OutlineValue) → Passes o ≡ DoesNotPass → ⊥
 apart o e = cc
+
+-- what `outline_bytes` tells of a text
+pub outlined_as : (text : Text) (found : Option OutlineValue) → ((o : OutlineValue) → (found ≡ Some o) ↔ IsOutlineOf text o)
+    → ((found ≡ None) ↔ ¬ (IsVersionText text)) → IsOutlined text found
+outlined_as text None told none = none.0 refl
+outlined_as text (Some o) told none = (told o).0 refl

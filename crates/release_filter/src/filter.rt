@@ -68,6 +68,19 @@ impl Filter {
         })
     }
 
+    /// A filter that the versions of a set pass, as those that a tool's own reading of a range text
+    /// answers. It takes no memory.
+    pub fn of_versions(versions: VersionSet) -> Filter
+        ensures set { result.set ≡ versions }
+        // Which pre-releases count, the set says by itself.
+        ensures rule { result.pre_releases ≡ PreReleases.Included }
+    {
+        Filter {
+            versions,
+            pre_releases: PreReleases::Included,
+        }
+    }
+
     /// Whether a version passes. Its build doesn't count. It takes no memory.
     pub fn meets(&self, version: &Version) -> bool
         ensures meets { result ≡ passes self.now (version_value version.now) }

@@ -2,11 +2,13 @@
 
 ghost use Rattle.std.specs.Prelude.{◌≡◌, ◌↔◌, ◌<◌, ◌⊎◌, [], length, option_map, false};
 ghost use Rattle.std.specs.Prelude.{IfOk, IfErr, IsTrue, Some, None, Result};
+ghost use Rattle.semver_parser.specs.Texts.{Text};
 ghost use Rattle.semver_parser.specs.Versions.{VersionValue};
 ghost use Rattle.semver_parser.specs.VersionGrammar.{SpellsVersion};
 ghost use Rattle.semver_parser.specs.VersionViews.{version_value};
 ghost use Rattle.release_filter.specs.Filters.{passes};
 ghost use Rattle.release_filter.specs.Judging.{IsJudged};
+ghost use Rattle.release_filter.specs.Means.Reading.{IsOutlined};
 
 use crate::filter::Filter;
 use semver_parser::laws;
@@ -38,7 +40,20 @@ impl Filter {
         ensures releases { (v : VersionValue) → SpellsVersion v text.now → ¬ (v.plain.pre ≡ [])
             → self.now.pre_releases ≡ PreReleases.Excluded → result ≡ Judged.DoesNotPass }
     {
-        let Some(outline) = version::outline_bytes(text) else {
+        self.judge_outline(version::outline_bytes(text))
+    }
+
+    /// What the filter says of a text that has this outline, or that spells no version.
+    #[inline(always)]
+    pub(crate) fn judge_outline<'t>(&self, outline: Option<Outline<'t>>) -> Judged<'t>
+        ensures judged { (text : Text) → IsOutlined text outline.entry
+            → IsJudged (passes self.now) text result }
+        ensures none { outline.entry ≡ None → result ≡ Judged.NoVersion }
+        ensures releases { (text : Text) (v : VersionValue) → IsOutlined text outline.entry
+            → SpellsVersion v text → ¬ (v.plain.pre ≡ [])
+            → self.now.pre_releases ≡ PreReleases.Excluded → result ≡ Judged.DoesNotPass }
+    {
+        let Some(outline) = outline else {
             return Judged::NoVersion;
         };
         if self.versions.has_outline(&outline) {

@@ -15,13 +15,15 @@ ghost use Rattle.release_filter.specs.KeptLines.{SpellsOneThat};
 ghost use Rattle.release_filter.specs.Means.Reading.{ReadsPart, ReadsLine, FindsEnd, IsOfOneLine};
 ghost use Rattle.release_filter.specs.Means.Reading.{SpellsPlain, IsWholeLine, Judges, JudgesNext};
 ghost use Rattle.release_filter.specs.Means.Reading.{PassesOver, FindsNext, StopsInLine, taken};
+ghost use Rattle.release_filter.specs.Means.Reading.{IsLineOutlined};
 ghost use Rattle.semver_parser.specs.Texts.{Text};
 
 use crate::filter::Filter;
 use crate::judging::Judged;
 use crate::lines::LineError;
 use semver_parser::laws;
-use semver_parser::version::{Outline, Version};
+use semver_parser::version::{Outline, Version, outline_behind_numbers, outline_bytes};
+use semver_texts::decimals::numbers;
 use std::alloc::{AllocError, Global};
 use std::io::{self, BufRead, ErrorKind};
 
@@ -85,7 +87,7 @@ impl Filter {
             judged => return judged,
         }
         match read_line(input, line) {
-            Ok(true) => judged(self.kept_version(alloc, prefix, line.as_slice())),
+            Ok(true) => judged(self.kept_version(alloc, outline_of(prefix, line.as_slice()))),
             Ok(false) => Ok(Taken::Nothing),
             Err(error) => Err(error),
         }
@@ -113,10 +115,10 @@ impl Filter {
             Err(error) if error.kind() == ErrorKind::Interrupted => return Ok(Taken::Nothing),
             Err(error) => return Err(reading_fault(error)),
         };
-        let Some(first) = whole_line(shown) else {
+        let Some((first, outline)) = first_line(prefix, shown) else {
             return Ok(Taken::Nothing);
         };
-        let found = self.copy_kept(alloc, prefix, first, line);
+        let found = self.copy_kept(alloc, first, outline, line);
         if found.is_err() {
             return Err(LineError::OutOfMemory);
         }
@@ -125,19 +127,20 @@ impl Filter {
         judged(found)
     }
 
-    /// The version that a line spells behind the prefix, if it passes, and then the line in `copy`.
+    /// The version of a line that has this outline, if it passes, and then the line in `copy`.
     #[inline(always)]
     fn copy_kept(
         &self,
         alloc: Global,
-        prefix: &str,
         line: &[u8],
+        outline: Option<Outline<'_>>,
         copy: &mut Vec<u8>,
     ) -> Result<Option<Version>, AllocError>
-        ensures { IfOk result
-            (Judges (passes self.now) prefix.now line.now copy.new.items) }
+        ensures { (prefix : Text) → IsLineOutlined prefix line.now outline.entry
+            → IfOk result
+            (Judges (passes self.now) prefix line.now copy.new.items) }
     {
-        let Some(version) = self.kept_version(alloc, prefix, line)? else {
+        let Some(version) = self.kept_version(alloc, outline)? else {
             return Ok(None);
         };
         copy.clear();
@@ -145,22 +148,19 @@ impl Filter {
         Ok(Some(version))
     }
 
-    /// The version that a line spells behind the prefix, without its build, if it passes.
+    /// The version of a line that has this outline, without its build, if it passes.
     #[inline(always)]
     fn kept_version(
         &self,
         alloc: Global,
-        prefix: &str,
-        line: &[u8],
+        outline: Option<Outline<'_>>,
     ) -> Result<Option<Version>, AllocError>
-        ensures { IfOk result (λ found. MatchOption found
-            (¬ (IsKeptLine (passes self.now) prefix.now line.now))
-            (λ v. SpellsPlain (passes self.now) prefix.now line.now (version_value v).plain)) }
+        ensures { (prefix : Text) (line : List ℕ) → IsLineOutlined prefix line outline.entry
+            → IfOk result (λ found. MatchOption found
+            (¬ (IsKeptLine (passes self.now) prefix line))
+            (λ v. SpellsPlain (passes self.now) prefix line (version_value v).plain)) }
     {
-        let Some(text) = text_behind(prefix, line) else {
-            return Ok(None);
-        };
-        match self.judge(text) {
+        match self.judge_outline(outline) {
             Judged::Passes(outline) => Ok(Some(without_build(alloc, &outline)?)),
             Judged::NoVersion | Judged::DoesNotPass => Ok(None),
         }
@@ -182,6 +182,38 @@ fn without_build(alloc: Global, outline: &Outline<'_>) -> Result<Version, AllocE
         pre: outline.pre_identifiers(alloc)?,
         build: Vec::new(alloc),
     })
+}
+
+/// The first line with its end, if some line has one, and the outline of the version that it spells
+/// behind the prefix. For speed, where nothing stands before a version its numbers are read first,
+/// and the end of the line is sought behind them.
+#[inline(always)]
+fn first_line<'l>(prefix: &str, bytes: &'l [u8]) -> Option<(&'l [u8], Option<Outline<'l>>)>
+    ensures none { result ≡ None → All (λ x. x ≢ 10) bytes.now }
+    ensures front { IfSome result (λ found. StartsWith bytes.now found.0.now) }
+    ensures whole { IfSome result (λ found. IsWholeLine found.0.now) }
+    ensures outlined { IfSome result (λ found. IsLineOutlined prefix.now found.0.now found.1) }
+{
+    if prefix.is_empty() {
+        if let Some((major, minor, patch, rest)) = numbers(bytes) {
+            let behind = whole_line(rest)?;
+            let numbers_end = bytes.len() - rest.len();
+            let line = &bytes[..numbers_end + behind.len()];
+            let text = text_of(behind);
+            let outline = outline_behind_numbers(major, minor, patch, numbers_end, text);
+            return Some((line, outline));
+        }
+    }
+    let line = whole_line(bytes)?;
+    Some((line, outline_of(prefix, line)))
+}
+
+/// The outline of the version that a line spells behind the prefix.
+#[inline(always)]
+fn outline_of<'l>(prefix: &str, line: &'l [u8]) -> Option<Outline<'l>>
+    ensures { IsLineOutlined prefix.now line.now result }
+{
+    outline_bytes(text_behind(prefix, line)?)
 }
 
 /// What stands behind the prefix in the text of a line, if the text begins with it.

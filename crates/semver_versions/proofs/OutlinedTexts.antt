@@ -1,7 +1,7 @@
 -- The outline of a version, from the numbers and the parts of a text that spells it, and its parts back.
 use Rattle.std.proofs.Common.{◌≡◌, ◌<◌, ℕ, suc, ◌+◌, List, [], ◌∷◌, ◌++◌, length, take, drop, map, sym, refl, ap, ◌∙◌, subst, arith}
 use Rattle.std.proofs.Common.{⊎_elim, ◌⊎◌, inl, inr, append_assoc, length-append, length-drop, decimal, codes, ◌≤◌, rules}
-use Rattle.std.specs.Prelude.{Option, Some, None, Result, Ok, Err, IfOk, IfErr, false, ◌==◌, ◌↔◌, IfSome}
+use Rattle.std.specs.Prelude.{Option, Some, None, Result, Ok, Err, IfOk, IfErr, false, ◌==◌, ◌↔◌, IfSome, slice_index}
 use Rattle.std.specs.List.{AllZip, join_with_byte, prefix_len}
 use Rattle.std.proofs.lemmas.Bool.Decides.{nat_tests}
 use Rattle.std.proofs.lemmas.List.{take_at, drop_at}
@@ -10,12 +10,12 @@ use Rattle.std.proofs.lemmas.List.Splits.{join_with_byte-slice_split}
 use Rattle.semver_texts.specs.Texts.{Text, marked, BeginsWithNumbers, is_empty, is_space}
 use Rattle.semver_texts.specs.Versions.{IdentifierValue, VersionValue, numbers}
 use Rattle.semver_texts.specs.PrintedText.{identifier_text, plain_text}
-use Rattle.semver_texts.specs.VersionGrammar.{SpellsIdentifier, SpellsPart, SpellsVersion}
+use Rattle.semver_texts.specs.VersionGrammar.{SpellsIdentifier, SpellsPart, SpellsVersion, IsVersionText}
 use Rattle.semver_versions.specs.Outlines.{OutlineValue, dotted_text, behind_mark, outline_behind, IsOutlineOf, StandsAt}
 use Rattle.semver_versions.specs.Means.Cutting.{AreParts, AreSpaces, IsOutlineBehind, IsOutlined}
 use Rattle.semver_texts.specs.Texts.{cut_at_dots}
 use Rattle.semver_versions.proofs.CutIdentifiers.{cut_texts, marked_cut}
-use Rattle.semver_versions.proofs.OneVersion.{one_version, identifiers_bytes, joined_some, same_identifiers}
+use Rattle.semver_versions.proofs.OneVersion.{one_version, numbers_first, identifiers_bytes, joined_some, same_identifiers}
 use Rattle.semver_versions.proofs.SpelledParts.{spell_some, spells_version, spaced, unspaced, space_before, spelled_are}
 use Rattle.semver_versions.proofs.WholeText.{spelled_texts, part_text}
 
@@ -163,6 +163,25 @@ module _ (text : Text) where
     where
       same : {x y : OutlineValue} → Some x ≡ Some y → x ≡ y
       same e = cc
+
+-- ---- no white space before it, as numbers stand there
+
+no_spaces : (text : Text) → is_space (slice_index text 0) ≡ false → prefix_len is_space text ≡ 0
+no_spaces [] none = refl
+no_spaces (b ∷ text) none = rw none refl
+
+pub outlined_at_numbers : (text rest : Text) (major minor patch numbers_end : ℕ) (found : Option OutlineValue)
+    → ((t : Text) (before : ℕ) → BeginsWithNumbers t major minor patch rest → numbers_end + length rest ≡ before + length t
+    → IsOutlined before t found)
+    → BeginsWithNumbers text major minor patch rest → length text ≡ numbers_end + length rest
+    → IsOutlined (prefix_len is_space text) text found
+outlined_at_numbers text rest major minor patch numbers_end found told n at =
+    subst (λ before. IsOutlined before text found) (sym (no_spaces text (numbers_first n))) (told text 0 n (omega (arith, at)))
+
+pub exactly_none : (before : ℕ) (text : Text) (found : Option OutlineValue) → IsOutlined before text found
+    → (found ≡ None) ↔ ¬ (IsVersionText text)
+exactly_none before text None none = (λ e. none, λ n. refl)
+exactly_none before text (Some o) is = (λ e. cc, λ none. absurd (none (is.0, is.1)))
 
 -- ---- the parts of an outline
 

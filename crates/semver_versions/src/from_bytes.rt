@@ -84,24 +84,22 @@ fn with_parts(
     })
 }
 
-/// What follows the white space at the front. For speed, a digit there is told first.
+/// The outline of the version whose numbers are known, how many bytes there are up to their end, and
+/// what stands behind them, if the text spells one. For speed, one without a pre-release and a build
+/// is told first.
 #[inline(always)]
-fn behind_spaces(bytes: &[u8]) -> &[u8]
-    ensures { result.now ≡ drop (prefix_len is_space bytes.now) bytes.now }
+pub(crate) fn behind_numbers(
+    major: u64,
+    minor: u64,
+    patch: u64,
+    numbers_end: usize,
+    rest: &[u8],
+) -> Option<Outline<'_>>
+    requires { numbers_end + length rest.now < 2 ^ 64 }
+    ensures { (text : Text) (before : ℕ) → BeginsWithNumbers text major minor patch rest.now
+        → numbers_end + length rest.now ≡ before + length text
+        → IsOutlined before text result }
 {
-    if begins_with_digit(bytes) {
-        return bytes;
-    }
-    &bytes[space_len(bytes)..]
-}
-
-/// The outline of the version that the bytes spell, if they spell one. For speed, one without a
-/// pre-release and a build is told first.
-#[inline(always)]
-pub(crate) fn outline(input: &[u8]) -> Option<Outline<'_>>
-    ensures { IsOutlined (prefix_len is_space input.now) input.now result }
-{
-    let (major, minor, patch, rest) = numbers(behind_spaces(input))?;
     if are_spaces(rest) {
         return Some(Outline {
             major,
@@ -113,5 +111,25 @@ pub(crate) fn outline(input: &[u8]) -> Option<Outline<'_>>
             before_build: 0,
         });
     }
-    with_parts(major, minor, patch, input.len() - rest.len(), rest)
+    with_parts(major, minor, patch, numbers_end, rest)
+}
+
+/// What follows the white space at the front. For speed, a digit there is told first.
+#[inline(always)]
+fn behind_spaces(bytes: &[u8]) -> &[u8]
+    ensures { result.now ≡ drop (prefix_len is_space bytes.now) bytes.now }
+{
+    if begins_with_digit(bytes) {
+        return bytes;
+    }
+    &bytes[space_len(bytes)..]
+}
+
+/// The outline of the version that the bytes spell, if they spell one.
+#[inline(always)]
+pub(crate) fn outline(input: &[u8]) -> Option<Outline<'_>>
+    ensures { IsOutlined (prefix_len is_space input.now) input.now result }
+{
+    let (major, minor, patch, rest) = numbers(behind_spaces(input))?;
+    behind_numbers(major, minor, patch, input.len() - rest.len(), rest)
 }

@@ -6,8 +6,9 @@
 //! it. A number is a canonical decimal, `0` or digits that don't begin with `0`, up to
 //! 18446744073709551615. An identifier is one or more runs of ASCII letters and digits joined by
 //! single hyphens; there is no limit on runs, identifiers or the length of a text.
-ghost use Rattle.std.specs.Prelude.{◌≡◌, ◌↔◌, ◌<◌, ◌⊎◌, [], length, Some, None, option_map};
-ghost use Rattle.std.specs.Prelude.{IfOk, IfErr, IfSome};
+ghost use Rattle.std.specs.Prelude.{◌≡◌, ◌↔◌, ◌<◌, ◌⊎◌, ◌+◌, ◌^◌, [], length, Some, None};
+ghost use Rattle.std.specs.Prelude.{IfOk, IfErr, IfSome, option_map};
+ghost use Rattle.semver_texts.specs.Texts.{Text, BeginsWithNumbers};
 ghost use Rattle.semver_texts.specs.Versions.{VersionValue};
 ghost use Rattle.semver_texts.specs.PrintedText.{version_text};
 ghost use Rattle.semver_texts.specs.VersionViews.{version_value};
@@ -114,6 +115,30 @@ pub fn outline_bytes(input: &[u8]) -> Option<Outline<'_>>
         × StandsAt o.build_offset o.build input.now) }
 {
     from_bytes::outline(input)
+}
+
+/// What [`outline_bytes`] answers of a text that begins with three numbers, for who has read these:
+/// 1, 2 and 3, the 5 bytes up to their end, and `-rc.4` behind them give the outline of `1.2.3-rc.4`,
+/// and with `.4` behind them `None`. It takes no memory.
+#[inline(always)]
+pub fn outline_behind_numbers(
+    major: u64,
+    minor: u64,
+    patch: u64,
+    numbers_end: usize,
+    rest: &[u8],
+) -> Option<Outline<'_>>
+    requires fits { numbers_end + length rest.now < 2 ^ 64 }
+    // An outline is answered exactly where it is that of a version that the text spells.
+    ensures outlined { (text : Text) (o : OutlineValue)
+        → BeginsWithNumbers text major minor patch rest.now
+        → length text ≡ numbers_end + length rest.now → (result ≡ Some o) ↔ IsOutlineOf text o }
+    // None is answered exactly where the text spells no version.
+    ensures none { (text : Text) → BeginsWithNumbers text major minor patch rest.now
+        → length text ≡ numbers_end + length rest.now
+        → (result ≡ None) ↔ ¬ (IsVersionText text) }
+{
+    from_bytes::behind_numbers(major, minor, patch, numbers_end, rest)
 }
 
 /// The version that the text spells: `" 1.2.3-rc.4\n"` gives the numbers 1, 2 and 3, the

@@ -70,7 +70,7 @@ fn of_range(
 {
     let meeting = of_comparators(alloc, &range.comparator_set)?;
     match pre_releases {
-        PreReleases::Excluded => Ok(releases_of(alloc, meeting)),
+        PreReleases::Excluded => Ok(meeting.only_releases(alloc)),
         PreReleases::Stated => {
             meeting.intersection(alloc, &counting_beside(alloc, &range.comparator_set)?)
         }
@@ -126,13 +126,6 @@ fn narrowed(
             from.difference(alloc, &above(alloc, comparator)?)
         }
     }
-}
-
-/// The releases of a set. It takes no memory.
-fn releases_of(alloc: Global, set: VersionSet) -> VersionSet
-    ensures { (v : PlainVersion) → has result v ≡ (is_empty v.pre && has set v) }
-{
-    VersionSet::of_switches(set.releases, Vec::new(alloc))
 }
 
 /// The versions that count beside comparators as stated: the releases, and what is at the numbers

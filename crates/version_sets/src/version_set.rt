@@ -1,8 +1,8 @@
 //! Sets of versions, and which versions are in them.
 
-ghost use Rattle.std.specs.Prelude.{◌≡◌, false, length, map};
+ghost use Rattle.std.specs.Prelude.{◌≡◌, ◌&&◌, false, length, map};
 ghost use Rattle.std.specs.List.{AllByRecursion};
-ghost use Rattle.semver_parser.specs.Texts.{Text};
+ghost use Rattle.semver_parser.specs.Texts.{Text, is_empty};
 ghost use Rattle.semver_parser.specs.Versions.{PlainVersion, VersionValue};
 ghost use Rattle.semver_parser.specs.VersionGrammar.{SpellsVersion};
 ghost use Rattle.semver_parser.specs.VersionViews.{version_value};
@@ -59,6 +59,15 @@ impl VersionSet {
             releases,
             pre_releases,
         }
+    }
+
+    /// The releases of the set: of `>=1.2.0-rc` by `PreReleases::Included` 1.2.0 is left, and
+    /// 1.2.0-rc.2 isn't. It takes no memory.
+    pub fn only_releases(self, alloc: Global) -> VersionSet
+        ensures releases { (v : PlainVersion) → has result v
+            ≡ (is_empty v.pre && has self v) }
+    {
+        VersionSet::of_switches(self.releases, Vec::new(alloc))
     }
 
     /// Whether a version is in the set: 1.9.0+b5 is in that of `^1.2.0`, and 2.0.0 isn't. It takes

@@ -4,11 +4,13 @@ use Rattle.std.specs.Prelude.{Some, None, IfSome, MatchOption, Result, Ok, Err}
 use Rattle.std.specs.Io.{StopsAt, IsEmptyOrEndsWith}
 use Rattle.std.specs.Io.BufRead.{take_through, drop_through}
 use Rattle.semver_parser.specs.Texts.{Text}
+use Rattle.semver_parser.specs.Outlines.{OutlineValue, IsOutlineOf}
+use Rattle.semver_parser.specs.VersionGrammar.{IsVersionText}
 use Rattle.semver_parser.specs.Versions.{PlainVersion, VersionValue}
 use Rattle.semver_parser.specs.VersionViews.{version_value}
 use Rattle.semver_parser.specs.declared.version.Version.{Version}
 use Rattle.release_filter.specs.Extremes.{HasNone}
-use Rattle.release_filter.specs.KeptLines.{SpellsOneThat, IsKeptLine, StandsBehind}
+use Rattle.release_filter.specs.KeptLines.{line_text, SpellsOneThat, IsKeptLine, StandsBehind}
 use Rattle.release_filter.specs.declared.next_line.Taken.{Taken}
 use Rattle.release_filter.specs.declared.next_line.Taken.TheVariants.{Nothing, PassedOver, Kept}
 use Rattle.release_filter.specs.declared.lines.LineError.{LineError}
@@ -42,6 +44,18 @@ IsOfOneLine TooManyLines = ⊥
 abbrev pub SpellsPlain : (VersionValue → Bool) → Text → List ℕ → PlainVersion → Type 0
 SpellsPlain test prefix line plain =
     (v : VersionValue) × SpellsOneThat test prefix line v × (plain ≡ v.plain)
+
+-- this is the outline of a version that the text spells; or there is none, as it spells none
+abbrev pub IsOutlined : Text → Option OutlineValue → Type 0
+IsOutlined text None = ¬ (IsVersionText text)
+IsOutlined text (Some outline) = IsOutlineOf text outline
+
+-- so of the text behind the prefix of a line; there is none, too, where another text stands there
+abbrev pub IsLineOutlined : Text → List ℕ → Option OutlineValue → Type 0
+IsLineOutlined prefix line None =
+    (text : Text) → line_text line ≡ prefix ++ text → ¬ (IsVersionText text)
+IsLineOutlined prefix line (Some outline) =
+    (text : Text) × (line_text line ≡ prefix ++ text) × IsOutlineOf text outline
 
 -- a line that ends with a line feed
 abbrev pub IsWholeLine : List ℕ → Type 0

@@ -3,16 +3,8 @@ use Rattle.std.specs.List.{prefix_len}
 use Rattle.semver_texts.specs.Texts.{Text, is_space, BeginsWithNumbers}
 use Rattle.semver_versions.proofs.CutIdentifiers.{ends_front}
 use Rattle.semver_versions.proofs.SpelledParts.{no_numbers}
-use Rattle.semver_versions.proofs.OutlinedTexts.{has_plain_outline, outline_spaced, outlined_spaced, rest_fits}
+use Rattle.semver_versions.proofs.OutlinedTexts.{outlined_spaced, rest_fits}
 use Rattle.semver_versions.proofs.from_bytes.outline.Goals as goal
-use Rattle.semver_versions.proofs.from_bytes.outline.Goals.{In_ok-major}
-
--- the numbers stand behind the white space
-begins : (c : In_ok-major) → BeginsWithNumbers (drop (prefix_len is_space c.args.input.now) c.args.input.now) c.in_ok-major.major
-    c.in_ok-major.minor c.in_ok-major.patch c.in_ok-major.rest.now
-begins c =
-    subst (λ (t : Text). BeginsWithNumbers t c.in_ok-major.major c.in_ok-major.minor c.in_ok-major.patch c.in_ok-major.rest.now)
-    c.behind_spaces.ensures c.in_ok-major.ensures
 
 pub returns-in_err-major : goal.returns-in_err-major
 returns-in_err-major c = rw c.from_residual.ensures
@@ -21,15 +13,13 @@ returns-in_err-major c = rw c.from_residual.ensures
     (subst (λ (t : Text). (major minor patch : ℕ) (rest : Text) → ¬ (BeginsWithNumbers t major minor patch rest))
     c.behind_spaces.ensures c.in_err-major.ensures)))
 
-pub returns-then-are_spaces : goal.returns-then-are_spaces
-returns-then-are_spaces c =
-    outline_spaced c.args.input.now _
-    (has_plain_outline _ _ c.in_ok-major.rest.now c.in_ok-major.major c.in_ok-major.minor c.in_ok-major.patch
-    (begins (goal.at.returns-then-are_spaces c).In_ok-major) (c.are_spaces.ensures.yes c.if-are_spaces.true))
-
 pub returns : goal.returns
 returns c =
-    let n = begins (goal.at.returns c).In_ok-major in
-    outlined_spaced c.args.input.now c.with_parts.result
-    (c.with_parts.ensures _ (prefix_len is_space c.args.input.now) n
+    -- the numbers stand behind the white space
+    let n : BeginsWithNumbers (drop (prefix_len is_space c.args.input.now) c.args.input.now) c.in_ok-major.major c.in_ok-major.minor
+    c.in_ok-major.patch c.in_ok-major.rest.now =
+    subst (λ (t : Text). BeginsWithNumbers t c.in_ok-major.major c.in_ok-major.minor c.in_ok-major.patch c.in_ok-major.rest.now)
+    c.behind_spaces.ensures c.in_ok-major.ensures in
+    outlined_spaced c.args.input.now c.behind_numbers.result
+    (c.behind_numbers.ensures _ (prefix_len is_space c.args.input.now) n
     (omega (arith, rest_fits c.args.input.now c.in_ok-major.rest.now _ _ _ n)))

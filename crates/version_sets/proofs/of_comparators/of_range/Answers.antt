@@ -31,7 +31,7 @@ IsOf rule range set = (v : PlainVersion) → Fits v → has set v ≡ meets_rang
 
 pub returns-in-Excluded : goal.returns-in-Excluded
 returns-in-Excluded c = λ v fits.
-    c.releases_of.ensures v ∙ ap (λ b. is_empty v.pre && b) (c.in_ok-meeting.ensures v fits ∙ met v _ _ c.deref.ensures.value)
+    c.only_releases.ensures.releases v ∙ ap (λ b. is_empty v.pre && b) (c.in_ok-meeting.ensures v fits ∙ met v _ _ c.deref.ensures.value)
     ∙ ap (λ rule. meets_range_with rule v (range_of c.args.range.now)) (sym c.in-Excluded.is)
 
 pub returns-in_ok-counting_beside-in-Stated : goal.returns-in_ok-counting_beside-in-Stated

@@ -12,5 +12,5 @@ returns-clause-judges g c =
     c.fill_buf.follows.holds-at-none in
     let gone = let_go _ _ _ _ c.in-Ok.shown.now line c.in-Some.ensures.front c.in-Ok.ensures.front c.in-Ok.ensures.end
     filled.0 filled.1 c.consume.ensures.bytes in
-    is_judged _ _ line _ _ _ _ _ _ _ c.judged.ensures c.copy_kept-found.ensures (one_read _ _ line gone whole)
-    (on_no_err _ c.copy_kept-found.result (sym c.is_err.ensures.value ∙ c.if-is_err.false))
+    is_judged _ _ line _ _ _ _ _ _ _ c.judged.ensures (c.copy_kept-found.ensures c.args.prefix.now c.in-Some.ensures.outlined)
+    (one_read _ _ line gone whole) (on_no_err _ c.copy_kept-found.result (sym c.is_err.ensures.value ∙ c.if-is_err.false))

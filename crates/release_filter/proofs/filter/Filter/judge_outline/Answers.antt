@@ -1,0 +1,43 @@
+use Rattle.std.proofs.Common.{◌≡◌, ap, sym, ◌∙◌, subst}
+use Rattle.semver_parser.specs.Outlines.{IsOutlineOf}
+use Rattle.semver_parser.specs.Texts.{Text}
+use Rattle.semver_parser.specs.VersionGrammar.{SpellsVersion}
+use Rattle.semver_parser.specs.Versions.{VersionValue}
+use Rattle.version_sets.specs.VersionSets.{has}
+use Rattle.release_filter.specs.Filters.{FilterValue, passes}
+use Rattle.release_filter.specs.Means.Reading.{IsOutlined}
+use Rattle.release_filter.specs.Means.Rules.{HeedsRule}
+use Rattle.release_filter.proofs.Passing.{as_outlined, excluded_fails, not_both, spelled_fit}
+use Rattle.release_filter.proofs.filter.Filter.judge_outline.Goals as goal
+use Rattle.release_filter.proofs.filter.Filter.judge_outline.Goals.{After-has_outline}
+
+-- its outline is the one that was given
+outlined_so : (c : After-has_outline) (text : Text) → IsOutlined text c.args.outline → IsOutlineOf text c.in-Some.outline
+outlined_so c text outlined = subst (IsOutlined text) c.in-Some.is outlined
+
+-- each version that the text spells passes where the set has its outline
+passed : (c : After-has_outline) (text : Text) → IsOutlined text c.args.outline → (v : VersionValue) → SpellsVersion v text
+    → c.has_outline.result ≡ passes c.args.self.now v
+passed c text outlined v spells =
+    c.has_outline.ensures.has text v (outlined_so c text outlined) spells
+    ∙ ap (λ (f : FilterValue). has f.set v.plain) c.self.view_is ∙ sym (as_outlined c.args.self.now v text spells)
+
+pub returns-then-has_outline-clause-judged : goal.returns-then-has_outline-clause-judged
+returns-then-has_outline-clause-judged c =
+    let past = (goal.at.returns-then-has_outline-clause-judged c).After-has_outline in λ text outlined. (
+      outlined_so past text outlined,
+      λ v spells. sym (passed past text outlined v spells) ∙ c.if-has_outline.true,
+    )
+
+pub returns-then-has_outline-clause-releases : goal.returns-then-has_outline-clause-releases
+returns-then-has_outline-clause-releases c = λ text v outlined spells some only.
+    absurd (not_both
+    (sym (passed (goal.at.returns-then-has_outline-clause-releases c).After-has_outline text outlined v spells) ∙ c.if-has_outline.true)
+    (excluded_fails c.args.self.now v (subst (λ (f : FilterValue). HeedsRule f.pre_releases f.set) c.self.view_is c.self.invariant)
+    (spelled_fit v text spells) only some))
+
+pub returns-else-has_outline-clause-judged : goal.returns-else-has_outline-clause-judged
+returns-else-has_outline-clause-judged c =
+    let past = (goal.at.returns-else-has_outline-clause-judged c).After-has_outline in λ text outlined.
+    let is = outlined_so past text outlined in
+    ((is.0, is.1), λ v spells. sym (passed past text outlined v spells) ∙ c.if-has_outline.false)
