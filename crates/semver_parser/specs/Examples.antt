@@ -5,6 +5,7 @@ use Rattle.std.specs.Fmt.{digits}
 use Rattle.std.specs.Ordering.{is_lt}
 use Rattle.semver_ranges.specs.declared.range.Compat.{Compat}
 use Rattle.semver_ranges.specs.declared.range.Compat.TheVariants.{Cargo, Npm}
+use Rattle.semver_ranges.specs.declared.grammar.Dialect.TheVariants.{Crate}
 use Rattle.semver_ranges.specs.RangeTexts.{IsTooLarge}
 use Rattle.semver_ranges.specs.RangeTree.{PartialTree, one, three, Form, bare, equal, at_most}
 use Rattle.semver_ranges.specs.RangeTree.{greater, tilde, caret, empty, hyphen, simples, SetTree}
@@ -51,7 +52,8 @@ version a b c pre = filled (a ∷ b ∷ c ∷ []) pre
 abbrev pub lone : Form → PartialTree → SetTree
 lone form p = simples (record { form = form; partial = p }) [] ∷ []
 
-pub lone-spells : (form : Form) (p : PartialTree) (front back : Text) → SpellsForm form front
+pub lone-spells : (form : Form) (p : PartialTree) (front back : Text)
+    → SpellsForm Crate form front
     → SpellsPartial p back → Spells (lone form p) ((front ++ back) ++ [])
 lone-spells form p front back f b =
     ([], front ++ back, [], refl, (front, back, f, b, refl), refl, refl)

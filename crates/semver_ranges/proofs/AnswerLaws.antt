@@ -4,6 +4,7 @@ use Rattle.std.proofs.lemmas.Bool.{both_ways}
 use Rattle.std.specs.Prelude.{IfOk}
 use Rattle.std.specs.List.{list_all}
 use Rattle.std.specs.Result.{IsOkAnd}
+use Rattle.semver_ranges.specs.declared.grammar.Dialect.TheVariants.{Crate}
 use Rattle.semver_ranges.specs.declared.range.Compat.{Compat}
 use Rattle.semver_ranges.specs.declared.range_set.RangeSet.{RangeSet}
 use Rattle.semver_ranges.specs.declared.range_set.RangeError.{RangeError}
@@ -28,13 +29,13 @@ use Rattle.semver_ranges.proofs.AnsweredLaws.{written_printable}
 use Rattle.semver_ranges.proofs.ExactLaws.{some_means}
 
 -- what is read is the one tree
-read_one : (t : Text) (tree tree' : SetTree) → read t ≡ Some tree → Spells tree' t → tree ≡ tree'
-read_one t tree tree' e h = let same : Some tree ≡ Some tree' = sym e ∙ tree_read tree' t h in cc
+read_one : (t : Text) (tree tree' : SetTree) → read Crate t ≡ Some tree → Spells tree' t → tree ≡ tree'
+read_one t tree tree' e h = let same : Some tree ≡ Some tree' = sym e ∙ tree_read Crate tree' t h in cc
 
-none_read : (t : Text) (tree : SetTree) → read t ≡ None → Spells tree t → ⊥
-none_read t tree e h = let same : None ≡ Some tree = sym e ∙ tree_read tree t h in cc
+none_read : (t : Text) (tree : SetTree) → read Crate t ≡ None → Spells tree t → ⊥
+none_read t tree e h = let same : None ≡ Some tree = sym e ∙ tree_read Crate tree t h in cc
 
-unfit : (t : Text) (mode : Compat) (tree : SetTree) → read t ≡ Some tree → fits mode tree ≡ true → IsTooLarge mode t → ⊥
+unfit : (t : Text) (mode : Compat) (tree : SetTree) → read Crate t ≡ Some tree → fits mode tree ≡ true → IsTooLarge mode t → ⊥
 unfit t mode tree e f (tree', s, large) = both_ways _ large (sym (ap (fits mode) (read_one t tree tree' e s)) ∙ f)
 
 -- what each answer says of its set, where it has one
@@ -44,7 +45,7 @@ EachSet bound_pre t mode Says = (r : Result RangeSet RangeError) → IsAnswer bo
 -- what an answer says, however raised bounds are written
 module _ (bound_pre : List IdentifierValue) (t : Text) (mode : Compat) where
   accepted : EachSet bound_pre t mode (λ set. HasSet mode t)
-  accepted (Ok set) h = (h.0, read_sound t h.0 h.1, h.2)
+  accepted (Ok set) h = (h.0, read_sound Crate t h.0 h.1, h.2)
   accepted (Err e) h = tt
 
   pub as_rewritten : EachSet bound_pre t mode (λ set. (tree : SetTree) → Spells tree t → set_of set ≡ written_set bound_pre mode tree)
@@ -53,19 +54,19 @@ module _ (bound_pre : List IdentifierValue) (t : Text) (mode : Compat) where
 
   not_a_range : (r : Result RangeSet RangeError) → IsAnswer bound_pre t mode r
       → (r ≡ Err NotARange) ↔ ¬ (IsRangeText t)
-  not_a_range (Ok set) h = (λ e. cc, λ no. absurd (no (h.0, read_sound t h.0 h.1)))
+  not_a_range (Ok set) h = (λ e. cc, λ no. absurd (no (h.0, read_sound Crate t h.0 h.1)))
   not_a_range (Err NotARange) h = (λ e (tree, s). none_read t tree h s, λ no. refl)
-  not_a_range (Err NumberTooLarge) h = (λ e. cc, λ no. absurd (no (h.0, read_sound t h.0 h.1)))
-  not_a_range (Err OutOfMemory) h = (λ e. cc, λ no. absurd (no (h.0, read_sound t h.0 h.1)))
+  not_a_range (Err NumberTooLarge) h = (λ e. cc, λ no. absurd (no (h.0, read_sound Crate t h.0 h.1)))
+  not_a_range (Err OutOfMemory) h = (λ e. cc, λ no. absurd (no (h.0, read_sound Crate t h.0 h.1)))
 
   too_large : (r : Result RangeSet RangeError) → IsAnswer bound_pre t mode r → (r ≡ Err NumberTooLarge) ↔ IsTooLarge mode t
   too_large (Ok set) h = (λ e. cc, λ s. absurd (unfit t mode h.0 h.1 h.2 s))
   too_large (Err NotARange) h = (λ e. cc, λ (tree, s, large). absurd (none_read t tree h s))
-  too_large (Err NumberTooLarge) h = (λ e. (h.0, read_sound t h.0 h.1, h.2), λ s. refl)
+  too_large (Err NumberTooLarge) h = (λ e. (h.0, read_sound Crate t h.0 h.1, h.2), λ s. refl)
   too_large (Err OutOfMemory) h = (λ e. cc, λ s. absurd (unfit t mode h.0 h.1 h.2 s))
 
   out_of_memory : (r : Result RangeSet RangeError) → IsAnswer bound_pre t mode r → r ≡ Err OutOfMemory → HasSet mode t
-  out_of_memory r h e = let found = subst (IsAnswer bound_pre t mode) e h in (found.0, read_sound t found.0 found.1, found.2)
+  out_of_memory r h e = let found = subst (IsAnswer bound_pre t mode) e h in (found.0, read_sound Crate t found.0 found.1, found.2)
 
   pub refusals : (r : Result RangeSet RangeError) → IsAnswer bound_pre t mode r → RefusesExactly mode t r
   refusals r h =
@@ -88,7 +89,8 @@ module _ (bound_pre : List IdentifierValue) (t : Text) (mode : Compat) where
         go (Err OutOfMemory) h tree spelled fit again = inl refl
 
   pub printable : list_all is_kept bound_pre ≡ true → EachSet bound_pre t mode (λ set. IsPrintableSet (set_of set))
-  printable keeps (Ok set) h = subst IsPrintableSet (sym h.3) (written_printable bound_pre keeps mode h.0 t (read_sound t h.0 h.1) h.2)
+  printable keeps (Ok set) h =
+      subst IsPrintableSet (sym h.3) (written_printable bound_pre keeps mode h.0 t (read_sound Crate t h.0 h.1) h.2)
   printable keeps (Err e) h = tt
 
 module _ (t : Text) (mode : Compat) where

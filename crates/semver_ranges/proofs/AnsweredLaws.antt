@@ -7,17 +7,20 @@ use Rattle.std.proofs.lemmas.List.Folds.{list_all-append}
 use Rattle.std.specs.List.{list_all, flat_map}
 use Rattle.std.specs.Str.{all_ascii_digits}
 use Rattle.std.specs.Str.Parse.{digits_value}
+use Rattle.semver_ranges.specs.declared.grammar.Dialect.{Dialect}
+use Rattle.semver_ranges.specs.declared.grammar.Dialect.TheVariants.{Crate}
 use Rattle.semver_ranges.specs.declared.range.Compat.{Compat}
 use Rattle.semver_ranges.specs.RangeTree.{PartialTree, Simple, RangeTree, empty, hyphen, simples, SetTree, is_part, HasParts, SpellsSimples}
-use Rattle.semver_ranges.specs.RangeTree.{SpellsRange, SpellsPadded, Spells}
+use Rattle.semver_ranges.specs.RangeTree.{SpellsWord, SpellsRange, SpellsPadded, SpellsIn, Spells}
 use Rattle.semver_texts.specs.Texts.{Text, is_empty}
 use Rattle.semver_texts.specs.Versions.{numbers, IdentifierValue, PlainVersion}
 use Rattle.semver_ranges.specs.Partials.{fits_u64, kept, stated, states_nothing, pre_parts, pre_release, filled, zero_filled}
 use Rattle.semver_ranges.specs.Terms.{of_simple, left_side, right_side, terms}
 use Rattle.semver_ranges.specs.RewritingTable.{PlainComparator, Cell, from_zero, below_zero, against, below, between, cell, written_cell}
-use Rattle.semver_ranges.specs.RewritingTable.{cell_raised, bound_fits, written_simple, written_range, written_set, rewritten, fits}
-use Rattle.semver_ranges.specs.RewritingTable.{term_fits}
+use Rattle.semver_ranges.specs.RewritingTable.{cell_raised, bound_fits, written_simple, written_set, rewritten, fits}
+use Rattle.semver_ranges.specs.RewritingTable.{term_fits, simple_fits, term_fits_by, fits_by, range_by, set_by}
 use Rattle.semver_ranges.specs.PrintedRanges.{is_kept, is_printable_version, IsPrintableRange, IsPrintableSet}
+use Rattle.semver_ranges.proofs.ReadingPieces.{word_parts}
 use Rattle.semver_ranges.proofs.Rows.{Shape}
 use Rattle.semver_ranges.proofs.PrintedLaws.{are_printable}
 use Rattle.semver_ranges.proofs.SetMeanings.{stated_shape}
@@ -46,7 +49,7 @@ pre_kept p h = go (length (stated p) == 3) where
   go false = refl
 
 -- stated numbers that fit, filled with zeros
-filled_fits : {s : List ℕ} → Shape s → (pre : List IdentifierValue) → list_all fits_u64 s ≡ true
+pub filled_fits : {s : List ℕ} → Shape s → (pre : List IdentifierValue) → list_all fits_u64 s ≡ true
     → list_all fits_u64 (numbers (filled s pre)) ≡ true
 filled_fits Shape.none pre e = refl
 filled_fits (Shape.one x) pre e = and_from _ _ (and_parts _ _ e).0 refl
@@ -76,40 +79,56 @@ module _ (bound_pre : List IdentifierValue) (keeps : list_all is_kept bound_pre 
       cell_printable c (stated s.partial) (zero_filled s.partial)
       (and_from _ _ (filled_fits (stated_shape s.partial) (pre_release s.partial) fit.0) (pre_kept s.partial h)) fit.1
 
-  -- simples whose partials have parts
-  HaveParts : List Simple → Type 0
-  HaveParts [] = Unit {0}
-  HaveParts (s ∷ ss) = HasParts s.partial × HaveParts ss
+-- a table whose comparators are printable where a simple fits
+pub record Prints (fit : Simple → Bool) (written : Simple → List PlainComparator) : Type 0 where
+  pub each : (s : Simple) → HasParts s.partial → fit s ≡ true → are_printable (written s) ≡ true
+  pub some : (s : Simple) → is_empty (written s) ≡ false
 
-  simples_printable : (ss : List Simple) → HaveParts ss → list_all (term_fits mode) (map of_simple ss) ≡ true
-      → are_printable (flat_map (written_simple bound_pre mode) ss) ≡ true
+-- the port's is one, where a raised bound has a pre-release that is kept
+pub port_prints : (bound_pre : List IdentifierValue) → list_all is_kept bound_pre ≡ true → (mode : Compat)
+    → Prints (simple_fits mode) (written_simple bound_pre mode)
+port_prints bound_pre keeps mode = record {
+  each = simple_printable bound_pre keeps mode;
+  some = λ s. cell_some bound_pre keeps mode (cell mode s.form (stated s.partial)) (stated s.partial) (zero_filled s.partial);
+}
+
+-- simples whose partials have parts
+HaveParts : List Simple → Type 0
+HaveParts [] = Unit {0}
+HaveParts (s ∷ ss) = HasParts s.partial × HaveParts ss
+
+module _ (d : Dialect) {fit : Simple → Bool} {written : Simple → List PlainComparator} (prints : Prints fit written) (mode : Compat) where
+  simples_printable : (ss : List Simple) → HaveParts ss → list_all (term_fits_by fit) (map of_simple ss) ≡ true
+      → are_printable (flat_map written ss) ≡ true
   unfolding HaveParts
   simples_printable [] h e = refl
   simples_printable (s ∷ ss) h e =
       let fit = and_parts _ _ e in
-      list_all-append (λ c. is_printable_version c.version) (written_simple bound_pre mode s) (flat_map (written_simple bound_pre mode) ss)
-      ∙ and_from _ _ (simple_printable s h.0 fit.0) (simples_printable ss h.1 fit.1)
+      list_all-append (λ c. is_printable_version c.version) (written s) (flat_map written ss)
+      ∙ and_from _ _ (prints.each s h.0 fit.0) (simples_printable ss h.1 fit.1)
 
-  simples_some : (s : Simple) (ss : List Simple) → is_empty (flat_map (written_simple bound_pre mode) (s ∷ ss)) ≡ false
+  simples_some : (s : Simple) (ss : List Simple) → is_empty (flat_map written (s ∷ ss)) ≡ false
   simples_some s ss =
-      go (written_simple bound_pre mode s) (cell_some (cell mode s.form (stated s.partial)) (stated s.partial)
-      (zero_filled s.partial)) where
-        go : (cs : List PlainComparator) → is_empty cs ≡ false → is_empty (cs ++ flat_map (written_simple bound_pre mode) ss) ≡ false
+      go (written s) (prints.some s) where
+        go : (cs : List PlainComparator) → is_empty cs ≡ false → is_empty (cs ++ flat_map written ss) ≡ false
         go [] e = cc
         go (c ∷ cs) e = refl
 
-  simples_parts : (first : Simple) (others : List Simple) (t : Text) → SpellsSimples first others t → HaveParts (first ∷ others)
+  word_has_parts : (p : PartialTree) (t : Text) → SpellsWord d p t → HasParts p
+  word_has_parts p t h = (word_parts d p t h).spelled.1
+
+  simples_parts : (first : Simple) (others : List Simple) (t : Text) → SpellsSimples d first others t → HaveParts (first ∷ others)
   unfolding HaveParts
-  simples_parts first [] t (head, tail, f, p, eq) = (p.1, tt)
+  simples_parts first [] t (head, tail, f, p, eq) = (word_has_parts first.partial tail p, tt)
   simples_parts first (next ∷ others) t (front, gap, back, (head, tail, f, p, eq), g, more, eq') =
-      (p.1, simples_parts next others back more)
+      (word_has_parts first.partial tail p, simples_parts next others back more)
 
   -- the comparators of a range: some, and each printable
   abbrev ArePrintable : List PlainComparator → Type 0
   ArePrintable cs = IsTrue (not (is_empty cs)) × IsTrue (are_printable cs)
 
-  range_printable : (r : RangeTree) (t : Text) → SpellsRange r t → list_all (term_fits mode) (terms r) ≡ true
-      → ArePrintable (written_range bound_pre mode r)
+  range_printable : (r : RangeTree) (t : Text) → SpellsRange d r t → list_all (term_fits_by fit) (terms r) ≡ true
+      → ArePrintable (range_by written r)
   unfolding HaveParts
   range_printable empty t h e = (refl, refl)
   range_printable (simples first others) t h e = (
@@ -119,38 +138,49 @@ module _ (bound_pre : List IdentifierValue) (keeps : list_all is_kept bound_pre 
   range_printable (hyphen left right) t (l, gap, gap', r, h, g, g', h', eq) e = elim (cases_Bool (states_nothing left)) [
     | inl a ↦ by_test (states_nothing right)
         (λ b. rw (a, b) (refl, refl))
-        (λ b. rw (a, b) (made (right_side right) [] (h'.1, tt) (rw (a, b) at e)))
+        (λ b. rw (a, b) (made (right_side right) [] (right_parts, tt) (rw (a, b) at e)))
     | inr a ↦ by_test (states_nothing right)
-        (λ b. rw (a, b) (made (left_side left) [] (h.1, tt) (rw (a, b) at e)))
-        (λ b. rw (a, b) (made (left_side left) (right_side right ∷ []) (h.1, (h'.1, tt)) (rw (a, b) at e)))
+        (λ b. rw (a, b) (made (left_side left) [] (left_parts, tt) (rw (a, b) at e)))
+        (λ b. rw (a, b) (made (left_side left) (right_side right ∷ []) (left_parts, (right_parts, tt)) (rw (a, b) at e)))
   ] where
-    made : (s : Simple) (ss : List Simple) → HaveParts (s ∷ ss) → list_all (term_fits mode) (map of_simple (s ∷ ss)) ≡ true
-        → ArePrintable (flat_map (written_simple bound_pre mode) (s ∷ ss))
+    left_parts : HasParts left
+    left_parts = word_has_parts left l h
+
+    right_parts : HasParts right
+    right_parts = word_has_parts right r h'
+
+    made : (s : Simple) (ss : List Simple) → HaveParts (s ∷ ss) → list_all (term_fits_by fit) (map of_simple (s ∷ ss)) ≡ true
+        → ArePrintable (flat_map written (s ∷ ss))
     made s ss h e = (not_from_false _ (simples_some s ss), simples_printable (s ∷ ss) h e)
 
-  padded_printable : (r : RangeTree) (t : Text) → SpellsPadded r t → list_all (term_fits mode) (terms r) ≡ true
-      → IsPrintableRange mode (record { comparators = written_range bound_pre mode r; compat = mode })
+  padded_printable : (r : RangeTree) (t : Text) → SpellsPadded d r t → list_all (term_fits_by fit) (terms r) ≡ true
+      → IsPrintableRange mode (record { comparators = range_by written r; compat = mode })
   padded_printable r t (before, inner, after, b, h, a, eq) e = let p = range_printable r inner h e in (p.0, refl, p.1)
 
-  ranges_printable : (tree : SetTree) (t : Text) → Spells tree t → fits mode tree ≡ true
-      → All (IsPrintableRange mode) (written_set bound_pre mode tree).ranges
+  ranges_printable : (tree : SetTree) (t : Text) → SpellsIn d tree t → fits_by fit tree ≡ true
+      → All (IsPrintableRange mode) (set_by written mode tree).ranges
   ranges_printable [] t h e = absurd h
   ranges_printable (r ∷ []) t h e =
-      All-cons (IsPrintableRange mode) (record { comparators = written_range bound_pre mode r; compat = mode }) []
+      All-cons (IsPrintableRange mode) (record { comparators = range_by written r; compat = mode }) []
       (padded_printable r t h (and_parts _ _ e).0) (All-nil (IsPrintableRange mode))
   ranges_printable (r ∷ next ∷ others) t (head, tail, h, more, eq) e =
       let parts = and_parts _ _ e in
-      All-cons (IsPrintableRange mode) (record { comparators = written_range bound_pre mode r; compat = mode })
-      (written_set bound_pre mode (next ∷ others)).ranges
+      All-cons (IsPrintableRange mode) (record { comparators = range_by written r; compat = mode })
+      (set_by written mode (next ∷ others)).ranges
       (padded_printable r head h parts.0) (ranges_printable (next ∷ others) tail more parts.1)
 
   -- what a tree that spells a text and fits is rewritten to is printable
-  pub written_printable : (tree : SetTree) (t : Text) → Spells tree t → fits mode tree ≡ true
-      → IsPrintableSet (written_set bound_pre mode tree)
-  written_printable tree t h e = (some tree h, ranges_printable tree t h e) where
-    some : (tree : SetTree) → Spells tree t → not (is_empty (written_set bound_pre mode tree).ranges) ≡ true
+  pub set_printable : (tree : SetTree) (t : Text) → SpellsIn d tree t → fits_by fit tree ≡ true
+      → IsPrintableSet (set_by written mode tree)
+  set_printable tree t h e = (some tree h, ranges_printable tree t h e) where
+    some : (tree : SetTree) → SpellsIn d tree t → not (is_empty (set_by written mode tree).ranges) ≡ true
     some [] h = absurd h
     some (r ∷ rs) h = refl
+
+pub written_printable : (bound_pre : List IdentifierValue) → list_all is_kept bound_pre ≡ true → (mode : Compat) (tree : SetTree) (t : Text)
+    → Spells tree t → fits mode tree ≡ true → IsPrintableSet (written_set bound_pre mode tree)
+written_printable bound_pre keeps mode tree t h e =
+    set_printable Crate (port_prints bound_pre keeps mode) mode tree t h e
 
 pub rewritten_printable : (mode : Compat) (tree : SetTree) (t : Text) → Spells tree t → fits mode tree ≡ true
     → IsPrintableSet (rewritten mode tree)

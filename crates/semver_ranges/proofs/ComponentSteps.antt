@@ -15,7 +15,7 @@ use Rattle.semver_ranges.specs.Means.Reading.{front, back, component}
 use Rattle.semver_ranges.specs.Means.PartialViews.{IsValue}
 
 -- a first byte and what follows it
-first_apart : (t : Text) → 1 ≤ length t → t ≡ get_or t 0 0 ∷ take (length t - 1) (drop 1 t)
+pub first_apart : (t : Text) → 1 ≤ length t → t ≡ get_or t 0 0 ∷ take (length t - 1) (drop 1 t)
 first_apart [] some = absurd (omega (arith, some))
 first_apart (x ∷ xs) some =
     let same : length xs ≡ length (x ∷ xs) - 1 = omega arith in

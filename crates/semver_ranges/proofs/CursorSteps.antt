@@ -1,5 +1,6 @@
 -- The reader's steps, as the cursor takes them.
 use Rattle.std.proofs.Common.{◌≡◌, false, ◌==◌, List, [], ◌∷◌, Some, None, refl, sym, ap, ◌∙◌}
+use Rattle.semver_ranges.specs.declared.grammar.Dialect.{Dialect}
 use Rattle.semver_ranges.specs.RangeTree.{PartialTree, one, two, three, Form}
 use Rattle.semver_texts.specs.Texts.{Text}
 use Rattle.semver_ranges.specs.Means.Reading.{behind_blanks, operator, partial, simple, with_form, parts, behind_pre}
@@ -61,8 +62,9 @@ major_end a [] e = refl
 major_end a (m ∷ t) e = rw e refl
 
 -- a simple of its operator and its partial
-pub simple_found : (t u v w : Text) (form : Form) (p : PartialTree) → (form, u) ≡ operator t → partial u ≡ Some (p, v) → w ≡ behind_blanks v
-    → simple t ≡ Some (record { form = form; partial = p }, w)
-simple_found t u v w form p sign found blanks =
-    ap (λ o. with_form o.0 (partial o.1)) (sym sign) ∙ ap (with_form form) found
+pub simple_found : (d : Dialect) (t u v w : Text) (form : Form) (p : PartialTree) → (form, u) ≡ operator d t → partial d u ≡ Some (p, v)
+    → w ≡ behind_blanks d v
+    → simple d t ≡ Some (record { form = form; partial = p }, w)
+simple_found d t u v w form p sign found blanks =
+    ap (λ o. with_form d o.0 (partial d o.1)) (sym sign) ∙ ap (with_form d form) found
     ∙ ap (λ x. Some (record { form = form; partial = p }, x)) (sym blanks)

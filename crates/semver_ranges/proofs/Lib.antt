@@ -15,6 +15,7 @@ pub mod OnlySimples
 pub mod PartRuns
 pub mod PrintedLaws
 pub mod RangeExamples
+pub mod Qualifiers
 pub mod ReadingComplete
 pub mod ReadingPieces
 pub mod ReadingSound
@@ -24,5 +25,6 @@ pub mod SetMeanings
 pub mod StatedLaws
 pub mod StatedNumbers
 pub mod TableRows
+pub mod Tables
 pub mod Tests
 pub mod WrittenPieces

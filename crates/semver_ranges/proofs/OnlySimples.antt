@@ -1,12 +1,13 @@
 -- A text that is one simple.
 use Rattle.std.proofs.Common.{◌≡◌, true, ◌&&◌, List, [], ◌∷◌, ◌++◌, length, Some, refl, sym, ap, ◌∙◌, subst, arith, append-nil}
+use Rattle.semver_ranges.specs.declared.grammar.Dialect.TheVariants.{Crate}
 use Rattle.semver_ranges.specs.declared.range.Compat.{Compat}
 use Rattle.semver_ranges.specs.RangeTree.{Simple, simples, Spells}
 use Rattle.semver_texts.specs.Texts.{Text}
 use Rattle.semver_texts.specs.Versions.{IdentifierValue}
 use Rattle.semver_ranges.specs.RewritingTable.{PlainComparator, written_simple, written_set, fits}
 use Rattle.semver_ranges.specs.Means.Reading.{simple, read}
-use Rattle.semver_ranges.specs.Means.RangeEvents.{simple_fits}
+use Rattle.semver_ranges.specs.RewritingTable.{simple_fits}
 use Rattle.semver_ranges.proofs.ReadingComplete.{tree_read}
 use Rattle.semver_ranges.proofs.ReadingPieces.{SimpleAt, simple_sound}
 
@@ -14,13 +15,13 @@ nothing_left : (u : Text) → length u ≡ 0 → u ≡ []
 nothing_left [] e = refl
 nothing_left (b ∷ u) e = absurd (omega arith)
 
-pub only_simple : (t u : Text) (s : Simple) → simple t ≡ Some (s, u) → length u ≡ 0 → read t ≡ Some (simples s [] ∷ [])
+pub only_simple : (t u : Text) (s : Simple) → simple Crate t ≡ Some (s, u) → length u ≡ 0 → read Crate t ≡ Some (simples s [] ∷ [])
 only_simple t u s e end =
-    let here : SimpleAt t (Some (s, u)) = subst (λ o. SimpleAt t o) e (simple_sound t) in
+    let here : SimpleAt Crate t (Some (s, u)) = subst (λ o. SimpleAt Crate t o) e (simple_sound Crate t) in
     let whole : t ≡ here.0 ++ here.1 = here.4 ∙ ap (λ x. here.0 ++ (here.1 ++ x)) (nothing_left u end)
     ∙ ap (λ x. here.0 ++ x) (append-nil here.1) in
     let spelled : Spells (simples s [] ∷ []) t = ([], here.0, here.1, refl, here.2, here.3.0, whole) in
-    tree_read (simples s [] ∷ []) t spelled
+    tree_read Crate (simples s [] ∷ []) t spelled
 
 -- its set
 pub one_fits : (mode : Compat) (s : Simple) → simple_fits mode s ≡ true → fits mode (simples s [] ∷ []) ≡ true

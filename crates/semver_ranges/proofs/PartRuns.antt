@@ -19,15 +19,15 @@ parts_pass begun [] = begun
 parts_pass begun (b ∷ t) = if is_dot b then begun && parts_pass false t else (is_part_byte b && parts_pass true t)
 
 -- the first piece of a text between dots, and the other pieces
-abbrev first_piece : List Text → Text
+abbrev pub first_piece : List Text → Text
 first_piece [] = []
 first_piece (w ∷ ws) = w
 
-abbrev other_pieces : List Text → List Text
+abbrev pub other_pieces : List Text → List Text
 other_pieces [] = []
 other_pieces (w ∷ ws) = ws
 
-pieces : (t : Text) → slice_split is_dot t ≡ first_piece (slice_split is_dot t) ∷ other_pieces (slice_split is_dot t)
+pub pieces : (t : Text) → slice_split is_dot t ≡ first_piece (slice_split is_dot t) ∷ other_pieces (slice_split is_dot t)
 pieces [] = refl
 pieces (b ∷ t) = elim (cases_Bool (is_dot b)) [
   | inl e ↦ rw e refl

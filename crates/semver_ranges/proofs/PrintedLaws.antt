@@ -9,6 +9,7 @@ use Rattle.std.specs.List.{list_all, flat_map, join_with_byte}
 use Rattle.std.specs.Str.{all_ascii_digits}
 use Rattle.std.specs.Str.Parse.{digits_value}
 use Rattle.std.specs.Char.{is_ascii_digit}
+use Rattle.semver_ranges.specs.declared.grammar.Dialect.TheVariants.{Crate}
 use Rattle.semver_ranges.specs.declared.range.Op.{Op}
 use Rattle.semver_ranges.specs.declared.range.Op.TheVariants.{Lt, Lte, Gt, Gte, Eq}
 use Rattle.semver_ranges.specs.declared.range.Compat.{Compat}
@@ -142,11 +143,11 @@ form_of Eq = equal
 abbrev simple_of : PlainComparator → Simple
 simple_of c = record { form = form_of c.op; partial = version_tree c.version }
 
-form_spells : (op : Op) → SpellsForm (form_of op) (op_text op)
+form_spells : (op : Op) → SpellsForm Crate (form_of op) (op_text op)
 form_spells Lt = ([], refl, refl)
 form_spells _ = ([], refl, refl)
 
-comparator_spells : (c : PlainComparator) → Printable c.version → SpellsSimple (simple_of c) (comparator_text c)
+comparator_spells : (c : PlainComparator) → Printable c.version → SpellsSimple Crate (simple_of c) (comparator_text c)
 comparator_spells c h = (op_text c.op, plain_text c.version, form_spells c.op, version_spells c.version h, refl)
 
 -- none of these has a raised bound, so they are the same however one is written
@@ -178,7 +179,7 @@ abbrev pub are_printable : List PlainComparator → Bool
 are_printable cs = list_all (λ c. is_printable_version c.version) cs
 
 simples_spell : (c : PlainComparator) (cs : List PlainComparator) → are_printable (c ∷ cs) ≡ true
-    → SpellsSimples (simple_of c) (map simple_of cs) (joined (codes " ") (map comparator_text (c ∷ cs)))
+    → SpellsSimples Crate (simple_of c) (map simple_of cs) (joined (codes " ") (map comparator_text (c ∷ cs)))
 simples_spell c [] e = comparator_spells c (printable c.version (and_parts _ _ e).0)
 simples_spell c (next ∷ cs) e =
     let parts = and_parts _ _ e in (
@@ -213,10 +214,10 @@ range_of (c ∷ cs) = simples (simple_of c) (map simple_of cs)
 abbrev tree_of : List PlainRange → SetTree
 tree_of ranges = map (λ r. range_of r.comparators) ranges
 
-range_spells : (mode : Compat) (r : PlainRange) → IsPrintableRange mode r → SpellsRange (range_of r.comparators) (range_text r)
+range_spells : (mode : Compat) (r : PlainRange) → IsPrintableRange mode r → SpellsRange Crate (range_of r.comparators) (range_text r)
 range_spells mode r h = go r.comparators h.0 h.2 where
   go : (cs : List PlainComparator) → not (is_empty cs) ≡ true → are_printable cs ≡ true
-      → SpellsRange (range_of cs) (joined (codes " ") (map comparator_text cs))
+      → SpellsRange Crate (range_of cs) (joined (codes " ") (map comparator_text cs))
   go [] some e = cc
   go (c ∷ cs) some e = simples_spell c cs e
 
@@ -236,7 +237,7 @@ range_fits mode r h = go r.comparators h.2 where
   go (c ∷ cs) e = comparators_fit mode (c ∷ cs) e
 
 -- the ranges of a set, the first behind some blanks
-set_spells : (mode : Compat) (before : Text) (r : PlainRange) (rs : List PlainRange) → list_all is_blank before ≡ true
+set_spells : (mode : Compat) (before : Text) (r : PlainRange) (rs : List PlainRange) → list_all (is_blank Crate) before ≡ true
     → All (IsPrintableRange mode) (r ∷ rs)
     → Spells (tree_of (r ∷ rs)) (before ++ joined (codes " || ") (map range_text (r ∷ rs)))
 set_spells mode before r [] b h = (

@@ -1,6 +1,7 @@
 -- Range texts and what they are rewritten to: rows that show what the definitions say, each computed from them.
 use Rattle.std.specs.Prelude.{◌≡◌, Option, Some, None, if◌then◌else◌, List, [], ◌∷◌, map, codes, refl}
 use Rattle.std.specs.Fmt.{digits}
+use Rattle.semver_ranges.specs.declared.grammar.Dialect.TheVariants.{Crate}
 use Rattle.semver_ranges.specs.declared.range.Compat.{Compat}
 use Rattle.semver_ranges.specs.declared.range.Compat.TheVariants.{Cargo, Npm}
 use Rattle.semver_ranges.specs.RangeTree.{SetTree}
@@ -15,7 +16,7 @@ of_tree mode None = codes "not-a-range"
 of_tree mode (Some tree) = if fits mode tree then set_text (rewritten mode tree) else codes "number-too-large"
 
 abbrev answer : Compat → Text → Text
-answer mode text = of_tree mode (read text)
+answer mode text = of_tree mode (read Crate text)
 
 -- a text and its answers in both modes
 record Row : Type 0 where

@@ -1,19 +1,22 @@
 -- What the reader finds at the front of a text stands there: components, parts, partials, operators and simples.
 use Rattle.std.proofs.Common.{◌≡◌, ℕ, Bool, true, false, not, ◌&&◌, ◌||◌, ◌==◌, ◌⊎◌, List, [], ◌∷◌, ◌++◌, codes, refl, sym, ap, ◌∙◌, inl}
-use Rattle.std.proofs.Common.{inr, Option, Some, None, append_assoc, append-nil}
+use Rattle.std.proofs.Common.{arith, inr, Option, Some, None, append_assoc, append-nil}
 use Rattle.std.proofs.lemmas.Bool.{cases_Bool, and_parts, and_from, or_cases, or_left, or_right, or_parts, eqb-true, not_from_false}
+use Rattle.std.proofs.lemmas.Bool.Decides.{nat_tests}
 use Rattle.std.proofs.lemmas.List.Splits.{join_with_byte-slice_split}
 use Rattle.std.specs.Char.{is_ascii_digit}
 use Rattle.std.specs.Str.{all_ascii_digits}
 use Rattle.std.specs.List.{list_all, slice_split, join_with_byte}
+use Rattle.semver_ranges.specs.declared.grammar.Dialect.{Dialect}
+use Rattle.semver_ranges.specs.declared.grammar.Dialect.TheVariants.{Crate, Npm}
 use Rattle.semver_ranges.specs.RangeTree.{PartialTree, one, two, three, Form, Simple, is_blank, is_wildcard, is_number, is_component}
-use Rattle.semver_ranges.specs.RangeTree.{is_part, AreBlanks, SpellsPartial, IsSignAndBlanks, SpellsForm, SpellsSimple}
+use Rattle.semver_ranges.specs.RangeTree.{is_part, AreBlanks, SpellsPartial, SpellsWord, IsSignAndBlanks, SpellsForm, SpellsSimple}
 use Rattle.semver_texts.specs.Texts.{Text, is_empty, marked, is_dot}
 use Rattle.semver_ranges.specs.Means.Reading.{front, back, behind_blanks, is_bar, ends_range, ends_word, component, parts}
 use Rattle.semver_texts.specs.Texts.{is_dotted_byte}
 use Rattle.semver_ranges.specs.Means.Reading.{with_build, behind_pre, with_pre, behind_three, with_third, behind_two, with_second}
 use Rattle.semver_ranges.specs.Means.Reading.{behind_one, with_first, whole_word, partial, after_less, after_greater, after_tilde, operator}
-use Rattle.semver_ranges.specs.Means.Reading.{with_form, simple}
+use Rattle.semver_ranges.specs.Means.Reading.{with_form, simple, behind_v, takes}
 
 -- the longest front whose bytes pass
 pub front-back : (p : ℕ → Bool) (t : Text) → t ≡ front p t ++ back p t
@@ -31,7 +34,7 @@ front_all p (b ∷ t) = elim (cases_Bool (p b)) [
 ]
 
 -- a component
-abbrev ComponentAt : Text → Option (Text × Text) → Type 0
+abbrev pub ComponentAt : Text → Option (Text × Text) → Type 0
 ComponentAt t None = Unit {0}
 ComponentAt t (Some found) = (is_component found.0 ≡ true) × (t ≡ found.0 ++ found.1)
 
@@ -39,7 +42,7 @@ digits : (t : Text) → list_all is_ascii_digit t ≡ true → all_ascii_digits 
 digits [] e = refl
 digits (b ∷ t) e = let p = and_parts (is_ascii_digit b) (list_all is_ascii_digit t) e in and_from _ _ p.0 (digits t p.1)
 
-component_sound : (t : Text) → ComponentAt t (component t)
+pub component_sound : (t : Text) → ComponentAt t (component t)
 component_sound [] = tt
 component_sound (b ∷ t) = elim (cases_Bool (is_wildcard (b ∷ []) || (b == 48))) [
   | inl e ↦ rw e (alone (or_cases (is_wildcard (b ∷ [])) (b == 48) e), refl)
@@ -87,7 +90,7 @@ parts_sound t = elim (cases_Bool (list_all is_part (slice_split is_dot (front is
 ]
 
 -- a partial
-abbrev PartialAt : Text → Option (PartialTree × Text) → Type 0
+abbrev pub PartialAt : Text → Option (PartialTree × Text) → Type 0
 PartialAt t None = Unit {0}
 PartialAt t (Some found) = (w : Text) × SpellsPartial found.0 w × (t ≡ w ++ found.1)
 
@@ -174,24 +177,9 @@ behind_one_sound a (dot ∷ t) h = elim (cases_Bool (dot == 46)) [
   | inr e ↦ rw e (one_sound a (dot ∷ t) h)
 ]
 
-first_sound : (t : Text) (o : Option (Text × Text)) → ComponentAt t o → PartialAt t (with_first o)
+pub first_sound : (t : Text) (o : Option (Text × Text)) → ComponentAt t o → PartialAt t (with_first o)
 first_sound t None q = tt
 first_sound t (Some found) (first, text) = rw text (behind_one_sound found.0 found.1 (and_from _ _ first refl))
-
--- a partial that is a whole word
-abbrev pub WordAt : Text → Option (PartialTree × Text) → Type 0
-WordAt t None = Unit {0}
-WordAt t (Some found) = (w : Text) × SpellsPartial found.0 w × (t ≡ w ++ found.1) × (ends_word found.1 ≡ true)
-
-word_sound : (t : Text) (o : Option (PartialTree × Text)) → PartialAt t o → WordAt t (whole_word o)
-word_sound t None h = tt
-word_sound t (Some found) (w, spelled, text) = elim (cases_Bool (ends_word found.1)) [
-  | inl e ↦ rw e (w, spelled, text, e)
-  | inr e ↦ rw e tt
-]
-
-pub partial_sound : (t : Text) → WordAt t (partial t)
-partial_sound t = word_sound t (with_first (component t)) (first_sound t (component t) (component_sound t))
 
 -- a partial begins with a byte of a component
 abbrev pub is_component_byte : ℕ → Bool
@@ -227,51 +215,134 @@ partial_starts (three a b c pre build) t (h, k, e) =
     rw (e, append_assoc a more q) (starts-append is_component_byte a (more ++ q)
     (component_starts a (and_parts (is_component a) (is_component b && (is_component c && true)) h).0))
 
--- an operator: its sign, and the blanks behind it
-abbrev FormAt : Text → Form × Text → Type 0
-FormAt t found = (w : Text) × SpellsForm found.0 w × (t ≡ w ++ found.1)
+-- a word: a partial behind what may stand in front of it
+pub record Word (d : Dialect) (p : PartialTree) (t : Text) : Type 0 where
+  pub front : Text
+  pub back : Text
+  pub spelled : SpellsPartial p back
+  pub taken : takes d p ≡ true
+  pub behind : (u : Text) → behind_v d (t ++ u) ≡ back ++ u
+  pub text : t ≡ front ++ back
 
-signed : (sign t : Text) → (w : Text) × IsSignAndBlanks sign w × (sign ++ t ≡ w ++ behind_blanks t)
-signed sign t = (
-  sign ++ front is_blank t,
-  (front is_blank t, front_all is_blank t, refl),
-  ap (λ x. sign ++ x) (front-back is_blank t)
-      ∙ sym (append_assoc sign (front is_blank t) (behind_blanks t)),
+-- a partial doesn't begin with a `v`
+no_v : (t : Text) → starts is_component_byte t ≡ true → behind_v Npm t ≡ t
+no_v [] e = refl
+no_v (b ∷ t) e = rw (component_no_v b e) refl where
+  component_no_v : (b : ℕ) → is_component_byte b ≡ true → (b == 118) ≡ false
+  component_no_v b e = grind (arith, nat_tests)
+
+pub word_parts : (d : Dialect) (p : PartialTree) (t : Text) → SpellsWord d p t → Word d p t
+word_parts Crate p t h = record { front = []; back = t; spelled = h; taken = refl; behind = λ u. refl; text = refl }
+word_parts Npm p t (front, back, inl none, spelled, zeros, text) = record {
+  front = front;
+  back = back;
+  spelled = spelled;
+  taken = zeros;
+  behind = λ u. ap (λ x. behind_v Npm (x ++ u)) (text ∙ ap (λ x. x ++ back) none)
+      ∙ no_v (back ++ u) (starts-append is_component_byte back u (partial_starts p back spelled));
+  text = text;
+}
+word_parts Npm p t (front, back, inr mark, spelled, zeros, text) = record {
+  front = front;
+  back = back;
+  spelled = spelled;
+  taken = zeros;
+  behind = λ u. ap (λ x. behind_v Npm (x ++ u)) (text ∙ ap (λ x. x ++ back) mark);
+  text = text;
+}
+
+-- a word begins with a byte of a component or with a `v`
+abbrev pub is_word_byte : ℕ → Bool
+is_word_byte b = is_component_byte b || (b == 118)
+
+pub component_word : (t : Text) → starts is_component_byte t ≡ true → starts is_word_byte t ≡ true
+component_word [] e = cc
+component_word (b ∷ t) e = or_left (is_component_byte b) (b == 118) e
+
+pub word_starts : (d : Dialect) (p : PartialTree) (t : Text) → SpellsWord d p t → starts is_word_byte t ≡ true
+word_starts Crate p t h = component_word t (partial_starts p t h)
+word_starts Npm p t (front, back, inl none, spelled, zeros, text) =
+    rw (text, none) (component_word back (partial_starts p back spelled))
+word_starts Npm p t (front, back, inr mark, spelled, zeros, text) = rw (text, mark) refl
+
+-- a partial that is a whole word
+abbrev pub WordAt : Dialect → Text → Option (PartialTree × Text) → Type 0
+WordAt d t None = Unit {0}
+WordAt d t (Some found) = (w : Text) × SpellsWord d found.0 w × (t ≡ w ++ found.1) × (ends_word d found.1 ≡ true)
+
+abbrev Words : Dialect → PartialTree → Text → Text → Type 0
+Words d p t u = (w : Text) × SpellsWord d p w × (t ≡ w ++ u)
+
+word_spelled : (d : Dialect) (p : PartialTree) (t back u : Text) → SpellsPartial p back → takes d p ≡ true → behind_v d t ≡ back ++ u
+    → Words d p t u
+word_spelled Crate p t back u spelled taken e = (back, spelled, e)
+word_spelled Npm p [] back u spelled taken e = (back, ([], back, inl refl, spelled, taken, refl), e)
+word_spelled Npm p (b ∷ t) back u spelled taken e = elim (cases_Bool (b == 118)) [
+  | inl y ↦
+      let behind : t ≡ back ++ u = rw y at e in
+      (118 ∷ back, (118 ∷ [], back, inr refl, spelled, taken, refl), λ i. eqb-true b 118 y i ∷ behind i)
+  | inr n ↦ let behind : b ∷ t ≡ back ++ u = rw n at e in (back, ([], back, inl refl, spelled, taken, refl), behind)
+]
+
+word_sound : (d : Dialect) (t : Text) (o : Option (PartialTree × Text)) → PartialAt (behind_v d t) o → WordAt d t (whole_word d o)
+word_sound d t None h = tt
+word_sound d t (Some found) (back, spelled, text) = elim (cases_Bool (takes d found.0 && ends_word d found.1)) [
+  | inl e ↦
+      let parts = and_parts (takes d found.0) (ends_word d found.1) e in
+      let word = word_spelled d found.0 t back found.1 spelled parts.0 text in
+      rw e (word.0, word.1, word.2, parts.1)
+  | inr e ↦ rw e tt
+]
+
+pub partial_sound : (d : Dialect) (t : Text) → WordAt d t (partial d t)
+partial_sound d t =
+    let u = behind_v d t in word_sound d t (with_first (component u)) (first_sound u (component u) (component_sound u))
+
+-- an operator: its sign, and the blanks behind it
+abbrev pub FormAt : Dialect → Text → Form × Text → Type 0
+FormAt d t found = (w : Text) × SpellsForm d found.0 w × (t ≡ w ++ found.1)
+
+signed : (d : Dialect) (sign t : Text) → (w : Text) × IsSignAndBlanks d sign w × (sign ++ t ≡ w ++ behind_blanks d t)
+signed d sign t = (
+  sign ++ front (is_blank d) t,
+  (front (is_blank d) t, front_all (is_blank d) t, refl),
+  ap (λ x. sign ++ x) (front-back (is_blank d) t)
+      ∙ sym (append_assoc sign (front (is_blank d) t) (behind_blanks d t)),
 )
 
-less_sound : (t : Text) → FormAt (60 ∷ t) (after_less t)
-less_sound [] = signed (codes "<") []
-less_sound (b ∷ t) = elim (cases_Bool (b == 61)) [
-  | inl e ↦ rw (eqb-true b 61 e) (signed (codes "<=") t)
-  | inr e ↦ rw e (signed (codes "<") (b ∷ t))
+less_sound : (d : Dialect) (t : Text) → FormAt d (60 ∷ t) (after_less d t)
+less_sound d [] = signed d (codes "<") []
+less_sound d (b ∷ t) = elim (cases_Bool (b == 61)) [
+  | inl e ↦ rw (eqb-true b 61 e) (signed d (codes "<=") t)
+  | inr e ↦ rw e (signed d (codes "<") (b ∷ t))
 ]
 
-greater_sound : (t : Text) → FormAt (62 ∷ t) (after_greater t)
-greater_sound [] = signed (codes ">") []
-greater_sound (b ∷ t) = elim (cases_Bool (b == 61)) [
-  | inl e ↦ rw (eqb-true b 61 e) (signed (codes ">=") t)
-  | inr e ↦ rw e (signed (codes ">") (b ∷ t))
+greater_sound : (d : Dialect) (t : Text) → FormAt d (62 ∷ t) (after_greater d t)
+greater_sound d [] = signed d (codes ">") []
+greater_sound d (b ∷ t) = elim (cases_Bool (b == 61)) [
+  | inl e ↦ rw (eqb-true b 61 e) (signed d (codes ">=") t)
+  | inr e ↦ rw e (signed d (codes ">") (b ∷ t))
 ]
 
-tilde_sound : (t : Text) → FormAt (126 ∷ t) (after_tilde t)
-tilde_sound [] = (codes "~", inl ([], refl, refl), refl)
-tilde_sound (b ∷ t) = elim (cases_Bool (b == 62)) [
-  | inl e ↦ rw (eqb-true b 62 e) (let r = signed (codes "~>") t in (r.0, inr r.1, r.2))
-  | inr e ↦ rw e (let r = signed (codes "~") (b ∷ t) in (r.0, inl r.1, r.2))
+tilde_sound : (d : Dialect) (t : Text) → FormAt d (126 ∷ t) (after_tilde d t)
+tilde_sound d [] = (codes "~", inl ([], refl, refl), refl)
+tilde_sound d (b ∷ t) = elim (cases_Bool (b == 62)) [
+  | inl e ↦ rw (eqb-true b 62 e) (let r = signed d (codes "~>") t in (r.0, inr r.1, r.2))
+  | inr e ↦ rw e (let r = signed d (codes "~") (b ∷ t) in (r.0, inl r.1, r.2))
 ]
 
-operator_sound : (t : Text) → FormAt t (operator t)
-operator_sound [] = ([], refl, refl)
-operator_sound (b ∷ t) = elim (cases_Bool (b == 61)) [
-  | inl e ↦ rw (eqb-true b 61 e) (signed (codes "=") t)
+pub operator_sound : (d : Dialect) (t : Text) → FormAt d t (operator d t)
+operator_sound d [] = ([], refl, refl)
+operator_sound d (b ∷ t) = elim (cases_Bool (b == 61)) [
+  | inl e ↦ rw (eqb-true b 61 e) (signed d (codes "=") t)
   | inr n1 ↦ elim (cases_Bool (b == 60)) [
-    | inl e ↦ rw (eqb-true b 60 e) (less_sound t)
+    | inl e ↦ rw (eqb-true b 60 e) (less_sound d t)
     | inr n2 ↦ elim (cases_Bool (b == 62)) [
-      | inl e ↦ rw (eqb-true b 62 e) (greater_sound t)
+      | inl e ↦ rw (eqb-true b 62 e) (greater_sound d t)
       | inr n3 ↦ elim (cases_Bool (b == 126)) [
-        | inl e ↦ rw (eqb-true b 126 e) (tilde_sound t)
+        | inl e ↦ rw (eqb-true b 126 e) (tilde_sound d t)
         | inr n4 ↦ elim (cases_Bool (b == 94)) [
-          | inl e ↦ rw (eqb-true b 94 e) (signed (codes "^") t)
+          | inl e ↦ rw (eqb-true b 94 e) (signed d (codes "^") t)
           | inr n5 ↦ rw (n1, n2, n3, n4, n5) ([], refl, refl)
         ]
       ]
@@ -280,32 +351,32 @@ operator_sound (b ∷ t) = elim (cases_Bool (b == 61)) [
 ]
 
 -- a gap parts what stands before it from what follows: it has a blank, or the range ends there
-abbrev pub IsGap : Text → Text → Type 0
-IsGap gap t = AreBlanks gap × ((is_empty gap ≡ false) ⊎ (ends_range t ≡ true))
+abbrev pub IsGap : Dialect → Text → Text → Type 0
+IsGap d gap t = AreBlanks d gap × ((is_empty gap ≡ false) ⊎ (ends_range t ≡ true))
 
-gap_parts : (t : Text) → ends_word t ≡ true → IsGap (front is_blank t) (behind_blanks t)
-gap_parts [] e = (refl, inr refl)
-gap_parts (b ∷ t) e = elim (cases_Bool (is_blank b)) [
-  | inl blank ↦ rw blank (and_from _ _ blank (front_all is_blank t), inl refl)
+gap_parts : (d : Dialect) (t : Text) → ends_word d t ≡ true → IsGap d (front (is_blank d) t) (behind_blanks d t)
+gap_parts d [] e = (refl, inr refl)
+gap_parts d (b ∷ t) e = elim (cases_Bool (is_blank d b)) [
+  | inl blank ↦ rw blank (and_from _ _ blank (front_all (is_blank d) t), inl refl)
   | inr other ↦ let bar : is_bar b ≡ true = rw other at e in rw other (refl, inr bar)
 ]
 
 -- a simple, and the gap behind it
-abbrev pub SimpleAt : Text → Option (Simple × Text) → Type 0
-SimpleAt t None = Unit {0}
-SimpleAt t (Some found) = (w : Text) × (gap : Text) × SpellsSimple found.0 w × IsGap gap found.1 × (t ≡ w ++ (gap ++ found.1))
+abbrev pub SimpleAt : Dialect → Text → Option (Simple × Text) → Type 0
+SimpleAt d t None = Unit {0}
+SimpleAt d t (Some found) = (w : Text) × (gap : Text) × SpellsSimple d found.0 w × IsGap d gap found.1 × (t ≡ w ++ (gap ++ found.1))
 
-form_sound : (t : Text) (found : Form × Text) (o : Option (PartialTree × Text)) → FormAt t found → WordAt found.1 o
-    → SimpleAt t (with_form found.0 o)
-form_sound t found None h k = tt
-form_sound t found (Some (p, u)) (sign, form, text) (w, spelled, text', ends) = (
+form_sound : (d : Dialect) (t : Text) (found : Form × Text) (o : Option (PartialTree × Text)) → FormAt d t found → WordAt d found.1 o
+    → SimpleAt d t (with_form d found.0 o)
+form_sound d t found None h k = tt
+form_sound d t found (Some (p, u)) (sign, form, text) (w, spelled, text', ends) = (
   sign ++ w,
-  front is_blank u,
+  front (is_blank d) u,
   (sign, w, form, spelled, refl),
-  gap_parts u ends,
-  text ∙ ap (λ x. sign ++ x) (text' ∙ ap (λ x. w ++ x) (front-back is_blank u))
-      ∙ sym (append_assoc sign w (front is_blank u ++ behind_blanks u)),
+  gap_parts d u ends,
+  text ∙ ap (λ x. sign ++ x) (text' ∙ ap (λ x. w ++ x) (front-back (is_blank d) u))
+      ∙ sym (append_assoc sign w (front (is_blank d) u ++ behind_blanks d u)),
 )
 
-pub simple_sound : (t : Text) → SimpleAt t (simple t)
-simple_sound t = form_sound t (operator t) (partial (operator t).1) (operator_sound t) (partial_sound (operator t).1)
+pub simple_sound : (d : Dialect) (t : Text) → SimpleAt d t (simple d t)
+simple_sound d t = form_sound d t (operator d t) (partial d (operator d t).1) (operator_sound d t) (partial_sound d (operator d t).1)

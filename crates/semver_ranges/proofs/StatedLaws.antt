@@ -23,6 +23,7 @@ use Rattle.semver_ranges.specs.Meeting.{has_pre_release, meets_comparator}
 use Rattle.semver_ranges.specs.StatedPreReleases.{states_pre_release_at, counts_in, meets_tree_as_stated, has_pre_release_at}
 use Rattle.semver_ranges.specs.StatedPreReleases.{meets_set_as_stated}
 use Rattle.semver_ranges.proofs.Rows.{Step, numbers_step, Tail, same, past, floor, Shape, none, one, two, three, exact_row}
+use Rattle.semver_ranges.proofs.Tables.{port_table}
 use Rattle.semver_ranges.proofs.SetMeanings.{stated_shape, range_holds}
 use Rattle.semver_ranges.proofs.Tests.{list_any-weaker, list_any-same, list_any-mapped, some_of_all}
 
@@ -104,8 +105,8 @@ module _ (v : PlainVersion) where
         ≡ (list_all meets (terms r) && counts_in r v)
     range_stated r = some_of_all (meets_comparator v) (has_pre_release_at v) (is_empty v.pre) (written_range lowest_pre_release mode r)
         ∙ rw (
-          range_holds lowest_pre_release mode (meets_comparator v) meets met_simple refl r,
-          range_holds lowest_pre_release mode silent (λ term. meets term && not (states term)) silent_simple refl r,
+          range_holds (port_table lowest_pre_release mode) (meets_comparator v) meets met_simple refl r,
+          range_holds (port_table lowest_pre_release mode) silent (λ term. meets term && not (states term)) silent_simple refl r,
         ) (sym (some_of_all meets states (is_empty v.pre) (terms r)))
 
 -- with exact bounds, a version meets comparators as stated exactly if it meets the text as stated

@@ -15,7 +15,7 @@ use Rattle.semver_ranges.specs.Partials.{stated, zero_filled, zero_version, fits
 use Rattle.semver_ranges.specs.RewritingTable.{cell, nothing_stated, cell_raised, written_cell, bound_fits, written_simple}
 use Rattle.semver_ranges.specs.Means.PartialViews.{stated_at, stated_of, version_of, states_none, pre_of}
 use Rattle.semver_ranges.specs.Means.CursorViews.{form_of, IsSimpleOf}
-use Rattle.semver_ranges.specs.Means.RangeEvents.{simple_fits}
+use Rattle.semver_ranges.specs.RewritingTable.{simple_fits}
 use Rattle.semver_ranges.specs.Means.BoundsViews.{cell_of, with_version, comparators_of, bounds_fit, IsPlaced, IsRow}
 use Rattle.semver_texts.proofs.Lists.{by_test}
 

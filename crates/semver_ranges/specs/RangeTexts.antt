@@ -21,11 +21,16 @@ HasSet mode t = (tree : SetTree) × Spells tree t × IsTrue (fits mode tree)
 abbrev pub IsTooLarge : Compat → Text → Type 0
 IsTooLarge mode t = (tree : SetTree) × Spells tree t × (fits mode tree ≡ false)
 
--- what a call that reads a range text refuses: a text that is none, and one whose numbers are too
--- large, both exactly. Memory runs out only in place of an answer, which a text has that fits
-pub record RefusesExactly {A : Type 0} (mode : Compat) (t : Text) (r : Result A RangeError)
+-- what a call that reads a text by some grammar refuses: what is no text of it, and one whose
+-- numbers are too large, both exactly. Memory runs out only in place of an answer, which a text has
+-- that fits
+pub record Refuses {A : Type 0} (IsText HasLargeNumber Fits : Type 0) (r : Result A RangeError)
     : Type 0 where
-  pub accepted : IfOk r (λ _. HasSet mode t)
-  pub not_a_range : (r ≡ Err NotARange) ↔ ¬ (IsRangeText t)
-  pub too_large : (r ≡ Err NumberTooLarge) ↔ IsTooLarge mode t
-  pub out_of_memory : r ≡ Err OutOfMemory → HasSet mode t
+  pub accepted : IfOk r (λ _. Fits)
+  pub not_a_range : (r ≡ Err NotARange) ↔ ¬ IsText
+  pub too_large : (r ≡ Err NumberTooLarge) ↔ HasLargeNumber
+  pub out_of_memory : r ≡ Err OutOfMemory → Fits
+
+-- what a call that reads a range text in a mode refuses
+abbrev pub RefusesExactly : {A : Type 0} → Compat → Text → Result A RangeError → Type 0
+RefusesExactly mode t r = Refuses (IsRangeText t) (IsTooLarge mode t) (HasSet mode t) r

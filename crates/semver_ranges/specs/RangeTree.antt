@@ -1,11 +1,15 @@
--- A range set as a tree, and the texts that spell it: node-semver's published range grammar, and
--- beside it `~>` for `~`, tabs, repeated blanks, and blanks after an operator and round the whole
--- set.
+-- A range set as a tree, and the texts that spell it in two dialects. The crate's is node-semver's
+-- published range grammar, and beside it `~>` for `~`, tabs, repeated blanks, and blanks after an
+-- operator and round the whole set. What npm itself reads differs in its blanks, in a `v` before a
+-- partial, and in leading zeros of a pre-release.
 use Prim.Native.Char.{code}
-use Rattle.std.specs.Prelude.{◌≡◌, ℕ, Bool, false, ◌&&◌, ◌||◌, not, ◌==◌, ◌⊎◌, List, [], ◌∷◌, ◌++◌}
-use Rattle.std.specs.Prelude.{codes, IsTrue}
+use Rattle.std.specs.Prelude.{◌≡◌, ℕ, Bool, true, false, ◌&&◌, ◌||◌, not, ◌==◌, ◌⊎◌, List, []}
+use Rattle.std.specs.Prelude.{◌∷◌, ◌++◌, codes, IsTrue}
+use Rattle.std.specs.Int.{is_in_range}
 use Rattle.std.specs.List.{list_all, join_with_byte}
 use Rattle.std.specs.Str.{all_ascii_digits}
+use Rattle.semver_ranges.specs.declared.grammar.Dialect.{Dialect}
+use Rattle.semver_ranges.specs.declared.grammar.Dialect.TheVariants.{Crate, Npm}
 use Rattle.semver_texts.specs.Texts.{Text, is_empty, is_part_byte, marked}
 
 -- a partial: one to three components; behind three, the parts of a pre-release and of a build
@@ -33,17 +37,20 @@ pub data RangeTree : Type 0 where
 abbrev pub SetTree : Type 0
 SetTree = List RangeTree
 
--- a blank: a space or a tab
-abbrev pub is_blank : ℕ → Bool
-is_blank b = (b == code " ") || (b == code "\t")
+-- a byte of a blank: a space or a tab. To npm a space, each byte from the tab to the carriage
+-- return, and those of characters beyond ASCII: which of these are blanks is a condition on the
+-- whole text
+abbrev pub is_blank : Dialect → ℕ → Bool
+is_blank Crate b = (b == code " ") || (b == code "\t")
+is_blank Npm b = (is_in_range 9 13 b || (b == code " ")) || is_in_range 128 255 b
 
 -- any number of blanks, none included
-abbrev pub AreBlanks : Text → Type 0
-AreBlanks t = IsTrue (list_all is_blank t)
+abbrev pub AreBlanks : Dialect → Text → Type 0
+AreBlanks d t = IsTrue (list_all (is_blank d) t)
 
 -- one or more blanks
-abbrev pub AreSomeBlanks : Text → Type 0
-AreSomeBlanks t = IsTrue (not (is_empty t)) × AreBlanks t
+abbrev pub AreSomeBlanks : Dialect → Text → Type 0
+AreSomeBlanks d t = IsTrue (not (is_empty t)) × AreBlanks d t
 
 -- a number of any size: `0`, or digits that don't begin with `0`
 abbrev pub is_number : Text → Bool
@@ -89,50 +96,73 @@ SpellsPartial p t =
     IsTrue (list_all is_component (components p)) × HasParts p
     × (t ≡ join_with_byte (code ".") (components p) ++ qualifier p)
 
+-- whether a part is a number without leading zeros, where it is digits alone
+abbrev pub has_no_leading_zero : Text → Bool
+has_no_leading_zero part = not (all_ascii_digits part) || is_number part
+
+-- whether no part of a partial's pre-release has one
+abbrev pub has_no_leading_zeros : PartialTree → Bool
+has_no_leading_zeros (one a) = true
+has_no_leading_zeros (two a b) = true
+has_no_leading_zeros (three a b c pre build) = list_all has_no_leading_zero pre
+
+-- a partial's text in a range: to npm one `v` may stand in front of it, and no part of its
+-- pre-release has a leading zero
+abbrev pub SpellsWord : Dialect → PartialTree → Text → Type 0
+SpellsWord Crate p t = SpellsPartial p t
+SpellsWord Npm p t = (front : Text) × (back : Text) × ((front ≡ []) ⊎ (front ≡ codes "v"))
+    × SpellsPartial p back × IsTrue (has_no_leading_zeros p) × (t ≡ front ++ back)
+
 -- a sign, then any blanks
-abbrev pub IsSignAndBlanks : Text → Text → Type 0
-IsSignAndBlanks sign t = (blanks : Text) × AreBlanks blanks × (t ≡ sign ++ blanks)
+abbrev pub IsSignAndBlanks : Dialect → Text → Text → Type 0
+IsSignAndBlanks d sign t = (blanks : Text) × AreBlanks d blanks × (t ≡ sign ++ blanks)
 
 -- what stands before the partial: nothing, or the operator's sign and any blanks; `~>` is `~`
-abbrev pub SpellsForm : Form → Text → Type 0
-SpellsForm bare t = t ≡ []
-SpellsForm equal t = IsSignAndBlanks (codes "=") t
-SpellsForm less t = IsSignAndBlanks (codes "<") t
-SpellsForm at_most t = IsSignAndBlanks (codes "<=") t
-SpellsForm greater t = IsSignAndBlanks (codes ">") t
-SpellsForm at_least t = IsSignAndBlanks (codes ">=") t
-SpellsForm tilde t = IsSignAndBlanks (codes "~") t ⊎ IsSignAndBlanks (codes "~>") t
-SpellsForm caret t = IsSignAndBlanks (codes "^") t
+abbrev pub SpellsForm : Dialect → Form → Text → Type 0
+SpellsForm d bare t = t ≡ []
+SpellsForm d equal t = IsSignAndBlanks d (codes "=") t
+SpellsForm d less t = IsSignAndBlanks d (codes "<") t
+SpellsForm d at_most t = IsSignAndBlanks d (codes "<=") t
+SpellsForm d greater t = IsSignAndBlanks d (codes ">") t
+SpellsForm d at_least t = IsSignAndBlanks d (codes ">=") t
+SpellsForm d tilde t = IsSignAndBlanks d (codes "~") t ⊎ IsSignAndBlanks d (codes "~>") t
+SpellsForm d caret t = IsSignAndBlanks d (codes "^") t
 
 -- a simple's text: what stands before the partial, and the partial's
-abbrev pub SpellsSimple : Simple → Text → Type 0
-SpellsSimple s t =
-    (front : Text) × (back : Text) × SpellsForm s.form front × SpellsPartial s.partial back
+abbrev pub SpellsSimple : Dialect → Simple → Text → Type 0
+SpellsSimple d s t =
+    (front : Text) × (back : Text) × SpellsForm d s.form front × SpellsWord d s.partial back
     × (t ≡ front ++ back)
 
 -- one or more simples, parted by one or more blanks
-abbrev pub SpellsSimples : Simple → List Simple → Text → Type 0
-SpellsSimples first [] t = SpellsSimple first t
-SpellsSimples first (next ∷ others) t = (front : Text) × (gap : Text) × (back : Text)
-    × SpellsSimple first front × AreSomeBlanks gap × SpellsSimples next others back
+abbrev pub SpellsSimples : Dialect → Simple → List Simple → Text → Type 0
+SpellsSimples d first [] t = SpellsSimple d first t
+SpellsSimples d first (next ∷ others) t = (front : Text) × (gap : Text) × (back : Text)
+    × SpellsSimple d first front × AreSomeBlanks d gap × SpellsSimples d next others back
     × (t ≡ front ++ gap ++ back)
 
 -- a range's text: nothing, two partials round a hyphen between blanks, or simples
-abbrev pub SpellsRange : RangeTree → Text → Type 0
-SpellsRange empty t = t ≡ []
-SpellsRange (hyphen left right) t = (front : Text) × (gap : Text) × (gap' : Text) × (back : Text)
-    × SpellsPartial left front × AreSomeBlanks gap × AreSomeBlanks gap' × SpellsPartial right back
-    × (t ≡ front ++ gap ++ codes "-" ++ gap' ++ back)
-SpellsRange (simples first others) t = SpellsSimples first others t
+abbrev pub SpellsRange : Dialect → RangeTree → Text → Type 0
+SpellsRange d empty t = t ≡ []
+SpellsRange d (hyphen left right) t = (front : Text) × (gap : Text) × (gap' : Text)
+    × (back : Text) × SpellsWord d left front × AreSomeBlanks d gap × AreSomeBlanks d gap'
+    × SpellsWord d right back × (t ≡ front ++ gap ++ codes "-" ++ gap' ++ back)
+SpellsRange d (simples first others) t = SpellsSimples d first others t
 
 -- a range's text between any blanks
-abbrev pub SpellsPadded : RangeTree → Text → Type 0
-SpellsPadded r t = (before : Text) × (inner : Text) × (after : Text)
-    × AreBlanks before × SpellsRange r inner × AreBlanks after × (t ≡ before ++ inner ++ after)
+abbrev pub SpellsPadded : Dialect → RangeTree → Text → Type 0
+SpellsPadded d r t = (before : Text) × (inner : Text) × (after : Text)
+    × AreBlanks d before × SpellsRange d r inner × AreBlanks d after
+    × (t ≡ before ++ inner ++ after)
 
--- a tree spells a text: one or more ranges between blanks, parted by `||`
+-- a tree spells a text of a dialect: one or more ranges between blanks, parted by `||`
+abbrev pub SpellsIn : Dialect → SetTree → Text → Type 0
+SpellsIn d [] t = ⊥
+SpellsIn d (range ∷ []) t = SpellsPadded d range t
+SpellsIn d (range ∷ next ∷ others) t = (front : Text) × (back : Text)
+    × SpellsPadded d range front × SpellsIn d (next ∷ others) back
+    × (t ≡ front ++ codes "||" ++ back)
+
+-- a tree spells a text of the crate's dialect
 abbrev pub Spells : SetTree → Text → Type 0
-Spells [] t = ⊥
-Spells (range ∷ []) t = SpellsPadded range t
-Spells (range ∷ next ∷ others) t = (front : Text) × (back : Text)
-    × SpellsPadded range front × Spells (next ∷ others) back × (t ≡ front ++ codes "||" ++ back)
+Spells tree t = SpellsIn Crate tree t

@@ -124,25 +124,29 @@ written_simple bound_pre mode s =
     written_cell bound_pre (cell mode s.form (stated s.partial)) (stated s.partial)
     (zero_filled s.partial)
 
--- the comparators of a range: those of its simples or sides in order; `>=0.0.0` where it is empty
--- or both sides state nothing
-abbrev pub written_range : List IdentifierValue → Compat → RangeTree → List PlainComparator
-written_range bound_pre mode empty = comparator Gte zero_version ∷ []
-written_range bound_pre mode (hyphen left right) =
+-- the comparators of a range, by a table of simples: those of its simples or sides in order;
+-- `>=0.0.0` where it is empty or both sides state nothing
+abbrev pub range_by : (Simple → List PlainComparator) → RangeTree → List PlainComparator
+range_by written empty = comparator Gte zero_version ∷ []
+range_by written (hyphen left right) =
     if states_nothing left && states_nothing right then comparator Gte zero_version ∷ []
-    else flat_map (written_simple bound_pre mode) (sides left right)
-written_range bound_pre mode (simples first others) =
-    flat_map (written_simple bound_pre mode) (first ∷ others)
+    else flat_map written (sides left right)
+range_by written (simples first others) = flat_map written (first ∷ others)
 
--- the set that a tree is rewritten to: the comparators of its ranges in order, with the mode in the
--- set and in each range
-abbrev pub written_set : List IdentifierValue → Compat → SetTree → PlainSet
-written_set bound_pre mode tree =
+abbrev pub written_range : List IdentifierValue → Compat → RangeTree → List PlainComparator
+written_range bound_pre mode r = range_by (written_simple bound_pre mode) r
+
+-- the set that a tree is rewritten to by a table: the comparators of its ranges in order, with the
+-- mode in the set and in each range
+abbrev pub set_by : (Simple → List PlainComparator) → Compat → SetTree → PlainSet
+set_by written mode tree =
     record {
-      ranges = map (λ r. record { comparators = written_range bound_pre mode r; compat = mode })
-          tree;
+      ranges = map (λ r. record { comparators = range_by written r; compat = mode }) tree;
       compat = mode;
     }
+
+abbrev pub written_set : List IdentifierValue → Compat → SetTree → PlainSet
+written_set bound_pre mode tree = set_by (written_simple bound_pre mode) mode tree
 
 abbrev pub rewritten : Compat → SetTree → PlainSet
 rewritten mode tree = written_set [] mode tree
@@ -158,12 +162,21 @@ abbrev pub bound_fits : Option PlainVersion → Bool
 bound_fits None = true
 bound_fits (Some bound) = list_all fits_u64 (numbers bound)
 
--- whether the numbers that a term states, and those of its raised bound, are at most 2^64 - 1
-abbrev pub term_fits : Compat → Term → Bool
-term_fits mode (of_simple s) =
+-- whether the numbers that a simple states, and those of its raised bound, are at most 2^64 - 1
+abbrev pub simple_fits : Compat → Simple → Bool
+simple_fits mode s =
     list_all fits_u64 (stated s.partial) && bound_fits (raised_bound mode (of_simple s))
-term_fits mode of_nothing = true
 
--- whether a tree fits: each of its terms does
+-- whether a term fits, by its simple, and a tree, by its terms
+abbrev pub term_fits_by : (Simple → Bool) → Term → Bool
+term_fits_by fit (of_simple s) = fit s
+term_fits_by fit of_nothing = true
+
+abbrev pub fits_by : (Simple → Bool) → SetTree → Bool
+fits_by fit tree = list_all (λ range. list_all (term_fits_by fit) (terms range)) tree
+
+abbrev pub term_fits : Compat → Term → Bool
+term_fits mode term = term_fits_by (simple_fits mode) term
+
 abbrev pub fits : Compat → SetTree → Bool
-fits mode tree = list_all (λ range. list_all (term_fits mode) (terms range)) tree
+fits mode tree = fits_by (simple_fits mode) tree

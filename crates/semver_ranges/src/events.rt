@@ -3,16 +3,17 @@
 //! Nothing here takes memory, and a call looks at each byte a fixed number of times.
 
 ghost use Rattle.std.specs.Prelude.{◌≡◌, ◌<◌, ◌≤◌, ◌++◌, Some, None, true, false, length, codes};
+ghost use Rattle.std.specs.Prelude.{IfSome};
 ghost use Rattle.semver_ranges.specs.RangeTree.{Simple as SimpleTree, PartialTree, hyphen};
 ghost use Rattle.semver_ranges.specs.Means.Reading.{ends_range, simple, right_side};
 ghost use Rattle.semver_ranges.specs.Means.Reading.{with_right};
 ghost use Rattle.semver_ranges.specs.Means.PartialViews.{IsPartialOf};
 ghost use Rattle.semver_ranges.specs.Means.RangeEvents.{yielded, events};
 ghost use Rattle.semver_ranges.specs.Means.CursorViews.{AreSides, FindsSides, TakesEvent, HasLeft};
-ghost use Rattle.semver_ranges.specs.Means.CursorViews.{IsSimpleOf};
+ghost use Rattle.semver_ranges.specs.Means.CursorViews.{IsSimpleOf, NextGives, size_left};
 
 use crate::grammar::{
-    Form, Simple, behind_bars, behind_blanks, ends_range, read_right_side, read_simple,
+    Dialect, Form, Simple, behind_bars, behind_blanks, ends_range, read_right_side, read_simple,
 };
 use crate::partial::Partial;
 use crate::range_set::RangeError;
@@ -20,7 +21,7 @@ use semver_texts::dotted::behind_mark;
 
 /// What stands next in a range text.
 #[derive(Clone, Copy)]
-pub(crate) enum Event<'input> {
+pub enum Event<'input> {
     /// A simple of the range. An empty range is a bare wildcard, and a hyphen range `>=` of its
     /// left side and `<=` of its right.
     Simple(Simple<'input>),
@@ -30,54 +31,77 @@ pub(crate) enum Event<'input> {
 
 /// A cursor over a range text that yields its events.
 #[derive(Clone, Copy)]
-pub(crate) struct Events<'input> {
+pub struct Events<'input> {
     rest: &'input [u8],
     begins_range: bool,
     upper: Option<Simple<'input>>,
 }
 
 impl<'input> Events<'input> {
-    /// The events of a text.
+    /// The events of a text by a dialect.
     #[inline(always)]
-    pub(crate) fn new(text: &'input [u8]) -> Events<'input>
-        ensures all { HasLeft result (events text.now) }
+    pub fn new(text: &'input [u8], dialect: Dialect) -> Events<'input>
+        ensures all { HasLeft dialect result (events dialect text.now) }
         ensures short { length result.rest.now ≤ length text.now }
     {
         Events {
-            rest: behind_blanks(text),
+            rest: behind_blanks(text, dialect),
             begins_range: true,
             upper: None,
         }
     }
 
+    /// The next event by a dialect, or that the text isn't in its grammar from there on. None at
+    /// the end.
+    #[inline(always)]
+    pub fn next_in(&mut self, dialect: Dialect) -> Option<Result<Event<'input>, RangeError>>
+        ensures gives { NextGives dialect self.old result self.new }
+        ensures fewer { IfSome result (λ _. size_left self.new < size_left self.old) }
+    {
+        if let Some(upper) = self.upper {
+            self.upper = None;
+            return Some(Ok(Event::Simple(upper)));
+        }
+        if !self.begins_range && self.rest.is_empty() {
+            return None;
+        }
+        match self.read_event(dialect) {
+            Some(event) => Some(Ok(event)),
+            None => {
+                self.rest = &[];
+                Some(Err(RangeError::NotARange))
+            }
+        }
+    }
+
     /// Goes on behind the event at the front of the text; none where the text isn't in the grammar.
     #[inline(always)]
-    fn read_event(&mut self) -> Option<Event<'input>>
+    fn read_event(&mut self, dialect: Dialect) -> Option<Event<'input>>
         requires alone { self.old.upper ≡ None }
         requires some { self.old.begins_range ≡ false → 0 < length self.old.rest.now }
-        ensures { TakesEvent self.old.begins_range self.old.rest.now result self.new }
+        ensures { TakesEvent dialect self.old.begins_range self.old.rest.now result self.new }
     {
         let begins_range = self.begins_range;
         self.begins_range = false;
         if !ends_range(self.rest) {
-            return self.read_in_range(begins_range);
+            return self.read_in_range(begins_range, dialect);
         }
         if !begins_range {
-            return self.read_bars();
+            return self.read_bars(dialect);
         }
         Some(Event::Simple(Simple::wildcard()))
     }
 
     /// Goes on behind two bars.
     #[inline(always)]
-    fn read_bars(&mut self) -> Option<Event<'input>>
+    fn read_bars(&mut self, dialect: Dialect) -> Option<Event<'input>>
         requires alone { self.old.upper ≡ None }
         requires begun { self.old.begins_range ≡ false }
         requires some { 0 < length self.old.rest.now }
         requires ends { ends_range self.old.rest.now ≡ true }
-        ensures { TakesEvent false self.old.rest.now result self.new }
+        ensures { TakesEvent dialect false self.old.rest.now result self.new }
     {
-        self.rest = behind_blanks(behind_bars(self.rest)?);
+        self.rest = behind_blanks(behind_bars(self.rest)?, dialect);
         self.begins_range = true;
         Some(Event::NextRange)
     }
@@ -85,15 +109,15 @@ impl<'input> Events<'input> {
     /// Goes on behind a simple, or behind a hyphen range, which begins its range and is yielded in
     /// two.
     #[inline(always)]
-    fn read_in_range(&mut self, begins_range: bool) -> Option<Event<'input>>
+    fn read_in_range(&mut self, begins_range: bool, dialect: Dialect) -> Option<Event<'input>>
         requires alone { self.old.upper ≡ None }
         requires begun { self.old.begins_range ≡ false }
         requires goes_on { ends_range self.old.rest.now ≡ false }
-        ensures { TakesEvent begins_range self.old.rest.now result self.new }
+        ensures { TakesEvent dialect begins_range self.old.rest.now result self.new }
     {
-        let (simple, rest) = read_simple(self.rest)?;
+        let (simple, rest) = read_simple(self.rest, dialect)?;
         match behind_mark(rest, b'-') {
-            Some(behind) if begins_range => self.read_sides(simple, behind),
+            Some(behind) if begins_range => self.read_sides(simple, behind, dialect),
             _ => {
                 self.rest = rest;
                 Some(Event::Simple(simple))
@@ -104,15 +128,20 @@ impl<'input> Events<'input> {
     /// Goes on behind a hyphen range, whose left side and hyphen were read. For speed it is a
     /// function of its own: its locals cost only where it is called.
     #[inline(always)]
-    fn read_sides(&mut self, left: Simple<'input>, behind: &'input [u8]) -> Option<Event<'input>>
+    fn read_sides(
+        &mut self,
+        left: Simple<'input>,
+        behind: &'input [u8],
+        dialect: Dialect,
+    ) -> Option<Event<'input>>
         requires alone { self.old.upper ≡ None }
         requires begun { self.old.begins_range ≡ false }
         requires goes_on { ends_range self.old.rest.now ≡ false }
         requires left { (s : SimpleTree) × IsSimpleOf s left
-            × (simple self.old.rest.now ≡ Some (s, codes "-" ++ behind.now)) }
-        ensures { TakesEvent true self.old.rest.now result self.new }
+            × (simple dialect self.old.rest.now ≡ Some (s, codes "-" ++ behind.now)) }
+        ensures { TakesEvent dialect true self.old.rest.now result self.new }
     {
-        let (lower, upper, rest) = read_hyphen_range(left, behind)?;
+        let (lower, upper, rest) = read_hyphen_range(left, behind, dialect)?;
         self.rest = rest;
         self.upper = upper;
         Some(Event::Simple(lower))
@@ -121,31 +150,18 @@ impl<'input> Events<'input> {
 
 impl<'input> Iterator for Events<'input> {
     ghost use Rattle.std.specs.Iterator.{at_most};
-    ghost use Rattle.semver_ranges.specs.Means.CursorViews.{NextGives, size_left};
+    ghost use Rattle.semver_ranges.specs.declared.grammar.Dialect.TheVariants.{Crate};
 
     type Item = Result<Event<'input>, RangeError>;
 
-    ghost next_gives = { NextGives };
+    ghost next_gives = { NextGives Crate };
 
     ghost remaining = { λ e. at_most (size_left e) };
 
-    /// The next event, or that the text isn't in the grammar from there on. None at the end.
+    /// The next event by the crate's dialect.
     #[inline(always)]
     fn next(&mut self) -> Option<Result<Event<'input>, RangeError>> {
-        if let Some(upper) = self.upper {
-            self.upper = None;
-            return Some(Ok(Event::Simple(upper)));
-        }
-        if !self.begins_range && self.rest.is_empty() {
-            return None;
-        }
-        match self.read_event() {
-            Some(event) => Some(Ok(event)),
-            None => {
-                self.rest = &[];
-                Some(Err(RangeError::NotARange))
-            }
-        }
+        self.next_in(Dialect::Crate)
     }
 }
 
@@ -153,14 +169,15 @@ impl<'input> Iterator for Events<'input> {
 fn read_hyphen_range<'input>(
     left: Simple<'input>,
     behind: &'input [u8],
+    dialect: Dialect,
 ) -> Option<(Simple<'input>, Option<Simple<'input>>, &'input [u8])>
     ensures { (s : SimpleTree) → IsSimpleOf s left.entry
-        → FindsSides (with_right s (right_side (codes "-" ++ behind.now))) result }
+        → FindsSides (with_right s (right_side dialect (codes "-" ++ behind.now))) result }
 {
     let Form::Bare = left.form else {
         return None;
     };
-    let (right, rest) = read_right_side(behind)?;
+    let (right, rest) = read_right_side(behind, dialect)?;
     let (lower, upper) = sides(left.partial, right);
     Some((lower, upper, rest))
 }

@@ -12,42 +12,64 @@ ghost use Rattle.std.specs.Str.Parse.{digits_value};
 ghost use Rattle.std.specs.Char.{is_ascii_digit};
 ghost use Rattle.semver_texts.specs.Texts.{Text, is_part_byte as part_byte};
 ghost use Rattle.semver_ranges.specs.RangeTree.{one, two, three, is_blank as blank, is_part};
+ghost use Rattle.semver_ranges.specs.RangeTree.{PartialTree, has_no_leading_zero};
+ghost use Rattle.semver_ranges.specs.declared.grammar.Dialect.TheVariants as dialect;
+ghost use Rattle.semver_ranges.specs.Means.Reading.{behind_v, takes};
 ghost use Rattle.semver_ranges.specs.Means.Reading.{back, ends_range, ends_word};
 ghost use Rattle.semver_texts.specs.Texts.{begins_with};
 ghost use Rattle.semver_ranges.specs.Means.Reading.{component, partial, operator, simple};
 ghost use Rattle.semver_ranges.specs.Means.Reading.{right_side, with_second, with_third};
 ghost use Rattle.semver_ranges.specs.Means.Reading.{behind_three, with_first, behind_bars};
-ghost use Rattle.semver_ranges.specs.Means.Reading.{front, behind_blanks};
+ghost use Rattle.semver_ranges.specs.Means.Reading.{front, behind_blanks, begins_qualifier};
 ghost use Rattle.semver_texts.specs.Texts.{is_dotted_byte};
 ghost use Rattle.semver_ranges.specs.Means.RangeEvents.{wildcard};
 ghost use Rattle.semver_ranges.specs.Means.PartialViews.{IsValue, IsComponentOf};
 ghost use Rattle.semver_texts.specs.Texts.{cut_at_dots};
-ghost use Rattle.semver_ranges.specs.Means.PartialViews.{IsPartialOf};
+ghost use Rattle.semver_ranges.specs.Means.PartialViews.{AreWritten, IsPartialOf};
 ghost use Rattle.semver_ranges.specs.Means.CursorViews.{form_of, marked_parts, Finds, FindsPre};
 ghost use Rattle.semver_ranges.specs.Means.CursorViews.{IsSimpleOf};
 
-use crate::partial::{Component, Partial};
+use crate::partial::{Component, Components, Partial};
 use semver_texts::decimals;
-use semver_texts::dotted::{Hyphens, behind_mark, marked_part};
+use semver_texts::dotted::{Hyphens, behind_mark, marked_part, split_at_dot};
+
+/// Whose grammar a text is read by.
+#[derive(Clone, Copy, PartialEq, Eq)]
+pub enum Dialect {
+    /// The crate's.
+    Crate,
+    /// npm's own, but for the characters beyond ASCII: each byte of one counts as a blank here.
+    Npm,
+}
 
 /// What stands before a partial: nothing, or an operator.
-#[derive(Clone, Copy)]
-pub(crate) enum Form {
+#[derive(Clone, Copy, PartialEq, Eq)]
+pub enum Form {
+    /// Nothing.
     Bare,
+    /// `=`.
     Equal,
+    /// `<`.
     Less,
+    /// `<=`.
     AtMost,
+    /// `>`.
     Greater,
+    /// `>=`.
     AtLeast,
+    /// `~` or `~>`.
     Tilde,
+    /// `^`.
     Caret,
 }
 
 /// A partial and what stands before it.
 #[derive(Clone, Copy)]
-pub(crate) struct Simple<'input> {
-    pub(crate) form: Form,
-    pub(crate) partial: Partial<'input>,
+pub struct Simple<'input> {
+    /// What stands before it.
+    pub form: Form,
+    /// The partial.
+    pub partial: Partial<'input>,
 }
 
 impl<'input> Simple<'input> {
@@ -67,12 +89,12 @@ impl<'input> Simple<'input> {
 /// The right side of a hyphen range behind its hyphen, up to the end of the range, and what follows
 /// it.
 #[inline(always)]
-pub(crate) fn read_right_side(behind: &[u8]) -> Option<(Partial<'_>, &[u8])>
-    ensures { Finds IsPartialOf (right_side (codes "-" ++ behind.now)) result }
+pub(crate) fn read_right_side(behind: &[u8], dialect: Dialect) -> Option<(Partial<'_>, &[u8])>
+    ensures { Finds IsPartialOf (right_side dialect (codes "-" ++ behind.now)) result }
 {
-    let text = behind_blank(behind)?;
-    let (right, rest) = read_partial(behind_blanks(text))?;
-    let rest = behind_blanks(rest);
+    let text = behind_blank(behind, dialect)?;
+    let (right, rest) = read_partial(behind_blanks(text, dialect), dialect)?;
+    let rest = behind_blanks(rest, dialect);
     if ends_range(rest) {
         Some((right, rest))
     } else {
@@ -83,62 +105,150 @@ pub(crate) fn read_right_side(behind: &[u8]) -> Option<(Partial<'_>, &[u8])>
 /// The simple at the front of a text, and what follows it and the blanks behind it; none where
 /// there is none.
 #[inline(always)]
-pub(crate) fn read_simple(text: &[u8]) -> Option<(Simple<'_>, &[u8])>
-    ensures { Finds IsSimpleOf (simple text.now) result }
+pub(crate) fn read_simple(text: &[u8], dialect: Dialect) -> Option<(Simple<'_>, &[u8])>
+    ensures { Finds IsSimpleOf (simple dialect text.now) result }
 {
-    let (form, rest) = read_operator(text);
-    let (partial, rest) = read_partial(rest)?;
-    Some((Simple { form, partial }, behind_blanks(rest)))
+    let (form, rest) = read_operator(text, dialect);
+    let (partial, rest) = read_partial(rest, dialect)?;
+    Some((Simple { form, partial }, behind_blanks(rest, dialect)))
 }
 
 /// The operator at the front of a text, and what follows it and its blanks.
 #[inline(always)]
-fn read_operator(text: &[u8]) -> (Form, &[u8])
-    ensures { (form_of result.0, result.1.now) ≡ operator text.now }
+pub fn read_operator(text: &[u8], dialect: Dialect) -> (Form, &[u8])
+    ensures { (form_of result.0, result.1.now) ≡ operator dialect text.now }
 {
-    match text {
-        [b'^', rest @ ..] => (Form::Caret, behind_blanks(rest)),
-        [b'>', b'=', rest @ ..] => (Form::AtLeast, behind_blanks(rest)),
-        [b'>', rest @ ..] => (Form::Greater, behind_blanks(rest)),
-        [b'<', b'=', rest @ ..] => (Form::AtMost, behind_blanks(rest)),
-        [b'<', rest @ ..] => (Form::Less, behind_blanks(rest)),
-        [b'~', b'>', rest @ ..] => (Form::Tilde, behind_blanks(rest)),
-        [b'~', rest @ ..] => (Form::Tilde, behind_blanks(rest)),
-        [b'=', rest @ ..] => (Form::Equal, behind_blanks(rest)),
-        _ => (Form::Bare, text),
-    }
+    let (form, rest) = match text {
+        [b'^', rest @ ..] => (Form::Caret, rest),
+        [b'>', b'=', rest @ ..] => (Form::AtLeast, rest),
+        [b'>', rest @ ..] => (Form::Greater, rest),
+        [b'<', b'=', rest @ ..] => (Form::AtMost, rest),
+        [b'<', rest @ ..] => (Form::Less, rest),
+        [b'~', b'>', rest @ ..] => (Form::Tilde, rest),
+        [b'~', rest @ ..] => (Form::Tilde, rest),
+        [b'=', rest @ ..] => (Form::Equal, rest),
+        _ => return (Form::Bare, text),
+    };
+    (form, behind_blanks(rest, dialect))
 }
 
 /// The partial at the front of a text, up to the end of its word, and what follows it.
 #[inline(always)]
-fn read_partial(text: &[u8]) -> Option<(Partial<'_>, &[u8])>
-    ensures { Finds IsPartialOf (partial text.now) result }
+fn read_partial(text: &[u8], dialect: Dialect) -> Option<(Partial<'_>, &[u8])>
+    ensures { Finds IsPartialOf (partial dialect text.now) result }
 {
-    let (partial, rest) = read_components(text)?;
-    if ends_word(rest) {
-        Some((partial, rest))
+    let (written, rest) = read_components(behind_v(text, dialect))?;
+    if takes(&written, dialect) && ends_word(rest, dialect) {
+        Some((
+            Partial::new(written.major, written.minor, written.patch, written.pre),
+            rest,
+        ))
     } else {
         None
     }
 }
 
-/// The partial at the front of a text, whatever follows it.
+/// What follows one `v`, to npm.
 #[inline(always)]
-fn read_components(text: &[u8]) -> Option<(Partial<'_>, &[u8])>
-    ensures { Finds IsPartialOf (with_first (component text.now)) result }
+fn behind_v(text: &[u8], dialect: Dialect) -> &[u8]
+    ensures { result.now ≡ behind_v dialect text.now }
 {
-    let none = Component::Wildcard;
+    match (dialect, text) {
+        (Dialect::Npm, [b'v', rest @ ..]) => rest,
+        _ => text,
+    }
+}
+
+/// Whether the parts of a pre-release are read: to npm none that is digits alone begins with `0`.
+#[inline(always)]
+fn takes(written: &Components<'_>, dialect: Dialect) -> bool
+    ensures { (p : PartialTree) → AreWritten p written.now → result ≡ takes dialect p }
+{
+    match dialect {
+        Dialect::Crate => true,
+        Dialect::Npm => written.count < 3 || have_no_leading_zeros(written.pre),
+    }
+}
+
+/// Whether none of the parts that are digits alone has a leading zero.
+pub fn have_no_leading_zeros(parts: &[u8]) -> bool
+    ensures { result ≡ list_all has_no_leading_zero (cut_at_dots parts.now) }
+{
+    if parts.is_empty() {
+        return true;
+    }
+    let mut rest = Some(parts);
+    while let Some(bytes) = rest {
+        let (part, behind) = split_at_dot(bytes);
+        if !has_no_leading_zero(part) {
+            return false;
+        }
+        rest = behind;
+    }
+    true
+}
+
+/// Whether a part is a number without leading zeros, where it is digits alone.
+#[inline(always)]
+fn has_no_leading_zero(part: &[u8]) -> bool
+    ensures { result ≡ has_no_leading_zero part.now }
+{
+    let begins_with_zero = part.is_empty() || (part.len() > 1 && part[0] == b'0');
+    !(begins_with_zero && are_digits(part))
+}
+
+/// Whether each byte is a digit.
+#[inline(always)]
+fn are_digits(part: &[u8]) -> bool
+    ensures { result ≡ list_all is_ascii_digit part.now }
+{
+    part.iter().all(|byte| byte.is_ascii_digit())
+}
+
+/// The components of the partial at the front of a text, whatever follows it.
+#[inline(always)]
+pub fn read_components(text: &[u8]) -> Option<(Components<'_>, &[u8])>
+    ensures { Finds AreWritten (with_first (component text.now)) result }
+{
     let (major, rest) = read_component(text)?;
+    let one = Components {
+        major,
+        minor: Component::Wildcard,
+        patch: Component::Wildcard,
+        count: 1,
+        pre: &[],
+        is_qualified: false,
+    };
     let Some(behind) = behind_mark(rest, b'.') else {
-        return Some((Partial::new(major, none, none, &[]), rest));
+        return Some((one, rest));
     };
     let (minor, rest) = read_component(behind)?;
-    let Some(behind) = behind_mark(rest, b'.') else {
-        return Some((Partial::new(major, minor, none, &[]), rest));
+    let two = Components {
+        minor,
+        count: 2,
+        ..one
     };
-    let (patch, rest) = read_component(behind)?;
-    let (pre, rest) = read_qualifier(rest)?;
-    Some((Partial::new(major, minor, patch, pre), rest))
+    let Some(behind) = behind_mark(rest, b'.') else {
+        return Some((two, rest));
+    };
+    let (patch, qualifier) = read_component(behind)?;
+    let (pre, rest) = read_qualifier(qualifier)?;
+    let three = Components {
+        patch,
+        count: 3,
+        pre,
+        is_qualified: begins_qualifier(qualifier),
+        ..two
+    };
+    Some((three, rest))
+}
+
+/// Whether a pre-release or a build begins here.
+#[inline(always)]
+fn begins_qualifier(text: &[u8]) -> bool
+    ensures { result ≡ begins_qualifier text.now }
+{
+    matches!(text, [b'-' | b'+', ..])
 }
 
 /// The pre-release at the front of a text, and what follows it and the build behind it, each where
@@ -209,11 +319,11 @@ fn with_digit(value: Option<u64>, digit: u8) -> Option<u64>
 
 /// What follows the blanks at the front of a text.
 #[inline(always)]
-pub(crate) fn behind_blanks(text: &[u8]) -> &[u8]
-    ensures { result.now ≡ behind_blanks text.now }
+pub fn behind_blanks(text: &[u8], dialect: Dialect) -> &[u8]
+    ensures { result.now ≡ behind_blanks dialect text.now }
 {
     for at in 0..text.len() {
-        if !is_blank(text[at]) {
+        if !is_blank(text[at], dialect) {
             return &text[at..];
         }
     }
@@ -222,12 +332,13 @@ pub(crate) fn behind_blanks(text: &[u8]) -> &[u8]
 
 /// What follows one blank, where the text begins with it.
 #[inline(always)]
-fn behind_blank(text: &[u8]) -> Option<&[u8]>
-    ensures { MatchOption result ((b : ℕ) (t : Text) → text.now ≡ b ∷ t
-        → blank b ≡ false) (λ rest. (b : ℕ) × (blank b ≡ true) × (text.now ≡ b ∷ rest.now)) }
+fn behind_blank(text: &[u8], dialect: Dialect) -> Option<&[u8]>
+    ensures { MatchOption result
+        ((b : ℕ) (t : Text) → text.now ≡ b ∷ t → blank dialect b ≡ false)
+        (λ rest. (b : ℕ) × (blank dialect b ≡ true) × (text.now ≡ b ∷ rest.now)) }
 {
     match text {
-        [first, rest @ ..] if is_blank(*first) => Some(rest),
+        [first, rest @ ..] if is_blank(*first, dialect) => Some(rest),
         _ => None,
     }
 }
@@ -254,19 +365,31 @@ pub(crate) fn ends_range(text: &[u8]) -> bool
 
 /// Whether a word ends here: at the end of the text, at a blank, or at a bar.
 #[inline(always)]
-fn ends_word(text: &[u8]) -> bool
-    ensures { result ≡ ends_word text.now }
+fn ends_word(text: &[u8], dialect: Dialect) -> bool
+    ensures { result ≡ ends_word dialect text.now }
 {
     match text {
         [] => true,
-        [first, ..] => is_blank(*first) || *first == b'|',
+        [first, ..] => is_blank(*first, dialect) || *first == b'|',
     }
 }
 
-/// Whether a byte is a blank: a space or a tab.
+/// Whether a byte is one of a blank.
 #[inline(always)]
-fn is_blank(byte: u8) -> bool
-    ensures { result ≡ blank byte }
+fn is_blank(byte: u8, dialect: Dialect) -> bool
+    ensures { result ≡ blank dialect byte }
 {
-    byte == b' ' || byte == b'\t'
+    match dialect {
+        Dialect::Crate => byte == b' ' || byte == b'\t',
+        Dialect::Npm => is_white_space(byte),
+    }
+}
+
+/// Whether a byte is one of a blank of npm. For speed it is a function of its own: the copies for
+/// the crate's dialect stay small.
+#[inline(never)]
+fn is_white_space(byte: u8) -> bool
+    ensures { result ≡ blank dialect.Npm byte }
+{
+    matches!(byte, b'\t'..=b'\r' | b' ' | 128..=255)
 }

@@ -7,13 +7,13 @@
 //! pre-releases and counting ahead, 1 % each. Other hints brought nothing, and there are none.
 #![tactic(auto)]
 
-mod events;
-mod grammar;
+pub mod events;
+pub mod grammar;
 pub mod laws;
-mod partial;
+pub mod partial;
 mod range;
 mod range_set;
-mod rewriting;
+pub mod rewriting;
 
 pub use range::{Comparator, Compat, Identifier, Op, Range};
 pub use range_set::{RangeError, RangeSet};

@@ -21,14 +21,31 @@ use std::alloc::{AllocError, Global};
 
 /// A component: a wildcard, or a number, whose value is none above 2^64 - 1.
 #[derive(Clone, Copy)]
-pub(crate) enum Component {
+pub enum Component {
     Wildcard,
     Number(Option<u64>),
 }
 
+/// The components of a partial as they are written: those that aren't there are wildcards.
+#[derive(Clone, Copy)]
+pub struct Components<'input> {
+    /// The first.
+    pub major: Component,
+    /// The second.
+    pub minor: Component,
+    /// The third.
+    pub patch: Component,
+    /// How many are written.
+    pub count: usize,
+    /// The parts of the pre-release behind three, joined by dots.
+    pub pre: &'input [u8],
+    /// Whether a pre-release or a build is written behind three.
+    pub is_qualified: bool,
+}
+
 /// How many numbers a partial states.
 #[derive(Clone, Copy, PartialEq, Eq)]
-pub(crate) enum PartialKind {
+pub enum PartialKind {
     /// None: it begins with a wildcard.
     XRangeOnly,
     /// One.
@@ -41,7 +58,7 @@ pub(crate) enum PartialKind {
 
 /// One of the three numbers.
 #[derive(Clone, Copy, PartialEq, Eq)]
-pub(crate) enum Place {
+pub enum Place {
     Major,
     Minor,
     Patch,
@@ -49,7 +66,7 @@ pub(crate) enum Place {
 
 /// How a bound that is raised is written.
 #[derive(Clone, Copy)]
-pub(crate) enum RaisedBounds {
+pub enum RaisedBounds {
     /// Without pre-release, as `<2.0.0`.
     Plain,
     /// With the lowest pre-release, as `<2.0.0-0`.
@@ -59,7 +76,7 @@ pub(crate) enum RaisedBounds {
 /// The numbers that a partial states, with zeros for the others, and its pre-release behind three,
 /// as a slice of the text.
 #[derive(Clone, Copy)]
-pub(crate) struct Partial<'input> {
+pub struct Partial<'input> {
     major: u64,
     minor: u64,
     patch: u64,
@@ -72,7 +89,7 @@ impl<'input> Partial<'input> {
     /// The partial of three components, of which those that aren't there are wildcards, and of the
     /// parts of a pre-release, which count behind three numbers alone.
     #[inline(always)]
-    pub(crate) fn new(
+    pub fn new(
         major: Component,
         minor: Component,
         patch: Component,
@@ -122,7 +139,7 @@ impl<'input> Partial<'input> {
 
     /// How many numbers are stated.
     #[inline(always)]
-    pub(crate) fn kind(&self) -> PartialKind
+    pub fn kind(&self) -> PartialKind
         ensures { result ≡ self.now.kind }
     {
         self.kind
@@ -130,7 +147,7 @@ impl<'input> Partial<'input> {
 
     /// Whether no number is stated.
     #[inline(always)]
-    pub(crate) fn states_nothing(&self) -> bool
+    pub fn states_nothing(&self) -> bool
         ensures { result ≡ states_none self.now.kind }
     {
         matches!(self.kind, PartialKind::XRangeOnly)
@@ -138,7 +155,7 @@ impl<'input> Partial<'input> {
 
     /// Whether the numbers that are stated are at most 2^64 - 1.
     #[inline(always)]
-    pub(crate) fn fits(&self) -> bool
+    pub fn fits(&self) -> bool
         ensures { result ≡ self.now.fits }
     {
         self.fits
@@ -146,7 +163,7 @@ impl<'input> Partial<'input> {
 
     /// The place of the first number that isn't 0, or of the last that is stated.
     #[inline(always)]
-    pub(crate) fn leading_place(&self) -> Place
+    pub fn leading_place(&self) -> Place
         requires { 1 ≤ length (stated_of self.now) }
         ensures leading { place_number result ≡ leading_place (stated_of self.now) }
         ensures stated { place_number result ≤ length (stated_of self.now) }
@@ -163,7 +180,7 @@ impl<'input> Partial<'input> {
 
     /// Whether the number at a place is below 2^64 - 1.
     #[inline(always)]
-    pub(crate) fn may_rise(&self, place: Place) -> bool
+    pub fn may_rise(&self, place: Place) -> bool
         requires { place_number place ≤ length (stated_of self.now) }
         ensures { result ≡ bound_fits (Some (up (place_number place) (stated_of self.now))) }
     {
@@ -177,7 +194,7 @@ impl<'input> Partial<'input> {
 
     /// The comparator of an operator and this partial, with zeros for what isn't stated.
     #[inline(always)]
-    pub(crate) fn as_comparator(&self, alloc: Global, op: Op) -> Result<Comparator, AllocError>
+    pub fn as_comparator(&self, alloc: Global, op: Op) -> Result<Comparator, AllocError>
         requires { PartsPass self.now }
         ensures { IfOk result (λ c. comparator_of c ≡ comparator op (version_of self.now)) }
     {
@@ -193,7 +210,7 @@ impl<'input> Partial<'input> {
     /// Below the bound above all versions with these numbers up to a place: that number is raised
     /// by one, and those behind it are 0.
     #[inline(always)]
-    pub(crate) fn raised(
+    pub fn raised(
         &self,
         alloc: Global,
         place: Place,

@@ -3,11 +3,13 @@
 ghost use Rattle.std.specs.Prelude.{Some, ◌≡◌, ◌⊎◌, ◌∷◌, true, [], List, length, map, IsTrue};
 ghost use Rattle.std.specs.Prelude.{IfOk, IfSome, IsOkAnd, MatchResult};
 ghost use Rattle.std.specs.List.{list_all};
+ghost use Rattle.semver_ranges.specs.declared.grammar.Dialect.TheVariants.{Crate};
 ghost use Rattle.semver_ranges.specs.RangeTree.{Simple as SimpleTree, SetTree, Spells, simples};
 ghost use Rattle.semver_texts.specs.Texts.{Text};
 ghost use Rattle.semver_texts.specs.Versions.{PlainVersion};
 ghost use Rattle.semver_ranges.specs.OwnMeaning.{meets_tree};
-ghost use Rattle.semver_ranges.specs.RewritingTable.{PlainSet, fits, rewritten};
+ghost use Rattle.semver_ranges.specs.RewritingTable.{PlainSet, fits, rewritten, simple_fits};
+ghost use Rattle.semver_ranges.specs.RewritingTable.{written_simple};
 ghost use Rattle.semver_ranges.specs.RangeTexts.{RefusesExactly};
 ghost use Rattle.semver_ranges.specs.ParsedSets.{IsParsed};
 ghost use Rattle.semver_ranges.specs.ExactBounds.{rewritten_exactly};
@@ -16,7 +18,7 @@ ghost use Rattle.semver_ranges.specs.PrintedRanges.{IsPrintableSet, set_text};
 ghost use Rattle.semver_ranges.specs.RangeViews.{range_of, set_of};
 ghost use Rattle.semver_ranges.specs.Means.Reading.{read};
 ghost use Rattle.semver_ranges.specs.Means.Answers.{IsAnswer, IsRefusal};
-ghost use Rattle.semver_ranges.specs.Means.RangeEvents.{Event as EventTree, simple_fits};
+ghost use Rattle.semver_ranges.specs.Means.RangeEvents.{Event as EventTree};
 ghost use Rattle.semver_ranges.specs.Means.RangeEvents.{event_fits, range_simples, range_others};
 ghost use Rattle.semver_ranges.specs.Means.CursorViews.{HasLeft};
 ghost use Rattle.semver_ranges.specs.Means.PartialViews.{pre_of};
@@ -25,7 +27,7 @@ ghost use Rattle.semver_ranges.specs.Means.BoundsViews.{range_of_simples, range_
 ghost use Rattle.semver_ranges.specs.Means.BoundsViews.{IsRow};
 
 use crate::events::{Event, Events};
-use crate::grammar::read_simple;
+use crate::grammar::{Dialect, read_simple};
 use crate::partial::{Partial, RaisedBounds};
 use crate::range::{Compat, Range};
 use crate::rewriting::{Bounds, rewritten};
@@ -198,13 +200,14 @@ const LONGEST_ONLY_SIMPLE: usize = 14;
 /// The comparators of a text that is one simple from its first byte on, and that fits. What it
 /// doesn't find, the two runs decide.
 fn read_only_simple(text: &[u8], compat: Compat) -> Option<(Partial<'_>, Bounds)>
-    ensures { IfSome result (λ found. (s : SimpleTree) × (read text.now ≡ Some (simples s [] ∷ []))
+    ensures { IfSome result (λ found. (s : SimpleTree)
+        × (read Crate text.now ≡ Some (simples s [] ∷ []))
         × IsRow compat s found.0 found.1 × (simple_fits compat s ≡ true)) }
 {
     if text.len() > LONGEST_ONLY_SIMPLE {
         return None;
     }
-    let (simple, rest) = read_simple(text)?;
+    let (simple, rest) = read_simple(text, Dialect::Crate)?;
     if !rest.is_empty() {
         return None;
     }
@@ -273,14 +276,14 @@ struct Sizes {
 /// The sizes of a text, or why there is no set of it.
 fn survey(text: &[u8], compat: Compat) -> Result<Sizes, RangeError>
     ensures { MatchResult result
-        (λ sizes. (tree : SetTree) × (read text.now ≡ Some tree) × IsTrue (fits compat tree)
+        (λ sizes. (tree : SetTree) × (read Crate text.now ≡ Some tree) × IsTrue (fits compat tree)
         × (sizes.ranges ≡ length tree))
         (λ e. IsRefusal text.now compat e) }
 {
     let mut comparators = [0usize; REMEMBERED];
     let mut ended = 0usize;
     let mut fit = true;
-    for event in Events::new(text) {
+    for event in Events::new(text, Dialect::Crate) {
         match event? {
             Event::Simple(simple) => {
                 let bounds = rewritten(&simple, compat);
@@ -309,12 +312,13 @@ fn build(
     compat: Compat,
     raised: RaisedBounds,
 ) -> Result<Vec<Range>, AllocError>
-    requires { (tree : SetTree) × (read text.now ≡ Some tree) × IsTrue (fits compat tree)
+    requires { (tree : SetTree) × (read Crate text.now ≡ Some tree) × IsTrue (fits compat tree)
         × (sizes.now.ranges ≡ length tree) }
-    ensures { IfOk result (λ ranges. (tree : SetTree) → read text.now ≡ Some tree →
-        map range_of ranges.items ≡ map (range_for (pre_of raised) compat) tree) }
+    ensures { IfOk result (λ ranges. (tree : SetTree) → read Crate text.now ≡ Some tree →
+        map range_of ranges.items
+        ≡ map (range_for (written_simple (pre_of raised) compat) compat) tree) }
 {
-    let mut events = Events::new(text);
+    let mut events = Events::new(text, Dialect::Crate);
     let mut ranges = Vec::with_capacity(alloc, sizes.ranges)?;
     for at in 0..sizes.ranges {
         let count = match sizes.comparators.get(at) {
@@ -334,12 +338,13 @@ fn build_range(
     compat: Compat,
     raised: RaisedBounds,
 ) -> Result<Range, AllocError>
-    requires { (es : List EventTree) × HasLeft events.old (Some es)
-        × IsTrue (list_all (event_fits compat) es) }
-    ensures { IfOk result (λ range. (es : List EventTree) → HasLeft events.old (Some es)
-        → IsTrue (list_all (event_fits compat) es) →
-        (range_of range ≡ range_of_simples (pre_of raised) compat (range_simples es))
-        × HasLeft events.new (Some (range_others es))) }
+    requires { (es : List EventTree) × HasLeft Crate events.old (Some es)
+        × IsTrue (list_all (event_fits (simple_fits compat)) es) }
+    ensures { IfOk result (λ range. (es : List EventTree) → HasLeft Crate events.old (Some es)
+        → IsTrue (list_all (event_fits (simple_fits compat)) es) →
+        (range_of range ≡ range_of_simples (written_simple (pre_of raised) compat)
+        compat (range_simples es))
+        × HasLeft Crate events.new (Some (range_others es))) }
 {
     let mut comparator_set = Vec::with_capacity(alloc, count)?;
     while let Some(Ok(Event::Simple(simple))) = events.next() {

@@ -23,7 +23,7 @@ use std::alloc::{AllocError, Global};
 
 /// The cell of the table that has the one or two comparators of a simple.
 #[derive(Drop)]
-pub(crate) enum Bounds {
+pub enum Bounds {
     /// A comparison with the partial.
     Against(Op),
     /// Below the bound that is raised at a place.
@@ -36,7 +36,7 @@ impl Bounds {
     /// Whether the numbers that the partial states, and the bound that is raised, are at most
     /// 2^64 - 1.
     #[inline(always)]
-    pub(crate) fn fits(&self, partial: &Partial<'_>) -> bool
+    pub fn fits(&self, partial: &Partial<'_>) -> bool
         requires { IsPlaced self.now partial.now }
         ensures { result ≡ bounds_fit self.now partial.now }
     {
@@ -49,7 +49,7 @@ impl Bounds {
 
     /// How many comparators. Vectors are asked for at this size.
     #[inline(always)]
-    pub(crate) fn count(&self) -> usize
+    pub fn count(&self) -> usize
         ensures { (raised : RaisedView) (partial : PartialView)
             → result ≡ length (comparators_of raised self.now partial) }
     {
@@ -75,7 +75,7 @@ impl Bounds {
 
     /// Adds the comparators.
     #[inline(always)]
-    pub(crate) fn push(
+    pub fn push(
         self,
         alloc: Global,
         partial: &Partial<'_>,
@@ -100,7 +100,7 @@ impl Bounds {
 
 /// The comparators of a simple, by the table: its form, how many numbers it states, and the mode.
 #[inline(always)]
-pub(crate) fn rewritten(simple: &Simple<'_>, compat: Compat) -> Bounds
+pub fn rewritten(simple: &Simple<'_>, compat: Compat) -> Bounds
     ensures { (s : SimpleTree) → IsSimpleOf s simple.now
         → IsRow compat s simple.now.partial result }
 {

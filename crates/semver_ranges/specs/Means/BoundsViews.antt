@@ -12,14 +12,13 @@ use Rattle.semver_ranges.specs.declared.range.Op.TheVariants.{Lt, Gte}
 use Rattle.semver_ranges.specs.declared.rewriting.Bounds.{Bounds}
 use Rattle.semver_ranges.specs.declared.rewriting.Bounds.TheVariants.{Against, Below, Between}
 use Rattle.semver_ranges.specs.RangeTree.{Simple, RangeTree}
-use Rattle.semver_texts.specs.Versions.{IdentifierValue, PlainVersion}
+use Rattle.semver_texts.specs.Versions.{PlainVersion}
 use Rattle.semver_ranges.specs.RewritingTable.{PlainComparator, PlainRange, comparator, up_with}
 use Rattle.semver_ranges.specs.RewritingTable.{Cell, from_zero, below_zero, against, below, between}
 use Rattle.semver_ranges.specs.RewritingTable.{cell_raised, bound_fits, written_simple}
-use Rattle.semver_ranges.specs.RewritingTable.{written_range}
+use Rattle.semver_ranges.specs.RewritingTable.{range_by, simple_fits}
 use Rattle.semver_ranges.specs.Means.PartialViews.{stated_of, version_of, place_number, pre_of}
 use Rattle.semver_ranges.specs.Means.PartialViews.{PartsPass}
-use Rattle.semver_ranges.specs.Means.RangeEvents.{simple_fits}
 
 -- the cell of the table
 abbrev pub cell_of : Bounds → Cell
@@ -80,10 +79,10 @@ IsRow mode s p b = IsBuildable b p × (bounds_fit b p ≡ simple_fits mode s)
     × (bounds_fit b p ≡ true → (raised : RaisedBounds)
     → comparators_of raised b p ≡ written_simple (pre_of raised) mode s)
 
--- simples and a range in a mode, as they are rewritten
-abbrev pub range_of_simples : List IdentifierValue → Compat → List Simple → PlainRange
-range_of_simples bound_pre mode ss =
-    record { comparators = flat_map (written_simple bound_pre mode) ss; compat = mode }
+-- simples and a range in a mode, as they are rewritten by a table
+abbrev pub range_of_simples : (Simple → List PlainComparator) → Compat → List Simple → PlainRange
+range_of_simples written mode ss =
+    record { comparators = flat_map written ss; compat = mode }
 
-abbrev pub range_for : List IdentifierValue → Compat → RangeTree → PlainRange
-range_for bound_pre mode r = record { comparators = written_range bound_pre mode r; compat = mode }
+abbrev pub range_for : (Simple → List PlainComparator) → Compat → RangeTree → PlainRange
+range_for written mode r = record { comparators = range_by written r; compat = mode }

@@ -13,6 +13,7 @@ use Rattle.semver_ranges.specs.declared.events.Event.TheVariants as event
 use Rattle.semver_ranges.specs.declared.events.Events.{Events}
 use Rattle.semver_ranges.specs.declared.range_set.RangeError.{RangeError}
 use Rattle.semver_ranges.specs.declared.range_set.RangeError.TheVariants.{NotARange}
+use Rattle.semver_ranges.specs.declared.grammar.Dialect.{Dialect}
 use Rattle.semver_ranges.specs.RangeTree as tree
 use Rattle.semver_ranges.specs.RangeTree.{three, is_part}
 use Rattle.semver_texts.specs.Texts.{Text}
@@ -82,13 +83,13 @@ HasBehind None behind o = o ≡ behind
 HasBehind (Some upper) behind o =
     (s : tree.Simple) × IsSimpleOf s upper × (o ≡ put (one_simple s) behind)
 
-abbrev pub HasLeft : Events → Option (List list.Event) → Type 0
-HasLeft cursor o = HasBehind cursor.upper (events_left cursor.begins_range cursor.rest.now) o
+abbrev pub HasLeft : Dialect → Events → Option (List list.Event) → Type 0
+HasLeft d cursor o = HasBehind cursor.upper (events_left d cursor.begins_range cursor.rest.now) o
 
 -- the first of the events that are left, and a cursor behind it
-abbrev pub IsFirst : Option (List list.Event) → Event → Events → Type 0
-IsFirst o e behind =
-    (x : list.Event) × (left : Option (List list.Event)) × IsEventOf x e × HasLeft behind left
+abbrev pub IsFirst : Dialect → Option (List list.Event) → Event → Events → Type 0
+IsFirst d o e behind =
+    (x : list.Event) × (left : Option (List list.Event)) × IsEventOf x e × HasLeft d behind left
     × (o ≡ put x left)
 
 -- how many bytes an event takes at least: it may be an upper side
@@ -108,24 +109,25 @@ abbrev pub size_left : Events → ℕ
 size_left cursor = size_at cursor.begins_range cursor.rest.now + flag (is_some cursor.upper)
 
 -- the event at the front of a text that is left, and the cursor behind it
-abbrev pub TakesEvent : Bool → Text → Option Event → Events → Type 0
-TakesEvent begins_range t None behind = (events_left begins_range t ≡ None)
+abbrev pub TakesEvent : Dialect → Bool → Text → Option Event → Events → Type 0
+TakesEvent d begins_range t None behind = (events_left d begins_range t ≡ None)
     × (behind.begins_range ≡ false) × (behind.upper ≡ None) × (behind.rest.now ≡ t)
-TakesEvent begins_range t (Some e) behind = IsFirst (events_left begins_range t) e behind
+TakesEvent d begins_range t (Some e) behind = IsFirst d (events_left d begins_range t) e behind
     × (size_left behind < size_at begins_range t) × (length behind.rest.now + bytes_of e ≤ length t)
 
 -- what `next` gives: the first of the events that are left; a fault where the text isn't in the
 -- grammar; None where no event is left
-abbrev pub Gives : Option (List list.Event) → Option (Result Event RangeError) → Events → Type 0
-Gives o None behind = (o ≡ Some []) × HasLeft behind o
-Gives o (Some (Ok e)) behind = IsFirst o e behind
-Gives o (Some (Err e)) behind = (o ≡ None) × (e ≡ NotARange)
+abbrev pub Gives : Dialect → Option (List list.Event) → Option (Result Event RangeError) → Events
+    → Type 0
+Gives d o None behind = (o ≡ Some []) × HasLeft d behind o
+Gives d o (Some (Ok e)) behind = IsFirst d o e behind
+Gives d o (Some (Err e)) behind = (o ≡ None) × (e ≡ NotARange)
 
 abbrev pub given_bytes : Option (Result Event RangeError) → ℕ
 given_bytes (Some (Ok e)) = bytes_of e
 given_bytes _ = 0
 
-abbrev pub NextGives : Events → Option (Result Event RangeError) → Events → Type 0
-NextGives before given behind =
-    ((o : Option (List list.Event)) → HasLeft before o → Gives o given behind)
+abbrev pub NextGives : Dialect → Events → Option (Result Event RangeError) → Events → Type 0
+NextGives d before given behind =
+    ((o : Option (List list.Event)) → HasLeft d before o → Gives d o given behind)
     × (length behind.rest.now + given_bytes given ≤ length before.rest.now)

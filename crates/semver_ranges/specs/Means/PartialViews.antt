@@ -1,10 +1,12 @@
 -- A means of proof, which no public clause cites: what private contracts see of components and
 -- partials.
 use Rattle.std.specs.Prelude.{◌≡◌, ℕ, Bool, true, false, Option, Some, None, List, [], ◌∷◌, map}
+use Rattle.std.specs.Prelude.{length, not}
 use Rattle.std.specs.List.{list_all}
 use Rattle.std.specs.Str.Parse.{digits_value}
 use Rattle.semver_ranges.specs.declared.partial.Component.{Component}
 use Rattle.semver_ranges.specs.declared.partial.Component.TheVariants.{Wildcard, Number}
+use Rattle.semver_ranges.specs.declared.partial.Components.{Components}
 use Rattle.semver_ranges.specs.declared.partial.Partial.{Partial}
 use Rattle.semver_ranges.specs.declared.partial.PartialKind.{PartialKind}
 use Rattle.semver_ranges.specs.declared.partial.PartialKind.TheVariants.{XRangeOnly, MajorOnly}
@@ -15,8 +17,8 @@ use Rattle.semver_ranges.specs.declared.partial.RaisedBounds.TheVariants.{Plain,
 use Rattle.semver_ranges.specs.declared.partial.Place.{Place}
 use Rattle.semver_ranges.specs.declared.partial.Place.TheVariants.{Major, Minor, Patch}
 use Rattle.semver_ranges.specs.RangeTree.{PartialTree, one, two, three, is_wildcard}
-use Rattle.semver_ranges.specs.RangeTree.{is_part}
-use Rattle.semver_texts.specs.Texts.{Text, cut_at_dots}
+use Rattle.semver_ranges.specs.RangeTree.{is_part, components, qualifier}
+use Rattle.semver_texts.specs.Texts.{Text, is_empty, cut_at_dots}
 use Rattle.semver_texts.specs.Versions.{IdentifierValue, PlainVersion}
 use Rattle.semver_ranges.specs.Partials.{fits_u64, kept, stated, zero_filled}
 use Rattle.semver_ranges.specs.ExactBounds.{lowest_pre_release}
@@ -80,8 +82,16 @@ IsPartialOf t p =
 
 -- the components of a partial, wildcards for those that it hasn't, and the bytes of its pre-release
 abbrev pub AreComponentsOf : PartialTree → Component → Component → Component → Text → Type 0
-AreComponentsOf (one a) major minor patch pre = IsComponentOf a major × (minor ≡ Wildcard)
+AreComponentsOf (one a) major minor patch pre =
+    IsComponentOf a major × (minor ≡ Wildcard) × (patch ≡ Wildcard)
 AreComponentsOf (two a b) major minor patch pre =
     IsComponentOf a major × IsComponentOf b minor × (patch ≡ Wildcard)
 AreComponentsOf (three a b c parts build) major minor patch pre =
     IsComponentOf a major × IsComponentOf b minor × IsComponentOf c patch × (parts ≡ cut_at_dots pre)
+
+-- the same, with how many are written, and whether something is written behind three
+pub record AreWritten (t : PartialTree) (c : Components) : Type 0 where
+  pub stand : AreComponentsOf t c.major c.minor c.patch c.pre.now
+  pub parts : list_all is_part (cut_at_dots c.pre.now) ≡ true
+  pub count : c.count ≡ length (components t)
+  pub is_qualified : c.is_qualified ≡ not (is_empty (qualifier t))

@@ -2,13 +2,12 @@
 -- right.
 use Rattle.std.specs.Prelude.{ℕ, ◌+◌, Bool, true, false, if◌then◌else◌, Option, Some, None, List}
 use Rattle.std.specs.Prelude.{[], ◌∷◌, codes}
-use Rattle.semver_ranges.specs.declared.range.Compat.{Compat}
+use Rattle.semver_ranges.specs.declared.grammar.Dialect.{Dialect}
 use Rattle.semver_ranges.specs.RangeTree.{bare, one, Simple, RangeTree, empty, hyphen, simples}
 use Rattle.semver_ranges.specs.RangeTree.{SetTree}
 use Rattle.semver_texts.specs.Texts.{Text}
 use Rattle.semver_ranges.specs.Partials.{states_nothing}
-use Rattle.semver_ranges.specs.Terms.{of_simple, left_side, right_side}
-use Rattle.semver_ranges.specs.RewritingTable.{term_fits}
+use Rattle.semver_ranges.specs.Terms.{left_side, right_side}
 use Rattle.semver_ranges.specs.Means.Reading.{all_simples, range_here, behind_range, behind_bars}
 use Rattle.semver_ranges.specs.Means.Reading.{read}
 
@@ -60,13 +59,10 @@ bars [] = 0
 bars (one_simple s ∷ es) = bars es
 bars (next_range ∷ es) = bars es + 1
 
--- whether a simple, and an event, fits
-abbrev pub simple_fits : Compat → Simple → Bool
-simple_fits mode s = term_fits mode (of_simple s)
-
-abbrev pub event_fits : Compat → Event → Bool
-event_fits mode (one_simple s) = simple_fits mode s
-event_fits mode next_range = true
+-- whether an event fits, by its simple
+abbrev pub event_fits : (Simple → Bool) → Event → Bool
+event_fits fit (one_simple s) = fit s
+event_fits fit next_range = true
 
 -- an event, and simples, in front of the events that are left
 abbrev pub put : Event → Option (List Event) → Option (List Event)
@@ -82,24 +78,24 @@ abbrev pub set_events : Option SetTree → Option (List Event)
 set_events None = None
 set_events (Some tree) = Some (events_of tree)
 
-abbrev pub events : Text → Option (List Event)
-events t = set_events (read t)
+abbrev pub events : Dialect → Text → Option (List Event)
+events d t = set_events (read d t)
 
 -- what is left behind a range, from its end on
-abbrev pub at_bars : Option Text → Option (List Event)
-at_bars None = None
-at_bars (Some t) = put next_range (events t)
+abbrev pub at_bars : Dialect → Option Text → Option (List Event)
+at_bars d None = None
+at_bars d (Some t) = put next_range (events d t)
 
-abbrev pub others_left : Text → Option (List Event)
-others_left [] = Some []
-others_left (b ∷ t) = at_bars (behind_bars (b ∷ t))
+abbrev pub others_left : Dialect → Text → Option (List Event)
+others_left d [] = Some []
+others_left d (b ∷ t) = at_bars d (behind_bars (b ∷ t))
 
 -- what is left behind simples
-abbrev pub simples_left : Option (List Simple × Text) → Option (List Event)
-simples_left None = None
-simples_left (Some (ss, end)) = put_simples ss (others_left end)
+abbrev pub simples_left : Dialect → Option (List Simple × Text) → Option (List Event)
+simples_left d None = None
+simples_left d (Some (ss, end)) = put_simples ss (others_left d end)
 
 -- what is left at the begin of a range, behind its blanks, and in a range
-abbrev pub events_left : Bool → Text → Option (List Event)
-events_left true t = set_events (behind_range read (range_here t))
-events_left false t = simples_left (all_simples t)
+abbrev pub events_left : Dialect → Bool → Text → Option (List Event)
+events_left d true t = set_events (behind_range (read d) (range_here d t))
+events_left d false t = simples_left d (all_simples d t)

@@ -9,7 +9,9 @@ use Rattle.std.specs.List.{list_all, slice_split}
 use Rattle.semver_ranges.specs.RangeTree.{PartialTree, one, two, three, Form, bare, equal, less}
 use Rattle.semver_ranges.specs.RangeTree.{at_most, greater, at_least, tilde, caret, Simple}
 use Rattle.semver_ranges.specs.RangeTree.{RangeTree, empty, hyphen, simples, SetTree, is_blank}
-use Rattle.semver_ranges.specs.RangeTree.{is_wildcard, is_part}
+use Rattle.semver_ranges.specs.RangeTree.{is_wildcard, is_part, has_no_leading_zeros}
+use Rattle.semver_ranges.specs.declared.grammar.Dialect.{Dialect}
+use Rattle.semver_ranges.specs.declared.grammar.Dialect.TheVariants.{Crate, Npm}
 use Rattle.semver_texts.specs.Texts.{Text, begins_with, is_dot, is_dotted_byte}
 
 -- the longest front whose bytes pass, and what is left
@@ -22,8 +24,8 @@ back p [] = []
 back p (b ∷ t) = if p b then back p t else b ∷ t
 
 -- what follows the blanks at the front
-abbrev pub behind_blanks : Text → Text
-behind_blanks t = back is_blank t
+abbrev pub behind_blanks : Dialect → Text → Text
+behind_blanks d t = back (is_blank d) t
 
 -- whether a word or a range ends here: at the end of the text, at a bar, and a word at a blank
 abbrev pub is_bar : ℕ → Bool
@@ -33,9 +35,9 @@ abbrev pub ends_range : Text → Bool
 ends_range [] = true
 ends_range (b ∷ t) = is_bar b
 
-abbrev pub ends_word : Text → Bool
-ends_word [] = true
-ends_word (b ∷ t) = is_blank b || is_bar b
+abbrev pub ends_word : Dialect → Text → Bool
+ends_word d [] = true
+ends_word d (b ∷ t) = is_blank d b || is_bar b
 
 -- a component: a wildcard, a zero, or digits
 abbrev pub component : Text → Option (Text × Text)
@@ -67,6 +69,11 @@ abbrev pub with_pre : Text → Text → Text → Option (List Text × Text) → 
 with_pre a b c None = None
 with_pre a b c (Some found) = behind_pre a b c found.0 found.1
 
+-- whether one of them is there
+abbrev pub begins_qualifier : Text → Bool
+begins_qualifier [] = false
+begins_qualifier (mark ∷ t) = (mark == code "-") || (mark == code "+")
+
 abbrev pub behind_three : Text → Text → Text → Text → Option (PartialTree × Text)
 behind_three a b c [] = Some (three a b c [] [], [])
 behind_three a b c (mark ∷ t) =
@@ -95,48 +102,59 @@ abbrev pub with_first : Option (Text × Text) → Option (PartialTree × Text)
 with_first None = None
 with_first (Some found) = behind_one found.0 found.1
 
--- a partial, up to the end of its word
-abbrev pub whole_word : Option (PartialTree × Text) → Option (PartialTree × Text)
-whole_word None = None
-whole_word (Some found) = if ends_word found.1 then Some found else None
+-- what follows one `v`, to npm; and whether the parts of a pre-release are read
+abbrev pub behind_v : Dialect → Text → Text
+behind_v Crate t = t
+behind_v Npm [] = []
+behind_v Npm (b ∷ t) = if b == code "v" then t else b ∷ t
 
-abbrev pub partial : Text → Option (PartialTree × Text)
-partial t = whole_word (with_first (component t))
+abbrev pub takes : Dialect → PartialTree → Bool
+takes Crate p = true
+takes Npm p = has_no_leading_zeros p
+
+-- a partial, up to the end of its word
+abbrev pub whole_word : Dialect → Option (PartialTree × Text) → Option (PartialTree × Text)
+whole_word d None = None
+whole_word d (Some found) =
+    if takes d found.0 && ends_word d found.1 then Some found else None
+
+abbrev pub partial : Dialect → Text → Option (PartialTree × Text)
+partial d t = whole_word d (with_first (component (behind_v d t)))
 
 -- the operator at the front of a text, and what follows it and its blanks
-abbrev pub after_less : Text → Form × Text
-after_less [] = (less, [])
-after_less (b ∷ t) =
-    if b == code "=" then (at_most, behind_blanks t) else (less, behind_blanks (b ∷ t))
+abbrev pub after_less : Dialect → Text → Form × Text
+after_less d [] = (less, [])
+after_less d (b ∷ t) =
+    if b == code "=" then (at_most, behind_blanks d t) else (less, behind_blanks d (b ∷ t))
 
-abbrev pub after_greater : Text → Form × Text
-after_greater [] = (greater, [])
-after_greater (b ∷ t) =
-    if b == code "=" then (at_least, behind_blanks t) else (greater, behind_blanks (b ∷ t))
+abbrev pub after_greater : Dialect → Text → Form × Text
+after_greater d [] = (greater, [])
+after_greater d (b ∷ t) =
+    if b == code "=" then (at_least, behind_blanks d t) else (greater, behind_blanks d (b ∷ t))
 
-abbrev pub after_tilde : Text → Form × Text
-after_tilde [] = (tilde, [])
-after_tilde (b ∷ t) =
-    if b == code ">" then (tilde, behind_blanks t) else (tilde, behind_blanks (b ∷ t))
+abbrev pub after_tilde : Dialect → Text → Form × Text
+after_tilde d [] = (tilde, [])
+after_tilde d (b ∷ t) =
+    if b == code ">" then (tilde, behind_blanks d t) else (tilde, behind_blanks d (b ∷ t))
 
-abbrev pub operator : Text → Form × Text
-operator [] = (bare, [])
-operator (b ∷ t) =
-    if b == code "=" then (equal, behind_blanks t)
-    else (if b == code "<" then after_less t
-    else (if b == code ">" then after_greater t
-    else (if b == code "~" then after_tilde t
-    else (if b == code "^" then (caret, behind_blanks t)
+abbrev pub operator : Dialect → Text → Form × Text
+operator d [] = (bare, [])
+operator d (b ∷ t) =
+    if b == code "=" then (equal, behind_blanks d t)
+    else (if b == code "<" then after_less d t
+    else (if b == code ">" then after_greater d t
+    else (if b == code "~" then after_tilde d t
+    else (if b == code "^" then (caret, behind_blanks d t)
     else (bare, b ∷ t)))))
 
 -- a simple, and what follows it and the blanks behind it
-abbrev pub with_form : Form → Option (PartialTree × Text) → Option (Simple × Text)
-with_form form None = None
-with_form form (Some found) =
-    Some (record { form = form; partial = found.0 }, behind_blanks found.1)
+abbrev pub with_form : Dialect → Form → Option (PartialTree × Text) → Option (Simple × Text)
+with_form d form None = None
+with_form d form (Some found) =
+    Some (record { form = form; partial = found.0 }, behind_blanks d found.1)
 
-abbrev pub simple : Text → Option (Simple × Text)
-simple t = with_form (operator t).0 (partial (operator t).1)
+abbrev pub simple : Dialect → Text → Option (Simple × Text)
+simple d t = with_form d (operator d t).0 (partial d (operator d t).1)
 
 -- simples up to the end of their range; the number bounds how many are looked for
 abbrev pub put_before : Simple → Option (List Simple × Text) → Option (List Simple × Text)
@@ -148,26 +166,27 @@ abbrev pub behind_simple : (Text → Option (List Simple × Text)) → Option (S
 behind_simple others None = None
 behind_simple others (Some found) = put_before found.0 (others found.1)
 
-abbrev pub some_simples : ℕ → Text → Option (List Simple × Text)
-some_simples zero t = None
-some_simples (suc n) t =
-    if ends_range t then Some ([], t) else behind_simple (some_simples n) (simple t)
+abbrev pub some_simples : Dialect → ℕ → Text → Option (List Simple × Text)
+some_simples d zero t = None
+some_simples d (suc n) t =
+    if ends_range t then Some ([], t) else behind_simple (some_simples d n) (simple d t)
 
-abbrev pub all_simples : Text → Option (List Simple × Text)
-all_simples t = some_simples (suc (length t)) t
+abbrev pub all_simples : Dialect → Text → Option (List Simple × Text)
+all_simples d t = some_simples d (suc (length t)) t
 
 -- the right side of a hyphen range, from the hyphen on, and what follows it and the blanks behind
 -- it
-abbrev pub range_end : Option (PartialTree × Text) → Option (PartialTree × Text)
-range_end None = None
-range_end (Some found) =
-    if ends_range (behind_blanks found.1) then Some (found.0, behind_blanks found.1) else None
+abbrev pub range_end : Dialect → Option (PartialTree × Text) → Option (PartialTree × Text)
+range_end d None = None
+range_end d (Some found) =
+    if ends_range (behind_blanks d found.1) then Some (found.0, behind_blanks d found.1) else None
 
-abbrev pub right_side : Text → Option (PartialTree × Text)
-right_side [] = None
-right_side (dash ∷ []) = None
-right_side (dash ∷ blank ∷ t) =
-    if (dash == code "-") && is_blank blank then range_end (partial (behind_blanks t)) else None
+abbrev pub right_side : Dialect → Text → Option (PartialTree × Text)
+right_side d [] = None
+right_side d (dash ∷ []) = None
+right_side d (dash ∷ blank ∷ t) =
+    if (dash == code "-") && is_blank d blank then range_end d (partial d (behind_blanks d t))
+    else None
 
 -- a hyphen range of a first simple, which has to be bare, and a right side
 abbrev pub is_bare : Form → Bool
@@ -184,18 +203,18 @@ abbrev pub with_others : Simple → Option (List Simple × Text) → Option (Ran
 with_others s None = None
 with_others s (Some found) = Some (simples s found.0, found.1)
 
-abbrev pub behind_first : Option (Simple × Text) → Option (RangeTree × Text)
-behind_first None = None
-behind_first (Some found) =
-    if begins_with (code "-") found.1 then with_right found.0 (right_side found.1)
-    else with_others found.0 (all_simples found.1)
+abbrev pub behind_first : Dialect → Option (Simple × Text) → Option (RangeTree × Text)
+behind_first d None = None
+behind_first d (Some found) =
+    if begins_with (code "-") found.1 then with_right found.0 (right_side d found.1)
+    else with_others found.0 (all_simples d found.1)
 
 -- a range and what follows it
-abbrev pub range_here : Text → Option (RangeTree × Text)
-range_here t = if ends_range t then Some (empty, t) else behind_first (simple t)
+abbrev pub range_here : Dialect → Text → Option (RangeTree × Text)
+range_here d t = if ends_range t then Some (empty, t) else behind_first d (simple d t)
 
-abbrev pub range : Text → Option (RangeTree × Text)
-range t = range_here (behind_blanks t)
+abbrev pub range : Dialect → Text → Option (RangeTree × Text)
+range d t = range_here d (behind_blanks d t)
 
 -- what follows two bars
 abbrev pub behind_bars : Text → Option Text
@@ -218,10 +237,10 @@ behind_range others None = None
 behind_range others (Some (r, [])) = Some (r ∷ [])
 behind_range others (Some (r, b ∷ t)) = more_ranges others r (behind_bars (b ∷ t))
 
-abbrev pub some_ranges : ℕ → Text → Option SetTree
-some_ranges zero t = None
-some_ranges (suc n) t = behind_range (some_ranges n) (range t)
+abbrev pub some_ranges : Dialect → ℕ → Text → Option SetTree
+some_ranges d zero t = None
+some_ranges d (suc n) t = behind_range (some_ranges d n) (range d t)
 
 -- the tree that a text spells
-abbrev pub read : Text → Option SetTree
-read t = some_ranges (suc (length t)) t
+abbrev pub read : Dialect → Text → Option SetTree
+read d t = some_ranges d (suc (length t)) t

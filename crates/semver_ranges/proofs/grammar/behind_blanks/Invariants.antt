@@ -4,4 +4,4 @@ use Rattle.semver_ranges.specs.Means.Reading.{back}
 use Rattle.semver_ranges.proofs.grammar.behind_blanks.Given as goal
 
 abbrev pub invariant-loop-at : goal.invariant-loop-at
-invariant-loop-at l = back is_blank l.text ≡ back is_blank (drop l.at l.text)
+invariant-loop-at l = back (is_blank l.dialect) l.text ≡ back (is_blank l.dialect) (drop l.at l.text)

@@ -1,5 +1,6 @@
+use Rattle.semver_ranges.specs.declared.grammar.Dialect.TheVariants.{Crate}
 use Rattle.semver_ranges.proofs.ReadingComplete.{same_tree}
 use Rattle.semver_ranges.proofs.laws.one_tree.Goals as goal
 
 pub returns : goal.returns
-returns c = record { same_tree = same_tree }
+returns c = record { same_tree = same_tree Crate }

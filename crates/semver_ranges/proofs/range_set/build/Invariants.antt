@@ -1,7 +1,8 @@
 use Rattle.std.proofs.Common.{◌≡◌, ◌+◌, ◌++◌, length, Some, true}
 use Rattle.std.specs.Prelude.{map}
+use Rattle.semver_ranges.specs.declared.grammar.Dialect.TheVariants.{Crate}
 use Rattle.semver_ranges.specs.RangeTree.{SetTree}
-use Rattle.semver_ranges.specs.RewritingTable.{fits}
+use Rattle.semver_ranges.specs.RewritingTable.{fits, written_simple}
 use Rattle.semver_ranges.specs.Means.Reading.{read}
 use Rattle.semver_ranges.specs.RangeViews.{range_of}
 use Rattle.semver_ranges.specs.Means.PartialViews.{pre_of}
@@ -12,6 +13,7 @@ use Rattle.semver_ranges.proofs.range_set.build.Given as goal
 
 abbrev pub invariant-loop-at : goal.invariant-loop-at
 invariant-loop-at l =
-    (tree : SetTree) × (left : SetTree) × (read l.text ≡ Some tree) × (fits l.compat left ≡ true) × (l.at + length left ≡ length tree)
-    × (l.sizes.ranges ≡ length tree) × HasLeft l.events (Some (events_of left))
-    × (map range_of l.ranges.items ++ map (range_for (pre_of l.raised) l.compat) left ≡ map (range_for (pre_of l.raised) l.compat) tree)
+    (tree : SetTree) × (left : SetTree) × (read Crate l.text ≡ Some tree) × (fits l.compat left ≡ true) × (l.at + length left ≡ length tree)
+    × (l.sizes.ranges ≡ length tree) × HasLeft Crate l.events (Some (events_of left))
+    × (map range_of l.ranges.items ++ map (range_for (written_simple (pre_of l.raised) l.compat) l.compat) left
+    ≡ map (range_for (written_simple (pre_of l.raised) l.compat) l.compat) tree)

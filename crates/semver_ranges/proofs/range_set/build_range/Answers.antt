@@ -2,22 +2,24 @@ use Rattle.std.proofs.Common.{rules, ◌++◌, ◌∙◌, List, Some, sym, ap, s
 use Rattle.std.specs.Prelude.{map}
 use Rattle.std.specs.List.{list_all, flat_map}
 use Rattle.std.proofs.lemmas.Bool.{and_parts}
+use Rattle.semver_ranges.specs.declared.grammar.Dialect.TheVariants.{Crate}
 use Rattle.semver_ranges.specs.RangeTree.{Simple}
-use Rattle.semver_ranges.specs.RewritingTable.{PlainComparator, written_simple}
+use Rattle.semver_ranges.specs.RewritingTable.{PlainComparator, simple_fits, written_simple}
 use Rattle.semver_ranges.specs.RangeViews.{comparator_of}
 use Rattle.semver_ranges.specs.Means.PartialViews.{pre_of}
-use Rattle.semver_ranges.specs.Means.RangeEvents.{Event, simple_fits, event_fits, range_simples, range_others}
+use Rattle.semver_ranges.specs.Means.RangeEvents.{Event, event_fits, range_simples, range_others}
 use Rattle.semver_ranges.specs.Means.CursorViews.{HasLeft}
 use Rattle.semver_ranges.proofs.FoundEvents.{NextSimple, next_simple, RangeEnd, range_end}
 use Rattle.semver_ranges.proofs.range_set.build_range.Goals as goal
 use Rattle.semver_ranges.proofs.range_set.build_range.Goals.{In-Some-Ok-Simple}
 
 -- the simple that comes first, and what is left behind it
-taken : (c : In-Some-Ok-Simple) (left : List Event) → HasLeft c.loop-simple.events (Some left)
-    → NextSimple left c.in-Some-Ok-Simple.simple c.next.new.self
+taken : (c : In-Some-Ok-Simple) (left : List Event) → HasLeft Crate c.loop-simple.events (Some left)
+    → NextSimple Crate left c.in-Some-Ok-Simple.simple c.next.new.self
 taken c left has =
     let found = c.in-Some-Ok-Simple in
-    next_simple left found.simple c.next.new.self (rw (found.field-0-is, found.field-0-0-is) at (found.ensures.steps.0 (Some left) has))
+    next_simple Crate left found.simple c.next.new.self
+    (rw (found.field-0-is, found.field-0-0-is) at (found.ensures.steps.0 (Some left) has))
 
 pub push-requires-clause-buildable : goal.push-requires-clause-buildable
 push-requires-clause-buildable c =
@@ -30,14 +32,16 @@ push-requires-clause-fits c =
     let so_far = c.loop-simple.invariant c.requires.0 c.requires.1 c.requires.2 in
     let first = taken (goal.at.push-requires-clause-fits c).In-Some-Ok-Simple so_far.0 so_far.1 in
     (c.rewritten.ensures first.s first.is).1
-    ∙ (and_parts (simple_fits c.args.compat first.s) _ (sym (ap (list_all (event_fits c.args.compat)) first.whole) ∙ so_far.2)).0
+    ∙ (and_parts (simple_fits c.args.compat first.s) _
+    (sym (ap (list_all (event_fits (simple_fits c.args.compat))) first.whole) ∙ so_far.2)).0
 
 pub loop-simple-preserved : goal.loop-simple-preserved
 loop-simple-preserved c = λ es has fits.
     let so_far = c.loop-simple.invariant es has fits in
     let first = taken (goal.at.loop-simple-preserved c).In-Some-Ok-Simple so_far.0 so_far.1 in
     let row = c.rewritten.ensures first.s first.is in
-    let fit = and_parts (simple_fits c.args.compat first.s) _ (sym (ap (list_all (event_fits c.args.compat)) first.whole) ∙ so_far.2) in
+    let fit = and_parts (simple_fits c.args.compat first.s) _
+    (sym (ap (list_all (event_fits (simple_fits c.args.compat))) first.whole) ∙ so_far.2) in
     let before : List PlainComparator = map comparator_of c.loop-simple.comparator_set.items in
     let here : List PlainComparator = written_simple (pre_of c.args.raised) c.args.compat first.s in
     let behind : List PlainComparator = flat_map (written_simple (pre_of c.args.raised) c.args.compat) (range_simples first.behind) in (
@@ -55,10 +59,10 @@ loop-simple-preserved c = λ es has fits.
 pub returns : goal.returns
 returns c = λ es has fits.
     let so_far = c.loop-simple.invariant es has fits in
-    let end : RangeEnd so_far.0 c.next.new.self = search (rules, range_end) in
+    let end : RangeEnd Crate so_far.0 c.next.new.self = search (rules, range_end) in
     let items : List PlainComparator = map comparator_of c.loop-simple.comparator_set.items in
     let made : List Simple → List PlainComparator = flat_map (written_simple (pre_of c.args.raised) c.args.compat) in (
       ap (λ (l : List PlainComparator). record { comparators = l; compat = c.args.compat })
           (sym (append-nil items) ∙ ap (λ (ss : List Simple). items ++ made ss) (sym end.simples) ∙ so_far.4),
-      subst (λ (l : List Event). HasLeft c.next.new.self (Some l)) so_far.3 end.has,
+      subst (λ (l : List Event). HasLeft Crate c.next.new.self (Some l)) so_far.3 end.has,
     )

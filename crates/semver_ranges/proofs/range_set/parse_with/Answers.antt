@@ -1,4 +1,5 @@
 use Rattle.std.proofs.Common.{◌∷◌, [], sym, ap, ◌∙◌}
+use Rattle.semver_ranges.specs.declared.grammar.Dialect.TheVariants.{Crate}
 use Rattle.semver_ranges.specs.RangeTree.{simples}
 use Rattle.semver_ranges.specs.Means.Reading.{read}
 use Rattle.semver_ranges.specs.Means.PartialViews.{pre_of}
@@ -10,7 +11,7 @@ pub returns-in-Ok : goal.returns-in-Ok
 returns-in-Ok c =
     let found = c.in-Some.ensures in (
       simples found.0 [] ∷ [],
-      ap read (sym c.as_bytes-text.ensures.value) ∙ found.1,
+      ap (read Crate) (sym c.as_bytes-text.ensures.value) ∙ found.1,
       one_fits c.args.compat found.0 found.3,
       c.in-Ok.ensures
           ∙ one_made (pre_of c.args.raised) c.args.compat found.0 (comparators_of c.args.raised c.in-Some.bounds c.in-Some.partial)
@@ -20,4 +21,4 @@ returns-in-Ok c =
 pub returns-in-Err : goal.returns-in-Err
 returns-in-Err c =
     let found = c.in-Some.ensures in
-    (simples found.0 [] ∷ [], ap read (sym c.as_bytes-text.ensures.value) ∙ found.1, one_fits c.args.compat found.0 found.3)
+    (simples found.0 [] ∷ [], ap (read Crate) (sym c.as_bytes-text.ensures.value) ∙ found.1, one_fits c.args.compat found.0 found.3)

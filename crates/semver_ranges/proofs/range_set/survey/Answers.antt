@@ -1,14 +1,17 @@
-use Rattle.std.proofs.Common.{sym, ap, ◌∙◌, arith}
+use Rattle.std.proofs.Common.{[], sym, ap, ◌∙◌, arith}
+use Rattle.semver_ranges.specs.declared.grammar.Dialect.TheVariants.{Crate}
+use Rattle.semver_ranges.specs.RewritingTable.{simple_fits}
+use Rattle.semver_ranges.proofs.Tables.{port_table}
 use Rattle.semver_ranges.proofs.EventSums.{summed, sum_more, sum_end}
 use Rattle.semver_ranges.proofs.FoundEvents.{FirstSimple, first_simple}
 use Rattle.semver_ranges.proofs.range_set.survey.Goals as goal
 use Rattle.semver_ranges.proofs.range_set.survey.Goals.{In-Simple}
 
 -- the simple that comes first
-taken : (c : In-Simple) → FirstSimple c.loop-event.invariant.0 c.in-Simple.simple c.next.new.self
+taken : (c : In-Simple) → FirstSimple Crate c.loop-event.invariant.0 c.in-Simple.simple c.next.new.self
 taken c =
     let so_far = c.loop-event.invariant in
-    first_simple so_far.0 c.in-Simple.simple c.next.new.self (rw (c.in_ok-simple.was, c.in-Simple.is) at
+    first_simple Crate so_far.0 c.in-Simple.simple c.next.new.self (rw (c.in_ok-simple.was, c.in-Simple.is) at
     (c.in-Some.ensures.steps.0 so_far.0 so_far.1))
 
 pub fits-fit-requires : goal.fits-fit-requires
@@ -18,23 +21,27 @@ fits-fit-requires c =
 
 pub loop-event-preserved-in-Some-get_mut : goal.loop-event-preserved-in-Some-get_mut
 loop-event-preserved-in-Some-get_mut c =
+    let mode = c.args.compat in
     let so_far = c.loop-event.invariant in
     let first = taken (goal.at.loop-event-preserved-in-Some-get_mut c).In-Simple in
     let fits = c.fits-fit.ensures ∙ (c.rewritten-bounds.ensures first.s first.is).1 in (
       first.left,
       first.has,
-      sum_more c.args.compat _ c.loop-event.fit c.fits-fit.result c.loop-event.ended so_far.0 first.left first.s so_far.2 first.whole fits,
+      sum_more (simple_fits mode) _ c.loop-event.fit c.fits-fit.result c.loop-event.ended so_far.0 first.left first.s so_far.2
+          first.whole fits,
       omega (arith, so_far.3, c.in-Some.ensures.steps.1),
     )
 
 pub loop-event-preserved-in_default : goal.loop-event-preserved-in_default
 loop-event-preserved-in_default c =
+    let mode = c.args.compat in
     let so_far = c.loop-event.invariant in
     let first = taken (goal.at.loop-event-preserved-in_default c).In-Simple in
     let fits = c.fits-fit.ensures ∙ (c.rewritten-bounds.ensures first.s first.is).1 in (
       first.left,
       first.has,
-      sum_more c.args.compat _ c.loop-event.fit c.fits-fit.result c.loop-event.ended so_far.0 first.left first.s so_far.2 first.whole fits,
+      sum_more (simple_fits mode) _ c.loop-event.fit c.fits-fit.result c.loop-event.ended so_far.0 first.left first.s so_far.2
+          first.whole fits,
       omega (arith, so_far.3, c.in-Some.ensures.steps.1),
     )
 
@@ -42,14 +49,16 @@ pub returns-then-not-fit : goal.returns-then-not-fit
 returns-then-not-fit c =
     let so_far = c.loop-event.invariant in
     let end = c.in-None.ensures.steps.0 so_far.0 so_far.1 in
-    let found = sum_end c.args.compat c.args.text.now c.loop-event.fit c.loop-event.ended (so_far.2
-    ∙ ap (summed c.args.compat c.loop-event.fit c.loop-event.ended) end.0) in
+    let found = sum_end Crate (port_table [] c.args.compat) c.args.text.now c.loop-event.fit c.loop-event.ended
+    (so_far.2
+    ∙ ap (summed (simple_fits c.args.compat) c.loop-event.fit c.loop-event.ended) end.0) in
     (found.0, found.1, found.2 ∙ c.if-not-fit.true)
 
 pub returns : goal.returns
 returns c =
     let so_far = c.loop-event.invariant in
     let end = c.in-None.ensures.steps.0 so_far.0 so_far.1 in
-    let found = sum_end c.args.compat c.args.text.now c.loop-event.fit c.loop-event.ended (so_far.2
-    ∙ ap (summed c.args.compat c.loop-event.fit c.loop-event.ended) end.0) in
+    let found = sum_end Crate (port_table [] c.args.compat) c.args.text.now c.loop-event.fit c.loop-event.ended
+    (so_far.2
+    ∙ ap (summed (simple_fits c.args.compat) c.loop-event.fit c.loop-event.ended) end.0) in
     (found.0, found.1, found.2 ∙ c.if-not-fit.false, sym found.3)

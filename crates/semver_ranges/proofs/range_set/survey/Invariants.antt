@@ -1,4 +1,6 @@
 use Rattle.std.proofs.Common.{◌≡◌, ◌+◌, ◌≤◌, true, List, Option, length}
+use Rattle.semver_ranges.specs.declared.grammar.Dialect.TheVariants.{Crate}
+use Rattle.semver_ranges.specs.RewritingTable.{simple_fits}
 use Rattle.semver_ranges.specs.Means.RangeEvents.{Event, events}
 use Rattle.semver_ranges.specs.Means.CursorViews.{HasLeft}
 use Rattle.semver_ranges.proofs.EventSums.{summed}
@@ -6,6 +8,6 @@ use Rattle.semver_ranges.proofs.range_set.survey.Given as goal
 
 abbrev pub invariant-loop-event : goal.invariant-loop-event
 invariant-loop-event l =
-    (left : Option (List Event)) × HasLeft l.event-iterator left
-    × (summed l.compat true 0 (events l.text) ≡ summed l.compat l.fit l.ended left)
+    (left : Option (List Event)) × HasLeft Crate l.event-iterator left
+    × (summed (simple_fits l.compat) true 0 (events Crate l.text) ≡ summed (simple_fits l.compat) l.fit l.ended left)
     × (l.ended + length l.event-iterator.rest.now ≤ length l.text)

@@ -11,7 +11,7 @@ returns c =
     let ends : ends_range t ≡ true = sym c.ends_range.ensures ∙ c.if-not-ends_range.false in
     let begins : c.args.self.now.begins_range ≡ true = c.if-not-begins_range.false in
     rw (begins, c.requires.alone) (
-      (one_simple wildcard, events_left false t, c.wildcard.ensures, refl, empty_left t ends),
+      (one_simple wildcard, events_left c.args.dialect false t, c.wildcard.ensures, refl, empty_left c.args.dialect t ends),
       omega arith,
       omega arith,
     )

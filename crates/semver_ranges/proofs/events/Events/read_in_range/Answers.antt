@@ -17,14 +17,14 @@ returns-in_default c =
       | in_default-via-in-Some+else-begins_range w ↦ λ begins. absurd (true≢false (sym begins ∙ w.if-begins_range.false))
       | in_default-via-in_default w ↦ λ begins. w.in_default.ensures
     ] in
-    let less : length u < length t = shorter_simple t u found.0 found.1 in
+    let less : length u < length t = shorter_simple c.args.dialect t u found.0 found.1 in
     rw (c.requires.begun, c.requires.alone) (
       (
         one_simple found.0,
-        events_left false u,
+        events_left c.args.dialect false u,
         found.2,
         refl,
-        simple_left c.args.begins_range t u found.0 c.requires.goes_on found.1
+        simple_left c.args.dialect c.args.begins_range t u found.0 c.requires.goes_on found.1
             other,
       ),
       omega (arith, less),

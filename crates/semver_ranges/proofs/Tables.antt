@@ -1,0 +1,33 @@
+-- What every table of simples says of a side that states nothing.
+use Rattle.std.proofs.Common.{◌≡◌, ℕ, true, List, [], ◌∷◌, Bool, refl}
+use Rattle.semver_ranges.specs.declared.range.Compat.{Compat}
+use Rattle.semver_ranges.specs.declared.range.Op.TheVariants.{Gte}
+use Rattle.semver_ranges.specs.RangeTree.{PartialTree, Simple}
+use Rattle.semver_texts.specs.Texts.{is_empty}
+use Rattle.semver_texts.specs.Versions.{IdentifierValue}
+use Rattle.semver_ranges.specs.Partials.{stated, zero_version}
+use Rattle.semver_ranges.specs.Terms.{left_side, right_side}
+use Rattle.semver_ranges.specs.Means.RangeEvents.{wildcard}
+use Rattle.semver_ranges.specs.RewritingTable.{PlainComparator, comparator, simple_fits, written_simple}
+
+-- such a side is `>=0.0.0`, and fits; and so is the wildcard of an empty range
+pub record IsTable (fit : Simple → Bool) (written : Simple → List PlainComparator) : Type 0 where
+  pub left : (p : PartialTree) → stated p ≡ [] → written (left_side p) ≡ comparator Gte zero_version ∷ []
+  pub right : (p : PartialTree) → stated p ≡ [] → written (right_side p) ≡ comparator Gte zero_version ∷ []
+  pub fits : (p : PartialTree) → stated p ≡ [] → fit (right_side p) ≡ true
+  pub empty : written wildcard ≡ comparator Gte zero_version ∷ []
+  pub empty_fits : fit wildcard ≡ true
+
+pub nothing_is : (s : List ℕ) → is_empty s ≡ true → s ≡ []
+nothing_is [] e = refl
+nothing_is (n ∷ s) e = cc
+
+-- the port's is one, however raised bounds are written
+pub port_table : (bound_pre : List IdentifierValue) (mode : Compat) → IsTable (simple_fits mode) (written_simple bound_pre mode)
+port_table bound_pre mode = record {
+  left = λ p e. rw e refl;
+  right = λ p e. rw e refl;
+  fits = λ p e. rw e refl;
+  empty = refl;
+  empty_fits = refl;
+}
