@@ -111,7 +111,7 @@ fn of_versions(alloc: Global) -> [(&'static str, Ending); 15] {
 }
 
 /// How each call on ranges and above them ends.
-fn of_ranges(alloc: Global) -> [(&'static str, Ending); 18] {
+fn of_ranges(alloc: Global) -> [(&'static str, Ending); 22] {
     [
         (
             "one_simple",
@@ -173,6 +173,10 @@ fn of_ranges(alloc: Global) -> [(&'static str, Ending); 18] {
                 Compat::Cargo,
             ),
         ),
+        ("cargo_requirement", ranges::requirement(alloc)),
+        ("refused_requirements", ranges::refused_requirements(alloc)),
+        ("cargo_read", sets::of_requirement(alloc)),
+        ("refused_cargo_reads", sets::of_refused_requirements(alloc)),
         ("refused_range_texts", ranges::refused_texts(alloc)),
         ("range_set_clone", ranges::clone(alloc)),
         ("filter", filters::filter(alloc)),

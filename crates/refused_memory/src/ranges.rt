@@ -5,6 +5,7 @@ use super::fixed::Fixed;
 use semver_parser::{Compat, RangeError, RangeSet};
 use std::alloc::Global;
 use std::fmt::Write as _;
+use tool_ranges::cargo;
 
 const TEXT: &str = "^1.2.3-beta.4 || 2.x";
 
@@ -31,6 +32,29 @@ fn ending(read: Result<RangeSet, RangeError>, printed: &str, compat: Compat) -> 
         Err(RangeError::OutOfMemory) => Ending::Refused,
         Err(_) => Ending::Wrong,
     }
+}
+
+/// The set of a requirement, as Cargo itself reads it.
+pub fn requirement(alloc: Global) -> Ending {
+    ending(
+        cargo::rewrite(alloc, "1.2, >1, <3.0.0-rc"),
+        ">=1.2.0 <2.0.0-0 >=2.0.0 <3.0.0-rc",
+        Compat::Cargo,
+    )
+}
+
+/// Requirements that are refused for their grammar or their numbers are refused without a request.
+pub fn refused_requirements(alloc: Global) -> Ending {
+    let no_comma = cargo::rewrite(alloc, "1 2");
+    let tab = cargo::rewrite(alloc, "1,\t2");
+    let grammar_first = cargo::rewrite(alloc, "99999999999999999999, 1,");
+    let bound = cargo::rewrite(alloc, "1, >1.18446744073709551615");
+    Ending::full_if(
+        matches!(no_comma, Err(RangeError::NotARange))
+            && matches!(tab, Err(RangeError::NotARange))
+            && matches!(grammar_first, Err(RangeError::NotARange))
+            && matches!(bound, Err(RangeError::NumberTooLarge)),
+    )
 }
 
 /// The same in Cargo mode.

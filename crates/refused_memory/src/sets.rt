@@ -3,6 +3,7 @@
 use super::Ending;
 use semver_parser::{Compat, RangeError, RangeSet, version};
 use std::alloc::Global;
+use tool_ranges::cargo;
 use version_sets::{PreReleases, VersionSet};
 
 /// The sets of `>=1.2.0-b.c` as stated and of `<2.0.0` with all pre-releases, which the calls below
@@ -50,6 +51,27 @@ pub fn of_set(alloc: Global) -> Ending {
         Ok(set) => Ending::full_if(begins_at(&set, 2) && matches!(set.least(alloc), Ok(Some(_)))),
         Err(_) => Ending::Refused,
     }
+}
+
+/// The versions that a requirement means to Cargo: 1.2.0-c is stated, and 1.3.0-c isn't.
+pub fn of_requirement(alloc: Global) -> Ending {
+    match cargo::read(alloc, "^1.2, >=1.2.0-b") {
+        Ok(set) => Ending::full_if(
+            begins_at(&set, 1) && has_stated(&set, "1.2.0-c") && !has_stated(&set, "1.3.0-c"),
+        ),
+        Err(RangeError::OutOfMemory) => Ending::Refused,
+        Err(_) => Ending::Wrong,
+    }
+}
+
+/// Requirements that are refused are refused without a request.
+pub fn of_refused_requirements(alloc: Global) -> Ending {
+    let not_a_range = cargo::read(alloc, "1.2.3-a, >=1 <2");
+    let too_large = cargo::read(alloc, "1.2.3-a, >1.18446744073709551615");
+    Ending::full_if(
+        matches!(not_a_range, Err(RangeError::NotARange))
+            && matches!(too_large, Err(RangeError::NumberTooLarge)),
+    )
 }
 
 /// The union has both sets, and 0.0.0 of the second is its least release.
@@ -136,6 +158,11 @@ fn has(alloc: Global, set: &VersionSet, text: &str) -> bool {
         Ok(Some(version)) => set.has(&version),
         _ => false,
     }
+}
+
+/// Whether a version, which is looked at without a request, is in a set.
+fn has_stated(set: &VersionSet, text: &str) -> bool {
+    version::outline(text).is_some_and(|outline| set.has_outline(&outline))
 }
 
 /// Whether the least release of a set has this major number.

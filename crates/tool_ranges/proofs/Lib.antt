@@ -1,0 +1,13 @@
+mod ComparatorReading
+mod FoundComparators
+mod RequirementSteps
+mod RequirementLaws
+mod RequirementPrinted
+mod ReadMeanings
+mod ReadRows
+mod PreReleaseMeanings
+mod PreReleaseRows
+mod ReadSets
+mod ToolRows
+mod NpmMeanings
+mod NpmLaws

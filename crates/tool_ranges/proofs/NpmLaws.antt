@@ -1,0 +1,79 @@
+-- What the reader finds of a range text of npm says what a call refuses and answers.
+use Rattle.std.proofs.Common.{◌≡◌, ℕ, true, false, refl, sym, ap, ◌∙◌, Some, None}
+use Rattle.std.proofs.lemmas.Bool.{both_ways}
+use Rattle.std.specs.Prelude.{Ok, Err}
+use Rattle.std.specs.List.{list_all}
+use Rattle.std.specs.Str.{chars}
+use Rattle.semver_texts.specs.Texts.{Text}
+use Rattle.semver_ranges.specs.declared.grammar.Dialect.TheVariants.{Npm}
+use Rattle.semver_ranges.specs.declared.range.Compat.TheVariants as compat
+use Rattle.semver_ranges.specs.declared.range_set.RangeError.{RangeError}
+use Rattle.semver_ranges.specs.declared.range_set.RangeError.TheVariants.{NotARange, NumberTooLarge, OutOfMemory}
+use Rattle.semver_ranges.specs.RangeTree.{SetTree}
+use Rattle.semver_ranges.specs.PrintedRanges.{IsPrintableSet}
+use Rattle.semver_ranges.specs.Means.Reading.{read}
+use Rattle.semver_ranges.proofs.ReadingSound.{read_sound}
+use Rattle.semver_ranges.proofs.ReadingComplete.{tree_read}
+use Rattle.semver_ranges.proofs.AnsweredLaws.{set_printable}
+use Rattle.tool_ranges.specs.NpmGrammar.{may_stand, SpellsNpm}
+use Rattle.tool_ranges.specs.NpmTable.{npm_fits, rewritten_npm}
+use Rattle.tool_ranges.specs.NpmTexts.{IsNpmTooLarge, RefusesNpm}
+use Rattle.tool_ranges.specs.Means.NpmReading.{HasRanges, IsNpmRefusal}
+use Rattle.tool_ranges.proofs.ToolRows.{tool_prints}
+
+-- what is read is the one tree
+pub npm_read : (t : Text) (tree : SetTree) → SpellsNpm tree t → read Npm t ≡ Some tree
+npm_read t tree h = tree_read Npm tree t h.spelled
+
+read_one : (t : Text) (tree tree' : SetTree) → read Npm t ≡ Some tree → SpellsNpm tree' t → tree ≡ tree'
+read_one t tree tree' e h = let same : Some tree ≡ Some tree' = sym e ∙ npm_read t tree' h in cc
+
+none_read : (t : Text) (tree : SetTree) → read Npm t ≡ None → SpellsNpm tree t → ⊥
+none_read t tree e h = let same : None ≡ Some tree = sym e ∙ npm_read t tree h in cc
+
+unfit : (t : Text) (tree : SetTree) → read Npm t ≡ Some tree → npm_fits tree ≡ true → IsNpmTooLarge t → ⊥
+unfit t tree e f (tree', s, large) = both_ways _ large (sym (ap npm_fits (read_one t tree tree' e s)) ∙ f)
+
+pub refused_characters : {A : Type 0} (t : Text) → list_all may_stand (chars t) ≡ false → RefusesNpm {A = A} t (Err NotARange)
+refused_characters t e = record {
+  accepted = tt;
+  not_a_range = (λ e' (tree, h). both_ways _ e h.characters, λ _. refl);
+  too_large = (λ e'. cc, λ (tree, h, large). absurd (both_ways _ e h.characters));
+  out_of_memory = λ e'. cc;
+}
+
+module _ (t : Text) (stand : list_all may_stand (chars t) ≡ true) where
+  spelled : (tree : SetTree) → read Npm t ≡ Some tree → SpellsNpm tree t
+  spelled tree e = record { spelled = read_sound Npm t tree e; characters = stand }
+
+  pub answered : {A : Type 0} (x : A) (count : ℕ) → HasRanges t count → RefusesNpm t (Ok x)
+  answered x count (tree, e, fit, counted) = record {
+    accepted = (tree, spelled tree e, fit);
+    not_a_range = (λ e'. cc, λ none. absurd (none (tree, spelled tree e)));
+    too_large = (λ e'. cc, λ large. absurd (unfit t tree e fit large));
+    out_of_memory = λ e'. cc;
+  }
+
+  pub refused : {A : Type 0} (e : RangeError) → IsNpmRefusal t e → RefusesNpm {A = A} t (Err e)
+  refused NotARange none = record {
+    accepted = tt;
+    not_a_range = (λ e (tree, h). none_read t tree none h, λ _. refl);
+    too_large = (λ e. cc, λ (tree, h, large). absurd (none_read t tree none h));
+    out_of_memory = λ e. cc;
+  }
+  refused NumberTooLarge (tree, is, large) = record {
+    accepted = tt;
+    not_a_range = (λ e. cc, λ none. absurd (none (tree, spelled tree is)));
+    too_large = (λ e. (tree, spelled tree is, large), λ _. refl);
+    out_of_memory = λ e. cc;
+  }
+  refused OutOfMemory (tree, is, fit) = record {
+    accepted = tt;
+    not_a_range = (λ e. cc, λ none. absurd (none (tree, spelled tree is)));
+    too_large = (λ e. cc, λ large. absurd (unfit t tree is fit large));
+    out_of_memory = λ e. (tree, spelled tree is, fit);
+  }
+
+-- what it is rewritten to is printable
+pub npm_printable : (t : Text) (tree : SetTree) → read Npm t ≡ Some tree → npm_fits tree ≡ true → IsPrintableSet (rewritten_npm tree)
+npm_printable t tree e fit = set_printable Npm (tool_prints compat.Npm) compat.Npm tree t (read_sound Npm t tree e) fit

@@ -1,0 +1,19 @@
+use Rattle.std.proofs.Common.{◌&&◌, List, [], ap, ◌∙◌}
+use Rattle.semver_ranges.specs.declared.range.Compat.TheVariants.{Cargo}
+use Rattle.semver_ranges.specs.Meeting.{meets_set}
+use Rattle.semver_ranges.specs.RewritingTable.{PlainRange, PlainSet}
+use Rattle.tool_ranges.proofs.ReadRows.{if_ok}
+use Rattle.tool_ranges.proofs.cargo.reading.counted.Goals as goal
+
+abbrev set_with : List PlainRange → PlainSet
+set_with ranges = record { ranges = ranges; compat = Cargo }
+
+pub returns : goal.returns
+returns c =
+    if_ok c.intersection-2.result
+    (λ set is tree v h small. is v
+    ∙ (λ i. (c.in_ok-judged.ensures.meaning (record { plain = v; build = [] }) small
+    ∙ ap (meets_set v) (c.in_ok-comparators.ensures tree h)) i
+    && (c.in_ok-of_set.ensures.meaning (record { plain = v; build = [] }) small
+    ∙ ap (λ ranges. meets_set v (set_with ranges)) (c.requires.ranges tree h)) i))
+    c.intersection-2.ensures.has

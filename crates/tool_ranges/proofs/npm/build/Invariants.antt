@@ -1,0 +1,19 @@
+use Rattle.std.proofs.Common.{◌≡◌, ◌+◌, ◌++◌, length, Some, true}
+use Rattle.std.specs.Prelude.{map}
+use Rattle.semver_ranges.specs.declared.grammar.Dialect.TheVariants as dialect
+use Rattle.semver_ranges.specs.declared.range.Compat.TheVariants.{Npm}
+use Rattle.semver_ranges.specs.RangeTree.{SetTree}
+use Rattle.semver_ranges.specs.Means.Reading.{read}
+use Rattle.semver_ranges.specs.RangeViews.{range_of}
+use Rattle.semver_ranges.specs.Means.BoundsViews.{range_for}
+use Rattle.semver_ranges.specs.Means.RangeEvents.{events_of}
+use Rattle.semver_ranges.specs.Means.CursorViews.{HasLeft}
+use Rattle.tool_ranges.specs.ToolTable.{written_in}
+use Rattle.tool_ranges.specs.NpmTable.{npm_fits}
+use Rattle.tool_ranges.proofs.npm.build.Given as goal
+
+abbrev pub invariant-loop-at : goal.invariant-loop-at
+invariant-loop-at l =
+    (tree : SetTree) × (left : SetTree) × (read dialect.Npm l.text ≡ Some tree) × (npm_fits left ≡ true)
+    × (l.at + length left ≡ length tree) × (l.count ≡ length tree) × HasLeft dialect.Npm l.events (Some (events_of left))
+    × (map range_of l.ranges.items ++ map (range_for (written_in Npm) Npm) left ≡ map (range_for (written_in Npm) Npm) tree)

@@ -1,0 +1,21 @@
+use Rattle.std.proofs.Common.{◌≡◌, ◌++◌, List, Some, IsTrue}
+use Rattle.std.specs.Prelude.{map}
+use Rattle.std.specs.List.{list_all, flat_map}
+use Rattle.semver_ranges.specs.declared.grammar.Dialect.TheVariants as dialect
+use Rattle.semver_ranges.specs.declared.range.Compat.TheVariants.{Npm}
+use Rattle.semver_ranges.specs.RangeViews.{comparator_of}
+use Rattle.semver_ranges.specs.Means.RangeEvents.{Event, event_fits, range_simples, range_others}
+use Rattle.semver_ranges.specs.Means.CursorViews.{HasLeft, size_left}
+use Rattle.tool_ranges.specs.ToolTable.{fits_in, written_in}
+use Rattle.tool_ranges.proofs.npm.build_range.Given as goal
+
+abbrev pub invariant-loop-simple : goal.invariant-loop-simple
+invariant-loop-simple l = (es : List Event) → HasLeft dialect.Npm l.initial.events (Some es)
+    → IsTrue (list_all (event_fits (fits_in Npm)) es)
+    → (left : List Event) × HasLeft dialect.Npm l.events (Some left) × IsTrue (list_all (event_fits (fits_in Npm)) left)
+    × (range_others left ≡ range_others es)
+    × (map comparator_of l.comparator_set.items ++ flat_map (written_in Npm) (range_simples left)
+    ≡ flat_map (written_in Npm) (range_simples es))
+
+abbrev pub decreases-loop-simple : goal.decreases-loop-simple
+decreases-loop-simple l = size_left l.events

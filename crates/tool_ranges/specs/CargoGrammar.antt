@@ -1,0 +1,87 @@
+-- A requirement as Cargo reads it, and the texts that spell it: comparators parted by commas.
+use Prim.Native.Char.{code}
+use Rattle.std.specs.Prelude.{◌≡◌, ◌≤◌, Bool, true, false, ◌&&◌, ◌||◌, ◌==◌, not}
+use Rattle.std.specs.Prelude.{if◌then◌else◌, List, [], ◌∷◌, ◌++◌, length, codes, IsTrue}
+use Rattle.std.specs.List.{list_all, list_any}
+use Rattle.semver_texts.specs.Texts.{Text, is_empty}
+use Rattle.semver_ranges.specs.RangeTree.{Form, bare, equal, less, at_most, greater, at_least}
+use Rattle.semver_ranges.specs.RangeTree.{tilde, caret, PartialTree, one, Simple, components}
+use Rattle.semver_ranges.specs.RangeTree.{qualifier, is_wildcard, has_no_leading_zero, SpellsPartial}
+use Rattle.semver_ranges.specs.Partials.{stated, states_nothing, pre_parts}
+
+-- any number of spaces, none included
+abbrev pub AreSpaces : Text → Type 0
+AreSpaces t = IsTrue (list_all (λ b. b == code " ") t)
+
+-- the sign of an operator
+abbrev pub sign : Form → Text
+sign bare = []
+sign equal = codes "="
+sign less = codes "<"
+sign at_most = codes "<="
+sign greater = codes ">"
+sign at_least = codes ">="
+sign tilde = codes "~"
+sign caret = codes "^"
+
+-- whether nothing but wildcards stands behind a wildcard
+abbrev pub wildcards_are_last : List Text → Bool
+wildcards_are_last [] = true
+wildcards_are_last (c ∷ cs) =
+    if is_wildcard c then list_all is_wildcard cs else wildcards_are_last cs
+
+-- whether Cargo reads a partial: no number stands behind a wildcard, and a pre-release or a build
+-- behind three numbers alone
+abbrev pub is_partial_of_cargo : PartialTree → Bool
+is_partial_of_cargo p = wildcards_are_last (components p)
+    && ((is_empty (qualifier p) || length (stated p) == 3)
+    && list_all has_no_leading_zero (pre_parts p))
+
+-- a wildcard that stands for every release: one without operator and dots
+abbrev pub is_one : PartialTree → Bool
+is_one (one a) = true
+is_one _ = false
+
+abbrev pub is_bare : Form → Bool
+is_bare bare = true
+is_bare _ = false
+
+abbrev pub is_every : Simple → Bool
+is_every s = is_bare s.form && (is_one s.partial && states_nothing s.partial)
+
+-- whether Cargo reads a comparator: its first number is stated, but where it stands for every
+-- release
+abbrev pub is_of_cargo : Simple → Bool
+is_of_cargo s = is_partial_of_cargo s.partial && (is_every s || not (states_nothing s.partial))
+
+-- a comparator's text: its sign and its partial, each between any spaces
+pub record SpellsComparator (s : Simple) (t : Text) : Type 0 where
+  pub before : Text
+  pub gap : Text
+  pub word : Text
+  pub after : Text
+  pub before_is : AreSpaces before
+  pub gap_is : AreSpaces gap
+  pub after_is : AreSpaces after
+  pub partial : SpellsPartial s.partial word
+  pub is_read : IsTrue (is_of_cargo s)
+  pub text : t ≡ before ++ (sign s.form ++ (gap ++ (word ++ after)))
+
+-- one or more comparators, parted by commas
+abbrev pub SpellsComparators : List Simple → Text → Type 0
+SpellsComparators [] t = ⊥
+SpellsComparators (s ∷ []) t = SpellsComparator s t
+SpellsComparators (s ∷ next ∷ others) t = (front : Text) × (back : Text)
+    × SpellsComparator s front × SpellsComparators (next ∷ others) back
+    × (t ≡ front ++ (codes "," ++ back))
+
+-- whether a wildcard that stands for every release stands alone
+abbrev pub stands_alone : List Simple → Bool
+stands_alone (s ∷ []) = true
+stands_alone ss = not (list_any (λ s. states_nothing s.partial) ss)
+
+-- a requirement's text: at most 32 comparators
+pub record SpellsRequirement (tree : List Simple) (t : Text) : Type 0 where
+  pub comparators : SpellsComparators tree t
+  pub alone : IsTrue (stands_alone tree)
+  pub few : length tree ≤ 32

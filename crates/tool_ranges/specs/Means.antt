@@ -1,0 +1,3 @@
+pub mod CargoReading
+pub mod CargoPreReleases
+pub mod NpmReading

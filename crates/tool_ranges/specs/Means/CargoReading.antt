@@ -1,0 +1,75 @@
+-- A means of proof, which no public clause cites: the functions on lists that the reader of Cargo's
+-- requirements follows, and what private contracts see of what it finds.
+use Prim.Native.Char.{code}
+use Rattle.std.specs.Prelude.{◌≡◌, ℕ, Bool, true, false, ◌&&◌, ◌==◌, if◌then◌else◌, Option, Some}
+use Rattle.std.specs.Prelude.{None, List, [], ◌∷◌, IsTrue, Result, Ok, Err}
+use Rattle.std.specs.Borrow.{Bor}
+use Rattle.std.specs.List.{list_any}
+use Rattle.semver_ranges.specs.declared.grammar.Dialect.TheVariants.{Crate}
+use Rattle.semver_ranges.specs.declared.range_set.RangeError.{RangeError}
+use Rattle.semver_ranges.specs.declared.range_set.RangeError.TheVariants.{NotARange, NumberTooLarge}
+use Rattle.semver_ranges.specs.declared.range_set.RangeError.TheVariants.{OutOfMemory}
+use Rattle.semver_ranges.specs.declared.grammar.Simple as read
+use Rattle.semver_texts.specs.Texts.{Text}
+use Rattle.semver_ranges.specs.RangeTree.{Form, PartialTree, Simple}
+use Rattle.semver_ranges.specs.Means.Reading.{behind_blanks, operator, with_first, component}
+use Rattle.semver_ranges.specs.Means.CursorViews.{IsSimpleOf}
+use Rattle.tool_ranges.specs.CargoGrammar.{is_of_cargo, SpellsRequirement}
+use Rattle.tool_ranges.specs.CargoMeaning.{as_read}
+use Rattle.tool_ranges.specs.CargoTable.{requirement_fits}
+
+-- whether a text has a tab
+abbrev pub has_tab : Text → Bool
+has_tab t = list_any (λ b. b == code "\t") t
+
+-- whether a text begins with `~>`
+abbrev pub begins_with_tilde_greater : Text → Bool
+begins_with_tilde_greater (a ∷ b ∷ t) = (a == code "~") && (b == code ">")
+begins_with_tilde_greater _ = false
+
+-- a comparator up to its comma or the end, and what follows the comma
+abbrev pub at_end : Simple → Text → Option (Simple × Option Text)
+at_end s [] = Some (s, None)
+at_end s (b ∷ t) = if b == code "," then Some (s, Some t) else None
+
+abbrev pub if_read : Simple → Text → Option (Simple × Option Text)
+if_read s t = if is_of_cargo s then at_end s (behind_blanks Crate t) else None
+
+abbrev pub with_operator : Form → Option (PartialTree × Text) → Option (Simple × Option Text)
+with_operator form None = None
+with_operator form (Some found) = if_read (record { form = form; partial = found.0 }) found.1
+
+abbrev pub comparator_here : Text → Option (Simple × Option Text)
+comparator_here t =
+    if begins_with_tilde_greater t then None
+    else with_operator (operator Crate t).0 (with_first (component (operator Crate t).1))
+
+abbrev pub comparator_at : Text → Option (Simple × Option Text)
+comparator_at t = comparator_here (behind_blanks Crate t)
+
+-- what stands behind a comma, where one is there
+abbrev pub behind_comma : Option (Bor Text) → Option Text
+behind_comma None = None
+behind_comma (Some rest) = Some rest.now
+
+-- the comparator that was found, as it is read, and what follows its comma
+abbrev pub FindsComparator : Option (Simple × Option Text)
+    → Option (read.Simple × Option (Bor Text)) → Type 0
+FindsComparator o None = o ≡ None
+FindsComparator o (Some found) =
+    (s : Simple) × (o ≡ Some (s, behind_comma found.1)) × IsSimpleOf (as_read s) found.0
+
+-- why there is no set of a text
+abbrev pub IsRefusal : Text → RangeError → Type 0
+IsRefusal t NotARange = (tree : List Simple) → SpellsRequirement tree t → ⊥
+IsRefusal t NumberTooLarge =
+    (tree : List Simple) × SpellsRequirement tree t × (requirement_fits tree ≡ false)
+IsRefusal t OutOfMemory =
+    (tree : List Simple) × SpellsRequirement tree t × IsTrue (requirement_fits tree)
+
+-- what is answered at the end of a text, where a wildcard stands alone or not, and all fits or not
+abbrev pub EndsAs : Bool → Bool → Result ℕ RangeError → Type 0
+EndsAs alone fit (Ok count) = (alone ≡ true) × (fit ≡ true)
+EndsAs alone fit (Err NotARange) = alone ≡ false
+EndsAs alone fit (Err NumberTooLarge) = (alone ≡ true) × (fit ≡ false)
+EndsAs alone fit (Err OutOfMemory) = ⊥

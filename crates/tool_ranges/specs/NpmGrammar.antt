@@ -1,0 +1,24 @@
+-- A range text as npm reads it, and the trees that spell it: the port's trees in npm's dialect,
+-- where each character beyond ASCII is white space to JavaScript.
+use Rattle.std.specs.Prelude.{ℕ, Bool, ◌||◌, ◌==◌, IsTrue}
+use Rattle.std.specs.Int.{is_in_range}
+use Rattle.std.specs.List.{list_all}
+use Rattle.std.specs.Str.{chars}
+use Rattle.semver_texts.specs.Texts.{Text}
+use Rattle.semver_ranges.specs.declared.grammar.Dialect.TheVariants.{Npm}
+use Rattle.semver_ranges.specs.RangeTree.{SetTree, SpellsIn}
+
+-- what JavaScript calls white space, beyond ASCII
+abbrev pub is_white_space : ℕ → Bool
+is_white_space c = (c == 0xA0) || ((c == 0x1680) || (is_in_range 0x2000 0x200A c
+    || ((c == 0x2028) || ((c == 0x2029) || ((c == 0x202F) || ((c == 0x205F) || ((c == 0x3000)
+    || (c == 0xFEFF))))))))
+
+-- a character that may stand in a range text
+abbrev pub may_stand : ℕ → Bool
+may_stand c = is_in_range 0 127 c || is_white_space c
+
+-- a tree spells a text as npm reads it
+pub record SpellsNpm (tree : SetTree) (t : Text) : Type 0 where
+  pub spelled : SpellsIn Npm tree t
+  pub characters : IsTrue (list_all may_stand (chars t))

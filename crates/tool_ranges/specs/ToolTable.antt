@@ -1,0 +1,56 @@
+-- The comparators that stand for a simple in the tables of Cargo and npm: those of the port's with
+-- exact bounds, in the tool's mode, but for `>` of one or two numbers, which is at or above the
+-- bound that is raised. And what is below fewer than three numbers is to npm below every
+-- pre-release of them.
+use Rattle.std.specs.Prelude.{ℕ, Bool, true, false, not, ◌&&◌, ◌==◌, if◌then◌else◌, List, []}
+use Rattle.std.specs.Prelude.{◌∷◌, length, Some}
+use Rattle.std.specs.List.{list_all}
+use Rattle.semver_ranges.specs.declared.range.Op.TheVariants.{Lt, Gte}
+use Rattle.semver_ranges.specs.declared.range.Compat.{Compat}
+use Rattle.semver_ranges.specs.declared.range.Compat.TheVariants.{Cargo, Npm}
+use Rattle.semver_texts.specs.Texts.{is_empty}
+use Rattle.semver_ranges.specs.RangeTree.{Form, less, greater, Simple}
+use Rattle.semver_ranges.specs.Partials.{stated, zero_filled, fits_u64}
+use Rattle.semver_ranges.specs.RewritingTable.{PlainComparator, comparator, up, bound_fits}
+use Rattle.semver_ranges.specs.RewritingTable.{written_simple, simple_fits}
+use Rattle.semver_ranges.specs.ExactBounds.{lowest_pre_release, exact_bound}
+
+-- whether one or two numbers are stated
+abbrev pub states_some : List ℕ → Bool
+states_some (a ∷ []) = true
+states_some (a ∷ b ∷ []) = true
+states_some _ = false
+
+abbrev pub is_greater : Form → Bool
+is_greater greater = true
+is_greater _ = false
+
+-- whether a simple is `>` of one or two numbers
+abbrev pub begins_above : Simple → Bool
+begins_above s = is_greater s.form && states_some (stated s.partial)
+
+-- whether a simple is to npm `<` of fewer than three numbers, or `>` of none
+abbrev pub ends_at : Compat → Form → List ℕ → Bool
+ends_at Cargo form s = false
+ends_at Npm less s = not (length s == 3)
+ends_at Npm greater s = is_empty s
+ends_at Npm _ s = false
+
+abbrev pub ends_below : Compat → Simple → Bool
+ends_below mode s = ends_at mode s.form (stated s.partial)
+
+-- the comparators of a simple
+abbrev pub written_in : Compat → Simple → List PlainComparator
+written_in mode s =
+    if begins_above s
+    then comparator Gte (up (length (stated s.partial)) (stated s.partial)) ∷ []
+    else (if ends_below mode s then comparator Lt (exact_bound (zero_filled s.partial)) ∷ []
+    else written_simple lowest_pre_release mode s)
+
+-- whether the numbers that a simple states, and those of its raised bound, are at most 2^64 - 1
+abbrev pub fits_in : Compat → Simple → Bool
+fits_in mode s =
+    if begins_above s
+    then list_all fits_u64 (stated s.partial)
+    && bound_fits (Some (up (length (stated s.partial)) (stated s.partial)))
+    else simple_fits mode s

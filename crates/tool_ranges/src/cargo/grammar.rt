@@ -1,0 +1,93 @@
+//! What stands at the front of a requirement: a comparator.
+//!
+//! Nothing here takes memory, and a call looks at each byte a fixed number of times. What can't be
+//! read is `None`.
+
+ghost use Rattle.std.specs.Prelude.{◌≡◌};
+ghost use Rattle.semver_ranges.specs.RangeTree.{Simple as SimpleTree, PartialTree};
+ghost use Rattle.semver_ranges.specs.Means.PartialViews.{AreWritten};
+ghost use Rattle.semver_ranges.specs.Means.CursorViews.{form_of};
+ghost use Rattle.tool_ranges.specs.CargoGrammar.{is_of_cargo};
+ghost use Rattle.tool_ranges.specs.CargoMeaning.{has_wildcard, named};
+ghost use Rattle.tool_ranges.specs.Means.CargoReading.{comparator_at, FindsComparator};
+ghost use Rattle.tool_ranges.specs.Means.CargoReading.{begins_with_tilde_greater};
+
+use semver_ranges::grammar::{
+    Dialect, Form, Simple, behind_blanks, have_no_leading_zeros, read_components, read_operator,
+};
+use semver_ranges::partial::{Component, Components, Partial};
+
+/// The comparator at the front of a text, up to a comma or the end, and what follows the comma. One
+/// without operator is answered as `^`, or with a wildcard as `=`. Tabs are taken for spaces.
+#[inline(always)]
+pub(crate) fn read_comparator(text: &[u8]) -> Option<(Simple<'_>, Option<&[u8]>)>
+    ensures { FindsComparator (comparator_at text.now) result }
+{
+    let text = behind_blanks(text, Dialect::Crate);
+    if begins_with_tilde_greater(text) {
+        return None;
+    }
+    let (form, text) = read_operator(text, Dialect::Crate);
+    let (written, rest) = read_components(text)?;
+    if !is_read(form, &written) {
+        return None;
+    }
+    let simple = Simple {
+        form: named(form, has_wildcard(&written)),
+        partial: Partial::new(written.major, written.minor, written.patch, written.pre),
+    };
+    match behind_blanks(rest, Dialect::Crate) {
+        [] => Some((simple, None)),
+        [b',', behind @ ..] => Some((simple, Some(behind))),
+        _ => None,
+    }
+}
+
+/// Whether a text begins with `~>`, which Cargo doesn't know.
+#[inline(always)]
+fn begins_with_tilde_greater(text: &[u8]) -> bool
+    ensures { result ≡ begins_with_tilde_greater text.now }
+{
+    matches!(text, [b'~', b'>', ..])
+}
+
+/// No operator is `^`, and `=` where there is a wildcard.
+#[inline(always)]
+fn named(form: Form, has_wildcard: bool) -> Form
+    ensures { form_of result ≡ named has_wildcard (form_of form) }
+{
+    match form {
+        Form::Bare if has_wildcard => Form::Equal,
+        Form::Bare => Form::Caret,
+        _ => form,
+    }
+}
+
+/// Whether some component is a wildcard.
+#[inline(always)]
+fn has_wildcard(written: &Components<'_>) -> bool
+    ensures { (p : PartialTree) → AreWritten p written.now → result ≡ has_wildcard p }
+{
+    match (written.major, written.minor, written.patch) {
+        (Component::Wildcard, _, _) => true,
+        (_, Component::Wildcard, _) => written.count > 1,
+        (_, _, Component::Wildcard) => written.count > 2,
+        _ => false,
+    }
+}
+
+/// Whether Cargo reads such a comparator: a wildcard alone stands for every release, and else the
+/// first number is stated, nothing but wildcards stands behind a wildcard, and a pre-release or a
+/// build behind three numbers alone.
+#[inline(always)]
+fn is_read(form: Form, written: &Components<'_>) -> bool
+    ensures { (s : SimpleTree) → form_of form ≡ s.form → AreWritten s.partial written.now
+        → result ≡ is_of_cargo s }
+{
+    match (written.major, written.minor, written.patch) {
+        (Component::Wildcard, _, _) => written.count == 1 && matches!(form, Form::Bare),
+        (_, Component::Wildcard, Component::Number(_)) => false,
+        (_, _, Component::Wildcard) => !written.is_qualified,
+        _ => have_no_leading_zeros(written.pre),
+    }
+}

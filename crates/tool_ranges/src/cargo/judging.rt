@@ -1,0 +1,41 @@
+//! The comparators that judge the releases of one of a requirement, or its pre-releases.
+
+ghost use Rattle.std.specs.Prelude.{◌≡◌, ◌++◌, true, map, IfOk};
+ghost use Rattle.semver_ranges.specs.RangeTree.{Simple as SimpleTree};
+ghost use Rattle.semver_ranges.specs.declared.range.Compat.TheVariants.{Cargo};
+ghost use Rattle.semver_ranges.specs.RangeViews.{comparator_of};
+ghost use Rattle.semver_ranges.specs.Means.CursorViews.{IsSimpleOf};
+ghost use Rattle.tool_ranges.specs.ToolTable.{fits_in};
+ghost use Rattle.tool_ranges.specs.Means.CargoPreReleases.{judging_read};
+
+use crate::cargo::pre_releases;
+use crate::rows;
+use semver_ranges::grammar::Simple;
+use semver_ranges::{Comparator, Compat};
+use std::alloc::{AllocError, Global};
+
+/// Which versions comparators judge: Cargo's `=1.2` takes 1.2.0, and no pre-release.
+#[derive(Clone, Copy)]
+pub(crate) enum Judged {
+    Releases,
+    PreReleases,
+}
+
+/// Adds the comparators that judge releases, or pre-releases.
+#[inline(always)]
+pub(crate) fn push_judging(
+    alloc: Global,
+    judged: Judged,
+    simple: &Simple<'_>,
+    comparators: &mut Vec<Comparator>,
+) -> Result<(), AllocError>
+    requires { (s : SimpleTree) × IsSimpleOf s simple.now × (fits_in Cargo s ≡ true) }
+    ensures { IfOk result (λ _. (s : SimpleTree) → IsSimpleOf s simple.now
+        → fits_in Cargo s ≡ true → map comparator_of comparators.new.items
+        ≡ map comparator_of comparators.old.items ++ judging_read judged s) }
+{
+    match judged {
+        Judged::Releases => rows::push(alloc, simple, Compat::Cargo, comparators),
+        Judged::PreReleases => pre_releases::push(alloc, simple, comparators),
+    }
+}

@@ -1,0 +1,185 @@
+//! The comparators that judge pre-releases as a requirement does, and the ranges of those that
+//! count.
+
+ghost use Rattle.std.specs.Prelude.{◌≡◌, ◌++◌, ◌∷◌, [], true, length, map, Some, IfOk};
+ghost use Rattle.semver_texts.specs.Versions.{PlainVersion};
+ghost use Rattle.semver_ranges.specs.RangeTree.{Simple as SimpleTree, PartialTree, caret};
+ghost use Rattle.semver_ranges.specs.declared.range.Compat.TheVariants.{Cargo};
+ghost use Rattle.semver_ranges.specs.Partials.{leading_place};
+ghost use Rattle.semver_ranges.specs.RewritingTable.{bound_fits, comparator, up};
+ghost use Rattle.semver_ranges.specs.ExactBounds.{lowest_pre_release};
+ghost use Rattle.semver_ranges.specs.RangeViews.{comparator_of, identifier_of, range_of};
+ghost use Rattle.semver_ranges.specs.Means.PartialViews.{stated_of, version_of};
+ghost use Rattle.semver_ranges.specs.Means.PartialViews.{IsPartialOf, PartsPass};
+ghost use Rattle.semver_ranges.specs.Means.CursorViews.{form_of, IsSimpleOf};
+ghost use Rattle.tool_ranges.specs.declared.cargo.judging.Judged.TheVariants.{PreReleases};
+ghost use Rattle.tool_ranges.specs.ToolTable.{fits_in, states_some};
+ghost use Rattle.tool_ranges.specs.Means.CargoPreReleases.{below_all, counting_beside};
+ghost use Rattle.tool_ranges.specs.Means.CargoPreReleases.{judging_read, last, lowest};
+ghost use Rattle.tool_ranges.specs.Means.CargoPreReleases.{pre_releases_of, some_judged};
+
+use crate::rows;
+use semver_ranges::grammar::{Form, Simple};
+use semver_ranges::partial::{Partial, PartialKind, RaisedBounds};
+use semver_ranges::{Comparator, Compat, Identifier, Op, Range};
+use std::alloc::{AllocError, Global};
+
+/// Adds the comparators that judge pre-releases.
+pub(crate) fn push(
+    alloc: Global,
+    simple: &Simple<'_>,
+    comparators: &mut Vec<Comparator>,
+) -> Result<(), AllocError>
+    requires { (s : SimpleTree) × IsSimpleOf s simple.now × (fits_in Cargo s ≡ true) }
+    ensures { IfOk result (λ _. (s : SimpleTree) → IsSimpleOf s simple.now → fits_in Cargo s ≡ true
+        → map comparator_of comparators.new.items
+        ≡ map comparator_of comparators.old.items ++ judging_read PreReleases s) }
+{
+    match simple.partial.kind() {
+        PartialKind::XRangeOnly => {
+            comparators.push(below_all(alloc)?)?;
+            Ok(())
+        }
+        PartialKind::MajorOnly | PartialKind::MajorMinor => push_some(alloc, simple, comparators),
+        PartialKind::MajorMinorPatch => rows::push(alloc, simple, Compat::Cargo, comparators),
+    }
+}
+
+/// Adds those of one or two numbers. What is below the lowest pre-release of some numbers has lower
+/// numbers, and what is above the last release of them has higher ones.
+fn push_some(
+    alloc: Global,
+    simple: &Simple<'_>,
+    comparators: &mut Vec<Comparator>,
+) -> Result<(), AllocError>
+    requires parts { PartsPass simple.now.partial }
+    requires some { states_some (stated_of simple.now.partial) ≡ true }
+    requires fits { form_of simple.now.form ≡ caret
+        → bound_fits (Some (up (leading_place (stated_of simple.now.partial))
+        (stated_of simple.now.partial))) ≡ true }
+    ensures { IfOk result (λ _. map comparator_of comparators.new.items
+        ≡ map comparator_of comparators.old.items
+        ++ some_judged (form_of simple.now.form) (stated_of simple.now.partial)
+        (version_of simple.now.partial)) }
+{
+    match simple.form {
+        Form::Less | Form::AtMost => {
+            comparators.push(with_lowest(alloc, simple.partial.as_comparator(alloc, Op::Lt)?)?)?;
+        }
+        Form::Greater | Form::AtLeast => {
+            comparators.push(above_last(alloc, &simple.partial)?)?;
+        }
+        Form::Caret => {
+            comparators.push(with_lowest(alloc, simple.partial.as_comparator(alloc, Op::Gte)?)?)?;
+            let place = simple.partial.leading_place();
+            comparators.push(simple.partial.raised(alloc, place, RaisedBounds::Exact)?)?;
+        }
+        Form::Bare | Form::Equal | Form::Tilde => {
+            comparators.push(below_all(alloc)?)?;
+        }
+    }
+    Ok(())
+}
+
+/// The comparator that no version meets: `<0.0.0-0`.
+fn below_all(alloc: Global) -> Result<Comparator, AllocError>
+    ensures { IfOk result (λ c. comparator_of c ∷ [] ≡ below_all) }
+{
+    Ok(Comparator {
+        op: Op::Lt,
+        major: 0,
+        minor: 0,
+        patch: 0,
+        pre: lowest_identifiers(alloc)?,
+    })
+}
+
+/// A comparator of the lowest pre-release of the same numbers.
+fn with_lowest(alloc: Global, of: Comparator) -> Result<Comparator, AllocError>
+    ensures { IfOk result (λ c. comparator_of c
+        ≡ comparator of.op (lowest (comparator_of of).version)) }
+{
+    Ok(Comparator {
+        op: of.op,
+        major: of.major,
+        minor: of.minor,
+        patch: of.patch,
+        pre: lowest_identifiers(alloc)?,
+    })
+}
+
+/// Above the last release with one or two stated numbers.
+fn above_last(alloc: Global, partial: &Partial<'_>) -> Result<Comparator, AllocError>
+    requires parts { PartsPass partial.now }
+    requires some { states_some (stated_of partial.now) ≡ true }
+    ensures { IfOk result (λ c. comparator_of c
+        ≡ comparator Op.Gt (last (stated_of partial.now) (version_of partial.now))) }
+{
+    let of = partial.as_comparator(alloc, Op::Gt)?;
+    let minor = match partial.kind() {
+        PartialKind::MajorOnly => u64::MAX,
+        _ => of.minor,
+    };
+    Ok(Comparator {
+        op: of.op,
+        major: of.major,
+        minor,
+        patch: u64::MAX,
+        pre: Vec::new(alloc),
+    })
+}
+
+/// The lowest pre-release: `0`.
+fn lowest_identifiers(alloc: Global) -> Result<Vec<Identifier>, AllocError>
+    ensures { IfOk result (λ pre. map identifier_of pre.items ≡ lowest_pre_release) }
+{
+    let mut pre = Vec::with_capacity(alloc, 1)?;
+    pre.push(Identifier::Numeric(0))?;
+    Ok(pre)
+}
+
+/// Adds the range of the pre-releases that count beside a partial, if it has a pre-release.
+pub(crate) fn push_counting(
+    alloc: Global,
+    partial: &Partial<'_>,
+    ranges: &mut Vec<Range>,
+) -> Result<(), AllocError>
+    requires { PartsPass partial.now }
+    ensures { IfOk result (λ _. (p : PartialTree) → IsPartialOf p partial.now
+        → partial.now.fits ≡ true → map range_of ranges.new.items
+        ≡ map range_of ranges.old.items ++ counting_beside p) }
+{
+    let of = partial.as_comparator(alloc, Op::Lt)?;
+    if of.pre.is_empty() {
+        return Ok(());
+    }
+    ranges.push(pre_releases_of(alloc, of)?)?;
+    Ok(())
+}
+
+/// The range of the pre-releases of a comparator's numbers.
+fn pre_releases_of(alloc: Global, of: Comparator) -> Result<Range, AllocError>
+    ensures { IfOk result (λ range. range_of range
+        ≡ pre_releases_of (comparator_of of).version) }
+{
+    let (major, minor, patch) = (of.major, of.minor, of.patch);
+    let mut comparator_set = Vec::with_capacity(alloc, 2)?;
+    comparator_set.push(Comparator {
+        op: Op::Gte,
+        major,
+        minor,
+        patch,
+        pre: lowest_identifiers(alloc)?,
+    })?;
+    comparator_set.push(Comparator {
+        op: Op::Lt,
+        major,
+        minor,
+        patch,
+        pre: Vec::new(alloc),
+    })?;
+    Ok(Range {
+        comparator_set,
+        compat: Compat::Cargo,
+    })
+}

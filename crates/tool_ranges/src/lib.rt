@@ -1,0 +1,6 @@
+//! Range texts as Cargo and npm themselves read them, which differs from the port's two modes.
+#![tactic(auto)]
+
+pub mod cargo;
+pub mod npm;
+mod rows;
