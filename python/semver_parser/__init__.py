@@ -16,7 +16,7 @@ what a range means. Texts are `str` or `bytes` in UTF-8. A text that is refused 
 several threads at once, and nothing from a signal handler or from a forked child of a process
 that has several threads.
 
-The calls are those of the shared library `libsemver_parser.so.0.1`, which is loaded when the
+The calls are those of the shared library `libsemver_parser.so.0.2`, which is loaded when the
 package is imported. It is looked for at the path that the environment variable
 SEMVER_PARSER_LIBRARY has; or else beside these modules, and then where the system looks for
 libraries.
@@ -38,7 +38,7 @@ from .values import (
     precedence,
 )
 
-__version__ = "0.1.0"
+__version__ = "0.2.0"
 
 __all__ = [
     "AnyVersion",

@@ -4,7 +4,7 @@ import ctypes
 import os
 from typing import List, Tuple
 
-FITTING = (0, 1)
+FITTING = (0, 2)
 """The major and minor number of the libraries that fit: while the major is 0, both decide."""
 
 NAME = "libsemver_parser.so." + ".".join(map(str, FITTING))
@@ -33,7 +33,7 @@ class ReadVersion(ctypes.Structure):
 
 
 class ReadComparator(ctypes.Structure):
-    """A comparator of a range that was rewritten, whose pre-release lies in the printed text."""
+    """A comparator of a range that was rewritten, whose pre-release lies in the room of these."""
 
     _fields_ = [
         ("range", ctypes.c_size_t),
@@ -110,7 +110,7 @@ def _declare(library: ctypes.CDLL, path: str) -> None:
     rooms = [ctypes.POINTER(ReadComparator), size, counted, ctypes.c_char_p, size, counted]
     calls = {
         "parse_version": [*text, ctypes.POINTER(ReadVersion)],
-        "rewrite_with_comparators": [*text, flag, flag, *rooms],
+        "comparators": [*text, flag, flag, *rooms],
         "meets": [*text, flag, number, *text, ctypes.POINTER(flag)],
         "meets_each": [*text, flag, number, ctypes.POINTER(TextItem), size, ctypes.c_char_p],
         "least": [*text, flag, number, ctypes.c_char_p, size, counted],

@@ -19,9 +19,9 @@ from .values import (
 
 _OPS = (Op.LT, Op.LTE, Op.GT, Op.GTE, Op.EQ)
 
-# The room for comparators and for the printed text that is tried first.
+# The rooms for comparators and for the bytes of their pre-releases that are tried first.
 _COMPARATORS = 8
-_BYTES = 256
+_BYTES = 64
 
 
 def is_npm(mode: Compat) -> bool:
@@ -67,27 +67,26 @@ def parse_range(text: Text, mode: Compat = Compat.CARGO, exact: bool = False) ->
 
     Raises `RangeError` where the text is no range.
     """
-    comparators, printed = _rewritten(text, is_npm(mode), bool(exact))
+    comparators, pre_releases = _comparators(text, is_npm(mode), bool(exact))
     ranges: List[List[Comparator]] = []
     for it in comparators:
         if it.range == len(ranges):
             ranges.append([])
-        pre = _identifiers(printed, it.pre)
+        pre = _identifiers(pre_releases, it.pre)
         ranges[it.range].append(Comparator(_OPS[it.op], it.major, it.minor, it.patch, pre))
     return RangeSet(tuple(Range(tuple(them), mode) for them in ranges), mode)
 
 
-def _rewritten(text: Text, npm: bool, exact: bool) -> Tuple[List[ReadComparator], bytes]:
-    """The comparators of a range and its printed text, in rooms that are large enough."""
+def _comparators(text: Text, npm: bool, exact: bool) -> Tuple[List[ReadComparator], bytes]:
+    """The comparators of a range and the bytes of their pre-releases, in rooms that are large
+    enough."""
     text_bytes = encoded(text)
     count, length = ctypes.c_size_t(_COMPARATORS), ctypes.c_size_t(_BYTES)
     answer = NO_ROOM
     while answer == NO_ROOM:
         comparators = (ReadComparator * count.value)()
-        printed = ctypes.create_string_buffer(length.value)
-        rooms = (comparators, len(comparators), count, printed, len(printed), length)
-        answer = LIBRARY.semver_parser_rewrite_with_comparators(
-            text_bytes, len(text_bytes), npm, exact, *rooms
-        )
+        pre_releases = ctypes.create_string_buffer(length.value)
+        rooms = (comparators, len(comparators), count, pre_releases, len(pre_releases), length)
+        answer = LIBRARY.semver_parser_comparators(text_bytes, len(text_bytes), npm, exact, *rooms)
     raise_fault(answer, range=text)
-    return comparators[: count.value], printed.raw[: length.value]
+    return comparators[: count.value], pre_releases.raw[: length.value]

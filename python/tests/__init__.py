@@ -1,1 +1,1 @@
-"""Tests of the package, to be run from a checkout: `./test-python`."""
+"""Tests of the package, to be run from a checkout: `./test python`."""

@@ -141,7 +141,7 @@ class Ranges(unittest.TestCase):
             text = "||".join(["^1.2.3-rc.1"] * count)
             one = Range((Comparator(Op.GTE, 1, 2, 3, ("rc", 1)), Comparator(Op.LT, 2, 0, 0)), NPM)
             self.assertEqual(parse_range(text, NPM), RangeSet((one,) * count, NPM))
-        for length in range(200, 300):
+        for length in range(40, 100):
             answered = parse_range("=1.2.3-" + "a" * length)
             self.assertEqual(answered.ranges[0].comparator_set[0].pre, ("a" * length,))
 

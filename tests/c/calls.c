@@ -120,8 +120,8 @@ static void free_rooms(rooms *some) {
     free(some->comparators);
 }
 
-/* Which call is made: one of the two rooms is left alone by the first two. */
-enum { PRINTED = 1, COMPARATORS = 2, BOTH = 3 };
+/* Which call is made: the first leaves the room of comparators alone. */
+enum { PRINTED, COMPARATORS };
 
 static int32_t call(int which, const text *of, bool npm, bool exact, rooms *to, bool at_null) {
     uint8_t *bytes = alone(of);
@@ -131,10 +131,8 @@ static int32_t call(int which, const text *of, bool npm, bool exact, rooms *to, 
     int32_t answer;
     if (which == PRINTED) {
         answer = semver_parser_rewrite(from, of->length, npm, exact, out, to->room, &to->length);
-    } else if (which == COMPARATORS) {
-        answer = semver_parser_comparators(from, of->length, npm, exact, comparators, to->comparator_room, &to->count);
     } else {
-        answer = semver_parser_rewrite_with_comparators(from, of->length, npm, exact, comparators, to->comparator_room, &to->count, out, to->room, &to->length);
+        answer = semver_parser_comparators(from, of->length, npm, exact, comparators, to->comparator_room, &to->count, out, to->room, &to->length);
     }
     free(bytes);
     return answer;
@@ -146,12 +144,12 @@ static void require_kept(int which, int32_t answer, const rooms *to, const text 
     require(to->out[to->room] == GUARD, "a byte behind the room", of);
     require(is_filled(to->comparators + to->comparator_room, GUARD, comparator_size), "a comparator behind the room", of);
     bool told = answer == SEMVER_PARSER_OK || answer == SEMVER_PARSER_NO_ROOM;
-    require((told && (which & PRINTED) != 0) == (to->length != UNTOLD), "another length at a fault", of);
-    require((told && (which & COMPARATORS) != 0) == (to->count != UNTOLD), "another count at a fault", of);
-    size_t written = answer == SEMVER_PARSER_OK && (which & PRINTED) != 0 ? to->length : 0;
-    size_t put = answer == SEMVER_PARSER_OK && (which & COMPARATORS) != 0 ? to->count : 0;
+    require(told == (to->length != UNTOLD), "another length at a fault", of);
+    require((told && which == COMPARATORS) == (to->count != UNTOLD), "another count at a fault", of);
+    size_t written = answer == SEMVER_PARSER_OK ? to->length : 0;
+    size_t put = answer == SEMVER_PARSER_OK && which == COMPARATORS ? to->count : 0;
     require(written <= to->room && put <= to->comparator_room, "more than there is room for", of);
-    require(is_filled(to->out + written, FILL, to->room - written), "a byte behind the set, or at a fault", of);
+    require(is_filled(to->out + written, FILL, to->room - written), "a byte behind what was put, or at a fault", of);
     require(is_filled(to->comparators + put, FILL, (to->comparator_room - put) * comparator_size), "a comparator behind the set, or at a fault", of);
 }
 
@@ -160,19 +158,19 @@ static bool is_same_comparator(const semver_parser_comparator *one, const semver
         && one->pre.offset == other->pre.offset && one->pre.length == other->pre.length;
 }
 
-/* One call in some rooms, which has to answer and to write what is wanted. */
-static void try_rooms(int which, const text *of, bool npm, bool exact, size_t room, size_t comparator_room, const text *set, const comparator_list *list) {
-    bool is_empty = of->length == 0 || ((which & PRINTED) != 0 && room == 0) || ((which & COMPARATORS) != 0 && comparator_room == 0);
+/* One call in some rooms, which has to answer and to write what is wanted: the bytes, and the comparators where it tells them. */
+static void try_rooms(int which, const text *of, bool npm, bool exact, size_t room, size_t comparator_room, const text *bytes, const comparator_list *list) {
+    bool is_empty = of->length == 0 || room == 0 || (which == COMPARATORS && comparator_room == 0);
     for (int at_null = 0; at_null < (is_empty ? 2 : 1); at_null++) {
         rooms to = rooms_of(room, comparator_room);
         int32_t answer = call(which, of, npm, exact, &to, at_null != 0);
-        bool fits = ((which & PRINTED) == 0 || room >= set->length) && ((which & COMPARATORS) == 0 || comparator_room >= list->count);
+        bool fits = room >= bytes->length && (which == PRINTED || comparator_room >= list->count);
         require(answer == (fits ? (int32_t)SEMVER_PARSER_OK : (int32_t)SEMVER_PARSER_NO_ROOM), "another answer in another room", of);
         require_kept(which, answer, &to, of);
-        require((which & PRINTED) == 0 || to.length == set->length, "another length in another room", of);
-        require((which & COMPARATORS) == 0 || to.count == list->count, "another count in another room", of);
-        require(!fits || (which & PRINTED) == 0 || memcmp(to.out, set->bytes, set->length) == 0, "another set in another room", of);
-        for (size_t at = 0; fits && (which & COMPARATORS) != 0 && at < list->count; at++) {
+        require(to.length == bytes->length, "another length in another room", of);
+        require(which == PRINTED || to.count == list->count, "another count in another room", of);
+        require(!fits || memcmp(to.out, bytes->bytes, bytes->length) == 0, "other bytes in another room", of);
+        for (size_t at = 0; fits && which == COMPARATORS && at < list->count; at++) {
             require(is_same_comparator(&to.comparators[at], &list->items[at]), "another comparator in another room", of);
         }
         free_rooms(&to);
@@ -183,8 +181,10 @@ static bool is_tried(size_t room, size_t needed, size_t all) {
     return needed <= all || room <= 1 || room == needed / 2 || room + 1 >= needed;
 }
 
-/* The room of comparators goes with each room of the printed set that decides: none, one that is a byte too small, and one that fits. */
+/* Each room of comparators goes with each room of bytes that decides: none, one that is a byte too small, and one that fits; and each of bytes with a room of
+ * comparators that fits. */
 static void try_all_rooms(const text *of, bool npm, bool exact, const text *set, const comparator_list *list) {
+    const text *pre_releases = &list->pre_releases;
     for (size_t room = 0; room <= set->length + 1; room++) {
         if (is_tried(room, set->length, 300)) {
             try_rooms(PRINTED, of, npm, exact, room, 0, set, list);
@@ -194,10 +194,14 @@ static void try_all_rooms(const text *of, bool npm, bool exact, const text *set,
         if (!is_tried(comparator_room, list->count, 12)) {
             continue;
         }
-        try_rooms(COMPARATORS, of, npm, exact, 0, comparator_room, set, list);
-        try_rooms(BOTH, of, npm, exact, 0, comparator_room, set, list);
-        try_rooms(BOTH, of, npm, exact, set->length - 1, comparator_room, set, list);
-        try_rooms(BOTH, of, npm, exact, set->length, comparator_room, set, list);
+        try_rooms(COMPARATORS, of, npm, exact, 0, comparator_room, pre_releases, list);
+        try_rooms(COMPARATORS, of, npm, exact, pre_releases->length > 0 ? pre_releases->length - 1 : 1, comparator_room, pre_releases, list);
+        try_rooms(COMPARATORS, of, npm, exact, pre_releases->length, comparator_room, pre_releases, list);
+    }
+    for (size_t room = 0; room <= pre_releases->length + 1; room++) {
+        if (is_tried(room, pre_releases->length, 300)) {
+            try_rooms(COMPARATORS, of, npm, exact, room, list->count, pre_releases, list);
+        }
     }
 }
 
@@ -212,31 +216,32 @@ const char *operator_text(int32_t op) {
     }
 }
 
-/* The comparators, printed, are the set. Their parts lie where they stand, so each is looked for behind the one before it. */
+/* The comparators, printed, are the set. Their pre-releases lie one behind the other, and there is nothing else beside them. */
 static void require_printed(const text *of, const text *set, const comparator_list *list) {
     text printed = {NULL, 0, 0};
     size_t range = 0;
+    size_t offset = 0;
     for (size_t at = 0; at < list->count; at++) {
         const semver_parser_comparator *one = &list->items[at];
         require(one->range == range || (at > 0 && one->range == range + 1), "a range out of turn", of);
         text_say(&printed, "%s%s%llu.%llu.%llu", at == 0 ? "" : one->range == range ? " " : " || ", operator_text(one->op), (unsigned long long)one->major,
                  (unsigned long long)one->minor, (unsigned long long)one->patch);
         range = one->range;
+        require(one->pre.offset == offset && one->pre.length <= list->pre_releases.length - offset, "a pre-release in another place", of);
         if (one->pre.length > 0) {
             text_say(&printed, "-");
-            require(one->pre.offset == printed.length && one->pre.length <= set->length - printed.length, "a pre-release in another place", of);
-            text_add(&printed, set->bytes + one->pre.offset, one->pre.length);
-        } else {
-            require(one->pre.offset == 0, "a place of no pre-release", of);
+            text_add(&printed, list->pre_releases.bytes + one->pre.offset, one->pre.length);
         }
+        offset += one->pre.length;
     }
+    require(offset == list->pre_releases.length, "bytes behind the pre-releases", of);
     require(printed.length == set->length && memcmp(printed.bytes, set->bytes, set->length) == 0, "comparators of another set", of);
     text_free(&printed);
 }
 
-/* A fault of a range, which each of the three calls has to answer. */
+/* A fault of a range, which both calls have to answer. */
 static int32_t require_fault(const text *of, bool npm, bool exact, int32_t fault) {
-    for (int which = PRINTED; which <= BOTH; which++) {
+    for (int which = PRINTED; which <= COMPARATORS; which++) {
         for (int case_of = 0; case_of < 4; case_of++) {
             rooms to = rooms_of(case_of % 2 == 0 ? 0 : 64, case_of % 2 == 0 ? 0 : 8);
             int32_t answer = call(which, of, npm, exact, &to, case_of >= 2);
@@ -248,35 +253,48 @@ static int32_t require_fault(const text *of, bool npm, bool exact, int32_t fault
     return fault;
 }
 
+/* What a call puts into rooms of the size that it asks for. */
+static rooms filled_rooms(int which, const text *of, bool npm, bool exact) {
+    rooms none = rooms_of(0, 0);
+    require(call(which, of, npm, exact, &none, false) == SEMVER_PARSER_NO_ROOM, "room for a set of no bytes, or of no comparators", of);
+    free_rooms(&none);
+    rooms to = rooms_of(none.length, which == COMPARATORS ? none.count : 0);
+    require(call(which, of, npm, exact, &to, false) == SEMVER_PARSER_OK, "no room in rooms of its size", of);
+    require(to.length == none.length && to.count == none.count, "another size", of);
+    return to;
+}
+
 int32_t rewrite(const text *of, bool npm, bool exact, text *printed, comparator_list *comparators) {
     rooms none = rooms_of(0, 0);
-    int32_t answer = call(BOTH, of, npm, exact, &none, false);
+    int32_t answer = call(PRINTED, of, npm, exact, &none, false);
     free_rooms(&none);
     if (answer != SEMVER_PARSER_NO_ROOM) {
         require(answer != SEMVER_PARSER_OK, "a set of no bytes", of);
         return require_fault(of, npm, exact, answer);
     }
-    rooms to = rooms_of(none.length, none.count);
-    answer = call(BOTH, of, npm, exact, &to, false);
-    require(answer == SEMVER_PARSER_OK && to.length == none.length && to.count == none.count, "no set in rooms of its size", of);
+    rooms of_set = filled_rooms(PRINTED, of, npm, exact);
+    rooms of_comparators = filled_rooms(COMPARATORS, of, npm, exact);
     text set = {NULL, 0, 0};
-    text_add(&set, (const char *)to.out, to.length);
-    comparator_list list = {to.comparators, to.count};
+    text_add(&set, (const char *)of_set.out, of_set.length);
+    comparator_list list = {of_comparators.comparators, of_comparators.count, {NULL, 0, 0}};
+    text_add(&list.pre_releases, (const char *)of_comparators.out, of_comparators.length);
     require_printed(of, &set, &list);
     try_all_rooms(of, npm, exact, &set, &list);
     text_add(printed, set.bytes, set.length);
     text_free(&set);
-    free(to.out);
+    free_rooms(&of_set);
+    free(of_comparators.out);
     if (comparators != NULL) {
         *comparators = list;
     } else {
-        free(list.items);
+        free_comparators(&list);
     }
-    return answer;
+    return SEMVER_PARSER_OK;
 }
 
 void free_comparators(comparator_list *comparators) {
     free(comparators->items);
+    text_free(&comparators->pre_releases);
 }
 
 /* ---- meeting */

@@ -13,14 +13,15 @@ int32_t read_version(const text *of, semver_parser_version *out);
  * null too. */
 int32_t precedence(const text *version, const text *other, int32_t *order, bool *in_other);
 
-/* Comparators in order. */
+/* Comparators in order, and the bytes that have their pre-releases. */
 typedef struct {
     semver_parser_comparator *items;
     size_t count;
+    text pre_releases;
 } comparator_list;
 
 /* Rewrites a range, appends the printed set, and gives its comparators unless `comparators` is null. It tries a room of each length up to one past what is
- * needed (of a set above 300 bytes or 12 comparators, of some lengths), by each of the three calls, and at null where a room or the text is empty. */
+ * needed (of a set above 300 bytes or 12 comparators, of some lengths), by both calls, and at null where a room or the text is empty. */
 int32_t rewrite(const text *of, bool npm, bool exact, text *printed, comparator_list *comparators);
 void free_comparators(comparator_list *comparators);
 

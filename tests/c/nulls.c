@@ -58,35 +58,24 @@ static int32_t rewrite_out(void) {
 
 static int32_t comparators_text(void) {
     semver_parser_comparator comparators[4];
+    uint8_t out[64];
     size_t count;
-    return semver_parser_comparators(NULL, 5, true, true, comparators, 4, &count);
+    size_t length;
+    return semver_parser_comparators(NULL, 5, true, true, comparators, 4, &count, out, sizeof out, &length);
+}
+
+static int32_t comparators_room(void) {
+    uint8_t out[64];
+    size_t count;
+    size_t length;
+    return semver_parser_comparators(bytes_of("^1.2"), 4, true, true, NULL, 4, &count, out, sizeof out, &length);
 }
 
 static int32_t comparators_out(void) {
-    size_t count;
-    return semver_parser_comparators(bytes_of("^1.2"), 4, true, true, NULL, 4, &count);
-}
-
-static int32_t both_text(void) {
-    semver_parser_comparator comparators[4];
-    uint8_t out[64];
-    size_t count;
-    size_t length;
-    return semver_parser_rewrite_with_comparators(NULL, 5, true, true, comparators, 4, &count, out, sizeof out, &length);
-}
-
-static int32_t both_comparators(void) {
-    uint8_t out[64];
-    size_t count;
-    size_t length;
-    return semver_parser_rewrite_with_comparators(bytes_of("^1.2"), 4, true, true, NULL, 4, &count, out, sizeof out, &length);
-}
-
-static int32_t both_out(void) {
     semver_parser_comparator comparators[4];
     size_t count;
     size_t length;
-    return semver_parser_rewrite_with_comparators(bytes_of("^1.2"), 4, true, true, comparators, 4, &count, NULL, 64, &length);
+    return semver_parser_comparators(bytes_of("^1.2"), 4, true, true, comparators, 4, &count, NULL, 64, &length);
 }
 
 static int32_t meets_range(void) {
@@ -234,10 +223,8 @@ static void nulls_with_a_length(void) {
     ends_at_null(rewrite_text, "the text of a range");
     ends_at_null(rewrite_out, "the room of a set");
     ends_at_null(comparators_text, "the text of a range, for comparators");
-    ends_at_null(comparators_out, "the room of comparators");
-    ends_at_null(both_text, "the text of a range, for both");
-    ends_at_null(both_comparators, "the room of comparators beside a set");
-    ends_at_null(both_out, "the room of a set beside comparators");
+    ends_at_null(comparators_room, "the room of comparators");
+    ends_at_null(comparators_out, "the room of their pre-releases");
     ends_at_null(meets_range, "the range of a version");
     ends_at_null(meets_version, "the version of a range");
     ends_at_null(least_range, "the range of a least version");

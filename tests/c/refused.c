@@ -92,8 +92,8 @@ static void order_takes(const char *bytes, const char *other, int requests, int3
     }
 }
 
-/* A range whose rewriting takes requests, or takes none, by the call that prints, by that of comparators, or by both. */
-static void range_takes(const char *bytes, bool npm, bool exact, int which, bool some, int32_t wanted) {
+/* A range whose rewriting takes requests, or takes none, by the call that prints, or by that of comparators. */
+static void range_takes(const char *bytes, bool npm, bool exact, bool tells, bool some, int32_t wanted) {
     int request = 0;
     do {
         uint8_t out[64];
@@ -105,14 +105,8 @@ static void range_takes(const char *bytes, bool npm, bool exact, int which, bool
         size_t count = 777;
         const uint8_t *from = (const uint8_t *)bytes;
         grant(request);
-        int32_t answered;
-        if (which == 0) {
-            answered = semver_parser_rewrite(from, strlen(bytes), npm, exact, out, sizeof out, &length);
-        } else if (which == 1) {
-            answered = semver_parser_comparators(from, strlen(bytes), npm, exact, comparators, 4, &count);
-        } else {
-            answered = semver_parser_rewrite_with_comparators(from, strlen(bytes), npm, exact, comparators, 4, &count, out, sizeof out, &length);
-        }
+        int32_t answered = tells ? semver_parser_comparators(from, strlen(bytes), npm, exact, comparators, 4, &count, out, sizeof out, &length)
+                                 : semver_parser_rewrite(from, strlen(bytes), npm, exact, out, sizeof out, &length);
         check(answered == (refused ? (int32_t)SEMVER_PARSER_RANGE_OUT_OF_MEMORY : wanted), "another answer", bytes, request);
         bool is_kept = length == 777 && count == 777 && out[0] == 'x' && memcmp(out, out + 1, sizeof out - 1) == 0 && put[0] == 'x'
             && memcmp(put, put + 1, sizeof comparators - 1) == 0;
@@ -231,13 +225,14 @@ int main(void) {
     for (int modes = 0; modes < 4; modes++) {
         bool npm = (modes & 1) != 0;
         bool exact = (modes & 2) != 0;
-        for (int which = 0; which < 3; which++) {
-            range_takes("^1.2", npm, exact, which, true, SEMVER_PARSER_OK);
-            range_takes("1.2.3-rc || 4", npm, exact, which, true, SEMVER_PARSER_OK);
-            range_takes("1 || 2 || 3", npm, exact, which, true, which == 0 ? (int32_t)SEMVER_PARSER_OK : (int32_t)SEMVER_PARSER_NO_ROOM);
-            range_takes("v1", npm, exact, which, false, SEMVER_PARSER_NOT_A_RANGE);
-            range_takes("<=18446744073709551615", npm, exact, which, false, SEMVER_PARSER_NUMBER_TOO_LARGE);
-            range_takes("\xFF", npm, exact, which, false, SEMVER_PARSER_RANGE_NOT_UTF8);
+        for (int which = 0; which < 2; which++) {
+            bool tells = which != 0;
+            range_takes("^1.2", npm, exact, tells, true, SEMVER_PARSER_OK);
+            range_takes("1.2.3-rc || 4", npm, exact, tells, true, SEMVER_PARSER_OK);
+            range_takes("1 || 2 || 3", npm, exact, tells, true, tells ? (int32_t)SEMVER_PARSER_NO_ROOM : (int32_t)SEMVER_PARSER_OK);
+            range_takes("v1", npm, exact, tells, false, SEMVER_PARSER_NOT_A_RANGE);
+            range_takes("<=18446744073709551615", npm, exact, tells, false, SEMVER_PARSER_NUMBER_TOO_LARGE);
+            range_takes("\xFF", npm, exact, tells, false, SEMVER_PARSER_RANGE_NOT_UTF8);
         }
     }
     both_take("1.2.3", true, "1.2.3", 0, SEMVER_PARSER_OK, true);

@@ -111,7 +111,7 @@ static int32_t say_printed_version(text *to, const text *of) {
 /* Writes the fields of a set. */
 static void say_set(text *to, const text *of, bool npm) {
     text printed = {NULL, 0, 0};
-    comparator_list list = {NULL, 0};
+    comparator_list list = {NULL, 0, {NULL, 0, 0}};
     int32_t answer = rewrite(of, npm, false, &printed, &list);
     if (answer != SEMVER_PARSER_OK) {
         text_say(to, "%s", range_fault(answer, BY_NAME));
@@ -122,7 +122,7 @@ static void say_set(text *to, const text *of, bool npm) {
         const semver_parser_comparator *one = &list.items[at];
         text_say(to, "%s %s%" PRIu64 ".%" PRIu64 ".%" PRIu64 "[", at > 0 && one->range != list.items[at - 1].range ? " ||" : "", operator_text(one->op),
                  one->major, one->minor, one->patch);
-        say_identifiers(to, printed.bytes + one->pre.offset, one->pre.length);
+        say_identifiers(to, list.pre_releases.bytes + one->pre.offset, one->pre.length);
         text_say(to, "]");
     }
     text_free(&printed);

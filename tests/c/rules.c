@@ -284,10 +284,11 @@ static semver_parser_comparator comparator(size_t range, int32_t op, uint64_t ma
     return made;
 }
 
-static void comparators_are(bool npm, bool exact, const char *bytes, const semver_parser_comparator *wanted, size_t count) {
+/* The comparators of a range, and the bytes of their pre-releases. */
+static void comparators_are(bool npm, bool exact, const char *bytes, const semver_parser_comparator *wanted, size_t count, const char *pre_releases) {
     text of = string(bytes);
     text printed = {NULL, 0, 0};
-    comparator_list list = {NULL, 0};
+    comparator_list list = {NULL, 0, {NULL, 0, 0}};
     check(rewrite(&of, npm, exact, &printed, &list) == SEMVER_PARSER_OK && list.count == count, "another number of comparators", &of);
     for (size_t at = 0; at < count && at < list.count; at++) {
         const semver_parser_comparator *one = &list.items[at];
@@ -296,30 +297,34 @@ static void comparators_are(bool npm, bool exact, const char *bytes, const semve
         check(one->major == wanted[at].major && one->minor == wanted[at].minor && one->patch == wanted[at].patch, "other numbers", &of);
         check(one->pre.offset == wanted[at].pre.offset && one->pre.length == wanted[at].pre.length, "another pre-release", &of);
     }
+    check(list.pre_releases.length == strlen(pre_releases) && strcmp(list.pre_releases.bytes, pre_releases) == 0, "other pre-releases", &of);
     free_comparators(&list);
     text_free(&printed);
     text_free(&of);
 }
 
 static void comparators(void) {
-    const semver_parser_part none = {0, 0};
     /* >=1.2.0 <2.0.0-0 || >=3.0.0 <4.0.0-0 */
     const semver_parser_comparator two_ranges[] = {
-        comparator(0, SEMVER_PARSER_GREATER_EQUAL, 1, 2, 0, none), comparator(0, SEMVER_PARSER_LESS, 2, 0, 0, part(15, 1)),
-        comparator(1, SEMVER_PARSER_GREATER_EQUAL, 3, 0, 0, none), comparator(1, SEMVER_PARSER_LESS, 4, 0, 0, part(35, 1))};
-    comparators_are(true, true, "^1.2 || 3.x", two_ranges, 4);
+        comparator(0, SEMVER_PARSER_GREATER_EQUAL, 1, 2, 0, part(0, 0)), comparator(0, SEMVER_PARSER_LESS, 2, 0, 0, part(0, 1)),
+        comparator(1, SEMVER_PARSER_GREATER_EQUAL, 3, 0, 0, part(1, 0)), comparator(1, SEMVER_PARSER_LESS, 4, 0, 0, part(1, 1))};
+    comparators_are(true, true, "^1.2 || 3.x", two_ranges, 4, "00");
+    /* >=1.2.3-rc.1 <2.0.0-0 || <2.0.0-a */
+    const semver_parser_comparator three[] = {comparator(0, SEMVER_PARSER_GREATER_EQUAL, 1, 2, 3, part(0, 4)),
+                                              comparator(0, SEMVER_PARSER_LESS, 2, 0, 0, part(4, 1)), comparator(1, SEMVER_PARSER_LESS, 2, 0, 0, part(5, 1))};
+    comparators_are(false, true, "^1.2.3-rc.1 || <2.0.0-a", three, 3, "rc.10a");
     /* <1.0.0-a <=1.0.0 >1.0.0 || =1.0.0-b.10.c-d */
     const semver_parser_comparator stated[] = {
-        comparator(0, SEMVER_PARSER_LESS, 1, 0, 0, part(7, 1)), comparator(0, SEMVER_PARSER_LESS_EQUAL, 1, 0, 0, none),
-        comparator(0, SEMVER_PARSER_GREATER, 1, 0, 0, none), comparator(1, SEMVER_PARSER_EQUAL, 1, 0, 0, part(34, 8))};
-    comparators_are(true, false, "<1.0.0-a <=1.0.0 >1.0.0||1.0.0-b.10.c-d+build", stated, 4);
+        comparator(0, SEMVER_PARSER_LESS, 1, 0, 0, part(0, 1)), comparator(0, SEMVER_PARSER_LESS_EQUAL, 1, 0, 0, part(1, 0)),
+        comparator(0, SEMVER_PARSER_GREATER, 1, 0, 0, part(1, 0)), comparator(1, SEMVER_PARSER_EQUAL, 1, 0, 0, part(1, 8))};
+    comparators_are(true, false, "<1.0.0-a <=1.0.0 >1.0.0||1.0.0-b.10.c-d+build", stated, 4, "ab.10.c-d");
     /* =18446744073709551615.10.100-x || >=0.0.0 */
-    const semver_parser_comparator long_numbers[] = {comparator(0, SEMVER_PARSER_EQUAL, UINT64_MAX, 10, 100, part(29, 1)),
-                                                     comparator(1, SEMVER_PARSER_GREATER_EQUAL, 0, 0, 0, none)};
-    comparators_are(true, true, "18446744073709551615.10.100-x ||", long_numbers, 2);
-    const semver_parser_comparator all = comparator(0, SEMVER_PARSER_GREATER_EQUAL, 0, 0, 0, none);
-    comparators_are(true, true, "", &all, 1);
-    comparators_are(false, true, "*", &all, 1);
+    const semver_parser_comparator long_numbers[] = {comparator(0, SEMVER_PARSER_EQUAL, UINT64_MAX, 10, 100, part(0, 1)),
+                                                     comparator(1, SEMVER_PARSER_GREATER_EQUAL, 0, 0, 0, part(1, 0))};
+    comparators_are(true, true, "18446744073709551615.10.100-x ||", long_numbers, 2, "x");
+    const semver_parser_comparator all = comparator(0, SEMVER_PARSER_GREATER_EQUAL, 0, 0, 0, part(0, 0));
+    comparators_are(true, true, "", &all, 1, "");
+    comparators_are(false, true, "*", &all, 1, "");
 }
 
 /* ---- whether a version meets a range */

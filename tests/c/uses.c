@@ -4,7 +4,7 @@
 #include <stdio.h>
 #include <string.h>
 
-#if SEMVER_PARSER_VERSION_MAJOR != 0 || SEMVER_PARSER_VERSION_MINOR < 1 || SEMVER_PARSER_VERSION_PATCH < 0
+#if SEMVER_PARSER_VERSION_MAJOR != 0 || SEMVER_PARSER_VERSION_MINOR < 2 || SEMVER_PARSER_VERSION_PATCH < 0
 #error "the version of another library"
 #endif
 
@@ -18,14 +18,15 @@ static int use_rewriting(void) {
     uint8_t out[64];
     size_t count = 0;
     size_t length = 0;
-    int32_t answer = semver_parser_rewrite_with_comparators(bytes_of(range), strlen(range), true, true, comparators, 4, &count, out, sizeof out, &length);
-    if (answer != SEMVER_PARSER_OK || comparators[1].op != SEMVER_PARSER_LESS || comparators[1].pre.length != 1) {
+    int32_t answer = semver_parser_comparators(bytes_of(range), strlen(range), true, true, comparators, 4, &count, out, sizeof out, &length);
+    if (answer != SEMVER_PARSER_OK || comparators[1].op != SEMVER_PARSER_LESS || comparators[1].pre.length != 1 || out[comparators[1].pre.offset] != '0') {
         return 1;
     }
     if (semver_parser_rewrite(NULL, 0, false, false, NULL, 0, &length) != SEMVER_PARSER_NO_ROOM) {
         return 1;
     }
-    return semver_parser_comparators(NULL, 0, false, false, NULL, 0, &count) == SEMVER_PARSER_NO_ROOM && count == 1 ? 0 : 1;
+    answer = semver_parser_comparators(NULL, 0, false, false, NULL, 0, &count, NULL, 0, &length);
+    return answer == SEMVER_PARSER_NO_ROOM && count == 1 && length == 0 ? 0 : 1;
 }
 
 static int use_meeting(void) {

@@ -48,7 +48,7 @@ The last of --pre and --pre-stated counts. The status is 0 where a line was
 written, 1 where none was, and 2 after a fault, which standard error tells.";
 
 /// The version of this program, as the file VERSION has it.
-const VERSION: &str = "release-filter 0.1.0";
+const VERSION: &str = "release-filter 0.2.0";
 
 /// Why a run ended by a fault.
 #[derive(Drop)]

@@ -39,16 +39,9 @@ int32_t semver_parser_rewrite(const uint8_t *text, size_t text_length, bool npm,
 }
 
 int32_t semver_parser_comparators(const uint8_t *text, size_t text_length, bool npm, bool exact, semver_parser_comparator *comparators,
-                                  size_t comparator_room, size_t *count) {
+                                  size_t comparator_room, size_t *count, uint8_t *out, size_t room, size_t *length) {
     return semver_parser_proved_comparators(text_at(text, text_length), text_length, npm, exact, comparators_at(comparators, comparator_room),
-                                            comparator_room, count);
-}
-
-int32_t semver_parser_rewrite_with_comparators(const uint8_t *text, size_t text_length, bool npm, bool exact, semver_parser_comparator *comparators,
-                                               size_t comparator_room, size_t *count, uint8_t *out, size_t room, size_t *length) {
-    return semver_parser_proved_rewrite_with_comparators(text_at(text, text_length), text_length, npm, exact,
-                                                         comparators_at(comparators, comparator_room), comparator_room, count, room_at(out, room), room,
-                                                         length);
+                                            comparator_room, count, room_at(out, room), room, length);
 }
 
 int32_t semver_parser_meets(const uint8_t *range, size_t range_length, bool npm, int32_t pre_releases, const uint8_t *version, size_t version_length,

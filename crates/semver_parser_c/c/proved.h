@@ -16,11 +16,7 @@ int32_t semver_parser_proved_precedence(const uint8_t *version, size_t version_l
 int32_t semver_parser_proved_rewrite(const uint8_t *text, size_t text_length, bool npm, bool exact, uint8_t *out, size_t room, size_t *length);
 
 int32_t semver_parser_proved_comparators(const uint8_t *text, size_t text_length, bool npm, bool exact, semver_parser_comparator *comparators,
-                                         size_t comparator_room, size_t *count);
-
-int32_t semver_parser_proved_rewrite_with_comparators(const uint8_t *text, size_t text_length, bool npm, bool exact,
-                                                      semver_parser_comparator *comparators, size_t comparator_room, size_t *count, uint8_t *out,
-                                                      size_t room, size_t *length);
+                                         size_t comparator_room, size_t *count, uint8_t *out, size_t room, size_t *length);
 
 int32_t semver_parser_proved_meets(const uint8_t *range, size_t range_length, bool npm, int32_t pre_releases, const uint8_t *version,
                                    size_t version_length, bool *meets);

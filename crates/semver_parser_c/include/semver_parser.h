@@ -39,11 +39,12 @@
 #include <stddef.h>
 #include <stdint.h>
 
-/* The version of the library that this header belongs to. */
+/* The version of the library that this header belongs to. While the first number is 0 a call may change, and the second number is raised where one does: since 0.2
+ * `semver_parser_comparators` has a room for the pre-releases of the comparators, and stands by itself. */
 #define SEMVER_PARSER_VERSION_MAJOR 0
-#define SEMVER_PARSER_VERSION_MINOR 1
+#define SEMVER_PARSER_VERSION_MINOR 2
 #define SEMVER_PARSER_VERSION_PATCH 0
-#define SEMVER_PARSER_VERSION "0.1.0"
+#define SEMVER_PARSER_VERSION "0.2.0"
 
 #ifdef __cplusplus
 extern "C" {
@@ -134,7 +135,8 @@ enum {
     SEMVER_PARSER_MEETS = 1
 };
 
-/* Where a part of a text lies: `length` bytes from `offset` on. Both are 0 where there is no such part, and `length` is above 0 where there is. */
+/* Where a part of a text lies: `length` bytes from `offset` on. `length` is above 0 where there is such a part, and 0 where there is none. `offset` is then 0 too,
+ * but in a comparator, where it is always the sum of the lengths before. */
 typedef struct {
     size_t offset;
     size_t length;
@@ -162,7 +164,7 @@ typedef struct {
     uint64_t major;
     uint64_t minor;
     uint64_t patch;
-    /* Where the printed set has the identifiers of the pre-release, joined by dots, without the `-` in front of them. */
+    /* Where the room of pre-releases has the identifiers of its pre-release, joined by dots, without a `-` in front of them. */
     semver_parser_part pre;
 } semver_parser_comparator;
 
@@ -248,39 +250,26 @@ int32_t semver_parser_precedence(const uint8_t *version, size_t version_length, 
  */
 int32_t semver_parser_rewrite(const uint8_t *text, size_t text_length, bool npm, bool exact, uint8_t *out, size_t room, size_t *length);
 
-/* Rewrites a range text as `semver_parser_rewrite` does, and puts the comparators into the `comparator_room` places at `comparators`, in the order in which
- * the set is printed. `count` is never null.
+/* Rewrites a range text as `semver_parser_rewrite` does, and tells its comparators as plain data: it puts them into the `comparator_room` places at `comparators`,
+ * in the order in which the set is printed, and their pre-releases into the `room` bytes at `out`, one behind the other. Of a pre-release these are its
+ * identifiers, joined by dots, without a `-` in front of them. Neither `count` nor `length` is null.
  *
- * `^1.2 || 3.x` gives with exact bounds four: of range 0 `>=` 1, 2, 0 and `<` 2, 0, 0 with a pre-release at offset 15 with length 1, and of range 1
- * `>=` 3, 0, 0 and `<` 4, 0, 0 with one at offset 35. These offsets are those of the printed set, `>=1.2.0 <2.0.0-0 || >=3.0.0 <4.0.0-0`, which
- * `semver_parser_rewrite` and the next call print.
- *
- * Answers
- * - SEMVER_PARSER_OK: the comparators stand at the front of `comparators`, and `count` is how many they are. What is behind them is as it was.
- * - SEMVER_PARSER_NO_ROOM: they are more than `comparator_room`. `count` is how many, and `comparators` is as it was. So a call with a room of 0 asks for
- *   the count.
- * - A fault of the text, as those of `semver_parser_rewrite`: SEMVER_PARSER_RANGE_NOT_UTF8, _NOT_A_RANGE, _NUMBER_TOO_LARGE or _RANGE_OUT_OF_MEMORY.
- *
- * After any answer but SEMVER_PARSER_OK `comparators` is as it was, and after a fault of the text `count` is too.
- *
- * Memory: 256 bytes for each byte of the text, of `1 1 1 ..`, which has a comparator for each byte; of most texts far less.
- */
-int32_t semver_parser_comparators(const uint8_t *text, size_t text_length, bool npm, bool exact, semver_parser_comparator *comparators, size_t comparator_room,
-                                  size_t *count);
-
-/* Both at once: the comparators, and the printed set that has the bytes of their pre-releases. Neither `count` nor `length` is null.
+ * `^1.2.3-rc.1 || <2.0.0-a` gives with exact bounds three, and the pre-releases `rc.10a`: of range 0 `>=` 1, 2, 3 with a pre-release at offset 0 with length 4 and
+ * `<` 2, 0, 0 with one at offset 4 with length 1, and of range 1 `<` 2, 0, 0 with one at offset 5 with length 1. An offset is the sum of the lengths before it,
+ * so a comparator without pre-release has that offset and length 0. Texts without pre-release in their comparators need a room of no bytes.
  *
  * Answers
- * - SEMVER_PARSER_OK: the comparators stand at the front of `comparators` and the printed set at the front of `out`; `count` and `length` are how many
- *   comparators and bytes there are. What is behind them is as it was.
- * - SEMVER_PARSER_NO_ROOM: one of the rooms is too small. `count` and `length` are what is needed, and both rooms are as they were.
+ * - SEMVER_PARSER_OK: the comparators stand at the front of `comparators` and the pre-releases at the front of `out`, with no zero byte between or behind them;
+ *   `count` and `length` are how many comparators and bytes there are. What is behind them is as it was.
+ * - SEMVER_PARSER_NO_ROOM: one of the rooms is too small. `count` and `length` are what is needed, and both rooms are as they were. So a call with two rooms of
+ *   0 asks for both.
  * - A fault of the text, as those of `semver_parser_rewrite`: SEMVER_PARSER_RANGE_NOT_UTF8, _NOT_A_RANGE, _NUMBER_TOO_LARGE or _RANGE_OUT_OF_MEMORY. Both
  *   rooms are as they were, and so are `count` and `length`.
  *
- * Memory: as the call above.
+ * Memory: 241 bytes for each byte of the text, of `1 1 1 ..`, which has a comparator for each byte; of most texts far less.
  */
-int32_t semver_parser_rewrite_with_comparators(const uint8_t *text, size_t text_length, bool npm, bool exact, semver_parser_comparator *comparators,
-                                               size_t comparator_room, size_t *count, uint8_t *out, size_t room, size_t *length);
+int32_t semver_parser_comparators(const uint8_t *text, size_t text_length, bool npm, bool exact, semver_parser_comparator *comparators, size_t comparator_room,
+                                  size_t *count, uint8_t *out, size_t room, size_t *length);
 
 /* Whether a version text meets a range text. The mode is npm's where `npm` holds, and else Cargo's. `pre_releases` is the number of a rule for
  * pre-releases. `meets` is never null.

@@ -1,7 +1,5 @@
 mod EachPlace
-mod PartBytes
-mod PrintedPlaces
-mod PrintedSets
+mod ToldComparators
 mod Steps
 mod LeastVersions
 mod ComparedVersions

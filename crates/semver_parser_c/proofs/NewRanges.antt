@@ -1,5 +1,5 @@
 -- Refusals of a new range, by the numbers that stand for those of a range.
-use Rattle.std.proofs.Common.{◌≡◌, ◌⊎◌, ◌↔◌, ℕ, ℤ, ◌+◌, ◌<◌, ◌∷◌, ◌++◌, refl, sym, ap, ◌∙◌, subst, arith, pos, inl, inr, ⊎_elim, IsUtf8}
+use Rattle.std.proofs.Common.{◌≡◌, ◌⊎◌, ◌↔◌, ℕ, ℤ, ◌+◌, [], ◌∷◌, ◌++◌, refl, sym, ap, ◌∙◌, subst, arith, pos, inl, inr, ⊎_elim, IsUtf8}
 use Rattle.std.proofs.Common.{w32, to_z, of_z}
 use Rattle.semver_parser.specs.Texts.{Text}
 use Rattle.semver_parser.specs.declared.Compat.{Compat}
@@ -8,91 +8,43 @@ use Rattle.semver_parser_c.specs.Numbers.{ok, no_room, no_such_rule, new_range_o
 use Rattle.semver_parser_c.specs.Faults.{IsOneOf, IsNumberOfNew, RangeIsRead, RefusesRange, RefusesNewRange, range_numbers, range_faults}
 use Rattle.semver_parser_c.specs.Faults.{new_range_numbers, new_range_faults}
 use Rattle.semver_parser_c.specs.Rules.{IsRule}
-use Rattle.semver_parser_c.proofs.Steps.{IsApart, among, differ, isnt_read_by, not_refused}
+use Rattle.semver_parser_c.proofs.Steps.{against, among, apart, isnt_read_by, not_refused, nothing_put}
 
 -- ---- numbers of the new range
-
-above : (m : ℕ) → 13 < m → IsApart range_numbers (pos m)
-above m more = (
-  differ m 10 (λ e. omega (arith, e, more)),
-  differ m 11 (λ e. omega (arith, e, more)),
-  differ m 12 (λ e. omega (arith, e, more)),
-)
 
 -- the old range was read, so it isn't refused where the new one is
 pub old_stands : (Asked : Type 0) (mode : Compat) (range : Text) (z n : ℤ) → z ≡ n → IsOneOf new_range_faults n → IsUtf8 range
     → HasSet mode range → RefusesRange Asked mode range z
-old_stands Asked mode range z n same one utf8 set =
-    let apart = among (IsApart range_numbers) new_range_faults (
-      above 16 (omega arith),
-      (above 17 (omega arith), (above 18 (omega arith), (above 19 (omega arith), tt))),
-    ) n one in
-    subst (RefusesRange Asked mode range) (sym same) (not_refused range_numbers Asked mode range n apart utf8 set)
+old_stands Asked mode range z n same one utf8 set = subst (RefusesRange Asked mode range) (sym same)
+    (not_refused range_numbers Asked mode range n (apart new_range_faults (against range_numbers) refl n one) utf8 set)
 
 -- both were read, so the new one isn't refused by what is answered then
-below : (m : ℕ) → m < 16 → IsApart new_range_numbers (pos m)
-below m less = (
-  differ m 16 (λ e. omega (arith, e, less)),
-  differ m 17 (λ e. omega (arith, e, less)),
-  differ m 18 (λ e. omega (arith, e, less)),
-)
+pub new_stands : (Asked : Type 0) (mode : Compat) (range : Text) (z n : ℤ) → z ≡ n → IsOneOf (ok ∷ no_room ∷ new_range_out_of_memory ∷ []) n
+    → IsUtf8 range → HasSet mode range → RefusesNewRange Asked mode range z
+new_stands Asked mode range z n same one utf8 set = subst (RefusesNewRange Asked mode range) (sym same)
+    (not_refused new_range_numbers Asked mode range n
+    (apart (ok ∷ no_room ∷ new_range_out_of_memory ∷ []) (against new_range_numbers) refl n one) utf8 set)
 
-pub new_stands : (Asked : Type 0) (mode : Compat) (range : Text) (z n : ℤ) → z ≡ n → (n ≡ ok) ⊎ (n ≡ no_room) → IsUtf8 range
-    → HasSet mode range → RefusesNewRange Asked mode range z
-new_stands Asked mode range z n same put utf8 set =
-    let apart : IsApart new_range_numbers n =
-    ⊎_elim (λ is. subst (IsApart new_range_numbers) (sym is) (below 0 (omega arith)))
-    (λ is. subst (IsApart new_range_numbers) (sym is) (below 14 (omega arith))) put in
-    subst (RefusesNewRange Asked mode range) (sym same) (not_refused new_range_numbers Asked mode range n apart utf8 set)
+-- where the rule or a range was refused: C gets the number of that
+pub record AreRefused (rule : ℤ) (mode : Compat) (old new : Text) (z : ℤ) : Type 0 where
+  pub number : IsOneOf (no_such_rule ∷ range_faults ++ new_range_faults) z
+  pub nothing : (z ≡ ok) ⊎ (z ≡ no_room) → ⊥
+  pub no_such_rule : (z ≡ no_such_rule) ↔ ¬ (IsRule rule)
+  pub refusals : RefusesRange (IsRule rule) mode old z
+  pub new_refusals : RefusesNewRange (IsRule rule × RangeIsRead mode old z) mode new z
 
-pub new_without_memory : (Asked : Type 0) (mode : Compat) (range : Text) → IsUtf8 range → HasSet mode range
-    → RefusesNewRange Asked mode range new_range_out_of_memory
-new_without_memory Asked mode range utf8 set =
-    let apart : IsApart new_range_numbers (pos 19) = (
-      differ 19 16 (λ e. omega (arith, e)),
-      differ 19 17 (λ e. omega (arith, e)),
-      differ 19 18 (λ e. omega (arith, e)),
-    ) in
-    not_refused new_range_numbers Asked mode range (pos 19) apart utf8 set
-
--- nothing is put into a room at a fault
-pub nothing_put : (z n : ℤ) → z ≡ n → IsOneOf (no_such_rule ∷ range_faults ++ new_range_faults) n → (z ≡ ok) ⊎ (z ≡ no_room) → ⊥
-nothing_put z n same one put = among (λ m. (m ≡ ok) ⊎ (m ≡ no_room) → ⊥) (no_such_rule ∷ range_faults ++ new_range_faults) (
-  far 15 (omega arith) (inr (omega arith)),
-  (
-    far 10 (omega arith) (inl (omega arith)),
-    (
-      far 11 (omega arith) (inl (omega arith)),
-      (
-        far 12 (omega arith) (inl (omega arith)),
-        (
-          far 13 (omega arith) (inl (omega arith)),
-          (
-            far 16 (omega arith) (inr (omega arith)),
-            (
-              far 17 (omega arith) (inr (omega arith)),
-              (far 18 (omega arith) (inr (omega arith)), (far 19 (omega arith) (inr (omega arith)), tt)),
-            ),
-          ),
-        ),
-      ),
-    ),
-  ),
-) n one (subst (λ m. (m ≡ ok) ⊎ (m ≡ no_room)) same put)
-  where
-    far : (m : ℕ) → 0 < m → (m < 14) ⊎ (14 < m) → (pos m ≡ ok) ⊎ (pos m ≡ no_room) → ⊥
-    far m some other put =
-        ⊎_elim (differ m 0 (λ e. omega (arith, e, some)))
-        (λ (is : pos m ≡ pos 14).
-        ⊎_elim (λ less. differ m 14 (λ e. omega (arith, e, less)) is) (λ more. differ m 14 (λ e. omega (arith, e, more)) is) other)
-        put
-
--- a refusal by the number that C gets, and by the rule that it gave
-pub new_alike : (rule' rule : ℤ) (mode : Compat) (old new : Text) (z n : ℤ) → rule' ≡ rule → z ≡ n
-    → RefusesNewRange (IsRule rule' × RangeIsRead mode old n) mode new n → RefusesNewRange (IsRule rule × RangeIsRead mode old z) mode new z
-new_alike rule' rule mode old new z n same told refused =
-    subst (λ m. RefusesNewRange (IsRule rule × RangeIsRead mode old m) mode new m) (sym told)
-    (subst (λ r. RefusesNewRange (IsRule r × RangeIsRead mode old n) mode new n) same refused)
+pub are_refused : (rule rule' : ℤ) (mode : Compat) (old new : Text) (z n : ℤ) → rule' ≡ rule → z ≡ n
+    → IsOneOf (no_such_rule ∷ range_faults ++ new_range_faults) n → ((n ≡ no_such_rule) ↔ ¬ (IsRule rule'))
+    → RefusesRange (IsRule rule') mode old n → RefusesNewRange (IsRule rule' × RangeIsRead mode old n) mode new n
+    → AreRefused rule mode old new z
+are_refused rule rule' mode old new z n same told one no_rule refused new_refused =
+    subst (λ r. AreRefused r mode old new z) same (subst (AreRefused rule' mode old new) (sym told) (record {
+      number = one;
+      nothing = nothing_put (no_such_rule ∷ range_faults ++ new_range_faults) refl n one;
+      no_such_rule = no_rule;
+      refusals = refused;
+      new_refusals = new_refused;
+    }))
 
 -- the number that C gets of one is that number
 pub told_new : (n : ℤ) → IsOneOf new_range_faults n → to_z w32 (of_z w32 n) ≡ n
@@ -105,18 +57,11 @@ pub not_asked : (rule' rule : ℤ) (mode : Compat) (old new : Text) (z n : ℤ) 
 not_asked rule' rule mode old new z n same told one no_rule refused =
     let never : IsRule rule × RangeIsRead mode old z → ⊥ =
     λ asked. isnt_read_by rule' mode old z n told one (subst IsRule (sym same) asked.0) no_rule refused asked.1 in
-    let other : (n ≡ pos 19) → ⊥ = among (λ m. (m ≡ pos 19) → ⊥) (no_such_rule ∷ range_faults) (
-      differ 15 19 (λ e. omega (arith, e)),
-      (
-        differ 10 19 (λ e. omega (arith, e)),
-        (differ 11 19 (λ e. omega (arith, e)), (differ 12 19 (λ e. omega (arith, e)), (differ 13 19 (λ e. omega (arith, e)), tt))),
-      ),
-    ) n one in
     record {
       not_utf8 = λ asked. absurd (never asked);
       not_a_range = λ asked. absurd (never asked);
       too_large = λ asked. absurd (never asked);
-      out_of_memory = λ is. absurd (other (sym told ∙ is));
+      out_of_memory = λ is. absurd (apart (no_such_rule ∷ range_faults) (new_range_out_of_memory ∷ []) refl n one (inl (sym told ∙ is)));
     }
 
 -- ---- a number at the same place of both lists

@@ -1,7 +1,11 @@
 -- The numbers of what reading a version text or a range text answers.
-use Rattle.std.proofs.Common.{◌≡◌, ◌≢◌, ◌⊎◌, ◌↔◌, ℕ, ℤ, Bool, true, false, List, [], ◌∷◌, Option, Some, None, Result, Ok, Err, refl, sym}
-use Rattle.std.proofs.Common.{arith, length, pos, ◌<◌, ap, ◌∙◌, inl, inr, ⊎_elim, subst, IsUtf8, w32, to_z, of_z}
+use Rattle.std.proofs.Common.{◌≡◌, ◌≢◌, ◌⊎◌, ◌↔◌, ℕ, ℤ, Bool, true, false, List, [], ◌∷◌, ◌++◌, Option, Some, None}
+use Rattle.std.proofs.Common.{Result, Ok, Err, refl, sym}
+use Rattle.std.proofs.Common.{arith, length, pos, ◌<◌, ap, ◌∙◌, inl, inr, ⊎_elim, subst, IsUtf8, w32, to_z, of_z, ◌&&◌, ◌||◌, not}
 use Rattle.std.specs.Prelude.{⊤}
+use Rattle.std.specs.Ordering.{int_eq}
+use Rattle.std.proofs.lemmas.Bool.Decides.{Decides-int_eq}
+use Rattle.std.proofs.Math.Bool.{or-true}
 use Rattle.std.specs.List.{AllByRecursion}
 use Rattle.semver_parser.specs.Texts.{Text}
 use Rattle.semver_parser.specs.Tokens.{TokenValue}
@@ -22,6 +26,7 @@ use Rattle.semver_parser.specs.declared.Compat.{Compat}
 use Rattle.semver_parser.specs.RangeTexts.{HasSet}
 use Rattle.semver_parser.specs.RewritingTable.{fits}
 use Rattle.semver_parser.proofs.ReadingComplete.{same_tree}
+use Rattle.semver_ranges.specs.declared.grammar.Dialect.TheVariants.{Crate}
 use Rattle.semver_parser.proofs.OneVersion.{one_version}
 use Rattle.semver_parser.proofs.VersionMemory.{may_run_out}
 use Rattle.semver_parser.specs.Outlines.{OutlineValue, outline_behind, dotted_text}
@@ -64,75 +69,81 @@ read_is s t (Err e) reads = refused_is s.remaining s.pending reads.rest e t.rema
 outcome_is : (text : Text) (e : Fault) → IsOutcomeOf text (Err e) → is_of_text e ≡ true
 outcome_is text e w = ap answer_is_of_text w.whole ∙ read_is w.start w.end w.answer w.reads
 
+-- ---- numbers of lists
+
 clash : {P : Type 0} → false ≡ true → P
 clash h = cc
 
--- a refused version text has the number of one of these
-pub version_number : (text : Text) (e : Error) (z : ℤ) → z ≡ fault_number (fault_of e)
-    → UnlessOutOfMemory {T = Version} (Err e) (IsOutcomeOf text (answer_of version_value (Err e))) → IsOneOf version_faults z
-version_number text error.UnexpectedEnd z is w = inr (inl is)
-version_number text (error.UnexpectedToken t) z is w = inr (inr (inl is))
-version_number text (error.Lexer (lexer_error.UnexpectedChar c)) z is w = inr (inr (inr (inl is)))
-version_number text (error.MoreInput ts) z is w = inr (inr (inr (inr (inl is))))
-version_number text error.EmptyPredicate z is w = clash (outcome_is text fault.EmptyPredicate w)
-version_number text error.EmptyRange z is w = clash (outcome_is text fault.EmptyRange w)
-version_number text error.OutOfMemory z is w = inr (inr (inr (inr (inr (inl is)))))
+abbrev is_one_of : List ℤ → ℤ → Bool
+is_one_of [] n = false
+is_one_of (m ∷ ms) n = int_eq n m || is_one_of ms n
 
--- a refused range text has the number of one of these
-pub range_number : (e : RangeError) (z : ℤ) → z ≡ range_fault_number e → IsOneOf range_faults z
-range_number range_error.NotARange z is = inr (inl is)
-range_number range_error.NumberTooLarge z is = inr (inr (inl is))
-range_number range_error.OutOfMemory z is = inr (inr (inr (inl is)))
-
--- ---- what a refused version text is
-
--- a number that is none of a list isn't one of it
-not_among : (ms : List ℤ) (n : ℤ) → IsOneOf ms n → AllByRecursion (λ m. n ≡ m → ⊥) ms → ⊥
-not_among [] n one none = one
-not_among (m ∷ ms) n one none = ⊎_elim none.0 (λ later. not_among ms n later none.1) one
+is_found : (ms : List ℤ) (n : ℤ) → IsOneOf ms n → is_one_of ms n ≡ true
+is_found [] n one = absurd one
+is_found (m ∷ ms) n one = ⊎_elim (λ is. ap (λ b. b || is_one_of ms n) ((Decides-int_eq n m).1 is))
+    (λ later. ap (λ b. int_eq n m || b) (is_found ms n later) ∙ or-true (int_eq n m)) one
 
 -- what is so of each number of a list is so of one of them
 pub among : (P : ℤ → Type 0) (ms : List ℤ) → AllByRecursion P ms → (n : ℤ) → IsOneOf ms n → P n
 among P [] all n one = absurd one
 among P (m ∷ ms) all n one = ⊎_elim (λ is. subst P (sym is) all.0) (λ later. among P ms all.1 n later) one
 
-pub differ : (m n : ℕ) → ¬ (m ≡ n) → pos m ≡ pos n → ⊥
-differ m n other is = let same : m ≡ n = cc in other same
+abbrev pub are_apart : List ℤ → List ℤ → Bool
+are_apart [] ns = true
+are_apart (m ∷ ms) ns = not (is_one_of ns m) && are_apart ms ns
 
--- no fault of a text is that it is no UTF-8
-of_utf8 : (f : Fault) → fault_number f ≡ version_not_utf8 → ⊥
-of_utf8 fault.UnexpectedEnd = differ 3 2 (λ e. omega (arith, e))
-of_utf8 (fault.UnexpectedToken t) = differ 4 2 (λ e. omega (arith, e))
-of_utf8 (fault.Lexer c) = differ 5 2 (λ e. omega (arith, e))
-of_utf8 (fault.MoreInput ts) = differ 6 2 (λ e. omega (arith, e))
-of_utf8 fault.EmptyPredicate = differ 7 2 (λ e. omega (arith, e))
-of_utf8 fault.EmptyRange = differ 8 2 (λ e. omega (arith, e))
-of_utf8 fault.OutOfMemory = differ 9 2 (λ e. omega (arith, e))
+-- lists have no number in common where the test says so
+pub apart : (ms ns : List ℤ) → are_apart ms ns ≡ true → (n : ℤ) → IsOneOf ms n → IsOneOf ns n → ⊥
+apart [] ns none n one other = one
+apart (m ∷ ms) ns none n one other =
+    ⊎_elim (λ is.
+    let found : is_one_of ns m ≡ true = ap (is_one_of ns) (sym is) ∙ is_found ns n other in
+    clash (ap (λ b. not b && are_apart ms ns) (sym found) ∙ none))
+    (λ later.
+    let rest : are_apart ms ns ≡ true = grind arith in
+    apart ms ns rest n later other) one
 
--- what is told of want of memory and of other faults, by the number
-by_memory : (e : Error) (P Q : Type 0) → UnlessOutOfMemory {T = Version} (Err e) P → IfOutOfMemory {T = Version} (Err e) Q
-    → (fault_number (fault_of e) ≢ version_out_of_memory → P) × (fault_number (fault_of e) ≡ version_out_of_memory → Q)
-by_memory error.OutOfMemory P Q p q = (λ other. absurd (other refl), λ is. q)
-by_memory error.UnexpectedEnd P Q p q = (λ other. p, λ is. absurd (differ 3 9 (λ e. omega (arith, e)) is))
-by_memory (error.UnexpectedToken t) P Q p q = (λ other. p, λ is. absurd (differ 4 9 (λ e. omega (arith, e)) is))
-by_memory (error.Lexer (lexer_error.UnexpectedChar c)) P Q p q = (λ other. p, λ is. absurd (differ 5 9 (λ e. omega (arith, e)) is))
-by_memory (error.MoreInput ts) P Q p q = (λ other. p, λ is. absurd (differ 6 9 (λ e. omega (arith, e)) is))
-by_memory error.EmptyPredicate P Q p q = (λ other. p, λ is. absurd (differ 7 9 (λ e. omega (arith, e)) is))
-by_memory error.EmptyRange P Q p q = (λ other. p, λ is. absurd (differ 8 9 (λ e. omega (arith, e)) is))
+-- ---- what a refused version text is
+
+-- one whose memory wasn't found
+without_memory : (text : Text) → IsUtf8 text → TextMayRunOut text → RefusesVersion text version_out_of_memory
+without_memory text utf8 memory = record {
+  one = inr (inr (inr (inr (inr (inl refl)))));
+  not_utf8 = (
+    λ is. absurd (apart (version_out_of_memory ∷ []) (version_not_utf8 ∷ []) refl _ (inl refl) (inl is)),
+    λ bad. absurd (bad utf8),
+  );
+  accepted = λ _ _ _. refl;
+  refused = λ _ other. absurd (other refl);
+  out_of_memory = λ _. memory;
+}
+
+-- one with another fault
+with_fault : (text : Text) (f : Fault) → IsUtf8 text → ¬ (IsVersionText text) → IsOutcomeOf text (Err f)
+    → IsOneOf version_faults (fault_number f) → are_apart (fault_number f ∷ []) (version_not_utf8 ∷ version_out_of_memory ∷ []) ≡ true
+    → RefusesVersion text (fault_number f)
+with_fault text f utf8 none outcome one neither =
+    let isnt = apart (fault_number f ∷ []) (version_not_utf8 ∷ version_out_of_memory ∷ []) neither (fault_number f) (inl refl) in
+    record {
+      one = one;
+      not_utf8 = (λ is. absurd (isnt (inl is)), λ bad. absurd (bad utf8));
+      accepted = λ v _ spelled. absurd (none (v, spelled));
+      refused = λ _ _. (f, outcome, refl);
+      out_of_memory = λ is. absurd (isnt (inr (inl is)));
+    }
 
 -- a text that spells no version, and was refused by its tokens
 pub refused_text : (text : Text) (e : Error) → IsUtf8 text → ¬ (IsVersionText text)
     → UnlessOutOfMemory {T = Version} (Err e) (IsOutcomeOf text (answer_of version_value (Err e)))
     → IfOutOfMemory {T = Version} (Err e) (TextMayRunOut text) → RefusesVersion text (fault_number (fault_of e))
-refused_text text e utf8 none outcome memory =
-    let told = by_memory e _ _ outcome memory in
-    record {
-      one = version_number text e _ refl outcome;
-      not_utf8 = (λ is. absurd (of_utf8 (fault_of e) is), λ bad. absurd (bad utf8));
-      accepted = λ v _ spelled. absurd (none (v, spelled));
-      refused = λ _ other. (fault_of e, told.0 other, refl);
-      out_of_memory = told.1;
-    }
+refused_text text error.UnexpectedEnd utf8 none w memory = with_fault text _ utf8 none w (inr (inl refl)) refl
+refused_text text (error.UnexpectedToken t) utf8 none w memory = with_fault text _ utf8 none w (inr (inr (inl refl))) refl
+refused_text text (error.Lexer (lexer_error.UnexpectedChar c)) utf8 none w memory =
+    with_fault text _ utf8 none w (inr (inr (inr (inl refl)))) refl
+refused_text text (error.MoreInput ts) utf8 none w memory = with_fault text _ utf8 none w (inr (inr (inr (inr (inl refl))))) refl
+refused_text text error.EmptyPredicate utf8 none w memory = clash (outcome_is text fault.EmptyPredicate w)
+refused_text text error.EmptyRange utf8 none w memory = clash (outcome_is text fault.EmptyRange w)
+refused_text text error.OutOfMemory utf8 none w memory = without_memory text utf8 memory
 
 -- its fault, and its outcome, by the number that C gets
 module _ (text : Text) (z n : ℤ) (same : z ≡ n) (refused : RefusesVersion text n) (utf8 : IsUtf8 text) (other : z ≢ version_out_of_memory)
@@ -166,13 +177,7 @@ has_part o u v at text is read spells parts =
 -- a version whose memory wasn't found
 pub refused_memory : (text : Text) → IsUtf8 text → (v : VersionValue) → SpellsVersion v text → HasPart v
     → RefusesVersion text version_out_of_memory
-refused_memory text utf8 v spells some = record {
-  one = inr (inr (inr (inr (inr (inl refl)))));
-  not_utf8 = (λ is. absurd (differ 9 2 (λ e. omega (arith, e)) is), λ bad. absurd (bad utf8));
-  accepted = λ _ _ _. refl;
-  refused = λ _ other. absurd (other refl);
-  out_of_memory = λ _. may_run_out v text spells some;
-}
+refused_memory text utf8 v spells some = without_memory text utf8 (may_run_out v text spells some)
 
 -- the number that C gets of a fault is that number
 pub told_version : (text : Text) (n : ℤ) → RefusesVersion text n → to_z w32 (of_z w32 n) ≡ n
@@ -181,10 +186,16 @@ told_version text n refused =
 
 -- ---- whether a version meets a range
 
-far : (m : ℕ) → 0 < m → m < 14 → (pos m ≡ ok) ⊎ (pos m ≡ no_room) → ⊥
-far m some less put = ⊎_elim (λ (is : pos m ≡ pos 0). let same : m ≡ 0 = cc in omega (arith, same, some))
-    (λ (is : pos m ≡ pos 14). let same : m ≡ 14 = cc in omega (arith, same, less))
-    put
+-- a refused range text has the number of one of these
+pub range_number : (e : RangeError) (z : ℤ) → z ≡ range_fault_number e → IsOneOf range_faults z
+range_number range_error.NotARange z is = inr (inl is)
+range_number range_error.NumberTooLarge z is = inr (inr (inl is))
+range_number range_error.OutOfMemory z is = inr (inr (inr (inl is)))
+
+-- at a fault nothing is put into a room
+pub nothing_put : (faults : List ℤ) → are_apart faults (ok ∷ no_room ∷ []) ≡ true → (n : ℤ) → IsOneOf faults n
+    → (n ≡ ok) ⊎ (n ≡ no_room) → ⊥
+nothing_put faults none n one put = apart faults (ok ∷ no_room ∷ []) none n one (⊎_elim (λ is. inl is) (λ is. inr (inl is)) put)
 
 -- a refused range text: C gets the number of its fault, and nothing is put into a room
 pub record IsRefused (mode : Compat) (text : Text) (z : ℤ) : Type 0 where
@@ -196,17 +207,8 @@ pub refused_range : (mode : Compat) (text : Text) (n : ℤ) → IsOneOf range_fa
     → IsRefused mode text (to_z w32 (of_z w32 n))
 refused_range mode text n one refused =
     let same = among (λ m. to_z w32 (of_z w32 m) ≡ m) range_faults (refl, (refl, (refl, (refl, tt)))) n one in
-    let nothing = among (λ m. (m ≡ ok) ⊎ (m ≡ no_room) → ⊥) range_faults (
-      far 10 (omega arith) (omega arith),
-      (
-        far 11 (omega arith) (omega arith),
-        (
-          far 12 (omega arith) (omega arith),
-          (far 13 (omega arith) (omega arith), tt),
-        ),
-      ),
-    ) n one in
-    subst (IsRefused mode text) (sym same) (record { numbers = inr (inr one); nothing = nothing; refusals = refused })
+    subst (IsRefused mode text) (sym same)
+    (record { numbers = inr (inr one); nothing = nothing_put range_faults refl n one; refusals = refused })
 
 -- a refusal by the number that C gets, and by the rule that it gave
 pub refused_alike : (rule rule' : ℤ) (mode : Compat) (text : Text) (z n : ℤ) → rule' ≡ rule → z ≡ n
@@ -217,49 +219,39 @@ refused_alike rule rule' mode text z n same told refused =
 -- a text that was refused with the number of a fault of ranges isn't read
 isnt_read : (Asked : Type 0) (mode : Compat) (text : Text) (z n : ℤ) → z ≡ n → IsOneOf range_faults n
     → Asked → RefusesRange Asked mode text n → RangeIsRead mode text z → ⊥
-isnt_read Asked mode text z n same one asked refused read = not_among range_faults n one (
+isnt_read Asked mode text z n same one asked refused read = among (λ m. n ≡ m → ⊥) range_faults (
   λ is. (refused.not_utf8 asked).0 is read.utf8,
   (
     λ is. (refused.not_a_range asked read.utf8).0 is (read.tree, read.spells),
     (
       λ is. let h = (refused.too_large asked read.utf8).0 is in
-          clash (sym h.2 ∙ ap (fits mode) (same_tree h.0 read.tree text h.1 read.spells) ∙ read.fit),
+          clash (sym h.2 ∙ ap (fits mode) (same_tree Crate h.0 read.tree text h.1 read.spells) ∙ read.fit),
       (λ is. read.memory (same ∙ is), tt),
     ),
   ),
-)
+) n one refl
 
--- a number that says nothing against a range but that its memory wasn't found
-abbrev pub IsApart : RangeNumbers → ℤ → Type 0
-IsApart by m = ((m ≡ by.not_utf8) → ⊥) × ((m ≡ by.not_a_range) → ⊥) × ((m ≡ by.too_large) → ⊥)
+-- what says something against a range but that its memory wasn't found
+abbrev pub against : RangeNumbers → List ℤ
+against by = by.not_utf8 ∷ by.not_a_range ∷ by.too_large ∷ []
 
--- by such a number a range that fits isn't refused
-pub not_refused : (by : RangeNumbers) (Asked : Type 0) (mode : Compat) (range : Text) (n : ℤ) → IsApart by n → IsUtf8 range
+-- by another number a range that fits isn't refused
+pub not_refused : (by : RangeNumbers) (Asked : Type 0) (mode : Compat) (range : Text) (n : ℤ) → (IsOneOf (against by) n → ⊥) → IsUtf8 range
     → HasSet mode range → RefusesBy by Asked mode range n
-not_refused by Asked mode range n (bytes, text, large) utf8 (tree, spells, fit) = record {
-  not_utf8 = λ _. (λ is. absurd (bytes is), λ bad. absurd (bad utf8));
-  not_a_range = λ _ _. (λ is. absurd (text is), λ bad. absurd (bad (tree, spells)));
-  too_large = λ _ _. (λ is. absurd (large is), λ h. clash (sym h.2 ∙ ap (fits mode) (same_tree h.0 tree range h.1 spells) ∙ fit));
+not_refused by Asked mode range n other utf8 (tree, spells, fit) = record {
+  not_utf8 = λ _. (λ is. absurd (other (inl is)), λ bad. absurd (bad utf8));
+  not_a_range = λ _ _. (λ is. absurd (other (inr (inl is))), λ bad. absurd (bad (tree, spells)));
+  too_large = λ _ _. (
+    λ is. absurd (other (inr (inr (inl is)))),
+    λ h. clash (sym h.2 ∙ ap (fits mode) (same_tree Crate h.0 tree range h.1 spells) ∙ fit),
+  );
   out_of_memory = λ _. (tree, spells, fit);
 }
 
 -- a range that was read isn't refused where the version is
 pub range_stands : (Asked : Type 0) (mode : Compat) (range : Text) (n : ℤ) → IsOneOf version_faults n → IsUtf8 range → HasSet mode range
     → RefusesRange Asked mode range n
-range_stands Asked mode range n one utf8 set =
-    not_refused range_numbers Asked mode range n
-    (among (IsApart range_numbers) version_faults (
-      none 2 (omega arith),
-      (none 3 (omega arith), (none 4 (omega arith), (none 5 (omega arith), (none 6 (omega arith), (none 9 (omega arith), tt))))),
-    ) n one)
-    utf8 set
-  where
-    none : (m : ℕ) → m < 10 → IsApart range_numbers (pos m)
-    none m small = (
-      differ m 10 (λ e. omega (arith, e, small)),
-      differ m 11 (λ e. omega (arith, e, small)),
-      differ m 12 (λ e. omega (arith, e, small)),
-    )
+range_stands Asked mode range n one = not_refused range_numbers Asked mode range n (apart version_faults (against range_numbers) refl n one)
 
 -- and one that was refused for the rule or the range isn't
 pub isnt_read_by : (rule : ℤ) (mode : Compat) (text : Text) (z n : ℤ) → z ≡ n → IsOneOf (no_such_rule ∷ range_faults) n
@@ -270,20 +262,37 @@ isnt_read_by rule mode text z n same one is no_rule refused read = ⊎_elim
     (λ others. isnt_read (IsRule rule) mode text z n same others is refused read)
     one
 
-apart : (byte n : ℕ) → pos byte ≡ pos n → 1 < n → IsMeeting byte → ⊥
-apart byte n is above meeting =
-    let same : byte ≡ n = cc in
-    ⊎_elim (λ (h : byte ≡ 0). omega (arith, same, h, above)) (λ (h : byte ≡ 1). omega (arith, same, h, above)) meeting
+-- where the rule or the range was refused: C gets the number of that, and nothing was read
+pub record IsRefusedByRule (rule : ℤ) (mode : Compat) (text : Text) (z : ℤ) : Type 0 where
+  pub number : IsOneOf (no_such_rule ∷ range_faults) z
+  pub nothing : (z ≡ ok) ⊎ (z ≡ no_room) → ⊥
+  pub of_version : IsOneOf version_faults z → ⊥
+  pub no_such_rule : (z ≡ no_such_rule) ↔ ¬ (IsRule rule)
+  pub refusals : RefusesRange (IsRule rule) mode text z
+  pub unread : IsRule rule → RangeIsRead mode text z → ⊥
+
+pub refused_by_rule : (rule rule' : ℤ) (mode : Compat) (text : Text) (z n : ℤ) → rule' ≡ rule → z ≡ n
+    → IsOneOf (no_such_rule ∷ range_faults) n → ((n ≡ no_such_rule) ↔ ¬ (IsRule rule')) → RefusesRange (IsRule rule') mode text n
+    → IsRefusedByRule rule mode text z
+refused_by_rule rule rule' mode text z n same told one no_rule refused =
+    subst (λ r. IsRefusedByRule r mode text z) same (subst (IsRefusedByRule rule' mode text) (sym told) (record {
+      number = one;
+      nothing = nothing_put (no_such_rule ∷ range_faults) refl n one;
+      of_version = apart (no_such_rule ∷ range_faults) version_faults refl n one;
+      no_such_rule = no_rule;
+      refusals = refused;
+      unread = λ is read. isnt_read_by rule' mode text n n refl one is no_rule refused read;
+    }))
+
+-- a number of the first of two lists
+pub of_first : (ms ns : List ℤ) (n : ℤ) → IsOneOf ms n → IsOneOf (ms ++ ns) n
+of_first [] ns n one = absurd one
+of_first (m ∷ ms) ns n one = ⊎_elim (λ is. inl is) (λ later. inr (of_first ms ns n later)) one
 
 -- the number of a fault of a version says of no version whether it meets
-pub no_meeting : (byte : ℕ) → IsOneOf version_faults (pos byte) → IsMeeting byte → ⊥
-no_meeting byte one meeting = not_among version_faults (pos byte) one (
-  above 2 (omega arith),
-  (above 3 (omega arith), (above 4 (omega arith), (above 5 (omega arith), (above 6 (omega arith), (above 9 (omega arith), tt))))),
-)
-  where
-    above : (n : ℕ) → 1 < n → pos byte ≡ pos n → ⊥
-    above n some is = apart byte n is some meeting
+no_meeting : (byte : ℕ) → IsOneOf version_faults (pos byte) → IsMeeting byte → ⊥
+no_meeting byte one meeting =
+    apart version_faults (pos 0 ∷ pos 1 ∷ []) refl (pos byte) one (⊎_elim (λ is. inl (ap pos is)) (λ is. inr (inl (ap pos is))) meeting)
 
 -- so the byte for it is what there is to say of the text
 pub fault_answer : (rule : PreReleases) (mode : Compat) (range text : Text) (byte : ℕ) → RefusesVersion text (pos byte)

@@ -1,18 +1,15 @@
--- The comparators of a printed set, each with where its pre-release stands in the text.
-use Rattle.std.specs.Prelude.{◌≡◌, ℕ, ℤ, ◌+◌, List, [], ◌∷◌, ◌++◌, length, map, codes}
-use Rattle.std.specs.List.{AllZip, flat_map, join_with_byte}
-use Rattle.std.specs.Fmt.{decimal}
+-- The comparators of a set as they are told, and the texts of their pre-releases, one behind the
+-- other.
+use Rattle.std.specs.Prelude.{◌≡◌, ℕ, ℤ, ◌+◌, List, [], ◌∷◌, ◌++◌, length, map}
+use Rattle.std.specs.List.{AllZip, flat_map}
 use Rattle.semver_parser.specs.declared.Op.{Op}
 use Rattle.semver_parser.specs.declared.Op.TheVariants.{Lt, Lte, Gt, Gte, Eq}
-use Rattle.semver_parser.specs.Texts.{Text, marked}
-use Rattle.semver_parser.specs.Versions.{numbers}
-use Rattle.semver_parser.specs.PrintedText.{identifier_text}
+use Rattle.semver_parser.specs.Texts.{Text}
 use Rattle.semver_parser.specs.Outlines.{dotted_text}
-use Rattle.semver_parser.specs.PrintedRanges.{op_text, comparator_text, range_text}
 use Rattle.semver_parser.specs.RewritingTable.{PlainComparator, PlainRange, PlainSet}
-use Rattle.semver_parser_c.specs.declared.PrintedComparator.{PrintedComparator}
+use Rattle.semver_parser_c.specs.declared.RewrittenComparator.{RewrittenComparator}
 use Rattle.semver_parser_c.specs.Numbers as number
-use Rattle.semver_parser_c.specs.Places.{behind_mark, bytes_at}
+use Rattle.semver_parser_c.specs.Places.{bytes_at}
 
 -- the number of an operator
 abbrev pub op_number : Op → ℤ
@@ -22,42 +19,49 @@ op_number Gt = number.greater
 op_number Gte = number.greater_equal
 op_number Eq = number.equal
 
--- a comparator whose text begins at an offset, told with the number of its range: the pre-release
--- stands behind the operator, the three numbers and a hyphen
-abbrev pub told_comparator : ℕ → ℕ → PlainComparator → PrintedComparator
-told_comparator range at c = record {
-  range = range;
-  op = op_number c.op;
-  major = c.version.major;
-  minor = c.version.minor;
-  patch = c.version.patch;
-  pre = behind_mark
-      (at + length (op_text c.op ++ join_with_byte 46 (map decimal (numbers c.version))))
-      (marked (codes "-") (map identifier_text c.version.pre));
+-- a comparator, and the number of the range that it belongs to
+pub record Numbered : Type 0 where
+  pub range : ℕ
+  pub comparator : PlainComparator
+
+-- the comparators of ranges whose numbers go on from one
+abbrev pub comparators_from : ℕ → List PlainRange → List Numbered
+comparators_from n [] = []
+comparators_from n (r ∷ rs) =
+    map (λ c. record { range = n; comparator = c }) r.comparators ++ comparators_from (n + 1) rs
+
+-- those of a set, in order: its ranges are numbered from 0
+abbrev pub comparators_of : PlainSet → List Numbered
+comparators_of s = comparators_from 0 s.ranges
+
+-- the text of a comparator's pre-release: its identifiers, joined by dots; empty where it has none
+abbrev pub pre_release : Numbered → Text
+pre_release c = dotted_text c.comparator.version.pre
+
+-- those of comparators, one behind the other
+abbrev pub pre_releases : List Numbered → Text
+pre_releases cs = flat_map pre_release cs
+
+-- a comparator as it is told where the text of its pre-release begins at an offset
+abbrev pub told_comparator : ℕ → Numbered → RewrittenComparator
+told_comparator at c = record {
+  range = c.range;
+  op = op_number c.comparator.op;
+  major = c.comparator.version.major;
+  minor = c.comparator.version.minor;
+  patch = c.comparator.version.patch;
+  pre = record { offset = at; length = length (pre_release c) };
 }
 
--- those of a range whose text begins at an offset: a space stands between each two
-abbrev pub told_range : ℕ → ℕ → List PlainComparator → List PrintedComparator
-told_range range at [] = []
-told_range range at (c ∷ cs) =
-    told_comparator range at c ∷ told_range range (at + length (comparator_text c) + 1) cs
+-- comparators as they are told: each offset is the one before and the length there
+abbrev pub told_from : ℕ → List Numbered → List RewrittenComparator
+told_from at [] = []
+told_from at (c ∷ cs) = told_comparator at c ∷ told_from (at + length (pre_release c)) cs
 
--- those of ranges whose numbers go on from one, and whose text begins at an offset: ` || ` stands
--- between each two
-abbrev pub told_ranges : ℕ → ℕ → List PlainRange → List PrintedComparator
-told_ranges range at [] = []
-told_ranges range at (r ∷ rs) = told_range range at r.comparators
-    ++ told_ranges (range + 1) (at + length (range_text r) + 4) rs
+-- the first offset is 0
+abbrev pub told_comparators : List Numbered → List RewrittenComparator
+told_comparators cs = told_from 0 cs
 
--- those of a set, whose ranges are numbered from 0
-abbrev pub told_set : PlainSet → List PrintedComparator
-told_set s = told_ranges 0 0 s.ranges
-
--- the comparators of a set, in order
-abbrev pub comparators_in : PlainSet → List PlainComparator
-comparators_in s = flat_map (λ r. r.comparators) s.ranges
-
--- at each place that is told stand the identifiers of that comparator's pre-release, joined by dots
-abbrev pub HasPreReleases : Text → List PrintedComparator → PlainSet → Type 0
-HasPreReleases text told s =
-    AllZip (λ c plain. bytes_at c.pre text ≡ dotted_text plain.version.pre) told (comparators_in s)
+-- at the place that is told of each stands its pre-release
+abbrev pub HasPreReleases : Text → List RewrittenComparator → List Numbered → Type 0
+HasPreReleases text told cs = AllZip (λ t c. bytes_at t.pre text ≡ pre_release c) told cs

@@ -1,15 +1,9 @@
 -- Where a version text has its pre-release and its build.
-use Rattle.std.specs.Prelude.{ℕ, suc, [], ◌∷◌, length, take, drop}
+use Rattle.std.specs.Prelude.{length, take, drop}
 use Rattle.semver_parser.specs.Texts.{Text}
 use Rattle.semver_parser.specs.Outlines.{OutlineValue}
 use Rattle.semver_parser_c.specs.declared.Part.{Part}
 use Rattle.semver_parser_c.specs.declared.ReadVersion.{ReadVersion}
-
--- the place of a part that stands in the text at an offset with its mark: what is behind the mark;
--- nowhere where there is no part
-abbrev pub behind_mark : ℕ → Text → Part
-behind_mark at [] = record { offset = 0; length = 0 }
-behind_mark at (mark ∷ part) = record { offset = suc at; length = length part }
 
 -- the three numbers of an outline, and the places of the pre-release and the build
 abbrev pub told : OutlineValue → ReadVersion

@@ -1,133 +1,81 @@
-//! The printed text of a set and its comparators, each with where its pre-release stands in it.
+//! The comparators of a set as plain data, and the texts of their pre-releases.
 
-ghost use Rattle.std.specs.Prelude.{◌≡◌, ◌+◌, ◌≤◌, ◌++◌, [], ◌∷◌, Some, length, map, codes};
-ghost use Rattle.std.specs.Prelude.{string_bytes, IfOk, OnOk};
-ghost use Rattle.semver_parser.specs.Texts.{Text, marked};
-ghost use Rattle.semver_parser.specs.PrintedText.{identifier_text};
-ghost use Rattle.semver_parser.specs.PrintedRanges.{comparator_text, range_text, set_text};
-ghost use Rattle.semver_parser.specs.RangeViews.{comparator_of, identifier_of, range_of, set_of};
-ghost use Rattle.semver_parser_c.specs.Comparators.{op_number, told_comparator, told_range};
-ghost use Rattle.semver_parser_c.specs.Comparators.{told_set};
-ghost use Rattle.semver_parser_c.specs.Places.{behind_mark};
+ghost use Rattle.std.specs.Prelude.{◌≡◌, ◌++◌, [], ◌∷◌, Some, IfOk, OnOk, length, map};
+ghost use Rattle.std.specs.Prelude.{string_bytes};
+ghost use Rattle.semver_parser.specs.Outlines.{dotted_text};
+ghost use Rattle.semver_parser.specs.RangeViews.{comparator_of, identifier_of, set_of};
+ghost use Rattle.semver_parser_c.specs.Comparators.{comparators_of, op_number, pre_releases};
+ghost use Rattle.semver_parser_c.specs.Comparators.{told_comparator, told_comparators};
 ghost use Rattle.semver_parser_c.specs.Printing.{PutsBoth};
 
-use crate::{Part, PrintedComparator, numbers};
-use semver_parser::{Comparator, Identifier, Op, Range, RangeSet};
-use semver_texts::printing::write_part;
+use crate::{Part, RewrittenComparator, numbers};
+use semver_parser::{Comparator, Identifier, Op, RangeSet};
+use semver_texts::printing::write_joined;
 use std::alloc::{AllocError, Global};
 use std::fmt;
 
-/// A printed set, and its comparators.
+/// Comparators, and the texts of their pre-releases.
 #[derive(Drop)]
-pub struct Printed {
-    /// The text.
-    pub text: String,
+pub struct Told {
     /// The comparators, in order.
-    pub comparators: Vec<PrintedComparator>,
+    pub comparators: Vec<RewrittenComparator>,
+    /// The texts of their pre-releases, one behind the other.
+    pub pre_releases: String,
 }
 
-/// Prints a set, and tells its comparators.
-pub fn print(alloc: Global, set: &RangeSet) -> Result<Printed, AllocError>
-    ensures text { IfOk result (λ printed. string_bytes printed.text ≡ set_text (set_of set.now)) }
-    ensures told { IfOk result
-        (λ printed. printed.comparators.items ≡ told_set (set_of set.now)) }
+/// Tells the comparators of a set, each with the number of its range, from 0 on.
+pub fn tell(alloc: Global, set: &RangeSet) -> Result<Told, AllocError>
+    ensures comparators { IfOk result
+        (λ told. told.comparators.items ≡ told_comparators (comparators_of (set_of set.now))) }
+    ensures texts { IfOk result
+        (λ told. string_bytes told.pre_releases ≡ pre_releases (comparators_of (set_of set.now))) }
 {
-    let mut printed = Printed {
-        text: String::new(alloc),
+    let mut told = Told {
         comparators: Vec::new(alloc),
+        pre_releases: String::new(alloc),
     };
-    let Some((first, rest)) = set.ranges.split_first() else {
-        return Ok(printed);
-    };
-    print_range(&mut printed, 0, first)?;
-    for (at, range) in rest.iter().enumerate() {
-        printed.text.push_str(" || ")?;
-        print_range(&mut printed, at + 1, range)?;
+    for (number, range) in set.ranges.iter().enumerate() {
+        for comparator in &range.comparator_set {
+            append(&mut told, number, comparator)?;
+        }
     }
-    Ok(printed)
+    Ok(told)
 }
 
-/// Appends a range, and tells its comparators with its number.
-fn print_range(printed: &mut Printed, number: usize, range: &Range) -> Result<(), AllocError>
-    ensures text { OnOk result (string_bytes printed.new.text
-        ≡ string_bytes printed.old.text ++ range_text (range_of range.now)) }
-    ensures told { OnOk result (printed.new.comparators.items
-        ≡ printed.old.comparators.items ++ told_range number
-        (length (string_bytes printed.old.text)) (range_of range.now).comparators) }
+/// Appends a comparator of the range of a number.
+fn append(told: &mut Told, number: usize, comparator: &Comparator) -> Result<(), AllocError>
+    ensures comparators { OnOk result (told.new.comparators.items
+        ≡ told.old.comparators.items
+        ++ told_comparator (length (string_bytes told.old.pre_releases))
+        (record { range = number; comparator = comparator_of comparator.now }) ∷ []) }
+    ensures texts { OnOk result (string_bytes told.new.pre_releases
+        ≡ string_bytes told.old.pre_releases
+        ++ dotted_text (comparator_of comparator.now).version.pre) }
 {
-    let Some((first, rest)) = range.comparator_set.split_first() else {
-        return Ok(());
-    };
-    print_comparator(printed, number, first)?;
-    for comparator in rest {
-        printed.text.push_str(" ")?;
-        print_comparator(printed, number, comparator)?;
-    }
-    Ok(())
-}
-
-/// Appends a comparator, and tells it with the number of its range.
-fn print_comparator(
-    printed: &mut Printed,
-    number: usize,
-    comparator: &Comparator,
-) -> Result<(), AllocError>
-    ensures text { OnOk result (string_bytes printed.new.text
-        ≡ string_bytes printed.old.text ++ comparator_text (comparator_of comparator.now)) }
-    ensures told { OnOk result (printed.new.comparators.items
-        ≡ printed.old.comparators.items ++ told_comparator number
-        (length (string_bytes printed.old.text)) (comparator_of comparator.now) ∷ []) }
-{
-    let (op, major, minor, patch) = (
-        &comparator.op,
-        comparator.major,
-        comparator.minor,
-        comparator.patch,
-    );
-    write!(printed.text, "{op}{major}.{minor}.{patch}")?;
-    let numbers_end = printed.text.as_bytes().len();
-    let pre = PreRelease(&comparator.pre);
-    write!(printed.text, "{pre}")?;
-    let pre = behind_mark(numbers_end, printed.text.as_bytes().len());
-    printed.comparators.push(PrintedComparator {
+    let offset = told.pre_releases.as_bytes().len();
+    let pre_release = Dotted(&comparator.pre);
+    write!(told.pre_releases, "{pre_release}")?;
+    let length = told.pre_releases.as_bytes().len() - offset;
+    told.comparators.push(RewrittenComparator {
         range: number,
-        op: op_number(op),
-        major,
-        minor,
-        patch,
-        pre,
+        op: op_number(&comparator.op),
+        major: comparator.major,
+        minor: comparator.minor,
+        patch: comparator.patch,
+        pre: Part { offset, length },
     })?;
     Ok(())
 }
 
-/// The identifiers of a pre-release, printed behind a hyphen.
+/// Identifiers, printed with dots between them.
 #[derive(Clone, Copy)]
-struct PreRelease<'a>(&'a [Identifier]);
+struct Dotted<'a>(&'a [Identifier]);
 
-impl fmt::Display for PreRelease<'_> {
-    ghost output = { λ pre. Some (marked (codes "-")
-        (map identifier_text (map identifier_of pre.0.now))) };
+impl fmt::Display for Dotted<'_> {
+    ghost output = { λ dotted. Some (dotted_text (map identifier_of dotted.0.now)) };
 
     fn fmt<W: fmt::Write>(&self, f: &mut fmt::Formatter<W>) -> fmt::Result {
-        write_part(f, "-", self.0)
-    }
-}
-
-/// The place of what stands between two offsets behind a mark of one byte.
-fn behind_mark(start: usize, end: usize) -> Part
-    requires { start ≤ end }
-    ensures { (part : Text) → start + length part ≡ end → result ≡ behind_mark start part }
-{
-    if start == end {
-        Part {
-            offset: 0,
-            length: 0,
-        }
-    } else {
-        Part {
-            offset: start + 1,
-            length: end - start - 1,
-        }
+        write_joined(f, ".", self.0)
     }
 }
 
@@ -146,36 +94,36 @@ fn op_number(op: &Op) -> i32
 
 /// Tells how many comparators and bytes there are, and puts both at the front of their rooms where
 /// both fit.
-pub fn put_both(
-    printed: &Printed,
-    comparators: &mut [PrintedComparator],
+pub fn put(
+    told: &Told,
+    comparators: &mut [RewrittenComparator],
     count: &mut usize,
     out: &mut [u8],
     length: &mut usize,
 ) -> i32
     ensures { PutsBoth
         (record {
-          items = printed.now.comparators.items;
+          items = told.now.comparators.items;
           old = comparators.old;
           new = comparators.new;
           told = count.new;
         })
         (record {
-          items = string_bytes printed.now.text;
+          items = string_bytes told.now.pre_releases;
           old = out.old;
           new = out.new;
           told = length.new;
         })
         result }
 {
-    let told = printed.comparators.len();
-    let bytes = printed.text.as_bytes();
-    *count = told;
+    let items = told.comparators.len();
+    let bytes = told.pre_releases.as_bytes();
+    *count = items;
     *length = bytes.len();
-    if told > comparators.len() || bytes.len() > out.len() {
+    if items > comparators.len() || bytes.len() > out.len() {
         return numbers::NO_ROOM;
     }
-    comparators[..told].copy_from_slice(&printed.comparators);
+    comparators[..items].copy_from_slice(&told.comparators);
     out[..bytes.len()].copy_from_slice(bytes);
     numbers::OK
 }

@@ -38,7 +38,8 @@ ghost use Rattle.semver_parser_c.specs.Faults.{outcome_number, range_faults, set
 ghost use Rattle.semver_parser_c.specs.Faults.{RefusesVersion, version_faults};
 ghost use Rattle.semver_parser_c.specs.Orders.{at_fault, order_number};
 ghost use Rattle.semver_parser_c.specs.Places.{bytes_at, told};
-ghost use Rattle.semver_parser_c.specs.Comparators.{HasPreReleases, told_set};
+ghost use Rattle.semver_parser_c.specs.Comparators.{HasPreReleases, comparators_of};
+ghost use Rattle.semver_parser_c.specs.Comparators.{pre_releases, told_comparators};
 ghost use Rattle.semver_parser_c.specs.Printing.{Puts, PutsBoth};
 ghost use Rattle.semver_parser_c.specs.Rules.{IsAnswer, IsRule, rule_number};
 ghost use Rattle.semver_parser_c.specs.Sets.{IsMeant, text_of};
@@ -77,10 +78,10 @@ pub struct ReadVersion {
     pub build: Part,
 }
 
-/// A comparator of a printed set: an operator, and the version that it compares with.
+/// A comparator of a rewritten range: an operator, and the version that it compares with.
 #[repr(C)]
 #[derive(Clone, Copy)]
-pub struct PrintedComparator {
+pub struct RewrittenComparator {
     /// The number of the range that it belongs to, from 0 on.
     pub range: usize,
     /// How it compares: `LESS`, `LESS_EQUAL`, `GREATER`, `GREATER_EQUAL` or `EQUAL`.
@@ -91,8 +92,8 @@ pub struct PrintedComparator {
     pub minor: u64,
     /// The third number.
     pub patch: u64,
-    /// Where the printed set has the identifiers of the pre-release, joined by dots, without the
-    /// `-` in front of them.
+    /// Where the room of pre-releases has the identifiers of its pre-release, joined by dots. The
+    /// offset is the sum of the lengths before it, also where there is none and the length is 0.
     pub pre: Part,
 }
 
@@ -209,12 +210,18 @@ pub extern "C" fn semver_parser_proved_rewrite(
 }
 
 /// Rewrites a range text into plain comparators, as `semver_parser_proved_rewrite` does, and tells
-/// them as plain data: `OK` with the comparators at the front of `comparators`. Where each has its
-/// pre-release is told of the printed set, which that call prints.
+/// them as plain data: `OK` with the comparators at the front of `comparators`, and at the front of
+/// `out` the identifiers of their pre-releases, joined by dots, those of one comparator right
+/// behind those of the one before.
 ///
-/// `count` becomes the number of the comparators, also where `comparators` has no room for them
-/// (`NO_ROOM`). `comparators` is as it was behind them, and all of it after any answer but `OK`.
-/// `count` is as it was after a fault of the text.
+/// `^1.2.3-rc.1 || <2.0.0-a` gives three with exact bounds, and `rc.10a`: of range 0 `>=` 1.2.3
+/// with a pre-release at offset 0 with length 4 and `<` 2.0.0 with one at offset 4 with length 1,
+/// and of range 1 `<` 2.0.0 with one at offset 5 with length 1.
+///
+/// `count` and `length` become how many comparators and how many bytes there are, also where one of
+/// the rooms is too small (`NO_ROOM`); then both rooms are as they were. So a call with two empty
+/// rooms asks for both. After a fault of the text both rooms are as they were, and so are `count`
+/// and `length`. What is behind what was put into a room is as it was.
 ///
 /// # Faults
 ///
@@ -225,92 +232,48 @@ pub extern "C" fn semver_parser_proved_comparators(
     text: &[u8],
     npm: bool,
     exact: bool,
-    comparators: &mut [PrintedComparator],
-    count: &mut usize,
-) -> i32
-    ensures numbers { IsOneOf (number.ok ∷ number.no_room ∷ range_faults) result }
-    // What is put into the room is what the text is rewritten to, in order, each with the number of
-    // its range and the place of its pre-release.
-    ensures rewritten { (result ≡ number.ok) ⊎ (result ≡ number.no_room)
-        → (tree : SetTree) × Spells tree text.now × IsTrue (fits (mode_of npm) tree)
-        × Puts (told_set (set_for exact (mode_of npm) tree))
-        comparators.old comparators.new count.new result }
-    ensures pre_releases { result ≡ number.ok → (tree : SetTree) → Spells tree text.now
-        → HasPreReleases (set_text (set_for exact (mode_of npm) tree))
-        (take count.new comparators.new) (set_for exact (mode_of npm) tree) }
-
-    // Faults of the text, whatever the room.
-    ensures refusals { RefusesRange ⊤ (mode_of npm) text.now result }
-    ensures room_unchanged { result ≢ number.ok → comparators.new ≡ comparators.old }
-    ensures count_unchanged { IsOneOf range_faults result → count.new ≡ count.old }
-{
-    let rewritten = match range_text::read(alloc, text, npm, exact) {
-        Ok(set) => set,
-        Err(number) => return number,
-    };
-    match comparators::print(alloc, &rewritten) {
-        Ok(printed) => range_text::put(&printed.comparators, comparators, count),
-        Err(_) => numbers::RANGE_OUT_OF_MEMORY,
-    }
-}
-
-/// Rewrites a range text, and tells both its printed set, as `semver_parser_proved_rewrite` does,
-/// and its comparators, as `semver_parser_proved_comparators` does: `OK` with both at the front of
-/// their rooms.
-///
-/// `count` and `length` become the number of the comparators and the length of the printed set,
-/// also where one of the rooms is too small (`NO_ROOM`); then both rooms are as they were. They are
-/// so after a fault of the text too, and so are `count` and `length`.
-///
-/// # Faults
-///
-/// Those of `semver_parser_proved_rewrite`.
-#[unsafe(no_mangle)]
-pub extern "C" fn semver_parser_proved_rewrite_with_comparators(
-    alloc: Global,
-    text: &[u8],
-    npm: bool,
-    exact: bool,
-    comparators: &mut [PrintedComparator],
+    comparators: &mut [RewrittenComparator],
     count: &mut usize,
     out: &mut [u8],
     length: &mut usize,
 ) -> i32
     ensures numbers { IsOneOf (number.ok ∷ number.no_room ∷ range_faults) result }
-    // What is put into the rooms is what the text is rewritten to, by its comparators and printed.
+    // What is put into the rooms are the comparators that the text is rewritten to, in order, each
+    // with the number of its range, and the texts of their pre-releases, one behind the other.
     ensures rewritten { (result ≡ number.ok) ⊎ (result ≡ number.no_room)
         → (tree : SetTree) × Spells tree text.now × IsTrue (fits (mode_of npm) tree)
         × PutsBoth
         (record {
-          items = told_set (set_for exact (mode_of npm) tree);
+          items = told_comparators (comparators_of (set_for exact (mode_of npm) tree));
           old = comparators.old;
           new = comparators.new;
           told = count.new;
         })
         (record {
-          items = set_text (set_for exact (mode_of npm) tree);
+          items = pre_releases (comparators_of (set_for exact (mode_of npm) tree));
           old = out.old;
           new = out.new;
           told = length.new;
         })
         result }
+    // At the place that is told of each stands its pre-release, its identifiers joined by dots.
     ensures pre_releases { result ≡ number.ok → (tree : SetTree) → Spells tree text.now
-        → HasPreReleases (take length.new out.new)
-        (take count.new comparators.new) (set_for exact (mode_of npm) tree) }
+        → HasPreReleases out.new (take count.new comparators.new)
+        (comparators_of (set_for exact (mode_of npm) tree)) }
 
-    // Faults of the text, whatever the room.
+    // Faults of the text, whatever the rooms.
     ensures refusals { RefusesRange ⊤ (mode_of npm) text.now result }
     ensures rooms_unchanged { result ≢ number.ok
         → (comparators.new ≡ comparators.old) × (out.new ≡ out.old) }
     ensures numbers_unchanged { IsOneOf range_faults result
         → (count.new ≡ count.old) × (length.new ≡ length.old) }
 {
-    let rewritten_set = match range_text::read(alloc, text, npm, exact) {
+    let rewritten = match range_text::read(alloc, text, npm, exact) {
         Ok(set) => set,
         Err(number) => return number,
     };
-    match comparators::print(alloc, &rewritten_set) {
-        Ok(printed) => comparators::put_both(&printed, comparators, count, out, length),
+    match comparators::tell(alloc, &rewritten) {
+        Ok(told) => comparators::put(&told, comparators, count, out, length),
         Err(_) => numbers::RANGE_OUT_OF_MEMORY,
     }
 }

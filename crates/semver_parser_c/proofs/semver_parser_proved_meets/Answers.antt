@@ -1,35 +1,30 @@
-use Rattle.std.proofs.Common.{rules, ◌≡◌, sym, ◌∙◌, inl, inr, subst, w32, to_z, of_z}
-use Rattle.semver_parser_c.specs.Faults.{IsOneOf, mode_of, version_faults, RangeIsRead}
-use Rattle.semver_parser_c.specs.Rules.{IsRule}
-use Rattle.semver_parser_c.proofs.Steps.{isnt_read_by, refused_alike, told_version, range_stands, refused_fault}
+use Rattle.std.proofs.Common.{rules, ◌≡◌, ◌∷◌, sym, ◌∙◌, inl, inr, refl, subst, w32, to_z, of_z}
+use Rattle.semver_parser_c.specs.Faults.{IsOneOf, range_faults, version_faults}
+use Rattle.semver_parser_c.specs.Numbers.{no_such_rule}
+use Rattle.semver_parser_c.proofs.Steps.{refused_by_rule, of_first, told_version, range_stands, refused_fault}
 use Rattle.semver_parser_c.proofs.semver_parser_proved_meets.Goals as goal
-use Rattle.semver_parser_c.proofs.semver_parser_proved_meets.Goals.{In-Err}
 
--- where the rule or the range was refused, it isn't read
-refused : (c : In-Err) → IsRule c.args.pre_releases
-    → RangeIsRead (mode_of c.args.npm) c.args.range.now (to_z w32 (of_z w32 c.in-Err.number)) → ⊥
-refused c is read =
+-- where the rule or the range is refused
+pub returns-in-Err : goal.returns-in-Err
+returns-in-Err c =
     let same : to_z w32 (of_z w32 c.in-Err.number) ≡ c.in-Err.number = search rules in
     let rule : to_z w32 (of_z w32 c.args.pre_releases) ≡ c.args.pre_releases = search rules in
-    isnt_read_by _ _ _ _ _ same c.in-Err.ensures.numbers (subst IsRule (sym rule) is) c.in-Err.ensures.no_such_rule
-    c.in-Err.ensures.refusals read
+    let told = c.in-Err.ensures in
+    let refused = refused_by_rule _ _ _ _ _ _ rule same told.numbers told.no_such_rule told.refusals in
+    record {
+      numbers = inr (of_first (no_such_rule ∷ range_faults) version_faults _ refused.number);
+      meaning = λ is. absurd (refused.nothing (inl is));
+      both_read = λ is. absurd (refused.nothing (inl is));
+      accepted = λ is read. absurd (refused.unread is read);
+      unchanged = λ _. refl;
+      no_such_rule = refused.no_such_rule;
+      refusals = refused.refusals;
+      version_not_utf8 = λ is read. absurd (refused.unread is read);
+      version_refused = λ is read. absurd (refused.unread is read);
+      version_out_of_memory = λ is. absurd (refused.of_version (inr (inr (inr (inr (inr (inl is)))))));
+    }
 
-pub returns-in-Err-clause-refusals : goal.returns-in-Err-clause-refusals
-returns-in-Err-clause-refusals c =
-    let same : to_z w32 (of_z w32 c.in-Err.number) ≡ c.in-Err.number = search rules in
-    let rule : to_z w32 (of_z w32 c.args.pre_releases) ≡ c.args.pre_releases = search rules in
-    refused_alike _ _ _ _ _ _ rule same c.in-Err.ensures.refusals
-
-pub returns-in-Err-clause-accepted : goal.returns-in-Err-clause-accepted
-returns-in-Err-clause-accepted c = λ is read. absurd (refused (goal.at.returns-in-Err-clause-accepted c).In-Err is read)
-
-pub returns-in-Err-clause-version_not_utf8 : goal.returns-in-Err-clause-version_not_utf8
-returns-in-Err-clause-version_not_utf8 c = λ is read. absurd (refused (goal.at.returns-in-Err-clause-version_not_utf8 c).In-Err is read)
-
-pub returns-in-Err-clause-version_refused : goal.returns-in-Err-clause-version_refused
-returns-in-Err-clause-version_refused c = λ is read. absurd (refused (goal.at.returns-in-Err-clause-version_refused c).In-Err is read)
-
--- where the version was refused
+-- where the version is
 pub returns-clause-refusals : goal.returns-clause-refusals
 returns-clause-refusals c =
     let read = c.in-Ok.ensures.accepted in
