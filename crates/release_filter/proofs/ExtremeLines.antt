@@ -18,7 +18,7 @@ use Rattle.release_filter.specs.declared.lines.LineError.{LineError}
 use Rattle.semver_parser.specs.Texts.{Text}
 use Rattle.release_filter.specs.Extremes.{IsGreatestBy, HasNone, IsNotAbove, order_of}
 use Rattle.release_filter.specs.KeptLines.{FindsGreatestBy, StandsBehind}
-use Rattle.release_filter.specs.Means.Reading.{ReadsLine, FindsEnd, PassesOver, FindsNext}
+use Rattle.release_filter.specs.Steps.Reading.{ReadsLine, FindsEnd, PassesOver, FindsNext}
 use Rattle.release_filter.proofs.ExtremeSteps.{all_append, all_map, begins, stays, stays_over, replaces, not_above}
 use Rattle.release_filter.proofs.LineSteps.{one_line, more_lines, stops_by, at_last}
 use Rattle.release_filter.proofs.Passing.{not_both}

@@ -13,7 +13,7 @@ use Rattle.semver_parser.specs.Outlines.{OutlineValue, IsOutlineOf}
 use Rattle.release_filter.specs.Judging.{IsJudged}
 use Rattle.release_filter.specs.declared.judging.Judged.{Judged}
 use Rattle.release_filter.specs.declared.judging.Judged.TheVariants.{NoVersion, DoesNotPass, Passes}
-use Rattle.release_filter.specs.Means.Reading.{SpellsPlain, IsOutlined, IsLineOutlined}
+use Rattle.release_filter.specs.Steps.Reading.{SpellsPlain, IsOutlined, IsLineOutlined}
 use Rattle.release_filter.specs.KeptLines.{line_text, IsKeptLine, SpellsOneThat}
 use Rattle.release_filter.proofs.Passing.{not_both}
 

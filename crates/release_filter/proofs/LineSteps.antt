@@ -19,7 +19,7 @@ use Rattle.release_filter.specs.declared.lines.LineError.TheVariants.{OutOfMemor
 use Rattle.release_filter.specs.Extremes.{HasNone}
 use Rattle.release_filter.specs.KeptLines.{onto_first, lines_of, AreThose, CopiesLines, StandsBehind, StandsIn, IsKeptLine, IsNoWriting}
 use Rattle.release_filter.specs.KeptLines.{SpellsOneThat, StopsBy}
-use Rattle.release_filter.specs.Means.Reading.{ReadsPart, ReadsLine, FindsEnd, StopsInLine, PassesOver, FindsNext, IsOfOneLine}
+use Rattle.release_filter.specs.Steps.Reading.{ReadsPart, ReadsLine, FindsEnd, StopsInLine, PassesOver, FindsNext, IsOfOneLine}
 use Rattle.release_filter.proofs.ExtremeSteps.{none_more}
 
 -- the first line, and the lines behind it

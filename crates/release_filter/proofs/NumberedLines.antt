@@ -19,7 +19,7 @@ use Rattle.semver_texts.proofs.Numerals.{own}
 use Rattle.semver_parser.specs.Outlines.{OutlineValue, IsOutlineOf}
 use Rattle.semver_parser.specs.VersionGrammar.{IsVersionText}
 use Rattle.release_filter.specs.KeptLines.{line_text}
-use Rattle.release_filter.specs.Means.Reading.{IsWholeLine, IsLineOutlined}
+use Rattle.release_filter.specs.Steps.Reading.{IsWholeLine, IsLineOutlined}
 use Rattle.release_filter.proofs.Passing.{not_both}
 
 -- ---- the bytes of numbers, which are no line feed and no carriage return

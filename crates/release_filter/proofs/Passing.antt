@@ -12,11 +12,11 @@ use Rattle.semver_parser.specs.RangeTree.{SetTree}
 use Rattle.semver_parser.specs.declared.Compat.{Compat}
 use Rattle.version_sets.specs.PreReleaseRules.{meant_with, numbers_fit}
 use Rattle.release_filter.specs.declared.judging.Judged.TheVariants.{DoesNotPass, Passes}
-use Rattle.release_filter.specs.Means.Reading.{IsOutlined}
+use Rattle.release_filter.specs.Steps.Reading.{IsOutlined}
 use Rattle.version_sets.specs.VersionSets.{has, Fits}
 use Rattle.version_sets.specs.declared.PreReleases.TheVariants.{Excluded}
 use Rattle.release_filter.specs.Filters.{FilterValue, passes}
-use Rattle.release_filter.specs.Means.Rules.{HeedsRule}
+use Rattle.release_filter.specs.Steps.Rules.{HeedsRule}
 
 -- what is so, is so where an error is answered
 pub on_err : {T E : Type 0} (P : Type 0) (r : Result T E) → P → IfErr r (λ e. P)

@@ -13,8 +13,8 @@ use Rattle.semver_parser.specs.declared.version.Version.{Version}
 use Rattle.release_filter.specs.declared.lines.LineError.{LineError}
 use Rattle.release_filter.specs.declared.lines.LineError.TheVariants.{OutOfMemory}
 use Rattle.release_filter.specs.KeptLines.{IsKeptLine}
-use Rattle.release_filter.specs.Means.Reading.{ReadsPart, ReadsLine, IsWholeLine, SpellsPlain, Judges, JudgesNext, StopsInLine}
-use Rattle.release_filter.specs.Means.Reading.{FindsEnd, taken}
+use Rattle.release_filter.specs.Steps.Reading.{ReadsPart, ReadsLine, IsWholeLine, SpellsPlain, Judges, JudgesNext, StopsInLine}
+use Rattle.release_filter.specs.Steps.Reading.{FindsEnd, taken}
 use Rattle.release_filter.specs.declared.next_line.Taken.{Taken}
 use Rattle.release_filter.specs.declared.next_line.Taken.TheVariants.{Nothing, PassedOver, Kept}
 use Rattle.release_filter.proofs.LineSteps.{stops_before}

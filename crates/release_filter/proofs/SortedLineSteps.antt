@@ -11,8 +11,8 @@ use Rattle.semver_parser.specs.Texts.{Text}
 use Rattle.semver_parser.specs.Versions.{PlainVersion, VersionValue}
 use Rattle.release_filter.specs.KeptLines.{AreThose, IsKeptLine, SpellsOneThat, StandsBehind}
 use Rattle.release_filter.specs.SortedLines.{ended, SortsLines}
-use Rattle.release_filter.specs.Means.Reading.{ReadsLine, FindsEnd, PassesOver, FindsNext, StopsInLine}
-use Rattle.release_filter.specs.Means.Sorting.{AddsLine, AreSorted, bytes_of}
+use Rattle.release_filter.specs.Steps.Reading.{ReadsLine, FindsEnd, PassesOver, FindsNext, StopsInLine}
+use Rattle.release_filter.specs.Steps.Sorting.{AddsLine, AreSorted, bytes_of}
 use Rattle.release_filter.specs.declared.lines.LineError.{LineError}
 use Rattle.release_filter.specs.declared.lines.LineError.TheVariants.{OutOfMemory}
 use Rattle.release_filter.specs.declared.sorting.SortedLine.{SortedLine}

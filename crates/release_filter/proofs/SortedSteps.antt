@@ -23,7 +23,7 @@ use Rattle.semver_parser.specs.Versions.{PlainVersion, VersionValue}
 use Rattle.semver_parser.specs.Writing.{AppendsBeginning}
 use Rattle.release_filter.specs.KeptLines.{AreThose, line_text}
 use Rattle.release_filter.specs.SortedLines.{ended, HasEqual, IsNotAboveThat, IsStableSort}
-use Rattle.release_filter.specs.Means.Sorting.{plain_of, bytes_of, is_below, AreSorted}
+use Rattle.release_filter.specs.Steps.Sorting.{plain_of, bytes_of, is_below, AreSorted}
 use Rattle.release_filter.specs.declared.sorting.SortedLine.{SortedLine}
 use Rattle.release_filter.proofs.ExtremeSteps.{not_above}
 use Rattle.release_filter.proofs.Passing.{not_both}

@@ -31,7 +31,7 @@ pub struct Filter {
 
 impl Model for Filter {
     ghost use Rattle.release_filter.specs.Filters.{FilterValue};
-    ghost use Rattle.release_filter.specs.Means.Rules.{HeedsRule};
+    ghost use Rattle.release_filter.specs.Steps.Rules.{HeedsRule};
 
     ghost Value = { FilterValue };
 

@@ -12,10 +12,10 @@ ghost use Rattle.semver_parser.specs.Versions.{VersionValue};
 ghost use Rattle.release_filter.specs.Filters.{passes};
 ghost use Rattle.release_filter.specs.KeptLines.{line_text, IsKeptLine, IsNoWriting};
 ghost use Rattle.release_filter.specs.KeptLines.{SpellsOneThat};
-ghost use Rattle.release_filter.specs.Means.Reading.{ReadsPart, ReadsLine, FindsEnd, IsOfOneLine};
-ghost use Rattle.release_filter.specs.Means.Reading.{SpellsPlain, IsWholeLine, Judges, JudgesNext};
-ghost use Rattle.release_filter.specs.Means.Reading.{PassesOver, FindsNext, StopsInLine, taken};
-ghost use Rattle.release_filter.specs.Means.Reading.{IsLineOutlined};
+ghost use Rattle.release_filter.specs.Steps.Reading.{ReadsPart, ReadsLine, FindsEnd, IsOfOneLine};
+ghost use Rattle.release_filter.specs.Steps.Reading.{SpellsPlain, IsWholeLine, Judges, JudgesNext};
+ghost use Rattle.release_filter.specs.Steps.Reading.{PassesOver, FindsNext, StopsInLine, taken};
+ghost use Rattle.release_filter.specs.Steps.Reading.{IsLineOutlined};
 ghost use Rattle.semver_parser.specs.Texts.{Text};
 
 use crate::filter::Filter;

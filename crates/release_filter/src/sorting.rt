@@ -7,7 +7,7 @@ ghost use Rattle.semver_parser.specs.Writing.{WritesOrBegins};
 ghost use Rattle.release_filter.specs.Filters.{passes};
 ghost use Rattle.release_filter.specs.KeptLines.{IsNoWriting, SpellsOneThat};
 ghost use Rattle.release_filter.specs.SortedLines.{SortsLines};
-ghost use Rattle.release_filter.specs.Means.Sorting.{AddsLine, AreSorted};
+ghost use Rattle.release_filter.specs.Steps.Sorting.{AddsLine, AreSorted};
 
 use crate::filter::Filter;
 use crate::lines::LineError;

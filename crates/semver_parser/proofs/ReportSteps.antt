@@ -23,7 +23,7 @@ use Rattle.semver_parser.specs.Writing.{WritesOrBegins}
 use Rattle.semver_parser.specs.ReportLines.{VersionLine, version_printed, version_refused, version_unread, version_unprinted}
 use Rattle.semver_parser.specs.ReportLines.{version_fault_word, range_fault_word, RangeLine, set_printed, not_a_range, number_too_large}
 use Rattle.semver_parser.specs.ReportLines.{no_memory, AreLines, WritesLines, lines}
-use Rattle.semver_parser.specs.Means.Shown.{shown_text, is_value_of}
+use Rattle.semver_parser.specs.Steps.Shown.{shown_text, is_value_of}
 use Rattle.semver_parser.specs.declared.report.Shown.{Shown}
 use Rattle.semver_parser.specs.declared.report.Shown.TheVariants.{Value, Fault}
 

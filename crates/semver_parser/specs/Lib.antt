@@ -1,11 +1,11 @@
 pub mod Examples
 pub mod Writing
 pub mod ReportLines
-pub mod Means
+pub mod Steps
 pub use Rattle.semver_texts.specs.Texts
 pub use Rattle.semver_texts.specs.Versions
 pub use Rattle.semver_texts.specs.PrintedText
-pub use Rattle.semver_texts.specs.Means.PrecedenceLaws
+pub use Rattle.semver_texts.specs.Steps.PrecedenceLaws
 pub use Rattle.semver_tokens.specs.Tokens
 pub use Rattle.semver_tokens.specs.ParserState
 pub use Rattle.semver_tokens.specs.Views

@@ -9,7 +9,7 @@ ghost use Rattle.semver_ranges.specs.PrintedRanges.{set_text};
 ghost use Rattle.semver_steps.specs.ParserViews.{fault_of};
 ghost use Rattle.semver_texts.specs.VersionViews.{version_value};
 ghost use Rattle.semver_texts.specs.PrintedText.{version_text};
-ghost use Rattle.semver_parser.specs.Means.Shown.{shown_text, is_value_of};
+ghost use Rattle.semver_parser.specs.Steps.Shown.{shown_text, is_value_of};
 
 use crate::writing::write_whole;
 use semver_ranges::{Compat, RangeError, RangeSet};

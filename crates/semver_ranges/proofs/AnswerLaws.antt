@@ -18,9 +18,9 @@ use Rattle.semver_ranges.specs.RewritingTable.{PlainSet, fits, written_set, rewr
 use Rattle.semver_ranges.specs.ExactBounds.{lowest_pre_release}
 use Rattle.semver_ranges.specs.Meeting.{meets_set, meets_tree_or_bounds}
 use Rattle.semver_ranges.specs.PrintedRanges.{is_kept, IsPrintableSet, set_text}
-use Rattle.semver_ranges.specs.Means.Reading.{read}
+use Rattle.semver_ranges.specs.Steps.Reading.{read}
 use Rattle.semver_ranges.specs.RangeViews.{set_of}
-use Rattle.semver_ranges.specs.Means.Answers.{IsAnswer}
+use Rattle.semver_ranges.specs.Steps.Answers.{IsAnswer}
 use Rattle.semver_ranges.proofs.ReadingComplete.{tree_read}
 use Rattle.semver_ranges.proofs.ReadingSound.{read_sound}
 use Rattle.semver_ranges.proofs.Meanings.{some_agrees, own_meaning_meets, agree_on_releases}

@@ -11,8 +11,8 @@ use Rattle.std.proofs.lemmas.Int.Digits.{digits_value_push}
 use Rattle.semver_ranges.specs.RangeTree.{is_wildcard}
 use Rattle.semver_ranges.specs.Partials.{fits_u64}
 use Rattle.semver_texts.specs.Texts.{Text}
-use Rattle.semver_ranges.specs.Means.Reading.{front, back, component}
-use Rattle.semver_ranges.specs.Means.PartialViews.{IsValue}
+use Rattle.semver_ranges.specs.Steps.Reading.{front, back, component}
+use Rattle.semver_ranges.specs.Steps.PartialViews.{IsValue}
 
 -- a first byte and what follows it
 pub first_apart : (t : Text) → 1 ≤ length t → t ≡ get_or t 0 0 ∷ take (length t - 1) (drop 1 t)

@@ -3,10 +3,10 @@ use Rattle.std.proofs.Common.{◌≡◌, false, ◌==◌, List, [], ◌∷◌, S
 use Rattle.semver_ranges.specs.declared.grammar.Dialect.{Dialect}
 use Rattle.semver_ranges.specs.RangeTree.{PartialTree, one, two, three, Form}
 use Rattle.semver_texts.specs.Texts.{Text}
-use Rattle.semver_ranges.specs.Means.Reading.{behind_blanks, operator, partial, simple, with_form, parts, behind_pre}
+use Rattle.semver_ranges.specs.Steps.Reading.{behind_blanks, operator, partial, simple, with_form, parts, behind_pre}
 use Rattle.semver_texts.specs.Texts.{begins_with}
-use Rattle.semver_ranges.specs.Means.Reading.{behind_three, behind_two, behind_one}
-use Rattle.semver_ranges.specs.Means.CursorViews.{marked_parts}
+use Rattle.semver_ranges.specs.Steps.Reading.{behind_three, behind_two, behind_one}
+use Rattle.semver_ranges.specs.Steps.CursorViews.{marked_parts}
 use Rattle.semver_texts.proofs.Lists.{by_test}
 use Rattle.semver_texts.proofs.DottedParts.{found_same}
 

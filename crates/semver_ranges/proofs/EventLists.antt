@@ -8,9 +8,9 @@ use Rattle.semver_ranges.specs.RangeTree.{PartialTree, Simple, RangeTree, empty,
 use Rattle.semver_ranges.specs.Partials.{stated, states_nothing}
 use Rattle.semver_ranges.specs.Terms.{of_simple, left_side, terms}
 use Rattle.semver_ranges.specs.RewritingTable.{PlainComparator, term_fits_by, range_by, fits_by}
-use Rattle.semver_ranges.specs.Means.RangeEvents.{Event, next_range, yielded, in_front, events_of, range_simples, range_others, bars}
-use Rattle.semver_ranges.specs.Means.RangeEvents.{event_fits}
-use Rattle.semver_ranges.specs.Means.BoundsViews.{range_of_simples, range_for}
+use Rattle.semver_ranges.specs.Steps.RangeEvents.{Event, next_range, yielded, in_front, events_of, range_simples, range_others, bars}
+use Rattle.semver_ranges.specs.Steps.RangeEvents.{event_fits}
+use Rattle.semver_ranges.specs.Steps.BoundsViews.{range_of_simples, range_for}
 use Rattle.semver_ranges.proofs.Tables.{IsTable, nothing_is}
 use Rattle.semver_texts.proofs.Lists.{by_test}
 

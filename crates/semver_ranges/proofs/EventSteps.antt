@@ -3,12 +3,12 @@ use Rattle.std.proofs.Common.{◌≡◌, ◌<◌, Bool, true, false, List, [], �
 use Rattle.semver_ranges.specs.declared.grammar.Dialect.{Dialect}
 use Rattle.semver_ranges.specs.RangeTree.{Simple, RangeTree, empty, simples, SetTree}
 use Rattle.semver_texts.specs.Texts.{Text}
-use Rattle.semver_ranges.specs.Means.Reading.{ends_range, simple, put_before, behind_simple, all_simples, right_side}
+use Rattle.semver_ranges.specs.Steps.Reading.{ends_range, simple, put_before, behind_simple, all_simples, right_side}
 use Rattle.semver_texts.specs.Texts.{begins_with}
-use Rattle.semver_ranges.specs.Means.Reading.{with_right, with_others, behind_first, range_here, behind_bars, onto, more_ranges}
-use Rattle.semver_ranges.specs.Means.Reading.{behind_range, behind_blanks, read}
-use Rattle.semver_ranges.specs.Means.RangeEvents.{Event, one_simple, next_range, wildcard, yielded, in_front, events_of, put, put_simples}
-use Rattle.semver_ranges.specs.Means.RangeEvents.{set_events, events, at_bars, others_left, simples_left, events_left}
+use Rattle.semver_ranges.specs.Steps.Reading.{with_right, with_others, behind_first, range_here, behind_bars, onto, more_ranges}
+use Rattle.semver_ranges.specs.Steps.Reading.{behind_range, behind_blanks, read}
+use Rattle.semver_ranges.specs.Steps.RangeEvents.{Event, one_simple, next_range, wildcard, yielded, in_front, events_of, put, put_simples}
+use Rattle.semver_ranges.specs.Steps.RangeEvents.{set_events, events, at_bars, others_left, simples_left, events_left}
 use Rattle.semver_ranges.proofs.ReadingSound.{read_sound}
 use Rattle.semver_ranges.proofs.ReadingSteps.{simples_end, simples_step, read_step}
 

@@ -10,11 +10,11 @@ use Rattle.semver_ranges.specs.declared.events.Events.{Events}
 use Rattle.semver_ranges.specs.RangeTree.{Simple, SetTree}
 use Rattle.semver_texts.specs.Texts.{Text}
 use Rattle.semver_ranges.specs.RewritingTable.{PlainComparator, PlainRange, fits_by}
-use Rattle.semver_ranges.specs.Means.BoundsViews.{range_of_simples, range_for}
-use Rattle.semver_ranges.specs.Means.Reading.{read}
-use Rattle.semver_ranges.specs.Means.RangeEvents.{Event, one_simple, put, events_of, range_simples, range_others, bars}
-use Rattle.semver_ranges.specs.Means.RangeEvents.{event_fits, set_events, events}
-use Rattle.semver_ranges.specs.Means.CursorViews.{HasLeft}
+use Rattle.semver_ranges.specs.Steps.BoundsViews.{range_of_simples, range_for}
+use Rattle.semver_ranges.specs.Steps.Reading.{read}
+use Rattle.semver_ranges.specs.Steps.RangeEvents.{Event, one_simple, put, events_of, range_simples, range_others, bars}
+use Rattle.semver_ranges.specs.Steps.RangeEvents.{event_fits, set_events, events}
+use Rattle.semver_ranges.specs.Steps.CursorViews.{HasLeft}
 use Rattle.semver_ranges.proofs.ReadingSound.{read_sound}
 use Rattle.semver_ranges.proofs.Tables.{IsTable}
 use Rattle.semver_ranges.proofs.EventLists.{range_made, first_simples, first_others, set_fits, set_bars}

@@ -7,8 +7,8 @@ use Rattle.semver_ranges.specs.declared.events.Event.{Event as Given}
 use Rattle.semver_ranges.specs.declared.events.Event.TheVariants as event
 use Rattle.semver_ranges.specs.declared.range_set.RangeError.{RangeError}
 use Rattle.semver_ranges.specs.RangeTree.{Simple}
-use Rattle.semver_ranges.specs.Means.RangeEvents.{Event, one_simple, next_range, put, put_simples, range_simples, range_others}
-use Rattle.semver_ranges.specs.Means.CursorViews.{IsSimpleOf, AreSides, IsEventOf, HasBehind, HasLeft, IsFirst, Gives, flag}
+use Rattle.semver_ranges.specs.Steps.RangeEvents.{Event, one_simple, next_range, put, put_simples, range_simples, range_others}
+use Rattle.semver_ranges.specs.Steps.CursorViews.{IsSimpleOf, AreSides, IsEventOf, HasBehind, HasLeft, IsFirst, Gives, flag}
 
 -- the sides of a hyphen range
 pub sides_first : (xs : List Simple) (lower : read.Simple) (upper : Option read.Simple) (o : Option (List Event)) → AreSides xs lower upper

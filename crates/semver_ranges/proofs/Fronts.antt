@@ -4,7 +4,7 @@ use Rattle.std.proofs.Common.{◌≡◌, ℕ, suc, ◌+◌, ◌<◌, ◌≤◌, 
 use Rattle.std.proofs.Common.{◌∙◌, arith, append-nil, append_assoc}
 use Rattle.std.proofs.Math.Seq.{take-suc}
 use Rattle.semver_texts.specs.Texts.{Text}
-use Rattle.semver_ranges.specs.Means.Reading.{front, back}
+use Rattle.semver_ranges.specs.Steps.Reading.{front, back}
 
 -- a byte that passes, one that doesn't, and the end
 pub back_more : (p : ℕ → Bool) (t : Text) (i : ℕ) → i < length t → p (get_or t i 0) ≡ true → back p (drop i t) ≡ back p (drop (i + 1) t)

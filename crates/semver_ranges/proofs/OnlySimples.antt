@@ -6,7 +6,7 @@ use Rattle.semver_ranges.specs.RangeTree.{Simple, simples, Spells}
 use Rattle.semver_texts.specs.Texts.{Text}
 use Rattle.semver_texts.specs.Versions.{IdentifierValue}
 use Rattle.semver_ranges.specs.RewritingTable.{PlainComparator, written_simple, written_set, fits}
-use Rattle.semver_ranges.specs.Means.Reading.{simple, read}
+use Rattle.semver_ranges.specs.Steps.Reading.{simple, read}
 use Rattle.semver_ranges.specs.RewritingTable.{simple_fits}
 use Rattle.semver_ranges.proofs.ReadingComplete.{tree_read}
 use Rattle.semver_ranges.proofs.ReadingPieces.{SimpleAt, simple_sound}

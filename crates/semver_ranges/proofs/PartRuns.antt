@@ -7,11 +7,11 @@ use Rattle.std.proofs.lemmas.Bool.Decides.{nat_tests}
 use Rattle.semver_ranges.specs.RangeTree.{is_part}
 use Rattle.semver_texts.specs.Texts.{Text, cut_at_dots, is_part_byte, is_dot, is_dotted_byte}
 use Rattle.semver_texts.specs.declared.dotted.Hyphens.TheVariants.{Any}
-use Rattle.semver_texts.specs.Means.DottedParts.{runs_stand, marked_part}
+use Rattle.semver_texts.specs.Steps.DottedParts.{runs_stand, marked_part}
 use Rattle.semver_texts.proofs.Lists.{by_test}
 use Rattle.semver_texts.proofs.DottedParts.{found_same}
-use Rattle.semver_ranges.specs.Means.Reading.{front, back}
-use Rattle.semver_ranges.specs.Means.CursorViews.{marked_parts}
+use Rattle.semver_ranges.specs.Steps.Reading.{front, back}
+use Rattle.semver_ranges.specs.Steps.CursorViews.{marked_parts}
 
 -- parts and dots, byte by byte: whether what is left is the rest of a part, where one was begun, and parts behind it
 abbrev parts_pass : Bool → Text → Bool

@@ -3,7 +3,7 @@ use Rattle.std.proofs.Common.{◌≡◌, true, false, not, ◌==◌, refl, List,
 use Rattle.std.specs.List.{list_all, slice_split}
 use Rattle.semver_ranges.specs.RangeTree.{three, is_part}
 use Rattle.semver_texts.specs.Texts.{Text, is_empty, is_dot, is_dotted_byte, marked, begins_with}
-use Rattle.semver_ranges.specs.Means.Reading.{front, parts, with_build, behind_pre, with_pre, behind_three, begins_qualifier}
+use Rattle.semver_ranges.specs.Steps.Reading.{front, parts, with_build, behind_pre, with_pre, behind_three, begins_qualifier}
 use Rattle.semver_ranges.proofs.PartRuns.{pieces}
 use Rattle.semver_texts.proofs.Lists.{by_test}
 use Rattle.semver_texts.proofs.DottedParts.{found_same}

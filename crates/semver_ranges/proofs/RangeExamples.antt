@@ -8,7 +8,7 @@ use Rattle.semver_ranges.specs.RangeTree.{SetTree}
 use Rattle.semver_texts.specs.Texts.{Text}
 use Rattle.semver_ranges.specs.RewritingTable.{fits, rewritten}
 use Rattle.semver_ranges.specs.PrintedRanges.{set_text}
-use Rattle.semver_ranges.specs.Means.Reading.{read}
+use Rattle.semver_ranges.specs.Steps.Reading.{read}
 
 -- the printed set of a tree, or the word of its fault
 abbrev of_tree : Compat → Option SetTree → Text

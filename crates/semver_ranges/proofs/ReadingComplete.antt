@@ -9,9 +9,9 @@ use Rattle.semver_ranges.specs.RangeTree.{PartialTree, Form, bare, equal, less, 
 use Rattle.semver_ranges.specs.RangeTree.{empty, hyphen, simples, SetTree, is_blank, AreBlanks, AreSomeBlanks, SpellsWord, SpellsForm}
 use Rattle.semver_ranges.specs.RangeTree.{SpellsSimple, SpellsSimples, SpellsRange, SpellsPadded, SpellsIn}
 use Rattle.semver_texts.specs.Texts.{Text}
-use Rattle.semver_ranges.specs.Means.Reading.{behind_blanks, is_bar, ends_range, ends_word, simple, put_before, behind_simple}
+use Rattle.semver_ranges.specs.Steps.Reading.{behind_blanks, is_bar, ends_range, ends_word, simple, put_before, behind_simple}
 use Rattle.semver_texts.specs.Texts.{begins_with}
-use Rattle.semver_ranges.specs.Means.Reading.{all_simples, right_side, range_here, range, onto, behind_range, read}
+use Rattle.semver_ranges.specs.Steps.Reading.{all_simples, right_side, range_here, range, onto, behind_range, read}
 use Rattle.semver_ranges.proofs.ReadingPieces.{starts, starts-append, is_word_byte, word_starts}
 use Rattle.semver_ranges.proofs.ReadingSteps.{simples_end, simples_step, read_step}
 use Rattle.semver_ranges.proofs.WrittenPieces.{apart, is_written, no_blank_byte, stops, partial_read, blanks_behind, no_blank, simple_read}

@@ -12,11 +12,11 @@ use Rattle.semver_ranges.specs.declared.grammar.Dialect.TheVariants.{Crate, Npm}
 use Rattle.semver_ranges.specs.RangeTree.{PartialTree, one, two, three, Form, Simple, is_blank, is_wildcard, is_number, is_component}
 use Rattle.semver_ranges.specs.RangeTree.{is_part, AreBlanks, SpellsPartial, SpellsWord, IsSignAndBlanks, SpellsForm, SpellsSimple}
 use Rattle.semver_texts.specs.Texts.{Text, is_empty, marked, is_dot}
-use Rattle.semver_ranges.specs.Means.Reading.{front, back, behind_blanks, is_bar, ends_range, ends_word, component, parts}
+use Rattle.semver_ranges.specs.Steps.Reading.{front, back, behind_blanks, is_bar, ends_range, ends_word, component, parts}
 use Rattle.semver_texts.specs.Texts.{is_dotted_byte}
-use Rattle.semver_ranges.specs.Means.Reading.{with_build, behind_pre, with_pre, behind_three, with_third, behind_two, with_second}
-use Rattle.semver_ranges.specs.Means.Reading.{behind_one, with_first, whole_word, partial, after_less, after_greater, after_tilde, operator}
-use Rattle.semver_ranges.specs.Means.Reading.{with_form, simple, behind_v, takes}
+use Rattle.semver_ranges.specs.Steps.Reading.{with_build, behind_pre, with_pre, behind_three, with_third, behind_two, with_second}
+use Rattle.semver_ranges.specs.Steps.Reading.{behind_one, with_first, whole_word, partial, after_less, after_greater, after_tilde, operator}
+use Rattle.semver_ranges.specs.Steps.Reading.{with_form, simple, behind_v, takes}
 
 -- the longest front whose bytes pass
 pub front-back : (p : ℕ → Bool) (t : Text) → t ≡ front p t ++ back p t

@@ -7,11 +7,11 @@ use Rattle.semver_ranges.specs.RangeTree.{PartialTree, Simple, RangeTree, SetTre
 use Rattle.semver_texts.specs.Texts.{Text}
 use Rattle.semver_ranges.proofs.ReadingPieces.{front-back, WordAt, partial_sound, starts, is_word_byte, word_starts, SimpleAt}
 use Rattle.semver_ranges.proofs.ReadingPieces.{simple_sound}
-use Rattle.semver_ranges.specs.Means.Reading.{back, behind_blanks, is_bar, ends_range, partial, simple, put_before}
+use Rattle.semver_ranges.specs.Steps.Reading.{back, behind_blanks, is_bar, ends_range, partial, simple, put_before}
 use Rattle.semver_texts.specs.Texts.{begins_with}
-use Rattle.semver_ranges.specs.Means.Reading.{behind_simple, some_simples, all_simples, range_end, right_side, is_bare, with_right}
-use Rattle.semver_ranges.specs.Means.Reading.{with_others, behind_first, range_here, range, behind_bars, onto, more_ranges, behind_range}
-use Rattle.semver_ranges.specs.Means.Reading.{some_ranges, read}
+use Rattle.semver_ranges.specs.Steps.Reading.{behind_simple, some_simples, all_simples, range_end, right_side, is_bare, with_right}
+use Rattle.semver_ranges.specs.Steps.Reading.{with_others, behind_first, range_here, range, behind_bars, onto, more_ranges, behind_range}
+use Rattle.semver_ranges.specs.Steps.Reading.{some_ranges, read}
 use Rattle.semver_texts.proofs.Lists.{by_test}
 
 -- what is left behind an answer is at most so long

@@ -11,7 +11,7 @@ use Rattle.semver_ranges.specs.RangeTree.{PartialTree, one, two, three}
 use Rattle.semver_texts.specs.Texts.{Text, is_empty}
 use Rattle.semver_texts.specs.Versions.{IdentifierValue, PlainVersion}
 use Rattle.semver_ranges.specs.Partials.{stated, states_nothing, fits_u64, kept, filled, zero_filled}
-use Rattle.semver_ranges.specs.Means.PartialViews.{stated_at, states_none, IsValue, IsPartialOf, AreComponentsOf}
+use Rattle.semver_ranges.specs.Steps.PartialViews.{stated_at, states_none, IsValue, IsPartialOf, AreComponentsOf}
 use Rattle.semver_texts.specs.Texts.{cut_at_dots}
 use Rattle.semver_texts.proofs.Lists.{by_test}
 

@@ -13,10 +13,10 @@ use Rattle.semver_ranges.specs.RangeTree.{Form, bare, Simple}
 use Rattle.semver_texts.specs.Versions.{IdentifierValue}
 use Rattle.semver_ranges.specs.Partials.{stated, zero_filled, zero_version, fits_u64}
 use Rattle.semver_ranges.specs.RewritingTable.{cell, nothing_stated, cell_raised, written_cell, bound_fits, written_simple}
-use Rattle.semver_ranges.specs.Means.PartialViews.{stated_at, stated_of, version_of, states_none, pre_of}
-use Rattle.semver_ranges.specs.Means.CursorViews.{form_of, IsSimpleOf}
+use Rattle.semver_ranges.specs.Steps.PartialViews.{stated_at, stated_of, version_of, states_none, pre_of}
+use Rattle.semver_ranges.specs.Steps.CursorViews.{form_of, IsSimpleOf}
 use Rattle.semver_ranges.specs.RewritingTable.{simple_fits}
-use Rattle.semver_ranges.specs.Means.BoundsViews.{cell_of, with_version, comparators_of, bounds_fit, IsPlaced, IsRow}
+use Rattle.semver_ranges.specs.Steps.BoundsViews.{cell_of, with_version, comparators_of, bounds_fit, IsPlaced, IsRow}
 use Rattle.semver_texts.proofs.Lists.{by_test}
 
 -- the column where nothing is stated raises no bound, and compares with 0.0.0

@@ -7,7 +7,7 @@ use Rattle.semver_texts.specs.Texts.{is_empty}
 use Rattle.semver_texts.specs.Versions.{IdentifierValue}
 use Rattle.semver_ranges.specs.Partials.{stated, zero_version}
 use Rattle.semver_ranges.specs.Terms.{left_side, right_side}
-use Rattle.semver_ranges.specs.Means.RangeEvents.{wildcard}
+use Rattle.semver_ranges.specs.Steps.RangeEvents.{wildcard}
 use Rattle.semver_ranges.specs.RewritingTable.{PlainComparator, comparator, simple_fits, written_simple}
 
 -- such a side is `>=0.0.0`, and fits; and so is the wildcard of an empty range

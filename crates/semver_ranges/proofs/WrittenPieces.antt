@@ -17,10 +17,10 @@ use Rattle.semver_ranges.specs.RangeTree.{PartialTree, one, two, three, Form, ba
 use Rattle.semver_ranges.specs.RangeTree.{Simple, is_blank, is_wildcard, is_number, is_component, is_part, AreBlanks}
 use Rattle.semver_ranges.specs.RangeTree.{SpellsPartial, SpellsWord, SpellsForm, SpellsSimple}
 use Rattle.semver_texts.specs.Texts.{is_part_byte, Text, is_empty, marked, is_dot}
-use Rattle.semver_ranges.specs.Means.Reading.{front, back, behind_blanks, is_bar, ends_word, component, parts, behind_pre}
+use Rattle.semver_ranges.specs.Steps.Reading.{front, back, behind_blanks, is_bar, ends_word, component, parts, behind_pre}
 use Rattle.semver_texts.specs.Texts.{is_dotted_byte}
-use Rattle.semver_ranges.specs.Means.Reading.{with_pre, behind_three, with_third, behind_two, with_second, behind_one, with_first}
-use Rattle.semver_ranges.specs.Means.Reading.{whole_word, partial, after_less, after_greater, after_tilde, operator, with_form, simple}
+use Rattle.semver_ranges.specs.Steps.Reading.{with_pre, behind_three, with_third, behind_two, with_second, behind_one, with_first}
+use Rattle.semver_ranges.specs.Steps.Reading.{whole_word, partial, after_less, after_greater, after_tilde, operator, with_form, simple}
 use Rattle.semver_ranges.proofs.Tests.{list_all-weaker}
 use Rattle.semver_ranges.proofs.ReadingPieces.{starts, starts-append, is_word_byte, word_starts, word_parts}
 

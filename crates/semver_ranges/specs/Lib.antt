@@ -10,7 +10,7 @@ pub mod StatedPreReleases
 pub mod PrintedRanges
 pub mod RangeViews
 pub mod ParsedSets
-pub mod Means
+pub mod Steps
 pub use Rattle.semver_texts.specs.Texts
 pub use Rattle.semver_texts.specs.Versions
 pub use Rattle.semver_texts.specs.PrintedText

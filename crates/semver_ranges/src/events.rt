@@ -5,12 +5,12 @@
 ghost use Rattle.std.specs.Prelude.{◌≡◌, ◌<◌, ◌≤◌, ◌++◌, Some, None, true, false, length, codes};
 ghost use Rattle.std.specs.Prelude.{IfSome};
 ghost use Rattle.semver_ranges.specs.RangeTree.{Simple as SimpleTree, PartialTree, hyphen};
-ghost use Rattle.semver_ranges.specs.Means.Reading.{ends_range, simple, right_side};
-ghost use Rattle.semver_ranges.specs.Means.Reading.{with_right};
-ghost use Rattle.semver_ranges.specs.Means.PartialViews.{IsPartialOf};
-ghost use Rattle.semver_ranges.specs.Means.RangeEvents.{yielded, events};
-ghost use Rattle.semver_ranges.specs.Means.CursorViews.{AreSides, FindsSides, TakesEvent, HasLeft};
-ghost use Rattle.semver_ranges.specs.Means.CursorViews.{IsSimpleOf, NextGives, size_left};
+ghost use Rattle.semver_ranges.specs.Steps.Reading.{ends_range, simple, right_side};
+ghost use Rattle.semver_ranges.specs.Steps.Reading.{with_right};
+ghost use Rattle.semver_ranges.specs.Steps.PartialViews.{IsPartialOf};
+ghost use Rattle.semver_ranges.specs.Steps.RangeEvents.{yielded, events};
+ghost use Rattle.semver_ranges.specs.Steps.CursorViews.{AreSides, FindsSides, TakesEvent, HasLeft};
+ghost use Rattle.semver_ranges.specs.Steps.CursorViews.{IsSimpleOf, NextGives, size_left};
 
 use crate::grammar::{
     Dialect, Form, Simple, behind_bars, behind_blanks, ends_range, read_right_side, read_simple,
@@ -125,8 +125,7 @@ impl<'input> Events<'input> {
         }
     }
 
-    /// Goes on behind a hyphen range, whose left side and hyphen were read. For speed it is a
-    /// function of its own: its locals cost only where it is called.
+    /// Goes on behind a hyphen range, whose left side and hyphen were read.
     #[inline(always)]
     fn read_sides(
         &mut self,

@@ -43,7 +43,7 @@ pub fn exact_bounds_mean_the_text()
         ≡ (is_lt (precedence v bound) && not (is_pre_release_of v (Some bound))) }
 {}
 
-/// With exact bounds, comparators tell npm's and Cargo's rule for pre-releases too: a version meets
+/// With exact bounds, comparators tell the rule for pre-releases as stated, too: a version meets
 /// them as stated exactly if it meets the text as stated.
 pub fn stated_pre_releases_mean_the_text()
     ensures exact { (mode : Compat) (tree : SetTree) (v : PlainVersion) →

@@ -9,11 +9,11 @@ ghost use Rattle.semver_ranges.specs.RangeTree.{PartialTree, one, two, three, is
 ghost use Rattle.semver_ranges.specs.Partials.{kept, leading_place};
 ghost use Rattle.semver_ranges.specs.RewritingTable.{comparator, up, up_with, bound_fits};
 ghost use Rattle.semver_ranges.specs.RangeViews.{comparator_of, identifier_of};
-ghost use Rattle.semver_ranges.specs.Means.PartialViews.{states_none, stated_of};
+ghost use Rattle.semver_ranges.specs.Steps.PartialViews.{states_none, stated_of};
 ghost use Rattle.semver_texts.specs.Texts.{cut_at_dots};
-ghost use Rattle.semver_ranges.specs.Means.PartialViews.{version_of, place_number, pre_of};
-ghost use Rattle.semver_ranges.specs.Means.PartialViews.{AreComponentsOf, IsPartialOf};
-ghost use Rattle.semver_ranges.specs.Means.PartialViews.{PartsPass};
+ghost use Rattle.semver_ranges.specs.Steps.PartialViews.{version_of, place_number, pre_of};
+ghost use Rattle.semver_ranges.specs.Steps.PartialViews.{AreComponentsOf, IsPartialOf};
+ghost use Rattle.semver_ranges.specs.Steps.PartialViews.{PartsPass};
 
 use crate::range::{Comparator, Identifier, Op};
 use semver_texts::dotted::of_parts;

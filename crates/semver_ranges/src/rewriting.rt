@@ -10,11 +10,11 @@ ghost use Rattle.semver_ranges.specs.declared.partial.RaisedBounds.{RaisedBounds
 ghost use Rattle.semver_ranges.specs.RangeTree.{Simple as SimpleTree};
 ghost use Rattle.semver_ranges.specs.RewritingTable.{nothing_stated, some_stated, three_stated};
 ghost use Rattle.semver_ranges.specs.RangeViews.{comparator_of};
-ghost use Rattle.semver_ranges.specs.Means.PartialViews.{stated_of, place_number};
-ghost use Rattle.semver_ranges.specs.Means.CursorViews.{form_of, IsSimpleOf};
-ghost use Rattle.semver_ranges.specs.Means.BoundsViews.{cell_of, op_of, place_of, bounds_fit};
-ghost use Rattle.semver_ranges.specs.Means.BoundsViews.{comparators_of, with_version, IsPlaced};
-ghost use Rattle.semver_ranges.specs.Means.BoundsViews.{IsBuildable, IsRow};
+ghost use Rattle.semver_ranges.specs.Steps.PartialViews.{stated_of, place_number};
+ghost use Rattle.semver_ranges.specs.Steps.CursorViews.{form_of, IsSimpleOf};
+ghost use Rattle.semver_ranges.specs.Steps.BoundsViews.{cell_of, op_of, place_of, bounds_fit};
+ghost use Rattle.semver_ranges.specs.Steps.BoundsViews.{comparators_of, with_version, IsPlaced};
+ghost use Rattle.semver_ranges.specs.Steps.BoundsViews.{IsBuildable, IsRow};
 
 use crate::grammar::{Form, Simple};
 use crate::partial::{Partial, PartialKind, Place, RaisedBounds};

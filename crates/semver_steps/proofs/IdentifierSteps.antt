@@ -13,7 +13,7 @@ use Rattle.semver_texts.specs.VersionGrammar.{SpellsIdentifier}
 use Rattle.semver_texts.specs.Versions.{IdentifierValue}
 use Rattle.semver_tokens.specs.ParserState.{ParserState, Fault}
 use Rattle.semver_steps.specs.ParserSteps.{Step, pop, look, number_of}
-use Rattle.semver_steps.specs.Means.Taking.{run, IsTaken, Gives, PassesIdentifier, TakesIdentifier, expect_run, run_of, lone_number}
+use Rattle.semver_steps.specs.Steps.Taking.{run, IsTaken, Gives, PassesIdentifier, TakesIdentifier, expect_run, run_of, lone_number}
 use Rattle.semver_steps.specs.VersionReading.{IsIdentifierShape, IsLongestFront, inner_text, inner_texts}
 use Rattle.semver_texts.proofs.Numbers.{canonical_from_IsNumber}
 use Rattle.semver_tokens.proofs.FirstToken.{by_test}

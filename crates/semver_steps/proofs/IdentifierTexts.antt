@@ -17,7 +17,7 @@ use Rattle.semver_texts.specs.VersionGrammar.{SpellsIdentifier}
 use Rattle.semver_texts.proofs.Lists.{Passes, all_more, all_apart, passes_append}
 use Rattle.semver_texts.specs.Versions.{alphanumeric}
 use Rattle.semver_steps.specs.VersionReading.{IsIdentifierShape, inner_text, inner_texts, HoldsRun, MayRunOutInIdentifier, ReadsIdentifier}
-use Rattle.semver_steps.specs.Means.Taking.{run, PassesIdentifier, TakesIdentifier, lone_number}
+use Rattle.semver_steps.specs.Steps.Taking.{run, PassesIdentifier, TakesIdentifier, lone_number}
 use Rattle.semver_steps.specs.ParserViews.{UnlessOutOfMemory, IfOutOfMemory}
 use Rattle.semver_steps.specs.declared.parser.Error.{Error}
 use Rattle.semver_steps.specs.declared.parser.Error.TheVariants as error

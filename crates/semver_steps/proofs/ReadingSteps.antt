@@ -8,7 +8,7 @@ use Rattle.semver_tokens.specs.Tokens.{TokenValue}
 use Rattle.semver_tokens.specs.ParserState as fault
 use Rattle.semver_tokens.specs.ParserState.{ParserState, Fault}
 use Rattle.semver_steps.specs.ParserSteps.{Step, pop, pop_of, look, and_then, valued, expect}
-use Rattle.semver_steps.specs.Means.Taking.{run, IsTaken, Gives}
+use Rattle.semver_steps.specs.Steps.Taking.{run, IsTaken, Gives}
 use Rattle.semver_steps.specs.VersionReading.{Answers, IsLongestFront, IsWhole, IsEndPart, MayRunOut, Reads}
 use Rattle.semver_steps.specs.VersionReading.{Refuses, inner_texts, last_alone}
 use Rattle.semver_tokens.proofs.FirstToken.{option_cases}

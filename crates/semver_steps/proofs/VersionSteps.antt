@@ -6,8 +6,8 @@ use Rattle.std.specs.List.{AllByRecursion, join_by}
 use Rattle.std.proofs.lemmas.Option.{same_Some, option_and_then_some}
 use Rattle.semver_tokens.specs.Tokens.{TokenValue, Hyphen, Dot, Plus, Whitespace, Numeric, AlphaNumeric, is_component}
 use Rattle.semver_steps.specs.VersionReading.{IsIdentifierShape, IsPartShape, IsOuterShape, IsVersionShape}
-use Rattle.semver_steps.specs.Means.Taking.{run, major, minor, patch, Part, pre_release, build, Place, start, at_number}
-use Rattle.semver_steps.specs.Means.Taking.{behind_number, at_run, behind_run, end, step, accepts}
+use Rattle.semver_steps.specs.Steps.Taking.{run, major, minor, patch, Part, pre_release, build, Place, start, at_number}
+use Rattle.semver_steps.specs.Steps.Taking.{behind_number, at_run, behind_run, end, step, accepts}
 use Rattle.semver_steps.proofs.ReadingSteps.{run-append, IsReadBy}
 use Rattle.semver_steps.proofs.IdentifierSteps.{id_step, one_run, run_more, identifier_is_read}
 

@@ -16,9 +16,9 @@ use Rattle.semver_texts.specs.VersionGrammar.{SpellsIdentifier, SpellsPart, Spel
 use Rattle.semver_steps.specs.VersionReading.{IsIdentifierShape, IsVersionShape, Refuses, ReadsIdentifier, ReadsVersion}
 use Rattle.semver_steps.specs.VersionReading.{HoldsRun, HoldsIdentifierRun, IsEndPart, MayRunOutInIdentifier, MayRunOutInVersion}
 use Rattle.semver_steps.specs.VersionReading.{inner_text, inner_texts, last_alone, IsWhole}
-use Rattle.semver_steps.specs.Means.Taking.{run, IsTaken, Gives, Number, major, minor, patch, Part, pre_release, build, Place, start}
-use Rattle.semver_steps.specs.Means.Taking.{at_number, behind_number, at_run, behind_run, end, step, accepts, IsTakenTo, IsAtMark}
-use Rattle.semver_steps.specs.Means.Taking.{ArePassed, AtMark, TakesPart, PartMayRunOut, skip_at, skip_whitespace, numbers}
+use Rattle.semver_steps.specs.Steps.Taking.{run, IsTaken, Gives, Number, major, minor, patch, Part, pre_release, build, Place, start}
+use Rattle.semver_steps.specs.Steps.Taking.{at_number, behind_number, at_run, behind_run, end, step, accepts, IsTakenTo, IsAtMark}
+use Rattle.semver_steps.specs.Steps.Taking.{ArePassed, AtMark, TakesPart, PartMayRunOut, skip_at, skip_whitespace, numbers}
 use Rattle.semver_steps.proofs.ReadingSteps.{run-append, runs_out_behind, longest_stops, not_whole, Stops}
 use Rattle.semver_steps.proofs.ReadingSteps.{none_taken, reads_value, reads_fault, next_given, expected_given, then_given}
 use Rattle.semver_steps.proofs.IdentifierSteps.{id_step, identifier_is_read, identifier_stops}

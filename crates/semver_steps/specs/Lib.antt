@@ -1,4 +1,4 @@
 pub mod ParserSteps
 pub mod ParserViews
 pub mod VersionReading
-pub mod Means
+pub mod Steps

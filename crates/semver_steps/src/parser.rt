@@ -23,9 +23,9 @@ ghost use Rattle.semver_texts.specs.Versions.{alphanumeric};
 ghost use Rattle.semver_steps.specs.VersionReading.{ReadsIdentifier, ReadsVersion};
 ghost use Rattle.semver_steps.specs.VersionReading.{MayRunOutInIdentifier, MayRunOutInVersion};
 ghost use Rattle.semver_texts.specs.VersionViews.{identifier_value, version_value};
-ghost use Rattle.semver_steps.specs.Means.Taking.{TakesIdentifier, AtMark, TakesPart};
-ghost use Rattle.semver_steps.specs.Means.Taking.{PartMayRunOut, expect_run, skip_whitespace};
-ghost use Rattle.semver_steps.specs.Means.Taking.{numbers};
+ghost use Rattle.semver_steps.specs.Steps.Taking.{TakesIdentifier, AtMark, TakesPart};
+ghost use Rattle.semver_steps.specs.Steps.Taking.{PartMayRunOut, expect_run, skip_whitespace};
+ghost use Rattle.semver_steps.specs.Steps.Taking.{numbers};
 ghost use Rattle.semver_steps.specs.ParserViews.{fault_of, fixed_text, step_of, UnlessOutOfMemory};
 ghost use Rattle.semver_steps.specs.ParserViews.{IfOutOfMemory};
 

@@ -13,7 +13,7 @@ use Rattle.std.proofs.lemmas.Str.{IsUtf8-from_ascii}
 use Rattle.semver_texts.specs.Texts.{Text, is_dot, is_dotted_byte}
 use Rattle.semver_texts.specs.declared.dotted.Hyphens.{Hyphens}
 use Rattle.semver_texts.specs.declared.dotted.Hyphens.TheVariants.{Any, BetweenRuns}
-use Rattle.semver_texts.specs.Means.DottedParts.{is_run_byte, runs_stand}
+use Rattle.semver_texts.specs.Steps.DottedParts.{is_run_byte, runs_stand}
 use Rattle.semver_texts.proofs.Lists.{Passes, passes_apart, ascii_from}
 
 -- ---- bytes

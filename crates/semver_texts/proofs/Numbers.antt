@@ -21,7 +21,7 @@ use Rattle.std.proofs.lemmas.Grind.{common_steps}
 use Rattle.semver_texts.proofs.Numerals.{own}
 use Rattle.semver_texts.specs.Texts.{IsNumber, BeginsWithNumber, BeginsWithNumbers}
 use Rattle.semver_texts.proofs.Lists.{tails, Passes, by_test, all_of_prefix, prefix_stops, prefix_is}
-use Rattle.semver_texts.specs.Means.Decimals.{is_number, digits_front}
+use Rattle.semver_texts.specs.Steps.Decimals.{is_number, digits_front}
 
 -- what makes a run a number
 pub record IsCanonical (run : List ℕ) : Type 0 where

@@ -1,4 +1,4 @@
-pub mod Means
+pub mod Steps
 pub mod Texts
 pub mod Versions
 pub mod PrintedText

@@ -5,7 +5,7 @@ ghost use Rattle.std.specs.Prelude.{true, slice_index, MatchOption};
 ghost use Rattle.std.specs.Char.{is_ascii_digit};
 ghost use Rattle.std.specs.Str.Parse.{digits_value};
 ghost use Rattle.semver_texts.specs.Texts.{Text, IsNumber, BeginsWithNumber, BeginsWithNumbers};
-ghost use Rattle.semver_texts.specs.Means.Decimals.{digits_front};
+ghost use Rattle.semver_texts.specs.Steps.Decimals.{digits_front};
 
 /// For speed: what is below this may be multiplied by ten and a digit added without a test.
 const LIMIT: u64 = 1_000_000_000_000_000_000;

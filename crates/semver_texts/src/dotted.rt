@@ -5,7 +5,7 @@ ghost use Rattle.std.specs.Prelude.{false, length, IsTrue, IfOk, IfErr, MatchOpt
 ghost use Rattle.std.specs.List.{AllByRecursion, AllZip, prefix_len, slice_split};
 ghost use Rattle.std.specs.Fn.{FnReturnsAt};
 ghost use Rattle.semver_texts.specs.Texts.{begins_with, cut_at_dots, is_dot, is_dotted_byte};
-ghost use Rattle.semver_texts.specs.Means.DottedParts.{is_run_byte, runs_stand, marked_part};
+ghost use Rattle.semver_texts.specs.Steps.DottedParts.{is_run_byte, runs_stand, marked_part};
 
 use crate::bytes::count_dots;
 use std::alloc::{AllocError, Global};

@@ -3,11 +3,11 @@ use Rattle.std.proofs.Common.{◌≡◌, ℕ, ◌^◌, ◌<◌, List, length, sy
 use Rattle.std.specs.Str.Parse.{digits_value}
 use Rattle.std.proofs.lemmas.Bool.{cond_both, both_ways}
 use Rattle.semver_texts.specs.Texts.{IsNumber}
-use Rattle.semver_texts.specs.Means.Decimals.{is_number}
+use Rattle.semver_texts.specs.Steps.Decimals.{is_number}
 use Rattle.semver_texts.proofs.Numbers.{IsCanonical, is_number_true, canonical_from_is_number, canonical_from_IsNumber}
 use Rattle.semver_texts.proofs.Numbers.{IsNumber-from_canonical, digits_value_number}
 use Rattle.semver_tokens.specs.Tokens.{TokenValue, Numeric, AlphaNumeric}
-use Rattle.semver_tokens.specs.Means.Scanning.{component}
+use Rattle.semver_tokens.specs.Steps.Scanning.{component}
 
 -- a run that is a number is its token `Numeric`, and any other run `AlphaNumeric`
 pub component_cases : (run : List ℕ) (P : TokenValue → Type 0) → (IsCanonical run → P (Numeric (digits_value 10 run)))

@@ -15,7 +15,7 @@ use Rattle.semver_texts.specs.Texts.{is_space}
 use Rattle.semver_texts.proofs.Lists.{ascii_from}
 use Rattle.semver_tokens.specs.Tokens.{TokenValue, LtEq, GtEq, Or, Whitespace}
 use Rattle.semver_tokens.specs.Tokens.{Numeric, AlphaNumeric, token_text, IsTokenAt}
-use Rattle.semver_tokens.specs.Means.Scanning.{first_token}
+use Rattle.semver_tokens.specs.Steps.Scanning.{first_token}
 use Rattle.semver_tokens.proofs.FirstToken.{all_of_prefix, IsFound, first_token-found, run_ascii, space_ascii}
 
 small_ascii : (bs : List ℕ) → AllByRecursion (λ b. IsTrue (ltb b 128)) bs → IsAscii bs

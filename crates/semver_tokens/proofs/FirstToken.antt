@@ -10,7 +10,7 @@ use Rattle.std.proofs.lemmas.Bool.Decides.{nat_tests}
 use Rattle.semver_texts.specs.Texts.{is_space, IsRun, is_part_byte}
 use Rattle.semver_tokens.specs.Tokens.{TokenValue, Gt, Lt, Whitespace}
 use Rattle.semver_tokens.specs.Tokens.{Numeric, AlphaNumeric, token_text, is_sign, opens_token, IsTokenAt, is_whitespace, is_component}
-use Rattle.semver_tokens.specs.Means.Scanning.{component, sign, first_token}
+use Rattle.semver_tokens.specs.Steps.Scanning.{component, sign, first_token}
 use Rattle.semver_texts.proofs.Numbers.{decimal_canonical, canonical_from_IsNumber}
 use Rattle.semver_tokens.proofs.Components.{component_cases}
 pub use Rattle.semver_texts.proofs.Lists.{by_test, all_of_prefix, prefix_stops}

@@ -5,7 +5,7 @@ use Rattle.std.specs.Prelude.{slice_get, chars}
 use Rattle.std.proofs.lemmas.Str.{chars-nil}
 use Rattle.semver_tokens.specs.Tokens.{TokenValue}
 use Rattle.semver_tokens.specs.ParserState.{ParserState, IsStateOf, IsStateFrom}
-use Rattle.semver_tokens.specs.Means.Scanning.{first_token, scan, state_from, state_left}
+use Rattle.semver_tokens.specs.Steps.Scanning.{first_token, scan, state_from, state_left}
 use Rattle.semver_tokens.specs.Views.{items_left}
 use Rattle.semver_tokens.proofs.FirstToken.{IsFound, first_token-found}
 use Rattle.semver_tokens.proofs.TokenLists.{scan_finds, scan_is, tokens_cons, scan-none, length-tokens}

@@ -13,7 +13,7 @@ use Rattle.semver_texts.specs.Texts.{is_space, IsRun}
 use Rattle.semver_tokens.specs.Tokens.{TokenValue, Gt, Lt, Whitespace}
 use Rattle.semver_tokens.specs.Tokens.{Numeric, AlphaNumeric, token_text, tokens_text, is_sign, opens_token, IsTokenAt, IsBadStart}
 use Rattle.semver_tokens.specs.Tokens.{AreInPlace, is_component, is_whitespace, is_eq, merges, NoneMerge, AreTokensFrom}
-use Rattle.semver_tokens.specs.Means.Scanning.{component, sign, first_token, scan}
+use Rattle.semver_tokens.specs.Steps.Scanning.{component, sign, first_token, scan}
 pub use Rattle.semver_texts.proofs.Lists.{prefix_is}
 use Rattle.semver_texts.proofs.Lists.{all_more}
 use Rattle.semver_texts.proofs.Numbers.{canonical_decimal, all_digits}

@@ -1,4 +1,4 @@
 pub mod Tokens
 pub mod ParserState
-pub mod Means
+pub mod Steps
 pub mod Views

@@ -8,7 +8,7 @@
 ghost use Rattle.std.specs.Prelude.{◌^◌, [], ◌≡◌, ℕ, ◌+◌, ◌<◌, ◌≤◌, length, drop, option_map};
 ghost use Rattle.semver_tokens.specs.Tokens.{is_whitespace};
 ghost use Rattle.semver_texts.specs.Texts.{IsRun};
-ghost use Rattle.semver_tokens.specs.Means.Scanning.{component, sign, first_token};
+ghost use Rattle.semver_tokens.specs.Steps.Scanning.{component, sign, first_token};
 ghost use Rattle.semver_tokens.specs.Views.{token_value};
 ghost use Rattle.semver_tokens.specs.ParserState.{IsStateFrom};
 
@@ -90,7 +90,7 @@ pub enum Error {
 
 /// The sign that two bytes begin with, and its length.
 #[inline(always)]
-#[tactic(auto, unfolding(crate::specs::Means::Scanning::sign))]
+#[tactic(auto, unfolding(crate::specs::Steps::Scanning::sign))]
 fn sign<'input>(first: u8, second: u8) -> Option<(Token<'input>, usize)>
     ensures { option_map (λ x. (token_value x.0, x.1)) result ≡ sign first second }
 {
@@ -114,7 +114,7 @@ fn sign<'input>(first: u8, second: u8) -> Option<(Token<'input>, usize)>
 
 /// The token of a run of letters and digits.
 #[inline(always)]
-#[tactic(auto, unfolding(crate::specs::Means::Scanning::component))]
+#[tactic(auto, unfolding(crate::specs::Steps::Scanning::component))]
 fn component<'input>(run: &'input str) -> Token<'input>
     requires { IsRun run.now }
     ensures { token_value result ≡ component run.now }
@@ -160,7 +160,7 @@ pub struct Lexer<'input> {
 impl<'input> Model for Lexer<'input> {
     ghost use Rattle.std.specs.Prelude.{IsCharBoundary};
     ghost use Rattle.semver_tokens.specs.ParserState.{ParserState};
-    ghost use Rattle.semver_tokens.specs.Means.Scanning.{state_left};
+    ghost use Rattle.semver_tokens.specs.Steps.Scanning.{state_left};
 
     ghost Value = { ParserState };
 

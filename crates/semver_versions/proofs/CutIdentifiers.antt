@@ -12,8 +12,8 @@ use Rattle.std.proofs.lemmas.List.Splits.{join_with_byte-slice_split, length-sli
 use Rattle.semver_texts.specs.Texts.{Text, marked, is_part_byte, IsRun, is_dot, cut_at_dots, is_dotted_byte}
 use Rattle.semver_texts.specs.VersionGrammar.{IsIdentifierText}
 use Rattle.semver_texts.specs.declared.dotted.Hyphens.TheVariants.{BetweenRuns}
-use Rattle.semver_texts.specs.Means.DottedParts.{runs_stand, marked_part}
-use Rattle.semver_versions.specs.Means.Cutting.{AreIdentifiers, BeginsWithIdentifiers, IsPart}
+use Rattle.semver_texts.specs.Steps.DottedParts.{runs_stand, marked_part}
+use Rattle.semver_versions.specs.Steps.Cutting.{AreIdentifiers, BeginsWithIdentifiers, IsPart}
 use Rattle.semver_texts.proofs.Lists.{Passes, all_more, by_test, passes_append, joined_pass}
 use Rattle.semver_texts.proofs.DottedParts.{found_same}
 use Rattle.semver_versions.proofs.OneVersion.{IsPartText, joined_runs, joined_some, split_joined}

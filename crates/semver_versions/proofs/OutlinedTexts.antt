@@ -12,7 +12,7 @@ use Rattle.semver_texts.specs.Versions.{IdentifierValue, VersionValue, numbers}
 use Rattle.semver_texts.specs.PrintedText.{identifier_text, plain_text}
 use Rattle.semver_texts.specs.VersionGrammar.{SpellsIdentifier, SpellsPart, SpellsVersion, IsVersionText}
 use Rattle.semver_versions.specs.Outlines.{OutlineValue, dotted_text, behind_mark, outline_behind, IsOutlineOf, StandsAt}
-use Rattle.semver_versions.specs.Means.Cutting.{AreParts, AreSpaces, IsOutlineBehind, IsOutlined}
+use Rattle.semver_versions.specs.Steps.Cutting.{AreParts, AreSpaces, IsOutlineBehind, IsOutlined}
 use Rattle.semver_texts.specs.Texts.{cut_at_dots}
 use Rattle.semver_versions.proofs.CutIdentifiers.{cut_texts, marked_cut}
 use Rattle.semver_versions.proofs.OneVersion.{one_version, numbers_first, identifiers_bytes, joined_some, same_identifiers}

@@ -14,7 +14,7 @@ use Rattle.semver_steps.specs.ParserViews.{fault_of, answer_of, UnlessOutOfMemor
 use Rattle.semver_texts.specs.declared.version.Version.{Version}
 use Rattle.semver_steps.specs.declared.parser.Error.{Error}
 use Rattle.semver_steps.specs.declared.parser.Error.TheVariants as error
-use Rattle.semver_steps.specs.Means.Taking.{Gives}
+use Rattle.semver_steps.specs.Steps.Taking.{Gives}
 use Rattle.semver_steps.proofs.VersionSteps.{version_is_read}
 use Rattle.semver_steps.proofs.ReadingSteps.{at_nothing, none_taken, reads_stuck}
 use Rattle.semver_versions.proofs.WholeText.{trimmed, printable, printed_spells, accepted_spells, outcome_spelled, plain_has_memory}

@@ -8,9 +8,9 @@ use Rattle.std.proofs.lemmas.Bool.{cases_Bool}
 use Rattle.std.proofs.lemmas.Bool.Decides.{nat_tests}
 use Rattle.semver_texts.specs.Texts.{Text, marked, is_space, BeginsWithNumbers}
 use Rattle.semver_texts.specs.Versions.{IdentifierValue, numeric, alphanumeric, VersionValue}
-use Rattle.semver_texts.specs.Means.Decimals.{is_number}
+use Rattle.semver_texts.specs.Steps.Decimals.{is_number}
 use Rattle.semver_texts.specs.VersionGrammar.{IsIdentifierText, SpellsIdentifier, SpellsPart, SpellsVersion, IsVersionText}
-use Rattle.semver_versions.specs.Means.Cutting.{AreIdentifiers, AreSpaces, IsPart, AreParts}
+use Rattle.semver_versions.specs.Steps.Cutting.{AreIdentifiers, AreSpaces, IsPart, AreParts}
 use Rattle.semver_texts.specs.Texts.{cut_at_dots, is_dotted_byte}
 use Rattle.semver_texts.proofs.Numbers.{is_number_true, canonical_from_is_number, canonical_from_IsNumber, IsNumber-from_canonical}
 use Rattle.semver_texts.proofs.Numbers.{same_numbers}
@@ -21,7 +21,7 @@ use Rattle.semver_versions.proofs.OneVersion.{begins_marked, space_begins, numbe
 use Rattle.semver_versions.proofs.OneVersion.{core_begins}
 use Rattle.semver_versions.proofs.CutIdentifiers.{identifier_part, cut_texts, run_identifier, part_found, part_is}
 use Rattle.semver_texts.specs.declared.dotted.Hyphens.TheVariants.{BetweenRuns}
-use Rattle.semver_texts.specs.Means.DottedParts.{marked_part}
+use Rattle.semver_texts.specs.Steps.DottedParts.{marked_part}
 use Rattle.semver_texts.proofs.DottedParts.{found_same}
 use Rattle.std.specs.Prelude.{Some, None}
 

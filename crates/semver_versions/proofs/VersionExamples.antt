@@ -12,7 +12,7 @@ use Rattle.semver_tokens.specs.Tokens.{TokenValue, AreTokensOf}
 use Rattle.semver_tokens.specs.ParserState as state
 use Rattle.semver_tokens.specs.ParserState.{IsStateOf}
 use Rattle.semver_steps.specs.ParserSteps.{dot_component}
-use Rattle.semver_tokens.specs.Means.Scanning.{scan, first_token, component, sign}
+use Rattle.semver_tokens.specs.Steps.Scanning.{scan, first_token, component, sign}
 use Rattle.semver_texts.proofs.Numbers.{is_number_true, canonical_from_IsNumber}
 use Rattle.semver_tokens.proofs.FirstToken.{never}
 use Rattle.semver_tokens.proofs.TokenLists.{scan_finds}

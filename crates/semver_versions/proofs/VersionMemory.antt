@@ -9,8 +9,8 @@ use Rattle.semver_tokens.specs.Tokens.{TokenValue, LtEq, GtEq, Or, Hyphen, Plus,
 use Rattle.semver_tokens.specs.Tokens.{token_text}
 use Rattle.semver_texts.specs.VersionGrammar.{SpellsIdentifier, SpellsPart, SpellsCore, SpellsVersion}
 use Rattle.semver_steps.specs.VersionReading.{HoldsIdentifierRun, TextMayRunOut, inner_text, inner_texts}
-use Rattle.semver_steps.specs.Means.Taking.{run, Part, pre_release, build, Place, start, behind_number, patch, at_run, behind_run, step}
-use Rattle.semver_steps.specs.Means.Taking.{accepts}
+use Rattle.semver_steps.specs.Steps.Taking.{run, Part, pre_release, build, Place, start, behind_number, patch, at_run, behind_run, step}
+use Rattle.semver_steps.specs.Steps.Taking.{accepts}
 use Rattle.semver_tokens.proofs.TokenLists.{decimal_is_run}
 use Rattle.semver_texts.proofs.Lists.{Passes, all_more, passes_append, passes_apart}
 use Rattle.semver_steps.proofs.VersionSteps.{version_is_read}

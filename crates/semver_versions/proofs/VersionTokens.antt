@@ -8,12 +8,12 @@ use Rattle.std.proofs.lemmas.List.{take_at, drop_at, drop-drop}
 use Rattle.semver_texts.specs.Texts.{marked, IsRun, is_space}
 use Rattle.semver_tokens.specs.Tokens.{TokenValue, Dot, Hyphen, Plus, Whitespace, Numeric, token_text, IsTokenAt, AreTokensFrom}
 use Rattle.semver_tokens.specs.Tokens.{AreTokensOf}
-use Rattle.semver_tokens.specs.Means.Scanning.{component}
+use Rattle.semver_tokens.specs.Steps.Scanning.{component}
 use Rattle.semver_texts.specs.Versions.{IdentifierValue, numeric, alphanumeric, VersionValue}
 use Rattle.semver_texts.specs.VersionGrammar.{SpellsIdentifier, SpellsPart, SpellsCore, SpellsVersion}
 use Rattle.semver_steps.specs.VersionReading.{IsVersionShape, inner_text, inner_texts}
-use Rattle.semver_steps.specs.Means.Taking.{run, major, minor, patch, Part, pre_release, build, Place, start, at_number, behind_number}
-use Rattle.semver_steps.specs.Means.Taking.{at_run, behind_run, end, step, accepts}
+use Rattle.semver_steps.specs.Steps.Taking.{run, major, minor, patch, Part, pre_release, build, Place, start, at_number, behind_number}
+use Rattle.semver_steps.specs.Steps.Taking.{at_run, behind_run, end, step, accepts}
 use Rattle.semver_texts.proofs.Lists.{Passes}
 use Rattle.semver_tokens.proofs.FirstToken.{IsFound, continues_into, continues-component, token_text-component, IsTokenAt-component}
 use Rattle.semver_tokens.proofs.FirstToken.{space_is_no_run}

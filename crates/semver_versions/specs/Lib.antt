@@ -1,2 +1,2 @@
 pub mod Outlines
-pub mod Means
+pub mod Steps

@@ -1,12 +1,17 @@
 //! A version text read from its bytes to its outline: three numbers, and the pre-release and the
 //! build as slices. Each byte that is read as a part of a version is ASCII, so the bytes need no
 //! check for UTF-8.
+//!
+//! Each public call has a copy of what is inlined here: so a plain version is read without a call,
+//! and what is read stays in registers. `parts` alone is called, where there is a pre-release or a
+//! build.
+
 ghost use Rattle.std.specs.Prelude.{◌≡◌, ◌<◌, ◌+◌, ◌^◌, [], ◌∷◌, ℕ, true, false, length, drop};
 ghost use Rattle.std.specs.Prelude.{MatchOption};
 ghost use Rattle.std.specs.List.{prefix_len};
 ghost use Rattle.semver_texts.specs.Texts.{Text, BeginsWithNumbers, cut_at_dots, marked, is_space};
 ghost use Rattle.semver_versions.specs.Outlines.{behind_mark};
-ghost use Rattle.semver_versions.specs.Means.Cutting.{AreSpaces, AreParts, IsOutlined};
+ghost use Rattle.semver_versions.specs.Steps.Cutting.{AreSpaces, AreParts, IsOutlined};
 
 use crate::outlines::Outline;
 use semver_texts::bytes::space_len;

@@ -5,7 +5,7 @@ ghost use Rattle.std.specs.List.{AllZip};
 ghost use Rattle.semver_texts.specs.Texts.{cut_at_dots};
 ghost use Rattle.semver_texts.specs.VersionGrammar.{IsIdentifierText, SpellsIdentifier};
 ghost use Rattle.semver_texts.specs.VersionViews.{identifier_value};
-ghost use Rattle.semver_versions.specs.Means.Cutting.{AreIdentifiers};
+ghost use Rattle.semver_versions.specs.Steps.Cutting.{AreIdentifiers};
 
 use semver_texts::decimals::whole_number;
 use semver_texts::dotted::of_parts;

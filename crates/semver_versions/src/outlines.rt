@@ -30,7 +30,7 @@ pub struct Outline<'t> {
 
 impl<'t> Model for Outline<'t> {
     ghost use Rattle.semver_versions.specs.Outlines.{OutlineValue};
-    ghost use Rattle.semver_versions.specs.Means.Cutting.{AreIdentifiers};
+    ghost use Rattle.semver_versions.specs.Steps.Cutting.{AreIdentifiers};
 
     ghost Value = { OutlineValue };
 

@@ -8,14 +8,14 @@ use Rattle.semver_texts.specs.Texts.{Text}
 use Rattle.semver_ranges.specs.declared.grammar.Dialect.TheVariants.{Crate}
 use Rattle.semver_ranges.specs.RangeTree.{PartialTree, Form, bare, equal, less, at_most, greater, at_least, tilde, caret, Simple}
 use Rattle.semver_ranges.specs.RangeTree.{is_blank, AreBlanks, SpellsPartial, SpellsForm}
-use Rattle.semver_ranges.specs.Means.Reading.{front, behind_blanks, operator, with_first, component}
+use Rattle.semver_ranges.specs.Steps.Reading.{front, behind_blanks, operator, with_first, component}
 use Rattle.semver_ranges.proofs.ReadingPieces.{front-back, front_all, operator_sound, first_sound, component_sound, PartialAt, FormAt}
 use Rattle.semver_ranges.proofs.ReadingPieces.{starts, starts-append, is_word_byte, component_word, partial_starts}
 use Rattle.semver_ranges.proofs.WrittenPieces.{stops, ends_partial, apart, first_read, operator_read, blanks_behind, no_blank, no_sign}
 use Rattle.semver_ranges.proofs.Tests.{list_all-weaker}
 use Rattle.semver_texts.proofs.Lists.{by_test}
 use Rattle.tool_ranges.specs.CargoGrammar.{AreSpaces, sign, is_of_cargo, SpellsComparator}
-use Rattle.tool_ranges.specs.Means.CargoReading.{has_tab, begins_with_tilde_greater, at_end, with_operator, comparator_here, comparator_at}
+use Rattle.tool_ranges.specs.Steps.CargoReading.{has_tab, begins_with_tilde_greater, at_end, with_operator, comparator_here, comparator_at}
 
 -- ---- spaces
 

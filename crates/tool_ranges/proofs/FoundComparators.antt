@@ -4,10 +4,10 @@ use Rattle.std.proofs.Common.{refl, sym, ap, ◌∙◌, arith}
 use Rattle.semver_texts.specs.Texts.{Text}
 use Rattle.semver_ranges.specs.declared.grammar.Dialect.TheVariants.{Crate}
 use Rattle.semver_ranges.specs.RangeTree.{PartialTree, Form, Simple}
-use Rattle.semver_ranges.specs.Means.Reading.{behind_blanks, operator, with_first, component}
+use Rattle.semver_ranges.specs.Steps.Reading.{behind_blanks, operator, with_first, component}
 use Rattle.semver_ranges.proofs.ComponentSteps.{first_apart}
 use Rattle.tool_ranges.specs.CargoGrammar.{is_of_cargo}
-use Rattle.tool_ranges.specs.Means.CargoReading.{begins_with_tilde_greater, at_end, if_read, with_operator, comparator_here, comparator_at}
+use Rattle.tool_ranges.specs.Steps.CargoReading.{begins_with_tilde_greater, at_end, if_read, with_operator, comparator_here, comparator_at}
 
 -- an operator and a partial were found
 pub pieces_found : (t u v w : Text) (f : Form) (p : PartialTree) → u ≡ behind_blanks Crate t → false ≡ begins_with_tilde_greater u

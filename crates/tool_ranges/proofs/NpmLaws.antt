@@ -11,14 +11,14 @@ use Rattle.semver_ranges.specs.declared.range_set.RangeError.{RangeError}
 use Rattle.semver_ranges.specs.declared.range_set.RangeError.TheVariants.{NotARange, NumberTooLarge, OutOfMemory}
 use Rattle.semver_ranges.specs.RangeTree.{SetTree}
 use Rattle.semver_ranges.specs.PrintedRanges.{IsPrintableSet}
-use Rattle.semver_ranges.specs.Means.Reading.{read}
+use Rattle.semver_ranges.specs.Steps.Reading.{read}
 use Rattle.semver_ranges.proofs.ReadingSound.{read_sound}
 use Rattle.semver_ranges.proofs.ReadingComplete.{tree_read}
 use Rattle.semver_ranges.proofs.AnsweredLaws.{set_printable}
 use Rattle.tool_ranges.specs.NpmGrammar.{may_stand, SpellsNpm}
 use Rattle.tool_ranges.specs.NpmTable.{npm_fits, rewritten_npm}
 use Rattle.tool_ranges.specs.NpmTexts.{IsNpmTooLarge, RefusesNpm}
-use Rattle.tool_ranges.specs.Means.NpmReading.{HasRanges, IsNpmRefusal}
+use Rattle.tool_ranges.specs.Steps.NpmReading.{HasRanges, IsNpmRefusal}
 use Rattle.tool_ranges.proofs.ToolRows.{tool_prints}
 
 -- what is read is the one tree

@@ -12,11 +12,11 @@ use Rattle.semver_texts.specs.Versions.{PlainVersion}
 use Rattle.semver_ranges.specs.Partials.{stated, zero_filled}
 use Rattle.semver_ranges.specs.RewritingTable.{PlainComparator, cell, comparator, up, written_cell}
 use Rattle.semver_ranges.specs.ExactBounds.{lowest_pre_release}
-use Rattle.semver_ranges.specs.Means.PartialViews.{stated_at, stated_of, version_of}
-use Rattle.semver_ranges.specs.Means.CursorViews.{form_of, IsSimpleOf}
+use Rattle.semver_ranges.specs.Steps.PartialViews.{stated_at, stated_of, version_of}
+use Rattle.semver_ranges.specs.Steps.CursorViews.{form_of, IsSimpleOf}
 use Rattle.tool_ranges.specs.ToolTable.{fits_in, is_greater, states_some, written_in}
 use Rattle.tool_ranges.specs.declared.cargo.judging.Judged.TheVariants.{PreReleases}
-use Rattle.tool_ranges.specs.Means.CargoPreReleases.{below_all, judged_by_count, judging_read, some_judged}
+use Rattle.tool_ranges.specs.Steps.CargoPreReleases.{below_all, judged_by_count, judging_read, some_judged}
 use Rattle.tool_ranges.proofs.ReadRows.{fit_numbers}
 
 -- what is stated

@@ -14,8 +14,8 @@ use Rattle.semver_ranges.specs.Partials.{stated, pre_release, zero_filled, fits_
 use Rattle.semver_ranges.specs.RewritingTable.{PlainComparator, comparator, up, up_with, with_pre_release, written_simple}
 use Rattle.semver_ranges.specs.ExactBounds.{lowest_pre_release, exact_bound}
 use Rattle.semver_ranges.specs.RangeViews.{comparator_of}
-use Rattle.semver_ranges.specs.Means.PartialViews.{stated_of, version_of}
-use Rattle.semver_ranges.specs.Means.CursorViews.{form_of, IsSimpleOf}
+use Rattle.semver_ranges.specs.Steps.PartialViews.{stated_of, version_of}
+use Rattle.semver_ranges.specs.Steps.CursorViews.{form_of, IsSimpleOf}
 use Rattle.semver_ranges.specs.RewritingTable.{simple_fits}
 use Rattle.semver_texts.proofs.Lists.{by_test}
 use Rattle.tool_ranges.specs.ToolTable.{begins_above, ends_at, ends_below, fits_in, is_greater, states_some, written_in}

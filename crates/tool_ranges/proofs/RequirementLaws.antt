@@ -16,7 +16,7 @@ use Rattle.semver_ranges.proofs.WrittenPieces.{apart}
 use Rattle.tool_ranges.specs.CargoGrammar.{sign, SpellsComparator, SpellsComparators, SpellsRequirement}
 use Rattle.tool_ranges.specs.CargoTable.{requirement_fits}
 use Rattle.tool_ranges.specs.CargoTexts.{RefusesRequirement}
-use Rattle.tool_ranges.specs.Means.CargoReading.{has_tab, comparator_at, IsRefusal}
+use Rattle.tool_ranges.specs.Steps.CargoReading.{has_tab, comparator_at, IsRefusal}
 use Rattle.tool_ranges.proofs.ComparatorReading.{ended_read, parted_read}
 use Rattle.tool_ranges.proofs.RequirementSteps.{first_left}
 

@@ -21,7 +21,7 @@ use Rattle.tool_ranges.specs.CargoMeaning.{as_read}
 use Rattle.tool_ranges.specs.CargoTable.{requirement_fits}
 use Rattle.tool_ranges.specs.ToolTable.{fits_in}
 use Rattle.semver_texts.proofs.Lists.{by_test}
-use Rattle.tool_ranges.specs.Means.CargoReading.{has_tab, comparator_at, EndsAs, IsRefusal}
+use Rattle.tool_ranges.specs.Steps.CargoReading.{has_tab, comparator_at, EndsAs, IsRefusal}
 use Rattle.tool_ranges.proofs.ComparatorReading.{ComparatorAt, Follows, comparator_sound, ended_read, parted_read, back_tabless}
 
 -- where `done` were read, and `rest` is left: whatever is spelled there goes on with them, and nothing else does

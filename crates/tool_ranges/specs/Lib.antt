@@ -7,4 +7,4 @@ pub mod NpmGrammar
 pub mod NpmMeaning
 pub mod NpmTable
 pub mod NpmTexts
-pub mod Means
+pub mod Steps

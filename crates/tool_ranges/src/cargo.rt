@@ -14,8 +14,8 @@ ghost use Rattle.tool_ranges.specs.CargoGrammar.{SpellsRequirement};
 ghost use Rattle.tool_ranges.specs.CargoMeaning.{meets_requirement};
 ghost use Rattle.tool_ranges.specs.CargoTable.{requirement_fits, rewritten_requirement};
 ghost use Rattle.tool_ranges.specs.CargoTexts.{RefusesRequirement};
-ghost use Rattle.tool_ranges.specs.Means.CargoReading.{has_tab, EndsAs, IsRefusal};
-ghost use Rattle.tool_ranges.specs.Means.CargoPreReleases.{counting_one, judging, judging_one};
+ghost use Rattle.tool_ranges.specs.Steps.CargoReading.{has_tab, EndsAs, IsRefusal};
+ghost use Rattle.tool_ranges.specs.Steps.CargoPreReleases.{counting_one, judging, judging_one};
 
 mod grammar;
 mod judging;

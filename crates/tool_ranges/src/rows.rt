@@ -4,11 +4,11 @@
 ghost use Rattle.std.specs.Prelude.{◌≡◌, ◌++◌, ◌&&◌, true, false, length, map, IfOk, MatchOption};
 ghost use Rattle.semver_ranges.specs.RangeTree.{Simple as SimpleTree};
 ghost use Rattle.semver_ranges.specs.RangeViews.{comparator_of};
-ghost use Rattle.semver_ranges.specs.Means.PartialViews.{stated_of, place_number};
-ghost use Rattle.semver_ranges.specs.Means.CursorViews.{form_of, IsSimpleOf};
+ghost use Rattle.semver_ranges.specs.Steps.PartialViews.{stated_of, place_number};
+ghost use Rattle.semver_ranges.specs.Steps.CursorViews.{form_of, IsSimpleOf};
 ghost use Rattle.semver_ranges.specs.RewritingTable.{comparator, with_pre_release};
 ghost use Rattle.semver_ranges.specs.ExactBounds.{lowest_pre_release};
-ghost use Rattle.semver_ranges.specs.Means.PartialViews.{version_of, PartsPass};
+ghost use Rattle.semver_ranges.specs.Steps.PartialViews.{version_of, PartsPass};
 ghost use Rattle.tool_ranges.specs.ToolTable.{fits_in, is_greater, states_some, ends_at};
 ghost use Rattle.tool_ranges.specs.ToolTable.{written_in};
 

@@ -16,9 +16,9 @@ use Rattle.semver_parser.specs.declared.version.Identifier.TheVariants.{Numeric}
 use Rattle.semver_parser.specs.declared.version.Version.{Version}
 use Rattle.version_sets.specs.declared.release.Release.{Release}
 use Rattle.version_sets.specs.VersionSets.{SetValue, has}
-use Rattle.version_sets.specs.Means.Bounds.{lowest_place, numbers_cmp, reaches}
+use Rattle.version_sets.specs.Steps.Bounds.{lowest_place, numbers_cmp, reaches}
 use Rattle.version_sets.specs.Releases.{release_value}
-use Rattle.version_sets.specs.Means.Places.{set_of, version_place}
+use Rattle.version_sets.specs.Steps.Places.{set_of, version_place}
 use Rattle.version_sets.proofs.SetLaws.{has-release, has-pre_release}
 use Rattle.version_sets.proofs.WalkLaws.{by_test}
 

@@ -11,10 +11,10 @@ use Rattle.semver_parser.specs.Versions.{PlainVersion, IdentifierValue}
 use Rattle.semver_parser.specs.Precedence.{precedence}
 use Rattle.version_sets.specs.declared.release.Release.{Release}
 use Rattle.version_sets.specs.Releases.{release_value}
-use Rattle.version_sets.specs.Means.Places.{set_of, version_place}
+use Rattle.version_sets.specs.Steps.Places.{set_of, version_place}
 use Rattle.semver_parser.specs.declared.version.Version.{Version}
 use Rattle.version_sets.specs.VersionSets.{SetValue, has}
-use Rattle.version_sets.specs.Means.Between.{is_release_between}
+use Rattle.version_sets.specs.Steps.Between.{is_release_between}
 
 all-append : {X : Type 0} (P : X → Type 0) (xs : List X) (x : X) → AllByRecursion P xs → P x → AllByRecursion P (xs ++ x ∷ [])
 all-append P [] x all here = (here, tt)

@@ -11,7 +11,7 @@ use Rattle.semver_parser.specs.PrecedenceLaws.{precedence_total}
 use Rattle.semver_parser.specs.Texts.{is_empty}
 use Rattle.semver_parser.specs.Versions.{IdentifierValue, PlainVersion, VersionValue}
 use Rattle.semver_parser.specs.declared.version.Version.{Version}
-use Rattle.version_sets.specs.Means.Places.{version_place}
+use Rattle.version_sets.specs.Steps.Places.{version_place}
 use Rattle.version_sets.specs.Switches.{switched, IsIncreasing}
 use Rattle.version_sets.specs.VersionSets.{SetValue, has}
 use Rattle.version_sets.proofs.SearchLaws.{is_passed, passed_before, reversed_ge}

@@ -8,7 +8,7 @@ use Rattle.semver_parser.specs.Versions.{PlainVersion}
 use Rattle.semver_parser.specs.Precedence.{precedence}
 use Rattle.version_sets.specs.declared.combination.Combination.TheVariants.{Difference}
 use Rattle.version_sets.specs.VersionSets.{SetValue, has, Fits, IsIn, same_switches, IsNormal}
-use Rattle.version_sets.specs.Means.Combined.{KeepsSome}
+use Rattle.version_sets.specs.Steps.Combined.{KeepsSome}
 use Rattle.semver_parser.specs.PrecedenceLaws.{precedence_total, precedence-same}
 use Rattle.version_sets.proofs.SetLaws.{has-release, has-pre_release}
 use Rattle.version_sets.proofs.SwitchLaws.{one_list}

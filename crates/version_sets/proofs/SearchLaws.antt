@@ -7,7 +7,7 @@ use Rattle.std.specs.Cmp.{IsTotalOrder, upto}
 use Rattle.std.specs.List.Sorted.{IsPartitionedBy, IsPartitionPoint}
 use Rattle.std.specs.Ordering.{ordering_reverse}
 use Rattle.version_sets.specs.Switches.{switched, IsBelowFirst, IsIncreasing}
-use Rattle.version_sets.specs.Means.Walks.{differ}
+use Rattle.version_sets.specs.Steps.Walks.{differ}
 use Rattle.version_sets.proofs.SwitchLaws.{below-first, switched-below, switched-at}
 
 le-gt : (r : Ordering) → is_le r ≡ true → is_gt r ≡ false

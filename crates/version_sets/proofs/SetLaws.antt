@@ -7,8 +7,8 @@ use Rattle.version_sets.specs.declared.combination.Combination.{Combination}
 use Rattle.version_sets.specs.declared.combination.Combination.TheVariants.{Union, Intersection, Difference}
 use Rattle.version_sets.specs.Switches.{switched}
 use Rattle.version_sets.specs.VersionSets.{SetValue, has, IsRelease, IsPreRelease, AreSwitches, IsNormal}
-use Rattle.version_sets.specs.Means.Walks.{held}
-use Rattle.version_sets.specs.Means.Combined.{keeps, pieces, keeps_some, combined, combined_sets, KeepsSome}
+use Rattle.version_sets.specs.Steps.Walks.{held}
+use Rattle.version_sets.specs.Steps.Combined.{keeps, pieces, keeps_some, combined, combined_sets, KeepsSome}
 use Rattle.semver_parser.specs.PrecedenceLaws.{precedence_total}
 use Rattle.version_sets.proofs.WalkLaws.{walk-is, changes-rise, changes-each, changes-hold, some_held, held_some, by_test}
 

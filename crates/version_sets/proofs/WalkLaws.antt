@@ -5,7 +5,7 @@ use Rattle.std.specs.List.{AllByRecursion, list_any}
 use Rattle.std.specs.Cmp.{IsTotalOrder, tied_itself, alike_right}
 use Rattle.std.specs.Ordering.{match_ordering}
 use Rattle.version_sets.specs.Switches.{switched, IsBelowFirst, IsIncreasing}
-use Rattle.version_sets.specs.Means.Walks.{PieceValue, WalkWith, walk, walk_alone, walk_step, held, differ, changes}
+use Rattle.version_sets.specs.Steps.Walks.{PieceValue, WalkWith, walk, walk_alone, walk_step, held, differ, changes}
 use Rattle.version_sets.proofs.SwitchLaws.{by_place, switched-below, switched-at, below-first, turned_below}
 
 differ-false : (x : Bool) → differ x false ≡ x

@@ -3,4 +3,4 @@ pub mod Releases
 pub mod VersionSets
 pub mod Comparisons
 pub mod PreReleaseRules
-pub mod Means
+pub mod Steps

@@ -6,9 +6,9 @@ ghost use Rattle.std.specs.Ordering.{is_gt};
 ghost use Rattle.semver_parser.specs.Texts.{is_empty};
 ghost use Rattle.semver_parser.specs.Versions.{PlainVersion};
 ghost use Rattle.version_sets.specs.VersionSets.{has, Fits};
-ghost use Rattle.version_sets.specs.Means.Bounds.{lowest_place, numbers_cmp, reaches};
+ghost use Rattle.version_sets.specs.Steps.Bounds.{lowest_place, numbers_cmp, reaches};
 ghost use Rattle.version_sets.specs.Releases.{release_value};
-ghost use Rattle.version_sets.specs.Means.Places.{set_of, version_place};
+ghost use Rattle.version_sets.specs.Steps.Places.{set_of, version_place};
 
 use crate::release::Release;
 use crate::version_set::VersionSet;

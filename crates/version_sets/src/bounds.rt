@@ -8,7 +8,7 @@ ghost use Rattle.semver_parser.specs.VersionViews.{identifier_value};
 ghost use Rattle.semver_parser.specs.Versions.{PlainVersion};
 ghost use Rattle.version_sets.specs.VersionSets.{has, Fits};
 ghost use Rattle.version_sets.specs.Releases.{release_value};
-ghost use Rattle.version_sets.specs.Means.Places.{version_place};
+ghost use Rattle.version_sets.specs.Steps.Places.{version_place};
 
 use crate::beginning::{beginning_at, lowest_pre_release, next_numbers, of_numbers_from};
 use crate::release::Release;

@@ -1,7 +1,7 @@
 //! How two lists of switches are combined.
 
 ghost use Rattle.std.specs.Prelude.{◌≡◌, true, false, map, IfOk, IfErr};
-ghost use Rattle.version_sets.specs.Means.Combined.{keeps, pieces, keeps_some, combined};
+ghost use Rattle.version_sets.specs.Steps.Combined.{keeps, pieces, keeps_some, combined};
 
 use crate::switch::Switch;
 use crate::walk::Walk;

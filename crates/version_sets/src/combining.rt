@@ -3,7 +3,7 @@
 ghost use Rattle.std.specs.Prelude.{◌≡◌, ◌⊎◌, ◌&&◌, ◌||◌, not, IfOk, IfErr};
 ghost use Rattle.semver_parser.specs.Versions.{PlainVersion};
 ghost use Rattle.version_sets.specs.VersionSets.{has, IsIn};
-ghost use Rattle.version_sets.specs.Means.Combined.{keeps, KeepsSome};
+ghost use Rattle.version_sets.specs.Steps.Combined.{keeps, KeepsSome};
 
 use crate::combination::Combination;
 use crate::version_set::VersionSet;

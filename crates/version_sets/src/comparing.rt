@@ -3,7 +3,7 @@
 ghost use Rattle.std.specs.Prelude.{◌≡◌, ◌↔◌, true};
 ghost use Rattle.semver_parser.specs.Versions.{PlainVersion};
 ghost use Rattle.version_sets.specs.VersionSets.{IsIn, same_switches};
-ghost use Rattle.version_sets.specs.Means.Combined.{KeepsSome};
+ghost use Rattle.version_sets.specs.Steps.Combined.{KeepsSome};
 
 use crate::combination::Combination;
 use crate::switches::are_same;
@@ -53,7 +53,7 @@ impl VersionSet {
 impl PartialEq for VersionSet {
     ghost use Rattle.version_sets.specs.VersionSets.{same_switches};
     ghost use Rattle.std.specs.Cmp.{partial_equiv_from_equiv};
-    ghost use Rattle.version_sets.specs.Means.SameSwitches.{switches_equiv};
+    ghost use Rattle.version_sets.specs.Steps.SameSwitches.{switches_equiv};
 
     ghost eq = { same_switches };
 
@@ -75,7 +75,7 @@ impl PartialEq for VersionSet {
 }
 
 impl Eq for VersionSet {
-    ghost use Rattle.version_sets.specs.Means.SameSwitches.{switches_equiv};
+    ghost use Rattle.version_sets.specs.Steps.SameSwitches.{switches_equiv};
 
     ghost laws = { switches_equiv };
 }

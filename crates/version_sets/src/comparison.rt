@@ -4,7 +4,7 @@ ghost use Rattle.std.specs.Prelude.{◌⊎◌, IfOk, IfErr};
 ghost use Rattle.semver_parser.specs.Versions.{PlainVersion};
 ghost use Rattle.version_sets.specs.VersionSets.{IsIn};
 ghost use Rattle.version_sets.specs.Comparisons.{TellsLeast, IsInFirstAlone, IsInBoth};
-ghost use Rattle.version_sets.specs.Means.Combined.{IsKept};
+ghost use Rattle.version_sets.specs.Steps.Combined.{IsKept};
 
 use crate::combination::Combination;
 use crate::version_set::VersionSet;

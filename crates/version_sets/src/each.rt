@@ -4,7 +4,7 @@ ghost use Rattle.std.specs.Prelude.{◌≡◌, ◌&&◌, not, length, map};
 ghost use Rattle.std.specs.List.{AllByRecursion};
 ghost use Rattle.semver_parser.specs.VersionViews.{version_value};
 ghost use Rattle.version_sets.specs.VersionSets.{has as is_in, Fits};
-ghost use Rattle.version_sets.specs.Means.Between.{is_release_between as between};
+ghost use Rattle.version_sets.specs.Steps.Between.{is_release_between as between};
 
 use crate::release::Release;
 use crate::version_set::VersionSet;

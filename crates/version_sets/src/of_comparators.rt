@@ -9,7 +9,7 @@ ghost use Rattle.semver_parser.specs.Texts.{is_empty};
 ghost use Rattle.semver_parser.specs.Versions.{PlainVersion, VersionValue};
 ghost use Rattle.version_sets.specs.PreReleaseRules.{meets_with};
 ghost use Rattle.version_sets.specs.VersionSets.{has, Fits};
-ghost use Rattle.version_sets.specs.Means.RangeRules.{meets_range_with};
+ghost use Rattle.version_sets.specs.Steps.RangeRules.{meets_range_with};
 
 use crate::beginning::{all, next_numbers, of_numbers_from, releases};
 use crate::bounds::{above, at_or_above, numbers_of};

@@ -39,7 +39,7 @@ impl Switch for Release {
 }
 
 impl Switch for Version {
-    ghost use Rattle.version_sets.specs.Means.Places.{version_place};
+    ghost use Rattle.version_sets.specs.Steps.Places.{version_place};
 
     ghost place = { version_place };
 

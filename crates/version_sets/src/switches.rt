@@ -8,7 +8,7 @@ ghost use Rattle.semver_parser.specs.Precedence.{precedence};
 ghost use Rattle.semver_parser.specs.Texts.{Text};
 ghost use Rattle.semver_parser.specs.VersionGrammar.{SpellsVersion};
 ghost use Rattle.semver_parser.specs.Versions.{VersionValue};
-ghost use Rattle.version_sets.specs.Means.Places.{version_place};
+ghost use Rattle.version_sets.specs.Steps.Places.{version_place};
 ghost use Rattle.version_sets.specs.Releases.{release_value};
 ghost use Rattle.version_sets.specs.Switches.{switched, IsIncreasing};
 

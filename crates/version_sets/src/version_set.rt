@@ -9,7 +9,7 @@ ghost use Rattle.semver_parser.specs.VersionViews.{version_value};
 ghost use Rattle.semver_parser.specs.Outlines.{IsOutlineOf};
 ghost use Rattle.version_sets.specs.Releases.{release_value};
 ghost use Rattle.version_sets.specs.VersionSets.{has, Fits, IsNormal};
-ghost use Rattle.version_sets.specs.Means.Places.{set_of};
+ghost use Rattle.version_sets.specs.Steps.Places.{set_of};
 
 use crate::release::Release;
 use crate::{each, switches};
@@ -33,7 +33,7 @@ pub struct VersionSet {
 
 impl Model for VersionSet {
     ghost use Rattle.version_sets.specs.VersionSets.{SetValue, IsNormal};
-    ghost use Rattle.version_sets.specs.Means.Places.{set_of};
+    ghost use Rattle.version_sets.specs.Steps.Places.{set_of};
 
     ghost Value = { SetValue };
 

@@ -3,8 +3,8 @@
 ghost use Rattle.std.specs.Prelude.{◌≡◌, false, map};
 ghost use Rattle.std.specs.Iterator.{YieldsFirstBy, item_count};
 ghost use Rattle.semver_parser.specs.Precedence.{precedence};
-ghost use Rattle.version_sets.specs.Means.Walks.{walk};
-ghost use Rattle.version_sets.specs.Means.WalkViews.{piece_value, pieces_left};
+ghost use Rattle.version_sets.specs.Steps.Walks.{walk};
+ghost use Rattle.version_sets.specs.Steps.WalkViews.{piece_value, pieces_left};
 
 use crate::switch::Switch;
 use std::cmp::Ordering;

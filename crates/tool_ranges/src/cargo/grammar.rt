@@ -5,12 +5,12 @@
 
 ghost use Rattle.std.specs.Prelude.{◌≡◌};
 ghost use Rattle.semver_ranges.specs.RangeTree.{Simple as SimpleTree, PartialTree};
-ghost use Rattle.semver_ranges.specs.Means.PartialViews.{AreWritten};
-ghost use Rattle.semver_ranges.specs.Means.CursorViews.{form_of};
+ghost use Rattle.semver_ranges.specs.Steps.PartialViews.{AreWritten};
+ghost use Rattle.semver_ranges.specs.Steps.CursorViews.{form_of};
 ghost use Rattle.tool_ranges.specs.CargoGrammar.{is_of_cargo};
 ghost use Rattle.tool_ranges.specs.CargoMeaning.{has_wildcard, named};
-ghost use Rattle.tool_ranges.specs.Means.CargoReading.{comparator_at, FindsComparator};
-ghost use Rattle.tool_ranges.specs.Means.CargoReading.{begins_with_tilde_greater};
+ghost use Rattle.tool_ranges.specs.Steps.CargoReading.{comparator_at, FindsComparator};
+ghost use Rattle.tool_ranges.specs.Steps.CargoReading.{begins_with_tilde_greater};
 
 use semver_ranges::grammar::{
     Dialect, Form, Simple, behind_blanks, have_no_leading_zeros, read_components, read_operator,

@@ -4,9 +4,9 @@ ghost use Rattle.std.specs.Prelude.{◌≡◌, ◌++◌, true, map, IfOk};
 ghost use Rattle.semver_ranges.specs.RangeTree.{Simple as SimpleTree};
 ghost use Rattle.semver_ranges.specs.declared.range.Compat.TheVariants.{Cargo};
 ghost use Rattle.semver_ranges.specs.RangeViews.{comparator_of};
-ghost use Rattle.semver_ranges.specs.Means.CursorViews.{IsSimpleOf};
+ghost use Rattle.semver_ranges.specs.Steps.CursorViews.{IsSimpleOf};
 ghost use Rattle.tool_ranges.specs.ToolTable.{fits_in};
-ghost use Rattle.tool_ranges.specs.Means.CargoPreReleases.{judging_read};
+ghost use Rattle.tool_ranges.specs.Steps.CargoPreReleases.{judging_read};
 
 use crate::cargo::pre_releases;
 use crate::rows;

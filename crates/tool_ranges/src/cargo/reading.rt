@@ -12,8 +12,8 @@ ghost use Rattle.tool_ranges.specs.CargoMeaning.{meets_requirement};
 ghost use Rattle.tool_ranges.specs.CargoTable.{requirement_fits, rewritten_requirement};
 ghost use Rattle.tool_ranges.specs.CargoTexts.{RefusesRequirement};
 ghost use Rattle.tool_ranges.specs.declared.cargo.judging.Judged.TheVariants as judged;
-ghost use Rattle.tool_ranges.specs.Means.CargoReading.{has_tab};
-ghost use Rattle.tool_ranges.specs.Means.CargoPreReleases.{counting, counting_one, judging};
+ghost use Rattle.tool_ranges.specs.Steps.CargoReading.{has_tab};
+ghost use Rattle.tool_ranges.specs.Steps.CargoPreReleases.{counting, counting_one, judging};
 
 use crate::cargo::judging::Judged;
 use crate::cargo::{build, build_counting, rewrite};

@@ -2,7 +2,7 @@ use Rattle.std.proofs.Common.{rules, ◌≡◌, ◌∷◌, [], ◌++◌, length,
 use Rattle.std.proofs.lemmas.List.{map-append}
 use Rattle.std.proofs.lemmas.List.Sorted.{ranks_by}
 use Rattle.std.specs.Vec.Iter.{into_iter_items}
-use Rattle.release_filter.specs.Means.Sorting.{bytes_of, plain_of, is_below}
+use Rattle.release_filter.specs.Steps.Sorting.{bytes_of, plain_of, is_below}
 use Rattle.release_filter.proofs.SortedSteps.{compares, nothing_left}
 use Rattle.release_filter.proofs.sorting.in_order.Goals as goal
 

@@ -1,7 +1,7 @@
 -- The bytes of the lines so far.
 use Rattle.std.proofs.Common.{◌≡◌, ◌++◌, length, map}
 use Rattle.std.specs.Vec.Iter.{into_iter_items, into_iter_len}
-use Rattle.release_filter.specs.Means.Sorting.{bytes_of}
+use Rattle.release_filter.specs.Steps.Sorting.{bytes_of}
 use Rattle.release_filter.proofs.sorting.in_order.Given as goal
 
 abbrev pub invariant-loop-line : goal.invariant-loop-line

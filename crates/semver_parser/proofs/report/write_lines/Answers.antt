@@ -1,7 +1,7 @@
 use Rattle.std.proofs.Common.{codes, ◌++◌}
 use Rattle.std.proofs.KnownBytes.{Appends-trans}
 use Rattle.semver_parser.specs.ReportLines.{line}
-use Rattle.semver_parser.specs.Means.Shown.{shown_text}
+use Rattle.semver_parser.specs.Steps.Shown.{shown_text}
 use Rattle.semver_parser.proofs.Writes.{begins_with, begins_then, stops}
 use Rattle.semver_parser.proofs.report.write_lines.Goals as goal
 

@@ -1,6 +1,6 @@
 use Rattle.std.proofs.Common.{◌≡◌, drop}
 use Rattle.semver_ranges.specs.RangeTree.{is_blank}
-use Rattle.semver_ranges.specs.Means.Reading.{back}
+use Rattle.semver_ranges.specs.Steps.Reading.{back}
 use Rattle.semver_ranges.proofs.grammar.behind_blanks.Given as goal
 
 abbrev pub invariant-loop-at : goal.invariant-loop-at

@@ -1,8 +1,8 @@
 use Rattle.std.proofs.Common.{◌≡◌, ◌+◌, ◌∷◌, ◌++◌, take, drop}
 use Rattle.std.specs.Str.Parse.{digits_value}
 use Rattle.std.specs.Char.{is_ascii_digit}
-use Rattle.semver_ranges.specs.Means.Reading.{front, back}
-use Rattle.semver_ranges.specs.Means.PartialViews.{IsValue}
+use Rattle.semver_ranges.specs.Steps.Reading.{front, back}
+use Rattle.semver_ranges.specs.Steps.PartialViews.{IsValue}
 use Rattle.semver_ranges.proofs.grammar.read_digits.Given as goal
 
 abbrev pub invariant-loop-at : goal.invariant-loop-at

@@ -1,5 +1,5 @@
 use Rattle.std.proofs.Common.{refl}
-use Rattle.semver_ranges.specs.Means.CursorViews.{form_of}
+use Rattle.semver_ranges.specs.Steps.CursorViews.{form_of}
 use Rattle.semver_ranges.proofs.CursorSteps.{simple_found}
 use Rattle.semver_ranges.proofs.grammar.read_simple.Goals as goal
 

@@ -3,7 +3,7 @@ use Rattle.std.specs.Prelude.{map}
 use Rattle.semver_ranges.specs.declared.range.Identifier.{Identifier}
 use Rattle.semver_ranges.specs.declared.range.Identifier.TheVariants.{Numeric}
 use Rattle.semver_ranges.specs.RangeViews.{identifier_of}
-use Rattle.semver_ranges.specs.Means.PartialViews.{pre_of}
+use Rattle.semver_ranges.specs.Steps.PartialViews.{pre_of}
 use Rattle.semver_ranges.proofs.partial.raised_pre.Goals as goal
 
 pub returns-in_ok-push-in-Exact : goal.returns-in_ok-push-in-Exact

@@ -1,9 +1,9 @@
 use Rattle.std.proofs.Common.{◌≡◌, ◌++◌, ◌∷◌, [], ◌∙◌, ◌<◌, length, ap, arith}
 use Rattle.std.specs.Prelude.{map}
 use Rattle.semver_ranges.specs.RangeViews.{range_of}
-use Rattle.semver_ranges.specs.Means.PartialViews.{pre_of}
-use Rattle.semver_ranges.specs.Means.BoundsViews.{range_for}
-use Rattle.semver_ranges.specs.Means.RangeEvents.{events_of}
+use Rattle.semver_ranges.specs.Steps.PartialViews.{pre_of}
+use Rattle.semver_ranges.specs.Steps.BoundsViews.{range_for}
+use Rattle.semver_ranges.specs.Steps.RangeEvents.{events_of}
 use Rattle.std.proofs.lemmas.List.{map_push}
 use Rattle.semver_ranges.specs.declared.grammar.Dialect.TheVariants.{Crate}
 use Rattle.semver_ranges.specs.RewritingTable.{written_simple}

@@ -3,12 +3,12 @@ use Rattle.std.specs.Prelude.{map}
 use Rattle.semver_ranges.specs.declared.grammar.Dialect.TheVariants.{Crate}
 use Rattle.semver_ranges.specs.RangeTree.{SetTree}
 use Rattle.semver_ranges.specs.RewritingTable.{fits, written_simple}
-use Rattle.semver_ranges.specs.Means.Reading.{read}
+use Rattle.semver_ranges.specs.Steps.Reading.{read}
 use Rattle.semver_ranges.specs.RangeViews.{range_of}
-use Rattle.semver_ranges.specs.Means.PartialViews.{pre_of}
-use Rattle.semver_ranges.specs.Means.BoundsViews.{range_for}
-use Rattle.semver_ranges.specs.Means.RangeEvents.{events_of}
-use Rattle.semver_ranges.specs.Means.CursorViews.{HasLeft}
+use Rattle.semver_ranges.specs.Steps.PartialViews.{pre_of}
+use Rattle.semver_ranges.specs.Steps.BoundsViews.{range_for}
+use Rattle.semver_ranges.specs.Steps.RangeEvents.{events_of}
+use Rattle.semver_ranges.specs.Steps.CursorViews.{HasLeft}
 use Rattle.semver_ranges.proofs.range_set.build.Given as goal
 
 abbrev pub invariant-loop-at : goal.invariant-loop-at

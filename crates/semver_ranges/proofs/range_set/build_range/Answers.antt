@@ -6,9 +6,9 @@ use Rattle.semver_ranges.specs.declared.grammar.Dialect.TheVariants.{Crate}
 use Rattle.semver_ranges.specs.RangeTree.{Simple}
 use Rattle.semver_ranges.specs.RewritingTable.{PlainComparator, simple_fits, written_simple}
 use Rattle.semver_ranges.specs.RangeViews.{comparator_of}
-use Rattle.semver_ranges.specs.Means.PartialViews.{pre_of}
-use Rattle.semver_ranges.specs.Means.RangeEvents.{Event, event_fits, range_simples, range_others}
-use Rattle.semver_ranges.specs.Means.CursorViews.{HasLeft}
+use Rattle.semver_ranges.specs.Steps.PartialViews.{pre_of}
+use Rattle.semver_ranges.specs.Steps.RangeEvents.{Event, event_fits, range_simples, range_others}
+use Rattle.semver_ranges.specs.Steps.CursorViews.{HasLeft}
 use Rattle.semver_ranges.proofs.FoundEvents.{NextSimple, next_simple, RangeEnd, range_end}
 use Rattle.semver_ranges.proofs.range_set.build_range.Goals as goal
 use Rattle.semver_ranges.proofs.range_set.build_range.Goals.{In-Some-Ok-Simple}

@@ -4,9 +4,9 @@ use Rattle.std.specs.List.{list_all, flat_map}
 use Rattle.semver_ranges.specs.declared.grammar.Dialect.TheVariants.{Crate}
 use Rattle.semver_ranges.specs.RewritingTable.{simple_fits, written_simple}
 use Rattle.semver_ranges.specs.RangeViews.{comparator_of}
-use Rattle.semver_ranges.specs.Means.PartialViews.{pre_of}
-use Rattle.semver_ranges.specs.Means.RangeEvents.{Event, event_fits, range_simples, range_others}
-use Rattle.semver_ranges.specs.Means.CursorViews.{HasLeft, size_left}
+use Rattle.semver_ranges.specs.Steps.PartialViews.{pre_of}
+use Rattle.semver_ranges.specs.Steps.RangeEvents.{Event, event_fits, range_simples, range_others}
+use Rattle.semver_ranges.specs.Steps.CursorViews.{HasLeft, size_left}
 use Rattle.semver_ranges.proofs.range_set.build_range.Given as goal
 
 abbrev pub invariant-loop-simple : goal.invariant-loop-simple

@@ -1,9 +1,9 @@
 use Rattle.std.proofs.Common.{◌∷◌, [], sym, ap, ◌∙◌}
 use Rattle.semver_ranges.specs.declared.grammar.Dialect.TheVariants.{Crate}
 use Rattle.semver_ranges.specs.RangeTree.{simples}
-use Rattle.semver_ranges.specs.Means.Reading.{read}
-use Rattle.semver_ranges.specs.Means.PartialViews.{pre_of}
-use Rattle.semver_ranges.specs.Means.BoundsViews.{comparators_of}
+use Rattle.semver_ranges.specs.Steps.Reading.{read}
+use Rattle.semver_ranges.specs.Steps.PartialViews.{pre_of}
+use Rattle.semver_ranges.specs.Steps.BoundsViews.{comparators_of}
 use Rattle.semver_ranges.proofs.OnlySimples.{one_fits, one_made}
 use Rattle.semver_ranges.proofs.range_set.parse_with.Goals as goal
 

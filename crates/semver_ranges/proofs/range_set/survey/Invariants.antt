@@ -1,8 +1,8 @@
 use Rattle.std.proofs.Common.{◌≡◌, ◌+◌, ◌≤◌, true, List, Option, length}
 use Rattle.semver_ranges.specs.declared.grammar.Dialect.TheVariants.{Crate}
 use Rattle.semver_ranges.specs.RewritingTable.{simple_fits}
-use Rattle.semver_ranges.specs.Means.RangeEvents.{Event, events}
-use Rattle.semver_ranges.specs.Means.CursorViews.{HasLeft}
+use Rattle.semver_ranges.specs.Steps.RangeEvents.{Event, events}
+use Rattle.semver_ranges.specs.Steps.CursorViews.{HasLeft}
 use Rattle.semver_ranges.proofs.EventSums.{summed}
 use Rattle.semver_ranges.proofs.range_set.survey.Given as goal
 

@@ -2,7 +2,7 @@ use Rattle.std.proofs.Common.{◌≡◌, ℕ, [], length, get_or, drop, false, s
 use Rattle.std.specs.List.{prefix_len}
 use Rattle.std.proofs.lemmas.List.{drop_all}
 use Rattle.semver_texts.specs.Texts.{Text, is_dotted_byte}
-use Rattle.semver_texts.specs.Means.DottedParts.{is_run_byte, runs_stand}
+use Rattle.semver_texts.specs.Steps.DottedParts.{is_run_byte, runs_stand}
 use Rattle.semver_texts.proofs.DottedParts.{IsRead, at_end, other_ends, none_read}
 use Rattle.semver_texts.proofs.dotted.parts_len.Goals as goal
 use Rattle.semver_texts.proofs.dotted.parts_len.Goals.{Else-is_run_byte}

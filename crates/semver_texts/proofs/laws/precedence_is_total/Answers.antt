@@ -1,7 +1,7 @@
 use Rattle.std.proofs.lemmas.Cmp.{tied_itself}
 use Rattle.std.proofs.Common.{ap, sym, ◌∙◌}
 use Rattle.semver_texts.specs.Precedence.{precedence}
-use Rattle.semver_texts.specs.Means.PrecedenceLaws.{precedence_total, precedence-same}
+use Rattle.semver_texts.specs.Steps.PrecedenceLaws.{precedence_total, precedence-same}
 use Rattle.semver_texts.proofs.laws.precedence_is_total.Goals as goal
 
 pub returns-clause-total : goal.returns-clause-total

@@ -8,7 +8,7 @@ use Rattle.std.proofs.lemmas.List.{get_or_past}
 use Rattle.semver_texts.specs.Texts.{is_space, IsRun}
 use Rattle.semver_tokens.specs.Tokens.{Whitespace}
 use Rattle.semver_tokens.specs.Views.{token_value}
-use Rattle.semver_tokens.specs.Means.Scanning.{component, sign}
+use Rattle.semver_tokens.specs.Steps.Scanning.{component, sign}
 use Rattle.semver_tokens.proofs.FirstToken.{all_of_prefix}
 use Rattle.semver_tokens.proofs.TokenLists.{first_token-empty, front_space, front_run, front_other, some_of_prefix}
 use Rattle.semver_tokens.proofs.Cuts.{cut_after_run}

@@ -5,7 +5,7 @@ use Rattle.std.proofs.lemmas.Bool.{eqb-true, eq-eqb}
 use Rattle.semver_texts.specs.Texts.{Text, is_space}
 use Rattle.semver_tokens.proofs.FirstToken.{all_of_prefix}
 use Rattle.semver_tokens.proofs.TokenLists.{prefix_is}
-use Rattle.semver_versions.specs.Means.Cutting.{AreSpaces}
+use Rattle.semver_versions.specs.Steps.Cutting.{AreSpaces}
 use Rattle.semver_versions.proofs.from_bytes.are_spaces.Goals as goal
 
 pub returns-clause-yes : goal.returns-clause-yes

@@ -1,8 +1,8 @@
 use Rattle.std.proofs.Common.{Some, refl, ap, sym, ◌∙◌, ◌∷◌, ◌++◌, [], map}
 use Rattle.std.specs.List.{flat_map}
 use Rattle.tool_ranges.specs.CargoMeaning.{as_read}
-use Rattle.tool_ranges.specs.Means.CargoPreReleases.{judging_one}
-use Rattle.tool_ranges.specs.Means.CargoReading.{behind_comma}
+use Rattle.tool_ranges.specs.Steps.CargoPreReleases.{judging_one}
+use Rattle.tool_ranges.specs.Steps.CargoReading.{behind_comma}
 use Rattle.tool_ranges.proofs.RequirementSteps.{at_start, at_none, at_next, at_last, next_fits, written_more, count_more}
 use Rattle.tool_ranges.proofs.cargo.build_comparators.Goals as goal
 

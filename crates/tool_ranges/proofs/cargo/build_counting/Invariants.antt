@@ -2,7 +2,7 @@ use Rattle.std.proofs.Common.{◌≡◌, List, length, map}
 use Rattle.std.specs.List.{flat_map}
 use Rattle.semver_ranges.specs.RangeTree.{Simple}
 use Rattle.semver_ranges.specs.RangeViews.{range_of}
-use Rattle.tool_ranges.specs.Means.CargoPreReleases.{counting_one}
+use Rattle.tool_ranges.specs.Steps.CargoPreReleases.{counting_one}
 use Rattle.tool_ranges.proofs.RequirementSteps.{IsAt}
 use Rattle.tool_ranges.proofs.cargo.build_counting.Given as goal
 

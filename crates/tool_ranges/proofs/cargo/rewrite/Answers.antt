@@ -4,7 +4,7 @@ use Rattle.semver_ranges.specs.declared.range.Compat.TheVariants.{Cargo}
 use Rattle.semver_ranges.specs.declared.range_set.RangeError.TheVariants.{NotARange, OutOfMemory}
 use Rattle.tool_ranges.specs.CargoGrammar.{SpellsRequirement}
 use Rattle.tool_ranges.specs.CargoTexts.{HasRequiredSet}
-use Rattle.tool_ranges.specs.Means.CargoReading.{has_tab, IsRefusal}
+use Rattle.tool_ranges.specs.Steps.CargoReading.{has_tab, IsRefusal}
 use Rattle.tool_ranges.proofs.RequirementLaws.{tab_refused, refused, answered}
 use Rattle.semver_ranges.specs.PrintedRanges.{IsPrintableSet}
 use Rattle.semver_ranges.specs.RangeViews.{set_of}

@@ -1,7 +1,7 @@
 use Rattle.std.proofs.Common.{Some, ap, sym, ◌∙◌, not, ◌∷◌, ◌++◌, []}
 use Rattle.semver_ranges.proofs.StatedNumbers.{states_kind}
 use Rattle.tool_ranges.specs.CargoMeaning.{as_read}
-use Rattle.tool_ranges.specs.Means.CargoReading.{behind_comma}
+use Rattle.tool_ranges.specs.Steps.CargoReading.{behind_comma}
 use Rattle.tool_ranges.proofs.RequirementSteps.{at_none, surveyed_next, surveyed_end}
 use Rattle.tool_ranges.proofs.cargo.survey.Goals as goal
 

@@ -4,8 +4,8 @@ use Rattle.std.proofs.lemmas.List.{map_push}
 use Rattle.semver_ranges.specs.declared.grammar.Dialect.TheVariants as dialect
 use Rattle.semver_ranges.specs.declared.range.Compat.TheVariants.{Npm}
 use Rattle.semver_ranges.specs.RangeViews.{range_of}
-use Rattle.semver_ranges.specs.Means.BoundsViews.{range_for}
-use Rattle.semver_ranges.specs.Means.RangeEvents.{events_of}
+use Rattle.semver_ranges.specs.Steps.BoundsViews.{range_for}
+use Rattle.semver_ranges.specs.Steps.RangeEvents.{events_of}
 use Rattle.semver_ranges.proofs.EventLists.{set_fits}
 use Rattle.semver_ranges.proofs.EventSums.{one_range_more}
 use Rattle.tool_ranges.specs.ToolTable.{written_in}

@@ -3,11 +3,11 @@ use Rattle.std.specs.Prelude.{map}
 use Rattle.semver_ranges.specs.declared.grammar.Dialect.TheVariants as dialect
 use Rattle.semver_ranges.specs.declared.range.Compat.TheVariants.{Npm}
 use Rattle.semver_ranges.specs.RangeTree.{SetTree}
-use Rattle.semver_ranges.specs.Means.Reading.{read}
+use Rattle.semver_ranges.specs.Steps.Reading.{read}
 use Rattle.semver_ranges.specs.RangeViews.{range_of}
-use Rattle.semver_ranges.specs.Means.BoundsViews.{range_for}
-use Rattle.semver_ranges.specs.Means.RangeEvents.{events_of}
-use Rattle.semver_ranges.specs.Means.CursorViews.{HasLeft}
+use Rattle.semver_ranges.specs.Steps.BoundsViews.{range_for}
+use Rattle.semver_ranges.specs.Steps.RangeEvents.{events_of}
+use Rattle.semver_ranges.specs.Steps.CursorViews.{HasLeft}
 use Rattle.tool_ranges.specs.ToolTable.{written_in}
 use Rattle.tool_ranges.specs.NpmTable.{npm_fits}
 use Rattle.tool_ranges.proofs.npm.build.Given as goal

@@ -7,8 +7,8 @@ use Rattle.semver_ranges.specs.declared.range.Compat.TheVariants.{Npm}
 use Rattle.semver_ranges.specs.RangeTree.{Simple}
 use Rattle.semver_ranges.specs.RewritingTable.{PlainComparator}
 use Rattle.semver_ranges.specs.RangeViews.{comparator_of}
-use Rattle.semver_ranges.specs.Means.RangeEvents.{Event, event_fits, range_simples, range_others}
-use Rattle.semver_ranges.specs.Means.CursorViews.{HasLeft}
+use Rattle.semver_ranges.specs.Steps.RangeEvents.{Event, event_fits, range_simples, range_others}
+use Rattle.semver_ranges.specs.Steps.CursorViews.{HasLeft}
 use Rattle.semver_ranges.proofs.FoundEvents.{NextSimple, next_simple, RangeEnd, range_end}
 use Rattle.tool_ranges.specs.ToolTable.{fits_in, written_in}
 use Rattle.tool_ranges.proofs.npm.build_range.Goals as goal

@@ -4,8 +4,8 @@ use Rattle.std.specs.List.{list_all, flat_map}
 use Rattle.semver_ranges.specs.declared.grammar.Dialect.TheVariants as dialect
 use Rattle.semver_ranges.specs.declared.range.Compat.TheVariants.{Npm}
 use Rattle.semver_ranges.specs.RangeViews.{comparator_of}
-use Rattle.semver_ranges.specs.Means.RangeEvents.{Event, event_fits, range_simples, range_others}
-use Rattle.semver_ranges.specs.Means.CursorViews.{HasLeft, size_left}
+use Rattle.semver_ranges.specs.Steps.RangeEvents.{Event, event_fits, range_simples, range_others}
+use Rattle.semver_ranges.specs.Steps.CursorViews.{HasLeft, size_left}
 use Rattle.tool_ranges.specs.ToolTable.{fits_in, written_in}
 use Rattle.tool_ranges.proofs.npm.build_range.Given as goal
 

@@ -1,4 +1,4 @@
-use Rattle.semver_ranges.specs.Means.CursorViews.{size_left}
+use Rattle.semver_ranges.specs.Steps.CursorViews.{size_left}
 use Rattle.tool_ranges.proofs.npm.count_ahead.Given as goal
 
 abbrev pub decreases-loop-simple : goal.decreases-loop-simple

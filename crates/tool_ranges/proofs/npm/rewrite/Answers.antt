@@ -7,13 +7,13 @@ use Rattle.semver_ranges.specs.declared.range.Compat.TheVariants.{Npm}
 use Rattle.semver_ranges.specs.declared.range_set.RangeError.TheVariants.{OutOfMemory}
 use Rattle.semver_ranges.specs.RewritingTable.{PlainRange}
 use Rattle.semver_ranges.specs.RangeTree.{SetTree}
-use Rattle.semver_ranges.specs.Means.Reading.{read}
+use Rattle.semver_ranges.specs.Steps.Reading.{read}
 use Rattle.semver_ranges.specs.RangeViews.{set_of}
 use Rattle.semver_ranges.specs.Meeting.{meets_set}
 use Rattle.semver_ranges.specs.PrintedRanges.{IsPrintableSet}
 use Rattle.tool_ranges.specs.NpmGrammar.{may_stand, SpellsNpm}
 use Rattle.tool_ranges.specs.NpmTable.{rewritten_npm}
-use Rattle.tool_ranges.specs.Means.NpmReading.{HasRanges, IsNpmRefusal}
+use Rattle.tool_ranges.specs.Steps.NpmReading.{HasRanges, IsNpmRefusal}
 use Rattle.tool_ranges.proofs.NpmLaws.{npm_read, answered, refused, npm_printable}
 use Rattle.tool_ranges.proofs.NpmMeanings.{npm_meets}
 use Rattle.tool_ranges.proofs.RequirementPrinted.{reads_back}

@@ -1,8 +1,8 @@
 use Rattle.std.proofs.Common.{◌≡◌, ◌+◌, ◌≤◌, true, List, Option, length}
 use Rattle.semver_ranges.specs.declared.grammar.Dialect.TheVariants as dialect
 use Rattle.semver_ranges.specs.declared.range.Compat.TheVariants.{Npm}
-use Rattle.semver_ranges.specs.Means.RangeEvents.{Event, events}
-use Rattle.semver_ranges.specs.Means.CursorViews.{HasLeft, size_left}
+use Rattle.semver_ranges.specs.Steps.RangeEvents.{Event, events}
+use Rattle.semver_ranges.specs.Steps.CursorViews.{HasLeft, size_left}
 use Rattle.semver_ranges.proofs.EventSums.{summed}
 use Rattle.tool_ranges.specs.ToolTable.{fits_in}
 use Rattle.tool_ranges.proofs.npm.survey.Given as goal

@@ -2,7 +2,7 @@ use Rattle.std.proofs.Common.{◌∙◌, sym, ap, ◌++◌, map}
 use Rattle.std.proofs.lemmas.List.{map-append}
 use Rattle.semver_ranges.specs.declared.partial.RaisedBounds.TheVariants.{Exact}
 use Rattle.semver_ranges.specs.RangeViews.{comparator_of}
-use Rattle.semver_ranges.specs.Means.PartialViews.{place_number}
+use Rattle.semver_ranges.specs.Steps.PartialViews.{place_number}
 use Rattle.tool_ranges.proofs.ReadRows.{above_written, below_written, other_written, other_fits, if_ok}
 use Rattle.tool_ranges.proofs.rows.push.Goals as goal
 

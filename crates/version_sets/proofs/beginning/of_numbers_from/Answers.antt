@@ -1,7 +1,7 @@
 use Rattle.std.proofs.Common.{◌≡◌}
 use Rattle.semver_parser.specs.Versions.{PlainVersion}
 use Rattle.version_sets.specs.VersionSets.{has}
-use Rattle.version_sets.specs.Means.Bounds.{reaches}
+use Rattle.version_sets.specs.Steps.Bounds.{reaches}
 use Rattle.version_sets.proofs.BoundLaws.{has_numbers}
 use Rattle.version_sets.proofs.Lists.{answered}
 use Rattle.version_sets.proofs.beginning.of_numbers_from.Goals as goal

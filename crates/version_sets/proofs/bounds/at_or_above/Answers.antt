@@ -3,7 +3,7 @@ use Rattle.std.specs.Ordering.{is_ge}
 use Rattle.semver_parser.specs.Precedence.{precedence}
 use Rattle.semver_parser.specs.RangeViews.{comparator_of, identifier_of}
 use Rattle.semver_parser.specs.Versions.{PlainVersion}
-use Rattle.version_sets.specs.Means.Places.{version_place}
+use Rattle.version_sets.specs.Steps.Places.{version_place}
 use Rattle.version_sets.specs.VersionSets.{has, Fits}
 use Rattle.version_sets.proofs.BoundLaws.{reached_with, reached_without}
 use Rattle.version_sets.proofs.Lists.{answered, none_left}

@@ -1,5 +1,5 @@
 -- The answers on the versions so far are written.
-use Rattle.version_sets.specs.Means.Places.{version_place}
+use Rattle.version_sets.specs.Steps.Places.{version_place}
 use Rattle.version_sets.specs.VersionSets.{has as is_in, Fits}
 use Rattle.version_sets.proofs.EachAnswer.{AreTold}
 use Rattle.version_sets.proofs.each.has.Given as goal

@@ -1,6 +1,6 @@
 -- The answers on the versions so far are written.
-use Rattle.version_sets.specs.Means.Between.{is_release_between as between}
-use Rattle.version_sets.specs.Means.Places.{version_place}
+use Rattle.version_sets.specs.Steps.Between.{is_release_between as between}
+use Rattle.version_sets.specs.Steps.Places.{version_place}
 use Rattle.version_sets.specs.VersionSets.{Fits}
 use Rattle.version_sets.proofs.EachAnswer.{AreTold}
 use Rattle.version_sets.proofs.each.is_release_between.Given as goal

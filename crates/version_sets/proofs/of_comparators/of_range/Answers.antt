@@ -10,7 +10,7 @@ use Rattle.semver_parser.specs.Texts.{is_empty}
 use Rattle.semver_parser.specs.Versions.{PlainVersion}
 use Rattle.version_sets.specs.VersionSets.{SetValue, has, Fits}
 use Rattle.version_sets.specs.declared.rules.PreReleases.{PreReleases}
-use Rattle.version_sets.specs.Means.RangeRules.{meets_range_with}
+use Rattle.version_sets.specs.Steps.RangeRules.{meets_range_with}
 use Rattle.version_sets.proofs.Lists.{answered_so, list_any-map}
 use Rattle.version_sets.proofs.of_comparators.of_range.Goals as goal
 

@@ -2,7 +2,7 @@ use Rattle.std.proofs.Common.{◌≡◌, ◌+◌, ◌-◌, ◌/◌, ◌<◌, ◌
 use Rattle.std.specs.List.{AllWithin}
 use Rattle.semver_parser.specs.Precedence.{precedence}
 use Rattle.semver_parser.specs.PrecedenceLaws.{precedence_total}
-use Rattle.version_sets.specs.Means.Places.{version_place}
+use Rattle.version_sets.specs.Steps.Places.{version_place}
 use Rattle.version_sets.proofs.OutlinedPlaces.{is_reached, narrowed_above, narrowed_below}
 use Rattle.version_sets.proofs.SearchLaws.{odd_passed}
 use Rattle.version_sets.proofs.switches.has_outline.Goals as goal

@@ -5,7 +5,7 @@ use Rattle.semver_parser.specs.Precedence.{precedence}
 use Rattle.semver_parser.specs.PrecedenceLaws.{precedence_total}
 use Rattle.semver_parser.specs.Versions.{PlainVersion}
 use Rattle.version_sets.specs.Releases.{release_value}
-use Rattle.version_sets.specs.Means.Walks.{differ}
+use Rattle.version_sets.specs.Steps.Walks.{differ}
 use Rattle.version_sets.specs.declared.release.Release.{Release}
 use Rattle.version_sets.proofs.SearchLaws.{IsTurned, turn_next}
 use Rattle.version_sets.proofs.switches.has_release.Goals as goal

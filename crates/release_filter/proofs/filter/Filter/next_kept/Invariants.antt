@@ -1,7 +1,7 @@
 -- Some lines were passed over.
 use Rattle.release_filter.specs.Filters.{passes}
 use Rattle.release_filter.specs.KeptLines.{SpellsOneThat}
-use Rattle.release_filter.specs.Means.Reading.{PassesOver}
+use Rattle.release_filter.specs.Steps.Reading.{PassesOver}
 use Rattle.release_filter.proofs.filter.Filter.next_kept.Given as goal
 
 abbrev pub invariant-lines : goal.invariant-lines

@@ -1,7 +1,7 @@
 use Rattle.std.proofs.Common.{arith, refl, [], inl, inr, subst}
 use Rattle.std.specs.declared.alloc.Global.{Global}
 use Rattle.semver_parser.specs.VersionViews.{version_value}
-use Rattle.release_filter.specs.Means.Sorting.{AddsLine}
+use Rattle.release_filter.specs.Steps.Sorting.{AddsLine}
 use Rattle.release_filter.specs.declared.lines.LineError.TheVariants.{TooManyLines}
 use Rattle.release_filter.specs.Filters.{passes}
 use Rattle.release_filter.proofs.LineReading.{one_of_line}

@@ -1,7 +1,7 @@
 use Rattle.std.proofs.Common.{◌≤◌, Some, length, arith}
 use Rattle.semver_ranges.specs.RangeTree.{is_blank}
 use Rattle.semver_texts.specs.Texts.{Text}
-use Rattle.semver_ranges.specs.Means.RangeEvents.{next_range, events}
+use Rattle.semver_ranges.specs.Steps.RangeEvents.{next_range, events}
 use Rattle.semver_ranges.proofs.ReadingSteps.{back_shorter, shorter_bars}
 use Rattle.semver_ranges.proofs.EventSteps.{begin_left, bars_left}
 use Rattle.semver_ranges.proofs.events.Events.read_bars.Goals as goal

@@ -1,7 +1,7 @@
 use Rattle.std.proofs.Common.{◌≡◌, true, false, refl, sym, ◌∙◌, arith}
 use Rattle.semver_texts.specs.Texts.{Text}
-use Rattle.semver_ranges.specs.Means.Reading.{ends_range}
-use Rattle.semver_ranges.specs.Means.RangeEvents.{one_simple, wildcard, events_left}
+use Rattle.semver_ranges.specs.Steps.Reading.{ends_range}
+use Rattle.semver_ranges.specs.Steps.RangeEvents.{one_simple, wildcard, events_left}
 use Rattle.semver_ranges.proofs.EventSteps.{empty_left}
 use Rattle.semver_ranges.proofs.events.Events.read_event.Goals as goal
 

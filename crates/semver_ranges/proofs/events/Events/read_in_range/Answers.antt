@@ -2,7 +2,7 @@ use Rattle.std.proofs.Common.{◌≡◌, ◌<◌, length, true, false, refl, sym
 use Rattle.std.proofs.lemmas.Bool.{true≢false}
 use Rattle.semver_texts.specs.Texts.{Text}
 use Rattle.semver_texts.specs.Texts.{begins_with}
-use Rattle.semver_ranges.specs.Means.RangeEvents.{one_simple, events_left}
+use Rattle.semver_ranges.specs.Steps.RangeEvents.{one_simple, events_left}
 use Rattle.semver_ranges.proofs.ReadingSteps.{shorter_simple}
 use Rattle.semver_ranges.proofs.EventSteps.{simple_left}
 use Rattle.semver_ranges.proofs.events.Events.read_in_range.Goals as goal

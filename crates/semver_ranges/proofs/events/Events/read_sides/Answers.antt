@@ -2,7 +2,7 @@ use Rattle.std.proofs.Common.{◌∷◌, ◌≤◌, ◌<◌, length, sym, ap, �
 use Rattle.std.specs.Prelude.{is_some}
 use Rattle.semver_texts.specs.Texts.{Text}
 use Rattle.semver_ranges.specs.RangeTree.{Simple, RangeTree}
-use Rattle.semver_ranges.specs.Means.RangeEvents.{yielded, put_simples, events_left}
+use Rattle.semver_ranges.specs.Steps.RangeEvents.{yielded, put_simples, events_left}
 use Rattle.semver_ranges.proofs.ReadingSteps.{shorter_simple, shorter_right, right_ends}
 use Rattle.semver_ranges.proofs.EventSteps.{end_left, hyphen_left}
 use Rattle.semver_ranges.proofs.FoundEvents.{sides_first, flag_small}

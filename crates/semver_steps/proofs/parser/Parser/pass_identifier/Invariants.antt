@@ -1,6 +1,6 @@
 use Rattle.std.proofs.Common.{◌≡◌, List, length, true}
 use Rattle.semver_tokens.specs.Tokens.{TokenValue}
-use Rattle.semver_steps.specs.Means.Taking.{lone_number}
+use Rattle.semver_steps.specs.Steps.Taking.{lone_number}
 use Rattle.semver_steps.proofs.IdentifierSteps.{IsRead}
 use Rattle.semver_steps.proofs.parser.Parser.pass_identifier.Given as goal
 

@@ -2,7 +2,7 @@ use Rattle.std.proofs.Common.{rules, map, refl}
 use Rattle.std.proofs.lemmas.Result.{err_from_is_err_and}
 use Rattle.semver_texts.specs.VersionViews.{identifier_value, version_value}
 use Rattle.semver_texts.specs.Versions.{VersionValue}
-use Rattle.semver_steps.specs.Means.Taking.{pre_release}
+use Rattle.semver_steps.specs.Steps.Taking.{pre_release}
 use Rattle.semver_steps.proofs.IdentifierTexts.{unless_out_of_memory, unless_err, if_err}
 use Rattle.semver_steps.proofs.VersionTaking.{numbers_text, numbers_given, HasNumbers, IsPart, pre_given}
 use Rattle.semver_steps.proofs.VersionTaking.{pre_out, build_given, build_out, end_given}

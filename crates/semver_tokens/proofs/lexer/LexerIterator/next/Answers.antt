@@ -4,7 +4,7 @@ use Rattle.std.specs.Prelude.{slice_get, chars, Option, Result}
 use Rattle.semver_tokens.specs.Tokens.{TokenValue}
 use Rattle.semver_tokens.specs.declared.lexer.Error.{Error}
 use Rattle.semver_tokens.specs.declared.lexer.Error.TheVariants.{UnexpectedChar}
-use Rattle.semver_tokens.specs.Means.Scanning.{first_token, state_left}
+use Rattle.semver_tokens.specs.Steps.Scanning.{first_token, state_left}
 use Rattle.semver_tokens.specs.Views.{token_value, items_left}
 use Rattle.semver_tokens.proofs.Cuts.{cut_after_token}
 use Rattle.semver_tokens.proofs.LexerSteps.{items_left-token, items_left-rest, items_left-failed}

@@ -1,7 +1,7 @@
 use Rattle.std.proofs.Common.{◌≡◌, ◌==◌, false, get_or, length, ◌∙◌, ap, sym, refl, arith}
 use Rattle.std.proofs.lemmas.Bool.Decides.{nat_tests}
 use Rattle.semver_ranges.specs.RangeTree.{Simple}
-use Rattle.semver_ranges.specs.Means.CursorViews.{form_of}
+use Rattle.semver_ranges.specs.Steps.CursorViews.{form_of}
 use Rattle.tool_ranges.specs.CargoMeaning.{named}
 use Rattle.tool_ranges.proofs.FoundComparators.{pieces_found, not_read, ends, parted, other_byte}
 use Rattle.tool_ranges.proofs.cargo.grammar.read_comparator.Goals as goal

@@ -1,6 +1,6 @@
 use Rattle.std.proofs.Common.{◌∙◌, ap, sym, ◌++◌, map}
 use Rattle.semver_ranges.specs.RangeViews.{comparator_of}
-use Rattle.tool_ranges.specs.Means.CargoPreReleases.{judging_read}
+use Rattle.tool_ranges.specs.Steps.CargoPreReleases.{judging_read}
 use Rattle.tool_ranges.proofs.ReadRows.{if_ok}
 use Rattle.tool_ranges.proofs.cargo.judging.push_judging.Goals as goal
 

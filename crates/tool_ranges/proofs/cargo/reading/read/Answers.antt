@@ -1,7 +1,7 @@
 use Rattle.std.proofs.Common.{◌∙◌, ap}
 use Rattle.semver_ranges.specs.declared.range_set.RangeSet.{RangeSet}
 use Rattle.tool_ranges.specs.CargoTexts.{IsRequirement, RequiresTooMuch, HasRequiredSet}
-use Rattle.tool_ranges.specs.Means.CargoReading.{has_tab}
+use Rattle.tool_ranges.specs.Steps.CargoReading.{has_tab}
 use Rattle.tool_ranges.proofs.RequirementLaws.{answered, comparators_tabless}
 use Rattle.tool_ranges.proofs.ReadSets.{same_refusal}
 use Rattle.tool_ranges.proofs.cargo.reading.read.Goals as goal

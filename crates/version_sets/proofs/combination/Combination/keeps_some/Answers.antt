@@ -1,8 +1,8 @@
 use Rattle.std.proofs.Common.{rules}
 use Rattle.std.proofs.lemmas.Iterator.Consumers.{YieldsList-from_first}
 use Rattle.std.proofs.lemmas.Iterator.Search.{any_from_yields_List}
-use Rattle.version_sets.specs.Means.WalkViews.{piece_value, pieces_left}
-use Rattle.version_sets.specs.Means.Combined.{keeps}
+use Rattle.version_sets.specs.Steps.WalkViews.{piece_value, pieces_left}
+use Rattle.version_sets.specs.Steps.Combined.{keeps}
 use Rattle.version_sets.proofs.combination.Combination.keeps_some.Goals as goal
 
 pub returns : goal.returns

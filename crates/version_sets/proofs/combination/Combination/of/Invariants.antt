@@ -1,7 +1,7 @@
 use Rattle.std.proofs.Common.{◌≡◌, true, map, ◌++◌, ◌||◌}
-use Rattle.version_sets.specs.Means.Walks.{changes}
-use Rattle.version_sets.specs.Means.WalkViews.{pieces_left}
-use Rattle.version_sets.specs.Means.Combined.{keeps, pieces, keeps_some, combined}
+use Rattle.version_sets.specs.Steps.Walks.{changes}
+use Rattle.version_sets.specs.Steps.WalkViews.{pieces_left}
+use Rattle.version_sets.specs.Steps.Combined.{keeps, pieces, keeps_some, combined}
 use Rattle.version_sets.proofs.combination.Combination.of.Given as goal
 
 -- the switches so far, and those to come, are those of the combination; and what is kept so far, or

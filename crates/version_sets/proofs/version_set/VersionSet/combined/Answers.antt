@@ -1,7 +1,7 @@
 use Rattle.std.proofs.Common.{rules, ◌≡◌, true, ap, ap₂, subst, sym, ◌∙◌, IfErr, Result, Ok, Err}
 use Rattle.version_sets.specs.VersionSets.{SetValue, has, IsNormal}
-use Rattle.version_sets.specs.Means.Places.{set_of}
-use Rattle.version_sets.specs.Means.Combined.{keeps, pieces, keeps_some, combined_sets, KeepsSome}
+use Rattle.version_sets.specs.Steps.Places.{set_of}
+use Rattle.version_sets.specs.Steps.Combined.{keeps, pieces, keeps_some, combined_sets, KeepsSome}
 use Rattle.version_sets.proofs.SetLaws.{combined-normal, has-combined, some_release, some_pre_release}
 use Rattle.version_sets.proofs.version_set.VersionSet.combined.Goals as goal
 

@@ -1,7 +1,7 @@
 use Rattle.std.proofs.Common.{ap, ◌∙◌, map}
 use Rattle.semver_parser.specs.Outlines.{outline_behind}
 use Rattle.semver_parser.specs.Precedence.{precedence}
-use Rattle.version_sets.specs.Means.Places.{version_place}
+use Rattle.version_sets.specs.Steps.Places.{version_place}
 use Rattle.version_sets.specs.Switches.{switched}
 use Rattle.version_sets.specs.VersionSets.{SetValue, has}
 use Rattle.version_sets.proofs.OutlinedPlaces.{pre_release_has, release_is}

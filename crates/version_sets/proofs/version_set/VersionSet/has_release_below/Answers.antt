@@ -4,7 +4,7 @@ use Rattle.semver_parser.specs.Versions.{PlainVersion, IdentifierValue}
 use Rattle.semver_parser.specs.Precedence.{pre_cmp, precedence}
 use Rattle.version_sets.specs.declared.release.Release.{Release}
 use Rattle.version_sets.specs.Releases.{release_value}
-use Rattle.version_sets.specs.Means.Places.{version_place}
+use Rattle.version_sets.specs.Steps.Places.{version_place}
 use Rattle.version_sets.proofs.FirstSwitches.{below_then}
 use Rattle.version_sets.proofs.version_set.VersionSet.has_release_below.Goals as goal
 

@@ -2,7 +2,7 @@ use Rattle.std.proofs.Common.{rules, ◌≡◌, ◌↔◌, true, ◌&&◌, subst
 use Rattle.semver_parser.specs.Versions.{PlainVersion}
 use Rattle.semver_parser.specs.Texts.{is_empty}
 use Rattle.version_sets.specs.Releases.{release_value}
-use Rattle.version_sets.specs.Means.Places.{version_place, set_of}
+use Rattle.version_sets.specs.Steps.Places.{version_place, set_of}
 use Rattle.version_sets.specs.VersionSets.{IsIn}
 use Rattle.version_sets.proofs.Lists.{none_left}
 use Rattle.version_sets.proofs.FirstSwitches.{tells_empty}

@@ -1,6 +1,6 @@
 use Rattle.std.proofs.Common.{rules, ◌≡◌, subst}
 use Rattle.version_sets.specs.VersionSets.{IsNormal}
-use Rattle.version_sets.specs.Means.Combined.{keeps_some, pieces}
+use Rattle.version_sets.specs.Steps.Combined.{keeps_some, pieces}
 use Rattle.version_sets.proofs.SetLaws.{tells_some, by_first, by_second}
 use Rattle.version_sets.proofs.version_set.VersionSet.keeps_some.Goals as goal
 

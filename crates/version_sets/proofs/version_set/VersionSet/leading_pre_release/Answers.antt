@@ -1,4 +1,4 @@
-use Rattle.version_sets.specs.Means.Places.{version_place}
+use Rattle.version_sets.specs.Steps.Places.{version_place}
 use Rattle.version_sets.proofs.FirstSwitches.{least_below, below_then}
 use Rattle.version_sets.proofs.version_set.VersionSet.leading_pre_release.Goals as goal
 

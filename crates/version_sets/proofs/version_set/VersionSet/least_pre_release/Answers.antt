@@ -2,7 +2,7 @@ use Rattle.std.proofs.Common.{rules, ◌≡◌, refl, sym, subst}
 use Rattle.std.specs.Option.{option_copied}
 use Rattle.std.specs.Prelude.{slice_get}
 use Rattle.version_sets.specs.VersionSets.{IsPreRelease}
-use Rattle.version_sets.specs.Means.Places.{version_place, set_of}
+use Rattle.version_sets.specs.Steps.Places.{version_place, set_of}
 use Rattle.version_sets.proofs.FirstSwitches.{Tells, first_pre_release, told_behind, told_some, told_none}
 use Rattle.version_sets.proofs.version_set.VersionSet.least_pre_release.Goals as goal
 

@@ -2,7 +2,7 @@ use Rattle.std.proofs.Common.{rules, ◌≡◌, refl, sym, subst}
 use Rattle.std.specs.Prelude.{slice_get}
 use Rattle.version_sets.specs.Releases.{release_value}
 use Rattle.version_sets.specs.VersionSets.{IsRelease}
-use Rattle.version_sets.specs.Means.Places.{set_of}
+use Rattle.version_sets.specs.Steps.Places.{set_of}
 use Rattle.version_sets.proofs.FirstSwitches.{Tells, first_release, told_some, told_none}
 use Rattle.version_sets.proofs.version_set.VersionSet.least_release.Goals as goal
 

@@ -7,7 +7,7 @@ use Rattle.semver_parser.specs.RewritingTable.{PlainSet}
 use Rattle.semver_parser.specs.Versions.{VersionValue}
 use Rattle.version_sets.specs.PreReleaseRules.{is_release, meets_with}
 use Rattle.version_sets.specs.VersionSets.{has, Fits}
-use Rattle.version_sets.specs.Means.RangeRules.{meets_range_with}
+use Rattle.version_sets.specs.Steps.RangeRules.{meets_range_with}
 use Rattle.version_sets.specs.declared.rules.PreReleases.{PreReleases}
 use Rattle.version_sets.specs.declared.rules.PreReleases.TheVariants.{Excluded, Stated, Included}
 use Rattle.version_sets.proofs.Lists.{answered_so, list_any-map}

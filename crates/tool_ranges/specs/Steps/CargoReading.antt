@@ -12,8 +12,8 @@ use Rattle.semver_ranges.specs.declared.range_set.RangeError.TheVariants.{OutOfM
 use Rattle.semver_ranges.specs.declared.grammar.Simple as read
 use Rattle.semver_texts.specs.Texts.{Text}
 use Rattle.semver_ranges.specs.RangeTree.{Form, PartialTree, Simple}
-use Rattle.semver_ranges.specs.Means.Reading.{behind_blanks, operator, with_first, component}
-use Rattle.semver_ranges.specs.Means.CursorViews.{IsSimpleOf}
+use Rattle.semver_ranges.specs.Steps.Reading.{behind_blanks, operator, with_first, component}
+use Rattle.semver_ranges.specs.Steps.CursorViews.{IsSimpleOf}
 use Rattle.tool_ranges.specs.CargoGrammar.{is_of_cargo, SpellsRequirement}
 use Rattle.tool_ranges.specs.CargoMeaning.{as_read}
 use Rattle.tool_ranges.specs.CargoTable.{requirement_fits}

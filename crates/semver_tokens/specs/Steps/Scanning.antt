@@ -10,7 +10,7 @@ use Rattle.std.specs.Str.Parse.{digits_value}
 use Rattle.semver_tokens.specs.Tokens.{TokenValue, Eq, Gt, Lt, LtEq, GtEq, Caret, Tilde, Star, Dot}
 use Rattle.semver_tokens.specs.Tokens.{Comma, Hyphen, Plus, Or, Whitespace, Numeric, AlphaNumeric}
 use Rattle.semver_texts.specs.Texts.{is_space}
-use Rattle.semver_texts.specs.Means.Decimals.{is_number}
+use Rattle.semver_texts.specs.Steps.Decimals.{is_number}
 use Rattle.semver_tokens.specs.ParserState.{ParserState}
 
 -- the token of a run

@@ -8,8 +8,8 @@ use Rattle.semver_ranges.specs.RangeTree.{SetTree}
 use Rattle.semver_texts.specs.Texts.{Text}
 use Rattle.semver_ranges.specs.Partials.{states_nothing}
 use Rattle.semver_ranges.specs.Terms.{left_side, right_side}
-use Rattle.semver_ranges.specs.Means.Reading.{all_simples, range_here, behind_range, behind_bars}
-use Rattle.semver_ranges.specs.Means.Reading.{read}
+use Rattle.semver_ranges.specs.Steps.Reading.{all_simples, range_here, behind_range, behind_bars}
+use Rattle.semver_ranges.specs.Steps.Reading.{read}
 
 -- an event: a simple of the range, or two bars
 pub data Event : Type 0 where

@@ -17,10 +17,10 @@ use Rattle.semver_ranges.specs.declared.grammar.Dialect.{Dialect}
 use Rattle.semver_ranges.specs.RangeTree as tree
 use Rattle.semver_ranges.specs.RangeTree.{three, is_part}
 use Rattle.semver_texts.specs.Texts.{Text}
-use Rattle.semver_ranges.specs.Means.Reading.{parts, behind_three}
-use Rattle.semver_ranges.specs.Means.RangeEvents as list
-use Rattle.semver_ranges.specs.Means.RangeEvents.{one_simple, next_range, yielded, put, events_left}
-use Rattle.semver_ranges.specs.Means.PartialViews.{IsPartialOf}
+use Rattle.semver_ranges.specs.Steps.Reading.{parts, behind_three}
+use Rattle.semver_ranges.specs.Steps.RangeEvents as list
+use Rattle.semver_ranges.specs.Steps.RangeEvents.{one_simple, next_range, yielded, put, events_left}
+use Rattle.semver_ranges.specs.Steps.PartialViews.{IsPartialOf}
 use Rattle.semver_texts.specs.Texts.{cut_at_dots}
 
 -- what is found at the front of a text, and what follows it

@@ -4,7 +4,7 @@ use Rattle.semver_parser.specs.Versions.{PlainVersion}
 use Rattle.semver_parser.specs.Precedence.{precedence}
 use Rattle.version_sets.specs.declared.walk.Piece.{Piece}
 use Rattle.version_sets.specs.declared.walk.Walk.{Walk}
-use Rattle.version_sets.specs.Means.Walks.{PieceValue, walk}
+use Rattle.version_sets.specs.Steps.Walks.{PieceValue, walk}
 
 module _ {T : Type 0} (place : T → PlainVersion) where
   abbrev pub piece_value : Piece T → PieceValue PlainVersion

@@ -8,7 +8,7 @@ use Rattle.version_sets.specs.declared.combination.Combination.TheVariants.{Unio
 use Rattle.version_sets.specs.declared.combination.Combination.TheVariants.{Intersection}
 use Rattle.version_sets.specs.declared.combination.Combination.TheVariants.{Difference}
 use Rattle.version_sets.specs.VersionSets.{SetValue, has, Fits}
-use Rattle.version_sets.specs.Means.Walks.{PieceValue, walk, changes}
+use Rattle.version_sets.specs.Steps.Walks.{PieceValue, walk, changes}
 
 -- whether what is in the first or in the second is in the combination
 abbrev pub keeps : Combination → Bool → Bool → Bool

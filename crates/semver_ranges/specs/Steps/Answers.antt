@@ -10,7 +10,7 @@ use Rattle.semver_ranges.specs.RangeTree.{SetTree}
 use Rattle.semver_texts.specs.Texts.{Text}
 use Rattle.semver_texts.specs.Versions.{IdentifierValue}
 use Rattle.semver_ranges.specs.RewritingTable.{fits, written_set}
-use Rattle.semver_ranges.specs.Means.Reading.{read}
+use Rattle.semver_ranges.specs.Steps.Reading.{read}
 use Rattle.semver_ranges.specs.RangeViews.{set_of}
 
 -- why there is no set of a text: memory may run out for a tree that fits alone

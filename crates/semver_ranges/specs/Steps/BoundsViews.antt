@@ -17,8 +17,8 @@ use Rattle.semver_ranges.specs.RewritingTable.{PlainComparator, PlainRange, comp
 use Rattle.semver_ranges.specs.RewritingTable.{Cell, from_zero, below_zero, against, below, between}
 use Rattle.semver_ranges.specs.RewritingTable.{cell_raised, bound_fits, written_simple}
 use Rattle.semver_ranges.specs.RewritingTable.{range_by, simple_fits}
-use Rattle.semver_ranges.specs.Means.PartialViews.{stated_of, version_of, place_number, pre_of}
-use Rattle.semver_ranges.specs.Means.PartialViews.{PartsPass}
+use Rattle.semver_ranges.specs.Steps.PartialViews.{stated_of, version_of, place_number, pre_of}
+use Rattle.semver_ranges.specs.Steps.PartialViews.{PartsPass}
 
 -- the cell of the table
 abbrev pub cell_of : Bounds → Cell
