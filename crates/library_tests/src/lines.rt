@@ -278,8 +278,8 @@ fn ends_at_a_halt(alloc: Global, place: usize, shown: usize) -> io::Result<bool>
     Ok(is_told && is_written && has_ended && is_whole && others_end_at_a_halt(alloc, place, shown)?)
 }
 
-/// Whether the search for the least line and that for the lines sorted tell the fault, too, and lose
-/// nothing of the input.
+/// Whether the search for the least line and that for the lines sorted tell the fault, too, and
+/// lose nothing of the input.
 fn others_end_at_a_halt(alloc: Global, place: usize, shown: usize) -> io::Result<bool> {
     let mut searched = halting_reader(alloc, place, shown, ErrorKind::ConnectionReset)?;
     let least = filter(alloc)?.least_line(alloc, &mut searched);

@@ -1,7 +1,7 @@
-//! Tests of the library that need more than data: the derived orders and precedence, values made by
-//! hand, and readers and writers that fail. It writes what it found. What it has to be stands in the
-//! file beside this crate: it comes from the written rules and from the declarations of the Rust
-//! crate.
+//! Tests of the library that need more than data: the derived orders and precedence, values made
+//! by hand, and readers and writers that fail. It writes what it found. What it has to be stands in
+//! the file beside this crate: it comes from the written rules and from the declarations of the
+//! Rust crate.
 #![tactic(auto)]
 
 mod bytes;

@@ -1,5 +1,6 @@
 -- A line that begins with three numbers, and whose end was sought behind them.
-use Rattle.std.proofs.Common.{◌≡◌, ℕ, zero, suc, ◌+◌, ◌-◌, ◌<◌, ◌≢◌, ◌^◌, ◌==◌, ◌||◌, Bool, true, false, List, [], ◌∷◌, ◌++◌, length, take, map, decimal}
+use Rattle.std.proofs.Common.{◌≡◌, ℕ, zero, suc, ◌+◌, ◌-◌, ◌<◌, ◌≢◌, ◌^◌, ◌==◌, ◌||◌, Bool, true, false, List, [], ◌∷◌, ◌++◌}
+use Rattle.std.proofs.Common.{length, take, map, decimal}
 use Rattle.std.proofs.Common.{refl, sym, ap, subst, ◌∙◌, arith, append_assoc, append-nil, length-append, get_or, if◌then◌else◌, slice_index}
 use Rattle.std.proofs.Math.Seq.{take-append-add}
 use Rattle.std.proofs.lemmas.List.{get_or-append-add}
@@ -102,7 +103,8 @@ front_kept zero xs other = refl
 front_kept (suc k) [] other = refl
 front_kept (suc k) (x ∷ xs) other = other
 
-strip_kept : (byte : ℕ) (xs : List ℕ) → is_ascii_digit (slice_index xs 0) ≡ false → is_ascii_digit (slice_index (strip_last byte xs) 0) ≡ false
+strip_kept : (byte : ℕ) (xs : List ℕ) → is_ascii_digit (slice_index xs 0) ≡ false
+    → is_ascii_digit (slice_index (strip_last byte xs) 0) ≡ false
 strip_kept byte xs other = by_test (ends_with_byte byte xs) (λ y. rw y (front_kept (length xs - 1) xs other)) (λ n. rw n other)
 
 -- no line feed in numbers, and none behind them

@@ -1,5 +1,5 @@
--- A filter as contracts see it: a set of versions, and the rule for pre-releases that made it. It is
--- a test on versions.
+-- A filter as contracts see it: a set of versions, and the rule for pre-releases that made it. It
+-- is a test on versions.
 use Rattle.std.specs.Prelude.{Bool, ◌&&◌}
 use Rattle.semver_parser.specs.Versions.{VersionValue}
 use Rattle.version_sets.specs.PreReleaseRules.{numbers_fit}

@@ -38,8 +38,8 @@ impl Filter {
         Ok(kept)
     }
 
-    /// Adds those of a few versions that pass. All are judged, and the places of those that pass put
-    /// in front, before one is added: so nothing but the end of a loop hangs on how they were
+    /// Adds those of a few versions that pass. All are judged, and the places of those that pass
+    /// put in front, before one is added: so nothing but the end of a loop hangs on how they were
     /// judged.
     fn keep<'v>(
         &self,

@@ -16,7 +16,8 @@ use std::cmp::Ordering;
 /// the pre-releases.
 #[inline(always)]
 pub fn compare(version: &Version, comparator: &Comparator) -> Ordering
-    ensures { result ≡ precedence (version_value version.now).plain (comparator_of comparator.now).version }
+    ensures { result ≡ precedence (version_value version.now).plain
+        (comparator_of comparator.now).version }
 {
     if version.major != comparator.major {
         return version.major.cmp(&comparator.major);

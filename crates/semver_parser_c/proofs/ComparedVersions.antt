@@ -70,9 +70,11 @@ in_the_midst a r m n x = omega (
 some_text : (v : VersionValue) → 0 < length (version_text v)
 some_text v = in_the_midst (decimal v.plain.major) _ _ _ 46
 
-empty_without : (IsOne : PlainVersion → Type 0) (o : Option Version) (at : ℕ) → TellsLeast IsOne o → IsEmptyWithout IsOne (place_behind at o)
+empty_without : (IsOne : PlainVersion → Type 0) (o : Option Version) (at : ℕ) → TellsLeast IsOne o
+    → IsEmptyWithout IsOne (place_behind at o)
 empty_without IsOne None at none = (λ _. none, λ _. refl)
-empty_without IsOne (Some x) at least = (λ empty. absurd (omega (arith, empty, some_text (version_value x))), λ none. absurd (none _ least.is_one))
+empty_without IsOne (Some x) at least =
+    (λ empty. absurd (omega (arith, empty, some_text (version_value x))), λ none. absurd (none _ least.is_one))
 
 pub tells_which : (rule : PreReleases) (mode : Compat) (old new : SetTree) (told : Comparison) (places : ComparedRanges)
     → Compares rule mode old new told → places ≡ places_of told → TellsWhich rule mode old new places

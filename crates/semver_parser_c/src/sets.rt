@@ -1,5 +1,5 @@
-//! Sets of the versions that range texts mean, by the rule for pre-releases that a number names, and
-//! the texts of their least versions.
+//! Sets of the versions that range texts mean, by the rule for pre-releases that a number names,
+//! and the texts of their least versions.
 
 ghost use Rattle.std.specs.Prelude.{◌≡◌, ◌↔◌, ◌∷◌, ◌++◌, IfOk, IfErr, IsUtf8, Option};
 ghost use Rattle.std.specs.Prelude.{string_bytes};
@@ -101,8 +101,8 @@ pub fn print(alloc: Global, version: &Option<Version>) -> Result<String, AllocEr
 
 /// The text of the least version of a set, and an empty one where it has none.
 pub fn print_least(alloc: Global, set: &VersionSet) -> Result<String, AllocError>
-    ensures { IfOk result (λ text. (least : Option SomeVersion) × TellsLeast (λ v. IsIn v set.now) least
-        × (string_bytes text ≡ text_of least)) }
+    ensures { IfOk result (λ text. (least : Option SomeVersion)
+        × TellsLeast (λ v. IsIn v set.now) least × (string_bytes text ≡ text_of least)) }
 {
     let least = set.least(alloc)?;
     print(alloc, &least)

@@ -33,7 +33,8 @@ by_test false f g = g refl
 
 -- and what is made of the first
 pub zip_mapped : {A B C : Type 0} {R : A → B → Type 0} {P : B → Type 0} (S : C → B → Type 0) (f : A → C)
-    → ((a : A) (b : B) → R a b → P b → S (f a) b) → (xs : List A) (ys : List B) → AllZip R xs ys → AllByRecursion P ys → AllZip S (map f xs) ys
+    → ((a : A) (b : B) → R a b → P b → S (f a) b) → (xs : List A) (ys : List B) → AllZip R xs ys → AllByRecursion P ys
+    → AllZip S (map f xs) ys
 zip_mapped S f each [] [] zip all = tt
 zip_mapped S f each [] (y ∷ ys) zip all = absurd zip
 zip_mapped S f each (x ∷ xs) [] zip all = absurd zip

@@ -63,10 +63,11 @@ module _ {text : Text} {others : List Identifier} where
   -- the others have ended before it
   pub longer : (rest : Bor Text) → IsLeft text others (Some rest) [] → (ids : List IdentifierValue)
       → AllZip SpellsIdentifier ids (slice_split is_dot text) → Greater ≡ compared ids others
-  longer rest w ids all = at (w.decides ids all).0 (slice_split is_dot rest.now) (length-slice_split is_dot rest.now) (w.decides ids all).1 (w.decides ids all).2
+  longer rest w ids all =
+    at (w.decides ids all).0 (slice_split is_dot rest.now) (length-slice_split is_dot rest.now) (w.decides ids all).1 (w.decides ids all).2
     where
-      at : (left : List IdentifierValue) (parts : List Text) → length parts ≡ count_by is_dot rest.now + 1 → AllZip SpellsIdentifier left parts
-          → compared ids others ≡ compared left [] → Greater ≡ compared ids others
+      at : (left : List IdentifierValue) (parts : List Text) → length parts ≡ count_by is_dot rest.now + 1
+          → AllZip SpellsIdentifier left parts → compared ids others ≡ compared left [] → Greater ≡ compared ids others
       at left [] some all e = absurd (omega (arith, some))
       at [] (part ∷ parts) some none e = absurd none
       at (id ∷ left) (part ∷ parts) some both e = sym e
@@ -114,7 +115,8 @@ module _ {text : Text} {others : List Identifier} where
 
 -- ---- by the three numbers, and then by the pre-release
 
-then_same : (a b c p : Ordering) → ordering_then (ordering_then (ordering_then a b) c) p ≡ ordering_then a (ordering_then b (ordering_then c p))
+then_same : (a b c p : Ordering)
+    → ordering_then (ordering_then (ordering_then a b) c) p ≡ ordering_then a (ordering_then b (ordering_then c p))
 then_same Less b c p = refl
 then_same Equal Less c p = refl
 then_same Equal Equal c p = refl

@@ -89,9 +89,9 @@ fn with_parts(
     })
 }
 
-/// The outline of the version whose numbers are known, how many bytes there are up to their end, and
-/// what stands behind them, if the text spells one. For speed, one without a pre-release and a build
-/// is told first.
+/// The outline of the version whose numbers are known, how many bytes there are up to their end,
+/// and what stands behind them, if the text spells one. For speed, one without a pre-release and a
+/// build is told first.
 #[inline(always)]
 pub(crate) fn behind_numbers(
     major: u64,

@@ -118,8 +118,8 @@ pub fn outline_bytes(input: &[u8]) -> Option<Outline<'_>>
 }
 
 /// What [`outline_bytes`] answers of a text that begins with three numbers, for who has read these:
-/// 1, 2 and 3, the 5 bytes up to their end, and `-rc.4` behind them give the outline of `1.2.3-rc.4`,
-/// and with `.4` behind them `None`. It takes no memory.
+/// 1, 2 and 3, the 5 bytes up to their end, and `-rc.4` behind them give the outline of
+/// `1.2.3-rc.4`, and with `.4` behind them `None`. It takes no memory.
 #[inline(always)]
 pub fn outline_behind_numbers(
     major: u64,

@@ -95,8 +95,8 @@ pub extern "C" fn speed_has(alloc: Global, ranges: &[u8], versions: &[u8]) -> u6
     count
 }
 
-/// Makes the set of the text twice, and asks so often whether the one is within the other: how often
-/// it is. `u64::MAX` where the text isn't read.
+/// Makes the set of the text twice, and asks so often whether the one is within the other: how
+/// often it is. `u64::MAX` where the text isn't read.
 #[unsafe(no_mangle)]
 pub extern "C" fn speed_within(alloc: Global, text: &[u8], times: u64) -> u64
     requires { IsUtf8 text.now }

@@ -133,9 +133,8 @@ comparator_sound t n =
     let tabless : has_tab (front (is_blank Crate) t ++ u) ≡ false = ap has_tab (sym whole) ∙ n in
     by_test (begins_with_tilde_greater u)
     (λ e. rw e tt)
-    (λ e. rw e (here_sound (front (is_blank Crate) t) u t (operator Crate u) (blanks_space (front (is_blank Crate) t) (front_all (is_blank Crate) t)
-    (front_tabless
-    (front (is_blank Crate) t) u tabless))
+    (λ e. rw e (here_sound (front (is_blank Crate) t) u t (operator Crate u)
+    (blanks_space (front (is_blank Crate) t) (front_all (is_blank Crate) t) (front_tabless (front (is_blank Crate) t) u tabless))
     whole (back_tabless (front (is_blank Crate) t) u tabless) e (operator_sound Crate u)))
 
 -- ---- what stands there is found

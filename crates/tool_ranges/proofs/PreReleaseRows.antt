@@ -24,8 +24,8 @@ pub is_stated : (s : Simple) (simple : read.Simple) → IsSimpleOf s simple → 
     → (stated_of simple.partial ≡ stated s.partial) × (version_of simple.partial ≡ zero_filled s.partial)
 is_stated s simple is e = is.1.1 (fit_numbers Cargo s simple is e)
 
-stated_by : (s : Simple) (simple : read.Simple) (kind : PartialKind) → IsSimpleOf s simple → fits_in Cargo s ≡ true → simple.partial.kind ≡ kind
-    → stated s.partial ≡ stated_at kind simple.partial.major simple.partial.minor simple.partial.patch
+stated_by : (s : Simple) (simple : read.Simple) (kind : PartialKind) → IsSimpleOf s simple → fits_in Cargo s ≡ true
+    → simple.partial.kind ≡ kind → stated s.partial ≡ stated_at kind simple.partial.major simple.partial.minor simple.partial.patch
 stated_by s simple kind is e k = sym (is_stated s simple is e).0
     ∙ ap (λ k. stated_at k simple.partial.major simple.partial.minor simple.partial.patch) k
 

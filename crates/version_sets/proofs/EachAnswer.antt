@@ -110,7 +110,8 @@ between_two (a ∷ b ∷ c ∷ rs) items ps n set vs d e low high is none long t
 between_two (a ∷ b ∷ []) items (p ∷ ps) n set vs d e low high is none long told = absurd (grind (arith, nat_tests))
 between_two (a ∷ b ∷ []) items [] n set vs d e low high is none long told =
     map-same vs
-    (λ v. two_switches a b (version_place v) ∙ ap (λ its. has (set_of its []) (version_place v)) is ∙ ap (λ s. has s (version_place v)) told)
+    (λ v. two_switches a b (version_place v) ∙ ap (λ its. has (set_of its []) (version_place v)) is
+    ∙ ap (λ s. has s (version_place v)) told)
   where
     map-same : {f g : Version → Bool} (vs : List Version) → ((v : Version) → f v ≡ g v) → map f vs ≡ map g vs
     map-same [] same = refl

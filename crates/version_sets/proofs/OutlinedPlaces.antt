@@ -54,8 +54,8 @@ IsNarrowed v switches low high =
     AllWithin (λ s. is_reached v s ≡ true) switches 0 low × AllWithin (λ s. is_reached v s ≡ false) switches high (length switches)
 
 module _ (v : PlainVersion) (xs : List Version) where
-  module _ (increase : IsIncreasing precedence (map version_place xs)) (low high middle : ℕ) (known : IsNarrowed v xs low high) (x : Version)
-      (inside : middle < length xs) (is : x ≡ get_or xs middle x) (answer : Bool)
+  module _ (increase : IsIncreasing precedence (map version_place xs)) (low high middle : ℕ) (known : IsNarrowed v xs low high)
+      (x : Version) (inside : middle < length xs) (is : x ≡ get_or xs middle x) (answer : Bool)
       (told : answer ≡ is_ge (precedence v (version_place x))) where
     at_middle : (d : Version) → is_reached v (get_or xs middle d) ≡ answer
     at_middle d =
@@ -64,7 +64,8 @@ module _ (v : PlainVersion) (xs : List Version) where
 
     pub narrowed_below : answer ≡ true → IsNarrowed v xs (middle + 1) high
     narrowed_below says = (
-      λ k d low high. passed_before precedence precedence_total version_place v xs increase k middle d (omega arith) inside (at_middle d ∙ says),
+      λ k d low high. passed_before precedence precedence_total version_place v xs increase k middle d (omega arith) inside
+      (at_middle d ∙ says),
       known.1,
     )
 
@@ -73,6 +74,6 @@ module _ (v : PlainVersion) (xs : List Version) where
       where
         at : (k : ℕ) (d : Version) → middle ≤ k → k < length xs → (b : Bool) → is_reached v (get_or xs k d) ≡ b → b ≡ false
         at k d low high true e =
-            absurd (true≢false (sym (passed_before precedence precedence_total version_place v xs increase middle k d low high e) ∙ at_middle d
-            ∙ says))
+            absurd (true≢false (sym (passed_before precedence precedence_total version_place v xs increase middle k d low high e)
+            ∙ at_middle d ∙ says))
         at k d low high false e = refl

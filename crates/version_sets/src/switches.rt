@@ -46,8 +46,8 @@ pub(crate) fn has_release(switches: &[Release], release: &Release) -> bool
     is_in
 }
 
-/// Whether an odd number of the switches are at or below the version of an outline. It takes time in
-/// the logarithm of their number, and no memory.
+/// Whether an odd number of the switches are at or below the version of an outline. It takes time
+/// in the logarithm of their number, and no memory.
 #[inline(always)]
 pub(crate) fn has_outline(switches: &[Version], outline: &Outline<'_>) -> bool
     requires { IsIncreasing precedence (map version_place switches.now) }

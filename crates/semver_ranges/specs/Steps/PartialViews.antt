@@ -87,7 +87,8 @@ AreComponentsOf (one a) major minor patch pre =
 AreComponentsOf (two a b) major minor patch pre =
     IsComponentOf a major × IsComponentOf b minor × (patch ≡ Wildcard)
 AreComponentsOf (three a b c parts build) major minor patch pre =
-    IsComponentOf a major × IsComponentOf b minor × IsComponentOf c patch × (parts ≡ cut_at_dots pre)
+    IsComponentOf a major × IsComponentOf b minor × IsComponentOf c patch
+    × (parts ≡ cut_at_dots pre)
 
 -- the same, with how many are written, and whether something is written behind three
 pub record AreWritten (t : PartialTree) (c : Components) : Type 0 where

@@ -10,7 +10,8 @@ use Rattle.semver_versions.proofs.identifiers.identifiers.Goals as goal
 pub returns-clause-spelled : goal.returns-clause-spelled
 returns-clause-spelled c =
     if_ok_more c.of_parts.result
-    (λ made each. zip_mapped SpellsIdentifier identifier_value (λ id part made is. search rules) made.items (cut_at_dots c.args.bytes.now) each c.requires)
+    (λ made each. zip_mapped SpellsIdentifier identifier_value (λ id part made is. search rules) made.items
+    (cut_at_dots c.args.bytes.now) each c.requires)
     c.of_parts.ensures.made
 
 pub of_parts-requires-clause-bytes : goal.of_parts-requires-clause-bytes

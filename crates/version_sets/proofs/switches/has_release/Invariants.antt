@@ -7,4 +7,5 @@ use Rattle.version_sets.proofs.switches.has_release.Given as goal
 
 abbrev pub invariant-loop-switch : goal.invariant-loop-switch
 invariant-loop-switch l =
-    IsTurned precedence (release_value l.release) (map release_value l.switches) (map release_value (drop l.switch-index l.switches)) l.is_in
+    IsTurned precedence (release_value l.release) (map release_value l.switches)
+    (map release_value (drop l.switch-index l.switches)) l.is_in
