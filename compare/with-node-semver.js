@@ -130,9 +130,9 @@ function expected (text, ranges, tested, options) {
   return { answer, departures, isKnown: departures.size > 0 }
 }
 
-// What the program answers to each line.
-function answers (program, lines) {
-  const input = lines.map((line) => `-\t${line}\n`).join('')
+// What the program answers to each line, which gets a name in front.
+function answers (program, lines, name = '-\t') {
+  const input = lines.map((line) => `${name}${line}\n`).join('')
   const ran = spawnSync(program, { input, encoding: 'utf8', maxBuffer: 1 << 30 })
   if (ran.status !== 0) throw new Error(`${program} ended with ${ran.status}: ${ran.stderr}`)
   return ran.stdout.trimEnd().split('\n').map((line) => line.replace(/^-: /, ''))

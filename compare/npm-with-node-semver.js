@@ -1,0 +1,139 @@
+// Compares npm's own reading with node-semver: `node npm-with-node-semver.js PROGRAM COUNT SEED`, where PROGRAM is the built `npm_cases`.
+// Of COUNT texts by the grammar, COUNT that were changed at a place, and all texts of a few characters it asks whether each is read, and
+// of those that are which versions each means, releases and pre-releases at and round the numbers that it states. It prints the first
+// difference, and then ends with status 1. What node-semver reads by accident of how it replaces texts is counted by kind, and each text
+// has to be of one. Numbers stay small, so that none is too large.
+'use strict'
+
+const semver = require('semver')
+const { Random, answers } = require('./with-node-semver.js')
+
+const ALPHABET = [...'01 .-*x<>=~^|va+']
+const SIGNS = ['', '', '', '=', '<', '<=', '>', '>=', '~', '~>', '^', '^']
+const COMPONENTS = ['0', '0', '1', '1', '2', '3', '10', 'x', 'X', '*']
+const QUALIFIERS = ['', '', '', '', '-a', '-0', '-rc.1', '-01', '-a.01', '-1a', '-a-b', '--', '-', '-a..b', '+b', '+01', '-a+b', '+']
+const SPACES = ['', '', '', '', ' ', '  ', '\t', '\u00a0', '\ufeff']
+const BARS = ['||', ' || ', '|| ', ' ||']
+const PRE_RELEASES = ['', '-0', '-0.0', '-1', '-a', '-a.0', '-b', '-rc.1', '-zz']
+const BATCH = 20000
+
+// What node-semver reads although no page has it, each by a test of the text.
+const ACCIDENTS = [
+  ['more than one `v` or `=`, or white space between', /[v=]\s*[v=]|v\s/],
+  ['white space within an operator', /[<>]\s+=|~\s+>/],
+  ['a comparison behind `~` or `^`', /[~^]>?\s*[<>=]/],
+  ['an operator at a side of a hyphen range', /[<>=~^][^|]* - | - [^|]*[<>=~^]/],
+  ['`*` beside what it replaces', /\*[^\s|.]|[^\s|.<>=~^v]\*|[<>=~^v]\s*\*\S/]
+]
+
+function simple (random) {
+  const components = Array.from({ length: random.of([1, 2, 3, 3]) }, () => random.of(COMPONENTS))
+  const v = random.below(6) === 0 ? 'v' : ''
+  return random.of(SIGNS) + random.of(SPACES) + v + components.join('.') + random.of(QUALIFIERS)
+}
+
+function range (random) {
+  if (random.below(6) === 0) return `${simple(random).replace(/^[<>=~^]+\s*/, '')} - ${simple(random).replace(/^[<>=~^]+\s*/, '')}`
+  return Array.from({ length: random.of([0, 1, 1, 1, 1, 2, 2, 3]) }, () => simple(random)).join(random.of([' ', '  ', '\t', '\u00a0']))
+}
+
+// Simples that state nearly the same numbers, and of three numbers most often a pre-release.
+function related (random) {
+  const numbers = [0, 0, 0].map(() => random.of([0, 0, 1, 2, 9]))
+  const one = () => {
+    const stated = numbers.slice(0, random.of([1, 2, 3, 3])).map((n) => n + (random.below(6) === 0 ? 1 : 0))
+    const pre = stated.length === 3 && random.below(4) !== 0 ? random.of(['-0', '-a', '-a.0', '-rc.1', '-1']) : ''
+    return random.of(['', '=', '<', '<=', '>', '>=', '~', '^']) + stated.join('.') + pre
+  }
+  return Array.from({ length: random.of([1, 2, 2, 3]) }, one).join(random.of([' ', ' ', ' || ']))
+}
+
+function text (random) {
+  if (random.below(3) === 0) return related(random)
+  return random.of(SPACES) + Array.from({ length: random.of([1, 1, 1, 2, 3]) }, () => range(random)).join(random.of(BARS)) + random.of(SPACES)
+}
+
+function changed (random) {
+  const of = text(random)
+  const at = random.below(of.length + 1)
+  return of.slice(0, at) + random.of([...ALPHABET, '']) + of.slice(at + random.below(2))
+}
+
+// All texts of so many characters.
+function * texts (length) {
+  if (length === 0) return yield ''
+  for (const front of texts(length - 1)) for (const last of ALPHABET) yield front + last
+}
+
+// The versions that are asked of a text: of the numbers that each simple states, filled up at random, and of some round these.
+function asked (random, of) {
+  const asked = []
+  for (const part of of.split(/[\s|]+/).slice(0, 4)) {
+    const stated = (part.split(/[-+]/)[0].match(/\d+/g) || []).slice(0, 3).map(Number)
+    let numbers = [0, 1, 2].map((at) => stated[at] ?? random.of([0, 0, 1, 7]))
+    for (let round = 0; round < 3; round++) {
+      for (const pre of PRE_RELEASES) asked.push(numbers.join('.') + pre)
+      const at = random.below(3)
+      numbers = numbers.map((n, place) => place === at ? Math.max(0, n + random.of([-1, 1, 1])) : n)
+    }
+  }
+  for (const pre of ['', '-a']) asked.push('0.0.0' + pre, '99.0.0' + pre)
+  return [...new Set(asked)]
+}
+
+// `>=0.0.0` with a build asks nothing here, and is a comparator there.
+const withoutBuilds = (of) => of.replace(/\+[0-9A-Za-z.-]+/g, '')
+
+function rangeOf (of) {
+  try {
+    return new semver.Range(of)
+  } catch {
+    return null
+  }
+}
+
+function differ (of, wanted, answered) {
+  console.log(`differ: ${JSON.stringify(of)}: by node-semver ${wanted}, here ${answered}`)
+  process.exit(1)
+}
+
+function compare (program, what, all, random, seed) {
+  const counts = { texts: 0, read: 0, pairs: 0, met: 0, preReleases: 0 }
+  const accidents = new Map()
+  for (let at = 0; at < all.length; at += BATCH) {
+    const batch = all.slice(at, at + BATCH).map((of) => ({ of, versions: asked(random, of) }))
+    const told = answers(program, batch.map(({ of, versions }) => `${of} ? ${versions.join(' ')}`), '')
+    batch.forEach(({ of, versions }, place) => {
+      const [range, answer] = [rangeOf(of), told[place]]
+      counts.texts++
+      if (answer === 'not-a-range') {
+        if (!range) return
+        const kind = ACCIDENTS.find(([, test]) => test.test(of))
+        if (!kind) differ(of, `read as ${range.range}`, answer)
+        return accidents.set(kind[0], (accidents.get(kind[0]) || 0) + 1)
+      }
+      if (!range) differ(of, 'not read', answer)
+      const reading = />=\s*v?0\.0\.0\+/.test(of) ? rangeOf(withoutBuilds(of)) : range
+      const met = versions.filter((version) => reading.test(version))
+      if (answer !== ['means', ...met].join(' ')) differ(of, `means ${met.join(' ')}`, answer)
+      counts.read++
+      counts.pairs += versions.length
+      counts.met += met.length
+      counts.preReleases += met.filter((version) => version.includes('-')).length
+    })
+  }
+  console.log(`${what}: ${counts.texts} texts, ${counts.read} read, ${counts.pairs} pairs of a text and a version, ${counts.met} met, ` +
+    `${counts.preReleases} of them pre-releases, seed ${seed}: no difference but the known ones`)
+  for (const [kind, times] of accidents) console.log(`  ${times} times node-semver reads ${kind}`)
+}
+
+function main ([program, count, seed]) {
+  const random = new Random(seed)
+  const made = (make) => Array.from({ length: Number(count) }, () => make(random)).filter((of) => !/[\n\r]| \? /.test(of))
+  compare(program, 'by the grammar', made(text), random, seed)
+  compare(program, 'changed', made(changed), random, seed)
+  const lengths = count >= 1000000 ? [1, 2, 3, 4, 5] : [1, 2, 3]
+  for (const length of lengths) compare(program, `all of ${length} characters`, [...texts(length)], random, seed)
+}
+
+main(process.argv.slice(2))
