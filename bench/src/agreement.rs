@@ -6,15 +6,17 @@ use crate::calls::{
 };
 use crate::rows::Row;
 
-/// Fails unless here and the crate `semver-parser` answer alike on each text of a row, and read
-/// each, or none where the row's texts are to be refused.
+/// Fails unless here and the crate `semver-parser`, or `semver` where the row has no call of that,
+/// answer alike on each text of a row, and read each, or none where the row's texts are to be
+/// refused.
 pub fn check_row(row: &Row, texts: &[&str]) -> Result<(), String> {
     for text in texts {
-        let (here, parser) = ((row.here)(text), (row.parser)(text));
-        if here != parser || (here == REFUSED) != row.is_refused() {
-            let (here, parser) = (answer(here), answer(parser));
+        let other = row.parser.unwrap_or(row.semver);
+        let (here, other) = ((row.here)(text), other(text));
+        if here != other || (here == REFUSED) != row.is_refused() {
+            let (here, other) = (answer(here), answer(other));
             let title = row.title;
-            return Err(format!("{title}: {text:?}: {here} here, {parser} by semver-parser"));
+            return Err(format!("{title}: {text:?}: {here} here, {other} there"));
         }
     }
     Ok(())

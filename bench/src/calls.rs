@@ -14,6 +14,7 @@ extern "C" {
     fn speed_version(text: *const u8, len: usize) -> u64;
     fn speed_is_version(text: *const u8, len: usize) -> u64;
     fn speed_range(text: *const u8, len: usize) -> u64;
+    fn speed_requirement(text: *const u8, len: usize) -> u64;
     fn speed_set(text: *const u8, len: usize) -> u64;
     fn speed_within(text: *const u8, len: usize, times: u64) -> u64;
     fn speed_has(
@@ -89,6 +90,11 @@ pub fn parser_range(text: &str) -> u64 {
 /// A requirement of the crate `semver`: how many comparators it has, before any rewriting.
 pub fn semver_range(text: &str) -> u64 {
     VersionReq::parse(text).map_or(REFUSED, |requirement| requirement.comparators.len() as u64)
+}
+
+/// 1 where a text is a requirement here, as Cargo reads it. Its comparators are made.
+pub fn here_requirement(text: &str) -> u64 {
+    is_read(unsafe { speed_requirement(text.as_ptr(), text.len()) } == 1)
 }
 
 /// 1 where a text has a set of versions here, in Cargo mode and as stated. The set is made.

@@ -1,7 +1,7 @@
 //! The rows whose texts are read one by one, and what reads them.
 
 use crate::calls::{
-    here_is_version, here_range, here_set, here_version, parser_is_range, parser_is_version,
+    here_is_version, here_range, here_requirement, here_set, here_version, parser_is_range, parser_is_version,
     parser_range, parser_version, semver_is_range, semver_is_version, semver_range, semver_version,
     Call,
 };
@@ -12,12 +12,12 @@ pub struct Row {
     pub title: &'static str,
     pub make: Make,
     pub here: Call,
-    pub parser: Call,
+    pub parser: Option<Call>,
     pub semver: Call,
 }
 
 /// The rows, in the order of the table.
-pub const ROWS: [Row; 10] = [
+pub const ROWS: [Row; 11] = [
     versions("plain versions", Make::Plain),
     versions("versions, plain and with identifiers", Make::Mixed),
     versions("refused versions", Make::Refused),
@@ -25,10 +25,17 @@ pub const ROWS: [Row; 10] = [
         title: "is it a version, on the refused ones",
         make: Make::Refused,
         here: here_is_version,
-        parser: parser_is_version,
+        parser: Some(parser_is_version),
         semver: semver_is_version,
     },
     ranges("simple ranges", Make::Simples),
+    Row {
+        title: "simple requirements, as Cargo reads them",
+        make: Make::Simples,
+        here: here_requirement,
+        parser: None,
+        semver: semver_is_range,
+    },
     ranges("range sets", Make::Ranges),
     ranges("three and more simples or ranges", Make::Many),
     sets("simple ranges, made into sets", Make::Simples),
@@ -44,14 +51,14 @@ impl Row {
 }
 
 const fn versions(title: &'static str, make: Make) -> Row {
-    Row { title, make, here: here_version, parser: parser_version, semver: semver_version }
+    Row { title, make, here: here_version, parser: Some(parser_version), semver: semver_version }
 }
 
 const fn ranges(title: &'static str, make: Make) -> Row {
-    Row { title, make, here: here_range, parser: parser_range, semver: semver_range }
+    Row { title, make, here: here_range, parser: Some(parser_range), semver: semver_range }
 }
 
 /// A row of texts that are made into sets of versions here, and read there.
 const fn sets(title: &'static str, make: Make) -> Row {
-    Row { title, make, here: here_set, parser: parser_is_range, semver: semver_is_range }
+    Row { title, make, here: here_set, parser: Some(parser_is_range), semver: semver_is_range }
 }

@@ -12,6 +12,7 @@ use release_filter::{Filter, PreReleases, filter_text};
 use semver_parser::version::Version;
 use semver_parser::{Compat, RangeSet, version};
 use std::alloc::Global;
+use tool_ranges::cargo;
 use version_sets::VersionSet;
 
 /// The sum of the numbers and of the counts of identifiers of the version that the text is;
@@ -59,6 +60,15 @@ pub extern "C" fn speed_range(alloc: Global, text: &[u8]) -> u64
         }
         Err(_) => u64::MAX,
     }
+}
+
+/// 1 where the text is a requirement as Cargo reads it, and else 0. Its comparators are made.
+#[unsafe(no_mangle)]
+pub extern "C" fn speed_requirement(alloc: Global, text: &[u8]) -> u64
+    requires { IsUtf8 text.now }
+{
+    let text = unsafe { std::str::from_utf8_unchecked(text) };
+    u64::from(cargo::rewrite(alloc, text).is_ok())
 }
 
 /// 1 where the text has a set of versions in Cargo mode, as stated, and else 0. The set is made.
