@@ -1,11 +1,17 @@
-// Compares npm's own reading with node-semver: `node npm-with-node-semver.js PROGRAM COUNT SEED`, where PROGRAM is the built `npm_cases`.
-// Of COUNT texts by the grammar, COUNT that were changed at a place, and all texts of a few characters it asks whether each is read, and
-// of those that are which versions each means, releases and pre-releases at and round the numbers that it states. It prints the first
-// difference, and then ends with status 1. What node-semver reads by accident of how it replaces texts is counted by kind, and each text
+// Compares npm's own reading with node-semver, by PROGRAM, which is the built `npm_cases`.
+//
+// `node npm-with-node-semver.js PROGRAM COUNT SEED` makes COUNT texts by the grammar, COUNT that are
+// changed at a place, and all texts of a few characters. It asks whether each is read, and of those
+// that are which versions each means, releases and pre-releases at and round the numbers that it
+// states. `node npm-with-node-semver.js PROGRAM --texts TEXTS VERSIONS` asks the same of the lines of
+// two files. Both print the first difference, and then end with status 1.
+//
+// What node-semver reads by accident of how it replaces texts is counted by kind, and each such text
 // has to be of one. Numbers stay small, so that none is too large.
 'use strict'
 
 const semver = require('semver')
+const fs = require('fs')
 const { Random, answers } = require('./with-node-semver.js')
 
 const ALPHABET = [...'01 .-*x<>=~^|va+']
@@ -97,11 +103,12 @@ function differ (of, wanted, answered) {
   process.exit(1)
 }
 
-function compare (program, what, all, random, seed) {
+// Compares all texts, each by the versions that `of` tells, and tells of what they are.
+function compare (program, what, all, versionsOf) {
   const counts = { texts: 0, read: 0, pairs: 0, met: 0, preReleases: 0 }
   const accidents = new Map()
   for (let at = 0; at < all.length; at += BATCH) {
-    const batch = all.slice(at, at + BATCH).map((of) => ({ of, versions: asked(random, of) }))
+    const batch = all.slice(at, at + BATCH).map((of) => ({ of, versions: versionsOf(of) }))
     const told = answers(program, batch.map(({ of, versions }) => `${of} ? ${versions.join(' ')}`), '')
     batch.forEach(({ of, versions }, place) => {
       const [range, answer] = [rangeOf(of), told[place]]
@@ -123,17 +130,25 @@ function compare (program, what, all, random, seed) {
     })
   }
   console.log(`${what}: ${counts.texts} texts, ${counts.read} read, ${counts.pairs} pairs of a text and a version, ${counts.met} met, ` +
-    `${counts.preReleases} of them pre-releases, seed ${seed}: no difference but the known ones`)
+    `${counts.preReleases} of them pre-releases: no difference but the known ones`)
   for (const [kind, times] of accidents) console.log(`  ${times} times node-semver reads ${kind}`)
 }
 
-function main ([program, count, seed]) {
+const lines = (file) => fs.readFileSync(file, 'utf8').split('\n').filter((line) => line !== '')
+
+function main ([program, count, seed, versions]) {
+  if (count === '--texts') {
+    const asked = lines(versions)
+    return compare(program, seed, lines(seed), () => asked)
+  }
   const random = new Random(seed)
   const made = (make) => Array.from({ length: Number(count) }, () => make(random)).filter((of) => !/[\n\r]| \? /.test(of))
-  compare(program, 'by the grammar', made(text), random, seed)
-  compare(program, 'changed', made(changed), random, seed)
+  const versionsOf = (of) => asked(random, of)
+  console.log(`seed ${seed}`)
+  compare(program, 'by the grammar', made(text), versionsOf)
+  compare(program, 'changed', made(changed), versionsOf)
   const lengths = count >= 1000000 ? [1, 2, 3, 4, 5] : [1, 2, 3]
-  for (const length of lengths) compare(program, `all of ${length} characters`, [...texts(length)], random, seed)
+  for (const length of lengths) compare(program, `all of ${length} characters`, [...texts(length)], versionsOf)
 }
 
 main(process.argv.slice(2))

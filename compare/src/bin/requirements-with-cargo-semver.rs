@@ -1,8 +1,11 @@
-//! Compares requirements as Cargo reads them with `VersionReq` of the crate `semver`: whether a text is read, which releases meet what
-//! it is rewritten to, and which versions it means, releases and pre-releases at and round the numbers that it states.
+//! Compares requirements as Cargo reads them with `VersionReq` of the crate `semver`: whether a text
+//! is read, which releases meet what it is rewritten to, and which versions it means, releases and
+//! pre-releases at and round the numbers that it states.
 //!
-//! `requirements-with-cargo-semver PROGRAM COUNT SEED`: PROGRAM is the built `cargo_cases`. It makes COUNT texts, by the grammar and
-//! changed at one place. It prints the first difference, and then ends with status 1. Numbers stay small, so that none is too large.
+//! `requirements-with-cargo-semver PROGRAM COUNT SEED`, where PROGRAM is the built `cargo_cases`,
+//! makes COUNT texts, by the grammar and changed at one place. Their numbers stay small, so that none
+//! is too large. `requirements-with-cargo-semver PROGRAM --texts TEXTS VERSIONS` takes the lines of
+//! two files. It prints the first difference, and then ends with status 1.
 
 #[allow(dead_code)]
 #[path = "../random.rs"]
@@ -117,11 +120,29 @@ fn answers(program: &str, texts: &[String]) -> Vec<String> {
     answers
 }
 
+/// The texts, and the versions that are asked of each: those of two files, or made.
+fn questioned(count: &str, second: &str, versions: Option<&String>) -> (Vec<String>, Vec<Vec<Version>>) {
+    if let Some(versions) = versions {
+        let texts = lines(second);
+        let parsed = lines(versions).iter().map(|line| line.parse().expect("each is a version")).collect();
+        return (texts.clone(), vec![parsed; texts.len()]);
+    }
+    let count = count.parse().expect("COUNT is a number");
+    let mut random = Random::new(second.parse().expect("SEED is a number"));
+    let texts: Vec<String> = (0..count).map(|_| text(&mut random)).collect();
+    let asked = texts.iter().map(|text| asked(text, &mut random)).collect();
+    (texts, asked)
+}
+
+fn lines(file: &str) -> Vec<String> {
+    let text = std::fs::read_to_string(file).expect("the file can be read");
+    text.lines().filter(|line| !line.is_empty()).map(str::to_string).collect()
+}
+
 fn main() -> ExitCode {
     let arguments: Vec<String> = std::env::args().collect();
-    let count: usize = arguments[2].parse().expect("COUNT is a number");
-    let mut random = Random::new(arguments[3].parse().expect("SEED is a number"));
-    let texts: Vec<String> = (0..count).map(|_| text(&mut random)).collect();
+    let (texts, asked) = questioned(&arguments[2], &arguments[3], arguments.get(4));
+    let count = texts.len();
     let mut releases = Vec::new();
     for major in NUMBERS {
         for minor in NUMBERS {
@@ -129,7 +150,6 @@ fn main() -> ExitCode {
         }
     }
     let (mut read, mut met, mut pre_releases) = (0, 0, 0);
-    let asked: Vec<Vec<Version>> = texts.iter().map(|text| asked(text, &mut random)).collect();
     let questions = texts.iter().zip(&asked).map(|(text, versions)| {
         let versions: Vec<String> = versions.iter().map(Version::to_string).collect();
         format!("{text} ? {}", versions.join(" "))
