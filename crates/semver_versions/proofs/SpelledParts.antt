@@ -64,7 +64,7 @@ is_none e = cc
 pub no_pre : (text : Text) → marked_part BetweenRuns 45 text ≡ None → (pre build : Text) → ¬ (AreParts text pre build)
 no_pre text none pre build w =
     let e : None ≡ Some (pre, marked (codes "+") (cut_at_dots build) ++ w.after) =
-        sym none ∙ part_is 45 text pre _ (pre_is text pre build w) in
+    sym none ∙ part_is 45 text pre _ (pre_is text pre build w) in
     absurd (is_none e)
 
 module _ (text found rest : Text) (at : marked_part BetweenRuns 45 text ≡ Some (found, rest)) where

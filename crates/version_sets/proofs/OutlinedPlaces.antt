@@ -65,7 +65,7 @@ module _ (v : PlainVersion) (xs : List Version) where
     pub narrowed_below : answer ≡ true → IsNarrowed v xs (middle + 1) high
     narrowed_below says = (
       λ k d low high. passed_before precedence precedence_total version_place v xs increase k middle d (omega arith) inside
-      (at_middle d ∙ says),
+          (at_middle d ∙ says),
       known.1,
     )
 
