@@ -71,9 +71,9 @@ class PreReleases(enum.Enum):
     EXCLUDED = 0
     """None meets."""
     STATED = 1
-    """As npm and Cargo have it: one that meets the range by precedence, and of which a term of that
-    range states the three numbers and a pre-release. 1.2.3-rc meets `^1.2.3-beta`, and 1.3.0-rc
-    doesn't."""
+    """By the rule that npm and Cargo's semver have for pre-releases: one that meets the range by
+    precedence, and of which a term of that range states the three numbers and a pre-release.
+    1.2.3-rc meets `^1.2.3-beta`, and 1.3.0-rc doesn't."""
     INCLUDED = 2
     """Each that meets the range by precedence: 1.3.0-rc meets `^1.2.0`, and 2.0.0-rc doesn't."""
 

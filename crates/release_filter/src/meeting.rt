@@ -41,9 +41,10 @@ pub fn version_meets(set: &RangeSet, version: &Version) -> bool
     some_range_is_met(&set.ranges, version)
 }
 
-/// Whether a version meets a range set as npm and Cargo have it: some range of the set has all its
-/// comparators met, by precedence (SemVer 2.0.0, section 11), and where the version has a
-/// pre-release, a comparator of that range has the same three numbers and a pre-release, too.
+/// Whether a version meets a range set by the rule that npm and Cargo's `semver` have for
+/// pre-releases: some range of the set has all its comparators met, by precedence (SemVer 2.0.0,
+/// section 11), and where the version has a pre-release, a comparator of that range has the same
+/// three numbers and a pre-release, too.
 ///
 /// `1.0.0-beta.11` meets the set of `>=1.0.0-beta.2 <1.0.0`, and not that of `<1.0.0`. With the
 /// sets that `RangeSet::parse_exact` answers this is what the text means as stated

@@ -1,4 +1,4 @@
--- With exact bounds, comparators tell npm's and Cargo's rule for pre-releases.
+-- With exact bounds, comparators tell the rule that npm and Cargo's semver have for pre-releases.
 use Rattle.std.proofs.Common.{◌≡◌, ℕ, Bool, true, false, not, ◌&&◌, ◌||◌, ◌==◌, nat_eq, if◌then◌else◌, List, [], ◌∷◌, length, map}
 use Rattle.std.proofs.Common.{refl, sym, ◌∙◌, IsTrue}
 use Rattle.std.proofs.Math.Bool.{and-false, and-true}

@@ -43,8 +43,9 @@ pub fn exact_bounds_mean_the_text()
         ≡ (is_lt (precedence v bound) && not (is_pre_release_of v (Some bound))) }
 {}
 
-/// With exact bounds, comparators tell npm's and Cargo's rule for pre-releases too: a version meets
-/// them as stated exactly if it meets the text as stated.
+/// With exact bounds, comparators tell pre-releases as stated too, which is the rule that npm and
+/// Cargo's `semver` have for them: a version meets them as stated exactly if it meets the text as
+/// stated. What a text means by itself differs there.
 pub fn stated_pre_releases_mean_the_text()
     ensures exact { (mode : Compat) (tree : SetTree) (v : PlainVersion) →
         meets_set_as_stated v (rewritten_exactly mode tree) ≡ meets_tree_as_stated mode tree v }
