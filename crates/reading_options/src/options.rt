@@ -130,7 +130,8 @@ impl ReadingOptions {
 
     /// Takes the reading that an option asks for.
     fn ask(&mut self, named: Named, option: &'static str) -> Result<(), OptionError> {
-        match self.named {
+        let earlier = self.named;
+        match earlier {
             Some((earlier, _)) if earlier == named => Err(OptionError::GivenTwice(option)),
             Some((_, earlier)) => Err(OptionError::Contradiction(option, earlier)),
             None => {
@@ -143,7 +144,8 @@ impl ReadingOptions {
     /// Takes the rule for pre-releases that an option asks for.
     fn count(&mut self, rule: PreReleases) -> Result<(), OptionError> {
         let option = option_of(rule);
-        match self.rule {
+        let earlier = self.rule;
+        match earlier {
             Some(earlier) if earlier == rule => Err(OptionError::GivenTwice(option)),
             Some(earlier) => Err(OptionError::Contradiction(option, option_of(earlier))),
             None => {

@@ -102,7 +102,8 @@ impl Options {
     /// Takes which lines are wanted.
     fn select(&mut self, selection: Selection) -> Result<(), OptionError> {
         let option = selection.option();
-        match self.selection {
+        let earlier = self.selection;
+        match earlier {
             Some(earlier) if earlier == selection => Err(OptionError::GivenTwice(option)),
             Some(earlier) => Err(OptionError::Contradiction(option, earlier.option())),
             None => {
@@ -185,11 +186,11 @@ pub fn requested(rt: &(impl Env + AllocGlobal)) -> Result<Request, Refusal> {
             _ => range = Some(argument),
         }
     }
-    wanted(range, reading, options)
+    request_of(range, reading, options)
 }
 
 /// What arguments ask for that are taken one by one.
-fn wanted(
+fn request_of(
     range: Option<String>,
     reading: ReadingOptions,
     options: Options,
