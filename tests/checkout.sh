@@ -98,7 +98,8 @@ npm: =1.2.3' stdout
     has 'lost: 1.2.0
 gained: 2.0.0
 shared: 1.4.0' stdout
-    ends 0 env -i "$1/compare-ranges" '^1.2' '>=1.2.0 <2.0.0'
+    ends 0 env -i "$1/compare-ranges" '^1.2' '>=1.2.0, <2.0.0'
+    ends 0 env -i "$1/compare-ranges" --npm '^1.2' '>=1.2.0 <2.0.0'
 }
 
 # stopped_while_compiling COMMAND.. FOLDER: the command is stopped while a file of C is compiled. It ends by the signal, leaves no temporary file, and

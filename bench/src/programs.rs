@@ -20,13 +20,18 @@ const LINES: usize = 1_000_000;
 const MAKES: [(&str, Make); 2] =
     [("plain versions", Make::Plain), ("versions, plain and with identifiers", Make::Mixed)];
 
-/// The arguments: options, and a range in Cargo mode here and as a requirement of the crate
-/// `semver`, in its grammar.
-const ARGUMENTS: [(&[&str], &str, &str); 4] = [
-    (&[], "^1.2", "^1.2"),
-    (&[], ">=1.0.0 <3.0.0", ">=1.0.0, <3.0.0"),
-    (&["--pre-stated"], "^1.2.3-a", "^1.2.3-a"),
-    (&["--greatest"], "^1.2", "^1.2"),
+/// The arguments here, options and a range, and those of the program over the crate `semver`,
+/// options and a requirement. Each stands twice here: in the port's Cargo mode, and below as Cargo
+/// itself reads it.
+const ARGUMENTS: [(&[&str], &str, &[&str], &str); 8] = [
+    (&["--as", "crate-cargo"], "^1.2", &[], "^1.2"),
+    (&[], "^1.2", &[], "^1.2"),
+    (&["--as", "crate-cargo"], ">=1.0.0 <3.0.0", &[], ">=1.0.0, <3.0.0"),
+    (&[], ">=1.0.0, <3.0.0", &[], ">=1.0.0, <3.0.0"),
+    (&["--as", "crate-cargo", "--pre-stated"], "^1.2.3-a", &["--pre-stated"], "^1.2.3-a"),
+    (&[], "^1.2.3-a", &["--pre-stated"], "^1.2.3-a"),
+    (&["--as", "crate-cargo", "--greatest"], "^1.2", &["--greatest"], "^1.2"),
+    (&["--greatest"], "^1.2", &["--greatest"], "^1.2"),
 ];
 
 /// Both programs with an argument that means the same to each.
@@ -47,9 +52,9 @@ pub fn print_table(seed: u64) -> Result<(), String> {
     let folder = folder()?;
     let (lines, semver) = (folder.join("lines.txt"), folder.join("filter-by-semver"));
     let (here, count) = (Path::new(RELEASE_FILTER), grouped(LINES as u64));
-    let sides = ARGUMENTS.map(|(options, range, requirement)| Sides {
+    let sides = ARGUMENTS.map(|(options, range, options_there, requirement)| Sides {
         here: Filter { program: here, options, range },
-        semver: Filter { program: &semver, options, range: requirement },
+        semver: Filter { program: &semver, options: options_there, range: requirement },
     });
     println!("| ms a run | `release-filter` | over `semver` | ratio | kept of {count} lines |");
     println!("|---|---|---|---|---|");
@@ -60,7 +65,9 @@ pub fn print_table(seed: u64) -> Result<(), String> {
             print_row(title, sides, &lines, true)?;
         }
         write(&lines, &tags(&versions))?;
-        print_row(&format!("{title}, with a `v` in front"), &sides[0], &lines, false)?;
+        for sides in &sides[..2] {
+            print_row(&format!("{title}, with a `v` in front"), sides, &lines, false)?;
+        }
     }
     fs::remove_file(&lines).map_err(|error| format!("{}: {error}", lines.display()))
 }

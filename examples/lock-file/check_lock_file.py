@@ -3,8 +3,8 @@
 
     check_lock_file.py PACKAGE-LOCK.JSON
 
-It reads files of lockfileVersion 1, 2 and 3, and judges as npm does: in npm's mode, and by the rule
-that a pre-release meets a range only where a term of it states the same numbers and a pre-release.
+It reads files of lockfileVersion 1, 2 and 3, and judges by the port's npm mode, and by the rule that
+a pre-release meets a range only where a term of it states the same numbers and a pre-release.
 It needs the package `semver_parser`, which `./install --python` puts.
 
 WHO ASKS. Each package asks for its `dependencies`, `optionalDependencies` and `peerDependencies`,

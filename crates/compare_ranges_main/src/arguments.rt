@@ -1,9 +1,8 @@
 //! What the arguments ask for.
 
-use semver_parser::Compat;
+use reading_options::{Chosen, OptionError, ReadingOptions};
 use std::env;
 use std::rt::Env;
-use version_sets::PreReleases;
 
 /// What the arguments ask for.
 #[derive(Drop)]
@@ -24,41 +23,7 @@ pub struct Wanted {
     /// The new range text.
     pub new: String,
     /// How both are read.
-    pub options: Options,
-}
-
-/// What the options ask for.
-#[derive(Drop)]
-pub struct Options {
-    /// The mode in which both ranges are read.
-    pub compat: Compat,
-    /// Which pre-releases count.
-    pub pre_releases: PreReleases,
-    /// Whether options may follow.
-    has_more: bool,
-}
-
-impl Options {
-    /// What is done without an option.
-    fn new() -> Options {
-        Options {
-            compat: Compat::Cargo,
-            pre_releases: PreReleases::Excluded,
-            has_more: true,
-        }
-    }
-
-    /// Takes an option, and tells whether it is known.
-    fn take(&mut self, option: &str) -> bool {
-        match option {
-            "--" => self.has_more = false,
-            "--npm" => self.compat = Compat::Npm,
-            "--pre" => self.pre_releases = PreReleases::Included,
-            "--pre-stated" => self.pre_releases = PreReleases::Stated,
-            _ => return false,
-        }
-        true
-    }
+    pub chosen: Chosen,
 }
 
 /// Why the arguments ask for nothing.
@@ -68,13 +33,22 @@ pub enum Refusal {
     Unreadable,
     /// This option is unknown.
     UnknownOption(String),
+    /// An option is wrong, or doesn't fit to another.
+    Options(OptionError),
     /// There are fewer than two range texts.
     FewRanges,
     /// There are more than two range texts.
     ManyRanges,
 }
 
-/// What the arguments ask for. What begins with a hyphen is an option, up to the first `--`.
+impl From<OptionError> for Refusal {
+    fn from(error: OptionError) -> Refusal {
+        Refusal::Options(error)
+    }
+}
+
+/// What the arguments ask for. What begins with a hyphen is an option, up to the first `--`, but
+/// for what follows `--as`.
 pub fn requested(rt: &(impl Env + AllocGlobal)) -> Result<Request, Refusal> {
     let Ok(mut arguments) = env::args(rt) else {
         return Err(Refusal::Unreadable);
@@ -82,23 +56,27 @@ pub fn requested(rt: &(impl Env + AllocGlobal)) -> Result<Request, Refusal> {
     let _program = arguments.next();
     let mut old = None;
     let mut new = None;
-    let mut options = Options::new();
+    let mut reading = ReadingOptions::new();
+    let mut has_more = true;
     for argument in arguments {
+        if has_more && reading.take(rt.alloc(), argument.as_str())? {
+            continue;
+        }
         match argument.as_str() {
-            "-h" | "--help" if options.has_more => return Ok(Request::Help),
-            "--version" if options.has_more => return Ok(Request::Version),
-            text if options.has_more && text.starts_with('-') => {
-                if !options.take(text) {
-                    return Err(Refusal::UnknownOption(argument));
-                }
+            "-h" | "--help" if has_more => return Ok(Request::Help),
+            "--version" if has_more => return Ok(Request::Version),
+            "--" if has_more => has_more = false,
+            text if has_more && text.starts_with('-') => {
+                return Err(Refusal::UnknownOption(argument));
             }
             _ if new.is_some() => return Err(Refusal::ManyRanges),
             _ if old.is_some() => new = Some(argument),
             _ => old = Some(argument),
         }
     }
+    let chosen = reading.finish()?;
     match (old, new) {
-        (Some(old), Some(new)) => Ok(Request::Compare(Wanted { old, new, options })),
+        (Some(old), Some(new)) => Ok(Request::Compare(Wanted { old, new, chosen })),
         _ => Err(Refusal::FewRanges),
     }
 }

@@ -1,10 +1,12 @@
 //! The program `compare-ranges`: arguments, standard output, and exit status, nothing else. What it
-//! tells of two ranges is `VersionSet::compare` and `==` of the library.
+//! tells of two ranges is `VersionSet::compare` and `==` of the library, on the sets that
+//! `Chosen::read` answers.
 #![tactic(auto)]
 
 mod arguments;
 
 use arguments::{Refusal, Request, Wanted};
+use reading_options::OptionError;
 use semver_parser::RangeError;
 use semver_parser::version::Version;
 use semver_parser::writing::write_whole;
@@ -16,7 +18,8 @@ use version_sets::{Comparison, VersionSet};
 
 /// How the program is called.
 const USAGE: &str = "\
-usage: compare-ranges [--npm] [--pre | --pre-stated] OLD NEW";
+usage: compare-ranges [--as READING | --npm]
+                      [--releases | --pre | --pre-stated] OLD NEW";
 
 /// What the program does.
 const HELP: &str = "
@@ -28,18 +31,24 @@ Of these lines one is written for each that there is:
     gained: VERSION  the least version that NEW means and OLD doesn't
     shared: VERSION  the least version that both mean
 
-Releases alone count without --pre and --pre-stated.
-
-    --npm            read both in npm mode; without it in Cargo mode
+    --as READING     whose reading of both is taken:
+                       cargo        Cargo's own; so it is without --as
+                       npm          npm's own
+                       crate-cargo  the crate semver-parser's, in Cargo mode
+                       crate-npm    the crate semver-parser's, in npm mode
+    --npm            the same as --as npm
+    --releases       count releases alone
     --pre            count each pre-release that a range means, too
-    --pre-stated     count pre-releases as npm and Cargo do: those that a range
-                     means, and of which a term of the same range states the
-                     three numbers and a pre-release
+    --pre-stated     count pre-releases that a range means, and of which a term
+                     of the same range states the three numbers and a
+                     pre-release
     --               end the options
     -h, --help       write this, and compare nothing
     --version        write the version of this program, and compare nothing
 
-The last of --pre and --pre-stated counts. The status is 0 where both ranges
+As cargo and npm read it, a range means those pre-releases that the tool takes.
+As crate-cargo and crate-npm do, releases alone count without --pre and
+--pre-stated, which belong to these two. The status is 0 where both ranges
 mean the same versions, 1 where they differ, and 2 after a fault, which
 standard error tells.";
 
@@ -110,13 +119,8 @@ fn compared<'a>(rt: &HostRuntime, wanted: &'a Wanted) -> Result<Answer, Fault<'a
 
 /// The versions that a range means.
 fn read<'a>(rt: &HostRuntime, wanted: &Wanted, range: &'a str) -> Result<VersionSet, Fault<'a>> {
-    VersionSet::of_text(
-        rt.alloc(),
-        range,
-        wanted.options.compat,
-        wanted.options.pre_releases,
-    )
-    .map_err(|error| Fault::Range(error, range))
+    let versions = wanted.chosen.read(rt.alloc(), range);
+    versions.map_err(|error| Fault::Range(error, range))
 }
 
 /// A line for each version of a comparison.
@@ -167,7 +171,12 @@ fn refused(rt: &impl Eprint, refusal: &Refusal) -> ExitCode {
         Refusal::UnknownOption(option) => eprintln!(rt;
             "compare-ranges: unknown option: {option:?}; see compare-ranges --help"
         ),
-        Refusal::Unreadable => eprintln!(rt; "compare-ranges: cannot read arguments"),
+        Refusal::Unreadable | Refusal::Options(OptionError::OutOfMemory) => {
+            eprintln!(rt; "compare-ranges: cannot read arguments")
+        }
+        Refusal::Options(error) => {
+            eprintln!(rt; "compare-ranges: {error}; see compare-ranges --help")
+        }
         Refusal::FewRanges => misused(rt, "fewer than two ranges"),
         Refusal::ManyRanges => misused(rt, "more than two ranges"),
     };

@@ -1,7 +1,6 @@
 //! What the arguments ask for.
 
-use release_filter::PreReleases;
-use semver_parser::Compat;
+use reading_options::{Chosen, OptionError, ReadingOptions};
 use std::env;
 use std::rt::Env;
 
@@ -21,7 +20,9 @@ pub enum Request {
 pub struct Wanted {
     /// The range text.
     pub range: String,
-    /// How it is read, and what is done with the lines.
+    /// How it is read.
+    pub chosen: Chosen,
+    /// What is done with the lines.
     pub options: Options,
 }
 
@@ -38,7 +39,7 @@ pub enum Selection {
 
 impl Selection {
     /// The option that asks for it.
-    pub fn option(self) -> &'static str {
+    fn option(self) -> &'static str {
         match self {
             Selection::Greatest => "--greatest",
             Selection::Least => "--least",
@@ -47,13 +48,9 @@ impl Selection {
     }
 }
 
-/// What the options ask for.
+/// What the options ask to be done with the lines.
 #[derive(Drop)]
 pub struct Options {
-    /// The mode in which the range is read.
-    pub compat: Compat,
-    /// Which pre-releases count.
-    pub pre_releases: PreReleases,
     /// What stands in front of each version, if something does.
     pub prefix: Option<String>,
     /// Which lines are wanted, if not all as they come.
@@ -70,8 +67,6 @@ impl Options {
     /// What is done without an option.
     fn new() -> Options {
         Options {
-            compat: Compat::Cargo,
-            pre_releases: PreReleases::Excluded,
             prefix: None,
             selection: None,
             is_line_buffered: false,
@@ -80,34 +75,60 @@ impl Options {
         }
     }
 
-    /// Takes an option, and tells whether it is known. It is refused where it contradicts one that
-    /// was taken.
-    fn take(&mut self, option: &str) -> Result<bool, Refusal> {
+    /// Takes an option, and tells whether it is known. It is refused where an earlier one has
+    /// settled the same.
+    fn take(&mut self, rt: &impl AllocGlobal, option: &str) -> Result<bool, Refusal> {
+        if let Some(prefix) = option.strip_prefix("--prefix=") {
+            self.want_prefix()?;
+            self.wants_prefix = false;
+            let Ok(prefix) = prefix.to_string(rt.alloc()) else {
+                return Err(Refusal::Unreadable);
+            };
+            self.prefix = Some(prefix);
+            return Ok(true);
+        }
         match option {
             "--" => self.has_more = false,
-            "--npm" => self.compat = Compat::Npm,
-            "--pre" => self.pre_releases = PreReleases::Included,
-            "--pre-stated" => self.pre_releases = PreReleases::Stated,
             "--greatest" => self.select(Selection::Greatest)?,
             "--least" => self.select(Selection::Least)?,
             "--sort" => self.select(Selection::Sorted)?,
-            "--line-buffered" => self.is_line_buffered = true,
-            "--prefix" => self.wants_prefix = true,
+            "--line-buffered" => self.buffer_lines()?,
+            "--prefix" => self.want_prefix()?,
             _ => return Ok(false),
         }
         Ok(true)
     }
 
     /// Takes which lines are wanted.
-    fn select(&mut self, selection: Selection) -> Result<(), Refusal> {
+    fn select(&mut self, selection: Selection) -> Result<(), OptionError> {
+        let option = selection.option();
         let earlier = self.selection;
-        self.selection = Some(selection);
         match earlier {
-            Some(earlier) if earlier != selection => {
-                Err(Refusal::Contradiction(earlier, selection))
+            Some(earlier) if earlier == selection => Err(OptionError::GivenTwice(option)),
+            Some(earlier) => Err(OptionError::Contradiction(option, earlier.option())),
+            None => {
+                self.selection = Some(selection);
+                Ok(())
             }
-            _ => Ok(()),
         }
+    }
+
+    /// Takes that each line is written at once.
+    fn buffer_lines(&mut self) -> Result<(), OptionError> {
+        if self.is_line_buffered {
+            return Err(OptionError::GivenTwice("--line-buffered"));
+        }
+        self.is_line_buffered = true;
+        Ok(())
+    }
+
+    /// Takes that a prefix follows.
+    fn want_prefix(&mut self) -> Result<(), OptionError> {
+        if self.prefix.is_some() {
+            return Err(OptionError::GivenTwice("--prefix"));
+        }
+        self.wants_prefix = true;
+        Ok(())
     }
 }
 
@@ -118,8 +139,8 @@ pub enum Refusal {
     Unreadable,
     /// This option is unknown.
     UnknownOption(String),
-    /// These two ask for different lines.
-    Contradiction(Selection, Selection),
+    /// An option is wrong, or doesn't fit to another.
+    Options(OptionError),
     /// `--prefix` is the last argument.
     NoPrefix,
     /// There is no range text.
@@ -128,14 +149,21 @@ pub enum Refusal {
     ManyRanges,
 }
 
+impl From<OptionError> for Refusal {
+    fn from(error: OptionError) -> Refusal {
+        Refusal::Options(error)
+    }
+}
+
 /// What the arguments ask for. What begins with a hyphen is an option, up to the first `--`, but
-/// for what follows `--prefix`.
+/// for what follows `--prefix` and `--as`.
 pub fn requested(rt: &(impl Env + AllocGlobal)) -> Result<Request, Refusal> {
     let Ok(mut arguments) = env::args(rt) else {
         return Err(Refusal::Unreadable);
     };
     let _program = arguments.next();
     let mut range = None;
+    let mut reading = ReadingOptions::new();
     let mut options = Options::new();
     for argument in arguments {
         if options.wants_prefix {
@@ -143,11 +171,14 @@ pub fn requested(rt: &(impl Env + AllocGlobal)) -> Result<Request, Refusal> {
             options.prefix = Some(argument);
             continue;
         }
+        if options.has_more && reading.take(rt.alloc(), argument.as_str())? {
+            continue;
+        }
         match argument.as_str() {
             "-h" | "--help" if options.has_more => return Ok(Request::Help),
             "--version" if options.has_more => return Ok(Request::Version),
             text if options.has_more && text.starts_with('-') => {
-                if !options.take(text)? {
+                if !options.take(rt, text)? {
                     return Err(Refusal::UnknownOption(argument));
                 }
             }
@@ -155,9 +186,25 @@ pub fn requested(rt: &(impl Env + AllocGlobal)) -> Result<Request, Refusal> {
             _ => range = Some(argument),
         }
     }
+    request_of(range, reading, options)
+}
+
+/// What arguments ask for that are taken one by one.
+fn request_of(
+    range: Option<String>,
+    reading: ReadingOptions,
+    options: Options,
+) -> Result<Request, Refusal> {
+    if options.wants_prefix {
+        return Err(Refusal::NoPrefix);
+    }
+    let chosen = reading.finish()?;
     match range {
-        _ if options.wants_prefix => Err(Refusal::NoPrefix),
-        Some(range) => Ok(Request::Filter(Wanted { range, options })),
+        Some(range) => Ok(Request::Filter(Wanted {
+            range,
+            chosen,
+            options,
+        })),
         None => Err(Refusal::NoRange),
     }
 }

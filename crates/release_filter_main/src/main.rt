@@ -1,13 +1,14 @@
 //! The program `release-filter`: arguments, standard input and output, and exit status, nothing
-//! else. What it does with a filter is `copy_lines_behind`, `greatest_line_behind`,
-//! `least_line_behind`, and `sorted_lines_behind` with `write_lines` of the library, on the input
-//! behind a byte order mark.
+//! else. Its filter is of the versions that `Chosen::read` answers. What it does with that is
+//! `copy_lines_behind`, `greatest_line_behind`, `least_line_behind`, and `sorted_lines_behind` with
+//! `write_lines` of the library, on the input behind a byte order mark.
 #![tactic(auto)]
 
 mod arguments;
 mod mark;
 
 use arguments::{Refusal, Request, Selection, Wanted};
+use reading_options::OptionError;
 use release_filter::{Filter, LineError, write_lines};
 use semver_parser::RangeError;
 use semver_parser::writing::write_whole;
@@ -16,20 +17,27 @@ use std::process::ExitCode;
 
 /// How the program is called.
 const USAGE: &str = "\
-usage: release-filter [--npm] [--pre | --pre-stated]
+usage: release-filter [--as READING | --npm]
+                      [--releases | --pre | --pre-stated]
                       [--greatest | --least | --sort]
                       [--prefix TEXT] [--line-buffered] RANGE";
 
 /// What the program does.
 const HELP: &str = "
 Copies those lines of standard input to standard output, as they stand,
-that spell a release which RANGE means.
+that spell a version which RANGE means.
 
-    --npm            read RANGE in npm mode; without it in Cargo mode
+    --as READING     whose reading of RANGE is taken:
+                       cargo        Cargo's own; so it is without --as
+                       npm          npm's own
+                       crate-cargo  the crate semver-parser's, in Cargo mode
+                       crate-npm    the crate semver-parser's, in npm mode
+    --npm            the same as --as npm
+    --releases       copy releases alone
     --pre            copy each pre-release that RANGE means, too
-    --pre-stated     copy pre-releases as npm and Cargo do: those that RANGE
-                     means, and of which a term of the same range states the
-                     three numbers and a pre-release
+    --pre-stated     copy pre-releases that RANGE means, and of which a term
+                     of the same range states the three numbers and a
+                     pre-release
     --greatest       write the one line of the greatest version alone, by
                      precedence, and the first of those that are equal
     --least          write the one line of the least version alone, and the
@@ -44,7 +52,9 @@ that spell a release which RANGE means.
     -h, --help       write this, and read no input
     --version        write the version of this program, and read no input
 
-The last of --pre and --pre-stated counts. The status is 0 where a line was
+As cargo and npm read it, RANGE means those pre-releases that the tool takes.
+As crate-cargo and crate-npm do, releases alone are copied without --pre and
+--pre-stated, which belong to these two. The status is 0 where a line was
 written, 1 where none was, and 2 after a fault, which standard error tells.";
 
 /// The version of this program, as the file VERSION has it.
@@ -85,14 +95,8 @@ fn run(rt: &HostRuntime, wanted: &Wanted) -> ExitCode {
 
 /// Filters, and tells whether a line was written.
 fn filtered(rt: &HostRuntime, wanted: &Wanted) -> Result<bool, Fault> {
-    let range = wanted.range.as_str();
-    let filter = Filter::new(
-        rt.alloc(),
-        range,
-        wanted.options.compat,
-        wanted.options.pre_releases,
-    )
-    .map_err(Fault::Range)?;
+    let versions = wanted.chosen.read(rt.alloc(), wanted.range.as_str());
+    let filter = Filter::of_versions(versions.map_err(Fault::Range)?);
     let Ok(input) = BufReader::new(rt.alloc(), rt.reader()) else {
         return Err(Fault::Lines(LineError::OutOfMemory));
     };
@@ -183,12 +187,12 @@ fn refused(rt: &impl Eprint, refusal: &Refusal) -> ExitCode {
         Refusal::UnknownOption(option) => eprintln!(rt;
             "release-filter: unknown option: {option:?}; see release-filter --help"
         ),
-        Refusal::Contradiction(first, second) => eprintln!(rt;
-            "release-filter: {} contradicts {}; see release-filter --help",
-            second.option(),
-            first.option()
-        ),
-        Refusal::Unreadable => eprintln!(rt; "release-filter: cannot read arguments"),
+        Refusal::Unreadable | Refusal::Options(OptionError::OutOfMemory) => {
+            eprintln!(rt; "release-filter: cannot read arguments")
+        }
+        Refusal::Options(error) => {
+            eprintln!(rt; "release-filter: {error}; see release-filter --help")
+        }
         Refusal::NoPrefix => misused(rt, "--prefix wants a text"),
         Refusal::NoRange => misused(rt, "no range"),
         Refusal::ManyRanges => misused(rt, "more than one range"),

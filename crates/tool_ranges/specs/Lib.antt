@@ -8,3 +8,4 @@ pub mod NpmMeaning
 pub mod NpmTable
 pub mod NpmTexts
 pub mod Steps
+pub mod Readings

@@ -3,4 +3,5 @@
 
 pub mod cargo;
 pub mod npm;
+pub mod reading;
 mod rows;

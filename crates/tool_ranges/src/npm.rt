@@ -24,7 +24,10 @@ ghost use Rattle.tool_ranges.specs.NpmTable.{rewritten_npm};
 ghost use Rattle.tool_ranges.specs.NpmTexts.{RefusesNpm};
 ghost use Rattle.tool_ranges.specs.Steps.NpmReading.{HasRanges, IsNpmRefusal};
 
+mod reading;
+
 use crate::rows;
+pub use reading::read;
 use semver_ranges::events::{Event, Events};
 use semver_ranges::grammar::Dialect;
 use semver_ranges::{Compat, Range, RangeError, RangeSet};
