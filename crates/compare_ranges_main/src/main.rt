@@ -7,6 +7,7 @@ mod arguments;
 
 use arguments::{Refusal, Request, Wanted};
 use reading_options::OptionError;
+use refused_ranges::told;
 use semver_parser::RangeError;
 use semver_parser::version::Version;
 use semver_parser::writing::write_whole;
@@ -87,7 +88,7 @@ fn main(rt: HostRuntime) -> ExitCode {
 fn run(rt: &HostRuntime, wanted: &Wanted) -> ExitCode {
     let answer = match compared(rt, wanted) {
         Ok(answer) => answer,
-        Err(fault) => return told(rt, &fault),
+        Err(fault) => return tell(rt, &fault, wanted),
     };
     let written = write_whole(&mut io::writer(rt), answer.lines.as_bytes());
     match written {
@@ -140,11 +141,16 @@ fn append(lines: &mut String, word: &str, version: &Option<Version>) -> Result<(
     Ok(())
 }
 
-/// Says on standard error what the fault is, in one line, of a range text with the text, and gives
+/// Says on standard error what the fault is, of a range text with the text and the place, and gives
 /// status 2.
-fn told(rt: &impl Eprint, fault: &Fault<'_>) -> ExitCode {
+fn tell(rt: &HostRuntime, fault: &Fault<'_>, wanted: &Wanted) -> ExitCode {
     let _ = match fault {
-        Fault::Range(error, range) => eprintln!(rt; "compare-ranges: {error}: {range:?}"),
+        Fault::Range(error, range) => {
+            match told(rt.alloc(), wanted.chosen.reading, error, range) {
+                Ok(told) => eprintln!(rt; "compare-ranges: {told}"),
+                Err(_) => eprintln!(rt; "compare-ranges: {error}: {range:?}"),
+            }
+        }
         Fault::OutOfMemory => eprintln!(rt; "compare-ranges: out of memory"),
     };
     ExitCode::from(2)

@@ -9,6 +9,7 @@ mod mark;
 
 use arguments::{Refusal, Request, Selection, Wanted};
 use reading_options::OptionError;
+use refused_ranges::told;
 use release_filter::{Filter, LineError, write_lines};
 use semver_parser::RangeError;
 use semver_parser::writing::write_whole;
@@ -87,7 +88,7 @@ fn run(rt: &HostRuntime, wanted: &Wanted) -> ExitCode {
             ExitCode::SUCCESS
         }
         Err(fault) => {
-            tell(rt, &fault, wanted.range.as_str());
+            tell(rt, &fault, wanted);
             ExitCode::from(2)
         }
     }
@@ -158,10 +159,16 @@ fn write_found<W: Write>(output: &mut W, found: &Option<Vec<u8>>) -> io::Result<
     }
 }
 
-/// Says on standard error what the fault is, in one line, of a range text with the text.
-fn tell(rt: &impl Eprint, fault: &Fault, range: &str) {
+/// Says on standard error what the fault is, of a range text with the text and the place.
+fn tell(rt: &HostRuntime, fault: &Fault, wanted: &Wanted) {
     let _ = match fault {
-        Fault::Range(error) => eprintln!(rt; "release-filter: {error}: {range:?}"),
+        Fault::Range(error) => {
+            let range = wanted.range.as_str();
+            match told(rt.alloc(), wanted.chosen.reading, error, range) {
+                Ok(told) => eprintln!(rt; "release-filter: {told}"),
+                Err(_) => eprintln!(rt; "release-filter: {error}: {range:?}"),
+            }
+        }
         Fault::Lines(error) => eprintln!(rt; "release-filter: {error}"),
     };
 }

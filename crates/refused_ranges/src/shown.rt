@@ -1,0 +1,73 @@
+//! A text, or the part of a long one round a place.
+
+use std::alloc::AllocError;
+use std::fmt::{self, Display, Formatter, Write};
+
+/// How many bytes before and behind the place are shown of a long text.
+const REACH: usize = 32;
+
+/// What is shown of a text.
+#[derive(Drop)]
+pub struct Shown<'a> {
+    /// The part that is shown.
+    text: &'a str,
+    /// How much of it stands before the place.
+    before: &'a str,
+    /// What stands for what is left out before it, and behind it.
+    left_out: (&'static str, &'static str),
+}
+
+impl<'a> Shown<'a> {
+    /// What is shown of a text round a place.
+    pub fn round(text: &'a str, place: usize) -> Shown<'a> {
+        let begin = boundary(text, place.saturating_sub(REACH));
+        let end = boundary(text, place.saturating_add(REACH).min(text.len()));
+        Shown {
+            text: text.get(begin..end).unwrap_or(text),
+            before: text.get(begin..place).unwrap_or(""),
+            left_out: (
+                if begin > 0 { "..." } else { "" },
+                if end < text.len() { "..." } else { "" },
+            ),
+        }
+    }
+
+    /// Writes the text in a line of its own, and in the next one a caret under the place; only
+    /// blanks in front where it is empty, or has a character that isn't shown in one column.
+    pub fn write_pointed(&self, out: &mut String) -> Result<(), AllocError> {
+        out.push_str("\n    ")?;
+        let in_columns = self.text.bytes().all(|byte| matches!(byte, b' '..=b'~'));
+        if self.text.is_empty() || !in_columns {
+            return Ok(());
+        }
+        write!(
+            out,
+            "{}{}{}\n    ",
+            self.left_out.0, self.text, self.left_out.1
+        )?;
+        for _ in self.left_out.0.bytes() {
+            out.push(' ')?;
+        }
+        for _ in self.before.bytes() {
+            out.push(' ')?;
+        }
+        out.push_str("^ ")
+    }
+}
+
+impl Display for Shown<'_> {
+    fn fmt<W: Write>(&self, f: &mut Formatter<W>) -> fmt::Result {
+        write!(f, "{}{:?}{}", self.left_out.0, self.text, self.left_out.1)
+    }
+}
+
+/// The last place between two characters that isn't behind a place.
+fn boundary(text: &str, place: usize) -> usize {
+    for back in 0..4 {
+        let at = place.saturating_sub(back);
+        if text.is_char_boundary(at) {
+            return at;
+        }
+    }
+    0
+}
