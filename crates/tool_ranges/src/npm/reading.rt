@@ -1,12 +1,15 @@
 //! Range texts of npm as sets of versions: what npm takes, with its pre-releases.
 
-ghost use Rattle.std.specs.Prelude.{◌≡◌, IfOk};
+ghost use Rattle.std.specs.Prelude.{◌≡◌, map, IfOk};
 ghost use Rattle.semver_ranges.specs.RangeTree.{SetTree};
+ghost use Rattle.semver_ranges.specs.RangeViews.{comparator_of, range_of, set_of};
 ghost use Rattle.semver_texts.specs.Versions.{PlainVersion};
 ghost use Rattle.version_sets.specs.VersionSets.{has, Fits};
 ghost use Rattle.tool_ranges.specs.NpmGrammar.{SpellsNpm};
 ghost use Rattle.tool_ranges.specs.NpmMeaning.{meets_npm};
 ghost use Rattle.tool_ranges.specs.NpmTexts.{RefusesNpm};
+ghost use Rattle.tool_ranges.specs.Means.NpmReading.{has_no_other, is_from_zero};
+ghost use Rattle.tool_ranges.specs.Means.NpmReading.{is_meant, others_of};
 
 use crate::npm::rewrite;
 use semver_ranges::{Comparator, Op, Range, RangeError, RangeSet};
@@ -44,27 +47,41 @@ pub fn read(alloc: Global, range: &str) -> Result<VersionSet, RangeError>
     }
 }
 
-/// What a text means of which these are the comparators.
-fn meant(alloc: Global, mut rewritten: RangeSet) -> Result<VersionSet, AllocError> {
-    if rewritten.ranges.iter().any(asks_nothing) {
+/// What a text means that is rewritten to these comparators.
+fn meant(alloc: Global, mut rewritten: RangeSet) -> Result<VersionSet, AllocError>
+    ensures { IfOk result (λ set. (v : PlainVersion) → Fits v
+        → has set v ≡ is_meant (set_of rewritten) v) }
+{
+    if rewritten.ranges.iter().any(has_no_other) {
         return VersionSet::of_set(alloc, &rewritten, PreReleases::Excluded);
     }
-    for range in &mut rewritten.ranges {
+    keep_others(&mut rewritten.ranges);
+    VersionSet::of_set(alloc, &rewritten, PreReleases::Stated)
+}
+
+/// Drops each comparator `>=0.0.0`.
+fn keep_others(ranges: &mut [Range])
+    ensures { map range_of ranges.new ≡ map others_of (map range_of ranges.old) }
+{
+    for range in ranges.iter_mut() {
         range
             .comparator_set
             .retain(|comparator| !is_from_zero(comparator));
     }
-    VersionSet::of_set(alloc, &rewritten, PreReleases::Stated)
 }
 
-/// Whether a range is every release.
-fn asks_nothing(range: &Range) -> bool {
+/// Whether a range has no comparator but `>=0.0.0`.
+fn has_no_other(range: &Range) -> bool
+    ensures { result ≡ has_no_other (range_of range.now) }
+{
     range.comparator_set.iter().all(is_from_zero)
 }
 
 /// Whether a comparator is `>=0.0.0`, by which npm asks nothing.
-fn is_from_zero(comparator: &Comparator) -> bool {
-    comparator.op == Op::Gte
+fn is_from_zero(comparator: &Comparator) -> bool
+    ensures { result ≡ is_from_zero (comparator_of comparator.now) }
+{
+    matches!(comparator.op, Op::Gte)
         && comparator.major == 0
         && comparator.minor == 0
         && comparator.patch == 0
