@@ -1,8 +1,12 @@
 -- What the comparators of npm's reading mean, with pre-releases, is what its text means.
-use Rattle.std.proofs.Common.{◌≡◌, ℕ, Bool, true, false, not, ◌&&◌, ◌||◌, ◌==◌, nat_eq, if◌then◌else◌, List, [], ◌∷◌, length, map}
-use Rattle.std.proofs.Common.{refl, sym, ap, ◌∙◌, arith}
+use Rattle.std.proofs.Common.{◌≡◌, ℕ, ◌+◌, ◌<◌, Bool, true, false, not, ◌&&◌, ◌||◌, ◌==◌, nat_eq, if◌then◌else◌, List, [], ◌∷◌, ◌++◌}
+use Rattle.std.proofs.Common.{length, map, take, drop, get_or, set, arith}
+use Rattle.std.proofs.Common.{refl, sym, ap, ◌∙◌}
 use Rattle.std.proofs.Math.Bool.{and-true, and-false}
+use Rattle.std.proofs.Math.ListN.{get_or-map}
 use Rattle.std.proofs.lemmas.Bool.{and_parts, ne_eqb}
+use Rattle.std.proofs.lemmas.List.{length-map, map-set}
+use Rattle.std.proofs.lemmas.List.Edits.{map_over_more}
 use Rattle.std.specs.List.{filter, list_all, list_any}
 use Rattle.std.specs.Ordering.{is_ge, is_lt}
 use Rattle.std.specs.Cmp.Lexicographic.{pointwise}
@@ -15,11 +19,14 @@ use Rattle.semver_texts.specs.Precedence.{pre_cmp}
 use Rattle.semver_texts.specs.Versions.{numbers, IdentifierValue, PlainVersion}
 use Rattle.semver_ranges.specs.Partials.{filled, stated, pre_release, zero_filled}
 use Rattle.semver_ranges.specs.Terms.{Term, of_simple, terms}
-use Rattle.semver_ranges.specs.RewritingTable.{PlainComparator, PlainRange, Cell, from_zero, below_zero, against, below, between, cell}
+use Rattle.semver_ranges.specs.RewritingTable.{PlainComparator, PlainRange, PlainSet, Cell, from_zero, below_zero, against, below, between, cell}
 use Rattle.semver_ranges.specs.RewritingTable.{comparator, up, range_by, written_cell}
 use Rattle.semver_ranges.specs.ExactBounds.{lowest_pre_release, exact_bound}
 use Rattle.semver_ranges.specs.Meeting.{has_pre_release, meets_comparator, meets_set}
-use Rattle.semver_ranges.specs.StatedPreReleases.{states_pre_release_at, counts_in, has_pre_release_at, meets_range_as_stated}
+use Rattle.semver_ranges.specs.StatedPreReleases.{states_pre_release_at, counts_in, has_pre_release_at}
+use Rattle.semver_ranges.specs.StatedPreReleases.{meets_range_as_stated, meets_set_as_stated}
+use Rattle.semver_ranges.specs.RangeViews.{range_of}
+use Rattle.semver_ranges.specs.declared.range.Range.{Range}
 use Rattle.semver_ranges.proofs.Rows.{Step, numbers_step, Shape}
 use Rattle.semver_ranges.proofs.SetMeanings.{stated_shape, range_holds}
 use Rattle.semver_ranges.proofs.Tests.{list_any-mapped, some_of_all}
@@ -46,6 +53,24 @@ list_any-filter p drops fails [] = refl
 list_any-filter p drops fails (x ∷ xs) = by_test (drops x)
     (λ y. rw (y, fails x y) (list_any-filter p drops fails xs))
     (λ n. rw (n, list_any-filter p drops fails xs) refl)
+
+pub map-filter : {X Y : Type 0} (h : X → Y) (drops : Y → Bool) (xs : List X)
+    → map h (filter (λ x. not (drops (h x))) xs) ≡ filter (λ y. not (drops y)) (map h xs)
+map-filter h drops [] = refl
+map-filter h drops (x ∷ xs) = by_test (drops (h x))
+    (λ y. rw y (map-filter h drops xs))
+    (λ n. rw (n, map-filter h drops xs) refl)
+
+-- a loop that leaves the others of each range
+pub others_written : (initial rs : List Range) (i : ℕ) (r r' : Range) → i < length initial
+    → map range_of rs ≡ map others_of (take i (map range_of initial)) ++ drop i (map range_of initial)
+    → r ≡ get_or rs i r → range_of r' ≡ others_of (range_of r)
+    → map range_of (set rs i r') ≡ map others_of (take (i + 1) (map range_of initial)) ++ drop (i + 1) (map range_of initial)
+others_written initial rs i r r' within so_far is e =
+    let within_views : i < length (map range_of initial) = rw (length-map initial range_of) within in
+    map-set range_of rs i r' ∙ ap (set (map range_of rs) i) e
+    ∙ map_over_more others_of (map range_of initial) (map range_of rs) i (range_of r) within_views so_far
+    (ap range_of is ∙ sym (get_or-map range_of rs i r))
 
 -- a range has no comparator but `>=0.0.0` exactly where npm asks nothing by its terms
 abbrev RowAsks : Form → List ℕ → List IdentifierValue → Type 0
@@ -172,6 +197,14 @@ module _ (v : PlainVersion) where
       ≡ (list_all (passes v) r.comparators && (is_empty v.pre || list_any (has_pre_release_at v) r.comparators))
   others_mean r = rw (list_all-filter (meets_comparator v) is_from_zero r.comparators,
       list_any-filter (has_pre_release_at v) is_from_zero none_told r.comparators) refl
+
+  -- what the reader answers in either case
+  pub where_none_is_asked : (set : PlainSet) → list_any has_no_other set.ranges ≡ true → (is_empty v.pre && meets_set v set) ≡ is_meant set v
+  where_none_is_asked set y = rw y refl
+
+  pub where_each_is_asked : (set : PlainSet) → list_any has_no_other set.ranges ≡ false
+      → meets_set_as_stated v (record set { ranges = map others_of set.ranges }) ≡ is_meant set v
+  where_each_is_asked set n = rw n refl
 
   releases_mean : (tree : SetTree) → list_any is_every_release tree ≡ true
       → (is_empty v.pre && meets_set v (rewritten_npm tree)) ≡ is_empty v.pre

@@ -1,0 +1,14 @@
+use Rattle.std.proofs.Common.{◌∙◌, ap}
+use Rattle.semver_ranges.specs.declared.range_set.RangeSet.{RangeSet}
+use Rattle.tool_ranges.specs.NpmTexts.{IsNpmRange, IsNpmTooLarge, HasNpmSet}
+use Rattle.tool_ranges.specs.Means.NpmReading.{is_meant}
+use Rattle.tool_ranges.proofs.NpmSets.{meant}
+use Rattle.tool_ranges.proofs.ReadSets.{same_refusal}
+use Rattle.tool_ranges.proofs.npm.reading.read.Goals as goal
+
+pub returns-in-Err-clause-refusals : goal.returns-in-Err-clause-refusals
+returns-in-Err-clause-refusals c = same_refusal RangeSet _ (IsNpmRange c.args.range.now)
+    (IsNpmTooLarge c.args.range.now) (HasNpmSet c.args.range.now) c.in-Err.refusal c.in-Err.ensures.refusals
+
+pub returns-in-Ok-meant-clause-refusals : goal.returns-in-Ok-meant-clause-refusals
+returns-in-Ok-meant-clause-refusals c = ?
