@@ -3,9 +3,8 @@ use Rattle.std.proofs.Common.{◌≡◌, ℕ, ◌+◌, ◌<◌, Bool, true, fals
 use Rattle.std.proofs.Common.{length, map, take, drop, get_or, set, arith}
 use Rattle.std.proofs.Common.{refl, sym, ap, ◌∙◌}
 use Rattle.std.proofs.Math.Bool.{and-true, and-false}
-use Rattle.std.proofs.Math.ListN.{get_or-map}
 use Rattle.std.proofs.lemmas.Bool.{and_parts, ne_eqb}
-use Rattle.std.proofs.lemmas.List.{length-map, map-set}
+use Rattle.std.proofs.lemmas.List.{get_or-map, length-map, map-set}
 use Rattle.std.proofs.lemmas.List.Edits.{map_over_more}
 use Rattle.std.specs.List.{filter, list_all, list_any}
 use Rattle.std.specs.Ordering.{is_ge, is_lt}
@@ -34,7 +33,7 @@ use Rattle.semver_texts.proofs.Lists.{by_test}
 use Rattle.tool_ranges.specs.ToolTable.{is_greater, states_some, ends_at, written_in}
 use Rattle.tool_ranges.specs.NpmMeaning.{is_zero, asks_nothing_by, asks_nothing, is_every_release, meets_one, meets_npm}
 use Rattle.tool_ranges.specs.NpmTable.{rewritten_npm}
-use Rattle.tool_ranges.specs.Means.NpmReading.{is_from_zero, has_no_other, others_of, is_meant}
+use Rattle.tool_ranges.specs.Means.NpmReading.{is_from_zero, has_no_other, others_of, others_in, is_meant}
 use Rattle.tool_ranges.proofs.ReadMeanings.{no_lower}
 use Rattle.tool_ranges.proofs.ToolRows.{npm_table}
 use Rattle.tool_ranges.proofs.NpmMeanings.{written_by, none_is, passes, lowest_ge, simple_passes, npm_meets}
@@ -62,15 +61,15 @@ map-filter h drops (x ∷ xs) = by_test (drops (h x))
     (λ n. rw (n, map-filter h drops xs) refl)
 
 -- a loop that leaves the others of each range
-pub others_written : (initial rs : List Range) (i : ℕ) (r r' : Range) → i < length initial
+pub others_written : (initial rs : List Range) (i : ℕ) (d r : Range) → i < length initial → i < length rs
     → map range_of rs ≡ map others_of (take i (map range_of initial)) ++ drop i (map range_of initial)
-    → r ≡ get_or rs i r → range_of r' ≡ others_of (range_of r)
-    → map range_of (set rs i r') ≡ map others_of (take (i + 1) (map range_of initial)) ++ drop (i + 1) (map range_of initial)
-others_written initial rs i r r' within so_far is e =
+    → range_of r ≡ others_of (range_of (get_or rs i d))
+    → map range_of (set rs i r) ≡ map others_of (take (i + 1) (map range_of initial)) ++ drop (i + 1) (map range_of initial)
+others_written initial rs i d r within here so_far e =
     let within_views : i < length (map range_of initial) = rw (length-map initial range_of) within in
-    map-set range_of rs i r' ∙ ap (set (map range_of rs) i) e
-    ∙ map_over_more others_of (map range_of initial) (map range_of rs) i (range_of r) within_views so_far
-    (ap range_of is ∙ sym (get_or-map range_of rs i r))
+    map-set range_of rs i r ∙ ap (set (map range_of rs) i) e
+    ∙ map_over_more others_of (map range_of initial) (map range_of rs) i (range_of (get_or rs i d)) within_views so_far
+    (sym (get_or-map range_of rs i d _ here))
 
 -- a range has no comparator but `>=0.0.0` exactly where npm asks nothing by its terms
 abbrev RowAsks : Form → List ℕ → List IdentifierValue → Type 0
@@ -148,7 +147,7 @@ module _ (v : PlainVersion) where
   cell_silent below_zero s = refl
   cell_silent (against op) s = reorder _ false true
   cell_silent (below k) s = rw (silent_bound (up k s)) (sym (and-true _))
-  cell_silent (between k) s = rw (silent_bound (up k s)) (reorder _ false _)
+  cell_silent (between k) s = rw (silent_bound (up k s)) (search reorder)
 
   row_silent : (form : Form) (s : List ℕ) → RowTells form s []
   row_silent form s = by_test (is_greater form && states_some s)
@@ -159,8 +158,8 @@ module _ (v : PlainVersion) where
 
   -- where three numbers are, the comparator of the zero-filled version does
   row_tells : (form : Form) (x y w : ℕ) (p : List IdentifierValue) → RowTells form (x ∷ y ∷ w ∷ []) p
-  row_tells tilde x y w p = rw (silent_bound (up 2 (x ∷ y ∷ w ∷ []))) (reorder _ _ _)
-  row_tells caret x y w p = rw (silent_bound (up _ (x ∷ y ∷ w ∷ []))) (reorder _ _ _)
+  row_tells tilde x y w p = rw (silent_bound (up 2 (x ∷ y ∷ w ∷ []))) (search reorder)
+  row_tells caret x y w p = rw (silent_bound (up _ (x ∷ y ∷ w ∷ []))) (search reorder)
   row_tells bare x y w p = reorder _ _ true
   row_tells equal x y w p = reorder _ _ true
   row_tells less x y w p = reorder _ _ true
@@ -203,7 +202,7 @@ module _ (v : PlainVersion) where
   where_none_is_asked set y = rw y refl
 
   pub where_each_is_asked : (set : PlainSet) → list_any has_no_other set.ranges ≡ false
-      → meets_set_as_stated v (record set { ranges = map others_of set.ranges }) ≡ is_meant set v
+      → meets_set_as_stated v (others_in set) ≡ is_meant set v
   where_each_is_asked set n = rw n refl
 
   releases_mean : (tree : SetTree) → list_any is_every_release tree ≡ true

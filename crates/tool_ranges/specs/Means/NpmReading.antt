@@ -48,9 +48,12 @@ has_no_other r = list_all is_from_zero r.comparators
 abbrev pub others_of : PlainRange → PlainRange
 others_of r = record r { comparators = filter (λ c. not (is_from_zero c)) r.comparators }
 
+abbrev pub others_in : PlainSet → PlainSet
+others_in set = record set { ranges = map others_of set.ranges }
+
 -- whether a text means a version, by the comparators that it is rewritten to: where some range has
 -- no other, the releases; else those that the others mean as stated
 abbrev pub is_meant : PlainSet → PlainVersion → Bool
 is_meant set v =
     if list_any has_no_other set.ranges then is_empty v.pre && meets_set v set
-    else meets_set_as_stated v (record set { ranges = map others_of set.ranges })
+    else meets_set_as_stated v (others_in set)

@@ -1,6 +1,7 @@
 //! Range texts of npm as sets of versions: what npm takes, with its pre-releases.
 
-ghost use Rattle.std.specs.Prelude.{◌≡◌, map, IfOk};
+ghost use Rattle.std.specs.Prelude.{◌≡◌, IfOk};
+ghost use Rattle.std.specs.List.{list_all, list_any};
 ghost use Rattle.semver_ranges.specs.RangeTree.{SetTree};
 ghost use Rattle.semver_ranges.specs.RangeViews.{comparator_of, range_of, set_of};
 ghost use Rattle.semver_texts.specs.Versions.{PlainVersion};
@@ -9,7 +10,7 @@ ghost use Rattle.tool_ranges.specs.NpmGrammar.{SpellsNpm};
 ghost use Rattle.tool_ranges.specs.NpmMeaning.{meets_npm};
 ghost use Rattle.tool_ranges.specs.NpmTexts.{RefusesNpm};
 ghost use Rattle.tool_ranges.specs.Means.NpmReading.{has_no_other, is_from_zero};
-ghost use Rattle.tool_ranges.specs.Means.NpmReading.{is_meant, others_of};
+ghost use Rattle.tool_ranges.specs.Means.NpmReading.{is_meant, others_in};
 
 use crate::npm::rewrite;
 use semver_ranges::{Comparator, Op, Range, RangeError, RangeSet};
@@ -48,33 +49,50 @@ pub fn read(alloc: Global, range: &str) -> Result<VersionSet, RangeError>
 }
 
 /// What a text means that is rewritten to these comparators.
-fn meant(alloc: Global, mut rewritten: RangeSet) -> Result<VersionSet, AllocError>
+fn meant(alloc: Global, rewritten: RangeSet) -> Result<VersionSet, AllocError>
     ensures { IfOk result (λ set. (v : PlainVersion) → Fits v
         → has set v ≡ is_meant (set_of rewritten) v) }
 {
-    if rewritten.ranges.iter().any(has_no_other) {
+    if some_has_no_other(&rewritten.ranges) {
         return VersionSet::of_set(alloc, &rewritten, PreReleases::Excluded);
     }
-    keep_others(&mut rewritten.ranges);
-    VersionSet::of_set(alloc, &rewritten, PreReleases::Stated)
+    VersionSet::of_set(alloc, &others_in(rewritten), PreReleases::Stated)
 }
 
-/// Drops each comparator `>=0.0.0`.
-fn keep_others(ranges: &mut [Range])
-    ensures { map range_of ranges.new ≡ map others_of (map range_of ranges.old) }
+/// The same set without its comparators `>=0.0.0`.
+fn others_in(mut set: RangeSet) -> RangeSet
+    ensures { set_of result ≡ others_in (set_of set) }
 {
-    for range in ranges.iter_mut() {
+    for range in set.ranges.iter_mut() {
         range
             .comparator_set
             .retain(|comparator| !is_from_zero(comparator));
     }
+    set
+}
+
+/// Whether some range has no comparator but `>=0.0.0`.
+fn some_has_no_other(ranges: &[Range]) -> bool
+    ensures { result ≡ list_any (λ range. has_no_other (range_of range)) ranges.now }
+{
+    ranges.iter().any(|range| has_no_other(range))
 }
 
 /// Whether a range has no comparator but `>=0.0.0`.
 fn has_no_other(range: &Range) -> bool
     ensures { result ≡ has_no_other (range_of range.now) }
 {
-    range.comparator_set.iter().all(is_from_zero)
+    are_from_zero(&range.comparator_set)
+}
+
+/// Whether each comparator is `>=0.0.0`.
+fn are_from_zero(comparators: &[Comparator]) -> bool
+    ensures { result
+        ≡ list_all (λ comparator. is_from_zero (comparator_of comparator)) comparators.now }
+{
+    comparators
+        .iter()
+        .all(|comparator| is_from_zero(comparator))
 }
 
 /// Whether a comparator is `>=0.0.0`, by which npm asks nothing.

@@ -1,4 +1,4 @@
-use Rattle.std.proofs.Common.{rules, ◌≡◌, sym, ◌∙◌}
+use Rattle.std.proofs.Common.{List, ap, sym, ◌∙◌, map}
 use Rattle.std.specs.List.{list_all}
 use Rattle.std.proofs.lemmas.List.Folds.{list_all-map}
 use Rattle.semver_ranges.specs.declared.range.Comparator.{Comparator}
@@ -8,5 +8,5 @@ use Rattle.tool_ranges.proofs.npm.reading.has_no_other.Goals as goal
 
 pub returns : goal.returns
 returns c =
-    let all : c.all.result ≡ list_all (λ (x : Comparator). is_from_zero (comparator_of x)) c.args.range.now.comparator_set.items = search rules in
-    all ∙ sym (list_all-map is_from_zero comparator_of c.args.range.now.comparator_set.items)
+    c.are_from_zero.ensures ∙ sym (list_all-map is_from_zero comparator_of c.deref.result.now)
+    ∙ ap (λ (l : List Comparator). list_all is_from_zero (map comparator_of l)) c.deref.ensures.value
