@@ -85,10 +85,7 @@ pub fn of_npm_ranges(alloc: Global) -> Ending {
     let is_stated = has_stated(&asked, "1.2.0-c") && !has_stated(&asked, "1.3.0-c");
     match npm::read(alloc, "1.2.0-b || *") {
         Ok(set) => Ending::full_if(
-            is_stated
-                && begins_at(&asked, 1)
-                && begins_at(&set, 0)
-                && !has_stated(&set, "1.2.0-b"),
+            is_stated && begins_at(&asked, 1) && begins_at(&set, 0) && !has_stated(&set, "1.2.0-b"),
         ),
         Err(RangeError::OutOfMemory) => Ending::Refused,
         Err(_) => Ending::Wrong,

@@ -1,5 +1,5 @@
 -- What the comparators of npm's reading mean, with pre-releases, is what its text means.
-use Rattle.std.proofs.Common.{◌≡◌, ℕ, ◌+◌, ◌<◌, Bool, true, false, not, ◌&&◌, ◌||◌, ◌==◌, nat_eq, if◌then◌else◌, List, [], ◌∷◌, ◌++◌}
+use Rattle.std.proofs.Common.{◌≡◌, ℕ, ◌+◌, ◌<◌, Bool, true, false, not, ◌&&◌, ◌||◌, ◌==◌, nat_eq, List, [], ◌∷◌, ◌++◌}
 use Rattle.std.proofs.Common.{length, map, take, drop, get_or, set, arith}
 use Rattle.std.proofs.Common.{refl, sym, ap, ◌∙◌}
 use Rattle.std.proofs.Math.Bool.{and-true, and-false}
@@ -10,18 +10,18 @@ use Rattle.std.specs.List.{filter, list_all, list_any}
 use Rattle.std.specs.Ordering.{is_ge, is_lt}
 use Rattle.std.specs.Cmp.Lexicographic.{pointwise}
 use Rattle.std.specs.declared.cmp.Ordering.{Ordering}
-use Rattle.semver_ranges.specs.declared.range.Op.TheVariants.{Lt, Gte}
+use Rattle.semver_ranges.specs.declared.range.Op.TheVariants.{Lt}
 use Rattle.semver_ranges.specs.declared.range.Compat.TheVariants.{Npm}
 use Rattle.semver_ranges.specs.RangeTree.{Form, bare, equal, less, at_most, greater, at_least, tilde, caret, Simple, RangeTree, SetTree}
 use Rattle.semver_texts.specs.Texts.{is_empty}
 use Rattle.semver_texts.specs.Precedence.{pre_cmp}
 use Rattle.semver_texts.specs.Versions.{numbers, IdentifierValue, PlainVersion}
-use Rattle.semver_ranges.specs.Partials.{filled, stated, pre_release, zero_filled}
+use Rattle.semver_ranges.specs.Partials.{filled, pre_release}
 use Rattle.semver_ranges.specs.Terms.{Term, of_simple, terms}
 use Rattle.semver_ranges.specs.RewritingTable.{PlainComparator, PlainRange, PlainSet, Cell, from_zero, below_zero, against, below, between, cell}
 use Rattle.semver_ranges.specs.RewritingTable.{comparator, up, range_by, written_cell}
 use Rattle.semver_ranges.specs.ExactBounds.{lowest_pre_release, exact_bound}
-use Rattle.semver_ranges.specs.Meeting.{has_pre_release, meets_comparator, meets_set}
+use Rattle.semver_ranges.specs.Meeting.{meets_comparator, meets_set}
 use Rattle.semver_ranges.specs.StatedPreReleases.{states_pre_release_at, counts_in, has_pre_release_at}
 use Rattle.semver_ranges.specs.StatedPreReleases.{meets_range_as_stated, meets_set_as_stated}
 use Rattle.semver_ranges.specs.RangeViews.{range_of}
@@ -194,8 +194,10 @@ module _ (v : PlainVersion) where
 
   others_mean : (r : PlainRange) → meets_range_as_stated v (others_of r)
       ≡ (list_all (passes v) r.comparators && (is_empty v.pre || list_any (has_pre_release_at v) r.comparators))
-  others_mean r = rw (list_all-filter (meets_comparator v) is_from_zero r.comparators,
-      list_any-filter (has_pre_release_at v) is_from_zero none_told r.comparators) refl
+  others_mean r = rw (
+    list_all-filter (meets_comparator v) is_from_zero r.comparators,
+    list_any-filter (has_pre_release_at v) is_from_zero none_told r.comparators,
+  ) refl
 
   -- what the reader answers in either case
   pub where_none_is_asked : (set : PlainSet) → list_any has_no_other set.ranges ≡ true → (is_empty v.pre && meets_set v set) ≡ is_meant set v
