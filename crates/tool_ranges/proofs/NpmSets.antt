@@ -1,7 +1,6 @@
 -- What the comparators of npm's reading mean, with pre-releases, is what its text means.
 use Rattle.std.proofs.Common.{◌≡◌, ℕ, ◌+◌, ◌<◌, Bool, true, false, not, ◌&&◌, ◌||◌, ◌==◌, nat_eq, List, [], ◌∷◌, ◌++◌}
-use Rattle.std.proofs.Common.{length, map, take, drop, get_or, set, arith}
-use Rattle.std.proofs.Common.{refl, sym, ap, ◌∙◌}
+use Rattle.std.proofs.Common.{length, map, take, drop, get_or, set, refl, sym, ap, ◌∙◌, arith}
 use Rattle.std.proofs.Math.Bool.{and-true, and-false}
 use Rattle.std.proofs.lemmas.Bool.{and_parts, ne_eqb}
 use Rattle.std.proofs.lemmas.List.{get_or-map, length-map, map-set}
@@ -18,8 +17,8 @@ use Rattle.semver_texts.specs.Precedence.{pre_cmp}
 use Rattle.semver_texts.specs.Versions.{numbers, IdentifierValue, PlainVersion}
 use Rattle.semver_ranges.specs.Partials.{filled, pre_release}
 use Rattle.semver_ranges.specs.Terms.{Term, of_simple, terms}
-use Rattle.semver_ranges.specs.RewritingTable.{PlainComparator, PlainRange, PlainSet, Cell, from_zero, below_zero, against, below, between, cell}
-use Rattle.semver_ranges.specs.RewritingTable.{comparator, up, range_by, written_cell}
+use Rattle.semver_ranges.specs.RewritingTable.{PlainComparator, PlainRange, PlainSet, comparator, up, range_by, written_cell}
+use Rattle.semver_ranges.specs.RewritingTable.{Cell, from_zero, below_zero, against, below, between, cell}
 use Rattle.semver_ranges.specs.ExactBounds.{lowest_pre_release, exact_bound}
 use Rattle.semver_ranges.specs.Meeting.{meets_comparator, meets_set}
 use Rattle.semver_ranges.specs.StatedPreReleases.{states_pre_release_at, counts_in, has_pre_release_at}
@@ -200,7 +199,8 @@ module _ (v : PlainVersion) where
   ) refl
 
   -- what the reader answers in either case
-  pub where_none_is_asked : (set : PlainSet) → list_any has_no_other set.ranges ≡ true → (is_empty v.pre && meets_set v set) ≡ is_meant set v
+  pub where_none_is_asked : (set : PlainSet) → list_any has_no_other set.ranges ≡ true
+      → (is_empty v.pre && meets_set v set) ≡ is_meant set v
   where_none_is_asked set y = rw y refl
 
   pub where_each_is_asked : (set : PlainSet) → list_any has_no_other set.ranges ≡ false
