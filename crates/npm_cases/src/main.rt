@@ -1,22 +1,63 @@
 //! Replays a table of range texts: of each line of standard input the line of standard output is
-//! what npm's reading rewrites it to, or the word of its refusal.
+//! what npm's reading rewrites it to, or the word of its refusal. Where versions follow behind
+//! ` ? `, it is those that the text means, pre-releases among them.
 #![tactic(auto)]
 
-use semver_parser::RangeError;
+use semver_parser::{RangeError, version};
+use std::alloc::Global;
 use std::io;
 use std::io::{BufRead, BufReader, BufWriter, Write};
 use tool_ranges::npm;
+use version_sets::VersionSet;
 
 fn main(rt: HostRuntime) -> io::Result<()> {
     let input = BufReader::new(rt.alloc(), rt.reader())?;
     let mut output = BufWriter::new(rt.alloc(), io::writer(&rt))?;
     for line in input.lines(rt.alloc()) {
-        match npm::rewrite(rt.alloc(), line?.as_str()) {
-            Ok(set) => write!(output, "{set}\n")?,
-            Err(RangeError::NotARange) => output.write_all(b"not-a-range\n")?,
-            Err(RangeError::NumberTooLarge) => output.write_all(b"number-too-large\n")?,
-            Err(RangeError::OutOfMemory) => output.write_all(b"out-of-memory\n")?,
-        }
+        replay(rt.alloc(), line?.as_str(), &mut output)?;
+        output.write_all(b"\n")?;
     }
     output.flush()
+}
+
+/// Writes the answer to a line.
+fn replay<W: Write>(alloc: Global, line: &str, out: &mut W) -> io::Result<()> {
+    if let Some((range, versions)) = line.split_once(" ? ") {
+        return match npm::read(alloc, range) {
+            Ok(set) => write_meant(alloc, &set, versions, out),
+            Err(refusal) => write_refusal(&refusal, out),
+        };
+    }
+    match npm::rewrite(alloc, line) {
+        Ok(set) => write!(out, "{set}"),
+        Err(refusal) => write_refusal(&refusal, out),
+    }
+}
+
+/// Writes those of some versions, parted by spaces, that a set has.
+fn write_meant<W: Write>(
+    alloc: Global,
+    set: &VersionSet,
+    versions: &str,
+    out: &mut W,
+) -> io::Result<()> {
+    write!(out, "means")?;
+    for text in versions.split(' ') {
+        match version::read(alloc, text) {
+            Ok(Some(version)) if set.has(&version) => write!(out, " {text}")?,
+            Ok(Some(_)) => {}
+            Ok(None) => write!(out, " not-a-version")?,
+            Err(_) => write!(out, " out-of-memory")?,
+        }
+    }
+    Ok(())
+}
+
+/// Writes the word of a refusal.
+fn write_refusal<W: Write>(refusal: &RangeError, out: &mut W) -> io::Result<()> {
+    match refusal {
+        RangeError::NotARange => write!(out, "not-a-range"),
+        RangeError::NumberTooLarge => write!(out, "number-too-large"),
+        RangeError::OutOfMemory => write!(out, "out-of-memory"),
+    }
 }

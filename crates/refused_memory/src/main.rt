@@ -111,7 +111,7 @@ fn of_versions(alloc: Global) -> [(&'static str, Ending); 15] {
 }
 
 /// How each call on ranges and above them ends.
-fn of_ranges(alloc: Global) -> [(&'static str, Ending); 22] {
+fn of_ranges(alloc: Global) -> [(&'static str, Ending); 26] {
     [
         (
             "one_simple",
@@ -177,6 +177,10 @@ fn of_ranges(alloc: Global) -> [(&'static str, Ending); 22] {
         ("refused_requirements", ranges::refused_requirements(alloc)),
         ("cargo_read", sets::of_requirement(alloc)),
         ("refused_cargo_reads", sets::of_refused_requirements(alloc)),
+        ("npm_range", ranges::npm_range(alloc)),
+        ("refused_npm_ranges", ranges::refused_npm_ranges(alloc)),
+        ("npm_read", sets::of_npm_ranges(alloc)),
+        ("refused_npm_reads", sets::of_refused_npm_ranges(alloc)),
         ("refused_range_texts", ranges::refused_texts(alloc)),
         ("range_set_clone", ranges::clone(alloc)),
         ("filter", filters::filter(alloc)),

@@ -5,7 +5,7 @@ use super::fixed::Fixed;
 use semver_parser::{Compat, RangeError, RangeSet};
 use std::alloc::Global;
 use std::fmt::Write as _;
-use tool_ranges::cargo;
+use tool_ranges::{cargo, npm};
 
 const TEXT: &str = "^1.2.3-beta.4 || 2.x";
 
@@ -52,6 +52,30 @@ pub fn refused_requirements(alloc: Global) -> Ending {
     Ending::full_if(
         matches!(no_comma, Err(RangeError::NotARange))
             && matches!(tab, Err(RangeError::NotARange))
+            && matches!(grammar_first, Err(RangeError::NotARange))
+            && matches!(bound, Err(RangeError::NumberTooLarge)),
+    )
+}
+
+/// The set of a range text, as npm itself reads it.
+pub fn npm_range(alloc: Global) -> Ending {
+    ending(
+        npm::rewrite(alloc, ">1.2 <3 || v1.2.3-b"),
+        ">=1.3.0 <3.0.0-0 || =1.2.3-b",
+        Compat::Npm,
+    )
+}
+
+/// Range texts of npm that are refused for their grammar or their numbers are refused without a
+/// request.
+pub fn refused_npm_ranges(alloc: Global) -> Ending {
+    let comma = npm::rewrite(alloc, "1, 2");
+    let character = npm::rewrite(alloc, "1 || \u{200b}2");
+    let grammar_first = npm::rewrite(alloc, "99999999999999999999 || 1,");
+    let bound = npm::rewrite(alloc, "1 || >1.18446744073709551615");
+    Ending::full_if(
+        matches!(comma, Err(RangeError::NotARange))
+            && matches!(character, Err(RangeError::NotARange))
             && matches!(grammar_first, Err(RangeError::NotARange))
             && matches!(bound, Err(RangeError::NumberTooLarge)),
     )

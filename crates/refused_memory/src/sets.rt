@@ -3,7 +3,7 @@
 use super::Ending;
 use semver_parser::{Compat, RangeError, RangeSet, version};
 use std::alloc::Global;
-use tool_ranges::cargo;
+use tool_ranges::{cargo, npm};
 use version_sets::{PreReleases, VersionSet};
 
 /// The sets of `>=1.2.0-b.c` as stated and of `<2.0.0` with all pre-releases, which the calls below
@@ -68,6 +68,34 @@ pub fn of_requirement(alloc: Global) -> Ending {
 pub fn of_refused_requirements(alloc: Global) -> Ending {
     let not_a_range = cargo::read(alloc, "1.2.3-a, >=1 <2");
     let too_large = cargo::read(alloc, "1.2.3-a, >1.18446744073709551615");
+    Ending::full_if(
+        matches!(not_a_range, Err(RangeError::NotARange))
+            && matches!(too_large, Err(RangeError::NumberTooLarge)),
+    )
+}
+
+/// The versions that two range texts mean to npm. To the first 1.2.0-c is stated, and 1.3.0-c
+/// isn't. By the second npm asks nothing, and it means every release.
+pub fn of_npm_ranges(alloc: Global) -> Ending {
+    let asked = match npm::read(alloc, ">=0 >=1.2.0-b <1.5 || 3.x") {
+        Ok(set) => set,
+        Err(RangeError::OutOfMemory) => return Ending::Refused,
+        Err(_) => return Ending::Wrong,
+    };
+    let is_stated = has_stated(&asked, "1.2.0-c") && !has_stated(&asked, "1.3.0-c");
+    match npm::read(alloc, "1.2.0-b || *") {
+        Ok(set) => Ending::full_if(
+            is_stated && begins_at(&asked, 1) && begins_at(&set, 0) && !has_stated(&set, "1.2.0-b"),
+        ),
+        Err(RangeError::OutOfMemory) => Ending::Refused,
+        Err(_) => Ending::Wrong,
+    }
+}
+
+/// Range texts of npm that are refused are refused without a request.
+pub fn of_refused_npm_ranges(alloc: Global) -> Ending {
+    let not_a_range = npm::read(alloc, "1.2.3-a || >=1, <2");
+    let too_large = npm::read(alloc, "1.2.3-a || >1.18446744073709551615");
     Ending::full_if(
         matches!(not_a_range, Err(RangeError::NotARange))
             && matches!(too_large, Err(RangeError::NumberTooLarge)),

@@ -3,11 +3,11 @@
 //! there.
 #![tactic(auto)]
 
-mod hint;
+mod hints;
 mod place;
 mod shown;
 
-pub use hint::hint;
+pub use hints::hint;
 pub use place::fault_place;
 use semver_parser::RangeError;
 use shown::Shown;

@@ -10,4 +10,5 @@ mod PreReleaseRows
 mod ReadSets
 mod ToolRows
 mod NpmMeanings
+mod NpmSets
 mod NpmLaws

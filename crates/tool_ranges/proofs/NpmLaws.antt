@@ -1,5 +1,5 @@
 -- What the reader finds of a range text of npm says what a call refuses and answers.
-use Rattle.std.proofs.Common.{◌≡◌, ℕ, true, false, refl, sym, ap, ◌∙◌, Some, None}
+use Rattle.std.proofs.Common.{◌≡◌, ℕ, length, true, false, refl, sym, ap, ◌∙◌, Some, None}
 use Rattle.std.proofs.lemmas.Bool.{both_ways}
 use Rattle.std.specs.Prelude.{Ok, Err}
 use Rattle.std.specs.List.{list_all}
@@ -17,7 +17,7 @@ use Rattle.semver_ranges.proofs.ReadingComplete.{tree_read}
 use Rattle.semver_ranges.proofs.AnsweredLaws.{set_printable}
 use Rattle.tool_ranges.specs.NpmGrammar.{may_stand, SpellsNpm}
 use Rattle.tool_ranges.specs.NpmTable.{npm_fits, rewritten_npm}
-use Rattle.tool_ranges.specs.NpmTexts.{IsNpmTooLarge, RefusesNpm}
+use Rattle.tool_ranges.specs.NpmTexts.{HasNpmSet, IsNpmTooLarge, RefusesNpm}
 use Rattle.tool_ranges.specs.Steps.NpmReading.{HasRanges, IsNpmRefusal}
 use Rattle.tool_ranges.proofs.ToolRows.{tool_prints}
 
@@ -73,6 +73,10 @@ module _ (t : Text) (stand : list_all may_stand (chars t) ≡ true) where
     too_large = (λ e. cc, λ large. absurd (unfit t tree is fit large));
     out_of_memory = λ e. (tree, spelled tree is, fit);
   }
+
+-- a text of which there is a set
+pub set_of_text : {A : Type 0} (t : Text) (x : A) → HasNpmSet t → RefusesNpm t (Ok x)
+set_of_text t x (tree, h, fit) = answered t h.characters x (length tree) (tree, npm_read t tree h, fit, refl)
 
 -- what it is rewritten to is printable
 pub npm_printable : (t : Text) (tree : SetTree) → read Npm t ≡ Some tree → npm_fits tree ≡ true → IsPrintableSet (rewritten_npm tree)

@@ -1,141 +1,165 @@
--- On releases the comparators of a range text mean what it means to npm.
-use Rattle.std.proofs.Common.{◌≡◌, ℕ, Bool, true, false, ◌&&◌, ◌==◌, if◌then◌else◌, List, [], ◌∷◌, length}
-use Rattle.std.proofs.Common.{refl, sym, ap, ◌∙◌}
-use Rattle.std.proofs.Math.Bool.{and-true}
-use Rattle.std.proofs.lemmas.Bool.{and_parts, or_left, eqb-true}
+-- The comparators of a range text mean what it means to npm, where `>=0.0.0` asks nothing; on releases they do as they stand.
+use Rattle.std.proofs.Common.{◌≡◌, ℕ, ◌+◌, Bool, true, false, ◌&&◌, ◌||◌, ◌==◌, if◌then◌else◌, List, [], ◌∷◌, length}
+use Rattle.std.proofs.Common.{refl, sym, ap, ◌∙◌, arith}
+use Rattle.std.proofs.Math.Bool.{and-true, and-false}
+use Rattle.std.proofs.lemmas.Bool.{and_parts, or_left, eqb-true, ne_eqb}
 use Rattle.std.specs.List.{list_all, list_any}
 use Rattle.std.specs.Ordering.{nat_cmp, ordering_then, is_lt, is_ge}
 use Rattle.std.specs.declared.cmp.Ordering.{Ordering}
+use Rattle.semver_ranges.specs.declared.range.Op.{Op}
 use Rattle.semver_ranges.specs.declared.range.Op.TheVariants.{Lt, Gte}
 use Rattle.semver_ranges.specs.declared.range.Compat.TheVariants.{Npm}
 use Rattle.semver_ranges.specs.RangeTree.{Form, bare, equal, less, at_most, greater, at_least, tilde, caret, Simple, RangeTree, SetTree}
 use Rattle.semver_texts.specs.Texts.{is_empty}
 use Rattle.semver_texts.specs.Precedence.{precedence, pre_cmp}
-use Rattle.semver_texts.specs.Versions.{IdentifierValue, PlainVersion}
-use Rattle.semver_ranges.specs.Partials.{filled, pre_release, zero_version}
+use Rattle.semver_texts.specs.Versions.{numbers, IdentifierValue, PlainVersion}
+use Rattle.semver_ranges.specs.Partials.{filled, leading_place, pre_release, zero_version}
 use Rattle.semver_ranges.specs.Terms.{Term, of_simple, of_nothing, terms}
 use Rattle.semver_ranges.specs.OwnMeaning.{agrees, agrees_past_zeros}
 use Rattle.semver_ranges.specs.RewritingTable.{PlainComparator, cell, comparator, up, written_cell}
 use Rattle.semver_ranges.specs.ExactBounds.{lowest_pre_release, exact_bound}
 use Rattle.semver_ranges.specs.Meeting.{meets_comparator, meets_set}
 use Rattle.semver_ranges.specs.StatedPreReleases.{counts_in}
-use Rattle.semver_ranges.proofs.Rows.{Shape, exact_row}
+use Rattle.semver_ranges.proofs.Rows.{Shape, Tail, same, past, floor, numbers_step, exact_row}
 use Rattle.semver_ranges.proofs.SetMeanings.{stated_shape, set_meets_by}
-use Rattle.semver_ranges.proofs.Tests.{list_all-weaker, list_any-weaker, list_any-same}
+use Rattle.semver_ranges.proofs.Tests.{list_all-same, list_all-weaker, list_any-weaker, list_any-same}
 use Rattle.semver_texts.proofs.Lists.{by_test}
 use Rattle.tool_ranges.specs.ToolTable.{is_greater, states_some, ends_at, written_in}
 use Rattle.tool_ranges.specs.NpmMeaning.{is_zero, is_from, meets_by_count, meets_one, asks_nothing_by, asks_nothing, is_every_release}
 use Rattle.tool_ranges.specs.NpmMeaning.{meets_npm}
 use Rattle.tool_ranges.specs.NpmTable.{rewritten_npm}
+use Rattle.tool_ranges.specs.Steps.NpmReading.{is_at_least, is_from_zero}
 use Rattle.tool_ranges.proofs.ReadMeanings.{step, behind, not_less, no_lower, is_less}
 use Rattle.tool_ranges.proofs.ToolRows.{npm_table}
 
-abbrev written_by : Form → List ℕ → List IdentifierValue → List PlainComparator
+abbrev pub written_by : Form → List ℕ → List IdentifierValue → List PlainComparator
 written_by form s p =
     if is_greater form && states_some s then comparator Gte (up (length s) s) ∷ []
     else (if ends_at Npm form s then comparator Lt (exact_bound (filled s p)) ∷ []
     else written_cell lowest_pre_release (cell Npm form s) s (filled s p))
 
-none_is : (is : List IdentifierValue) → is_empty is ≡ true → is ≡ []
+pub none_is : (is : List IdentifierValue) → is_empty is ≡ true → is ≡ []
 none_is [] e = refl
 none_is (i ∷ is) e = cc
 
-module _ (v : PlainVersion) (release : v.pre ≡ []) where
-  is_release : is_empty v.pre ≡ true
-  is_release = ap is_empty release
+at_least_is : (op : Op) → is_at_least op ≡ true → op ≡ Gte
+at_least_is Gte e = refl
+at_least_is _ e = cc
 
-  -- the order of what isn't stated, against a bound that has no pre-release, and the lowest
-  abbrev past_patch : List IdentifierValue → Ordering
-  past_patch p = pre_cmp v.pre p
+-- no release is below 0.0.0
+from_zero : (v : PlainVersion) → v.pre ≡ [] → is_ge (precedence v zero_version) ≡ true
+from_zero v release =
+    not_less v.major _ (not_less v.minor _ (not_less v.patch _ (ap (λ q. is_ge (pre_cmp q [])) release)))
 
-  abbrev past_minor : List IdentifierValue → Ordering
-  past_minor p = ordering_then (nat_cmp v.patch 0) (past_patch p)
+release_ge : (v : PlainVersion) → v.pre ≡ [] → (z : PlainVersion) → is_zero z ≡ true → is_ge (precedence v z) ≡ true
+release_ge v release z y =
+    let all = and_parts _ (is_empty z.pre) y in
+    let first = and_parts (z.major == 0) _ all.0 in
+    let second = and_parts (z.minor == 0) _ first.1 in
+    let third = and_parts (z.patch == 0) true second.1 in
+    rw (eqb-true z.major 0 first.0, eqb-true z.minor 0 second.0, eqb-true z.patch 0 third.0, none_is z.pre all.1) (from_zero v release)
 
-  abbrev past_major : List IdentifierValue → Ordering
-  past_major p = ordering_then (nat_cmp v.minor 0) (past_minor p)
+above : {o : Ordering} → Tail o false → is_ge o ≡ true
+above same = refl
+above past = refl
 
-  none_ge : is_ge (past_patch []) ≡ true
-  none_ge = ap (λ q. is_ge (pre_cmp q [])) release
+module _ (v : PlainVersion) where
+  -- whether a comparator asks nothing or is met
+  abbrev pub passes : PlainComparator → Bool
+  passes c = is_from_zero c || meets_comparator v c
 
-  lowest_ge : is_ge (past_patch lowest_pre_release) ≡ true
-  lowest_ge = ap (λ q. is_ge (pre_cmp q lowest_pre_release)) release
+  -- the release of the same numbers
+  abbrev released : PlainVersion
+  released = record v { pre = [] }
 
-  minor_ge : (p : List IdentifierValue) → is_ge (past_patch p) ≡ true → is_ge (past_minor p) ≡ true
-  minor_ge p e = not_less v.patch (past_patch p) e
+  -- the order of what isn't stated, against the lowest pre-release
+  abbrev past_patch : Ordering
+  past_patch = pre_cmp v.pre lowest_pre_release
 
-  major_ge : (p : List IdentifierValue) → is_ge (past_patch p) ≡ true → is_ge (past_major p) ≡ true
-  major_ge p e = not_less v.minor (past_minor p) (minor_ge p e)
+  abbrev past_minor : Ordering
+  past_minor = ordering_then (nat_cmp v.patch 0) past_patch
 
-  from_zero : is_ge (precedence v zero_version) ≡ true
-  from_zero = not_less v.major (past_major []) (major_ge [] none_ge)
+  abbrev past_major : Ordering
+  past_major = ordering_then (nat_cmp v.minor 0) past_minor
 
-  -- no release is below 0.0.0
-  from_is : (z : PlainVersion) → is_ge (precedence v z) ≡ is_from z v
-  from_is z = by_test (is_zero z) (λ y. rw y (at_zero y)) (λ n. rw n refl) where
-    at_zero : is_zero z ≡ true → is_ge (precedence v z) ≡ true
-    at_zero y =
-        let all = and_parts _ (is_empty z.pre) y in
-        let first = and_parts (z.major == 0) _ all.0 in
-        let second = and_parts (z.minor == 0) _ first.1 in
-        let third = and_parts (z.patch == 0) true second.1 in
-        rw (eqb-true z.major 0 first.0, eqb-true z.minor 0 second.0, eqb-true z.patch 0 third.0, none_is z.pre all.1) from_zero
+  pub lowest_ge : is_ge past_patch ≡ true
+  lowest_ge = above (floor v.pre)
+
+  minor_ge : is_ge past_minor ≡ true
+  minor_ge = not_less v.patch past_patch lowest_ge
+
+  major_ge : is_ge past_major ≡ true
+  major_ge = not_less v.minor past_minor minor_ge
+
+  -- what is below an exact bound is so by its numbers
+  same_bound : (b : PlainVersion) → (is_lt (precedence released (exact_bound b)) && true) ≡ (is_lt (precedence v (exact_bound b)) && true)
+  same_bound b = ap (λ x. x && true)
+      (is_less (numbers_step released b) (pre_cmp [] lowest_pre_release) refl ∙ sym (is_less (numbers_step v b) past_patch lowest_ge))
+
+  abbrev Between : PlainVersion → PlainVersion → PlainVersion → Bool → Type 0
+  Between w z b e = (is_ge (precedence w z) && (is_lt (precedence w (exact_bound b)) && true)) ≡ (is_ge (precedence w z) && e)
+
+  -- from 0.0.0 on is all that its numbers let in, as for the release
+  between : (z b : PlainVersion) (e : Bool) → Between v z b e → Between released z b e
+      → (is_from z v && (is_lt (precedence v (exact_bound b)) && true)) ≡ (is_from z v && e)
+  between z b e row released_row = by_test (is_zero z)
+      (λ y. let from : is_ge (precedence released z) ≡ true = release_ge released refl z y in
+      rw y (sym (same_bound b) ∙ (rw from at released_row)))
+      (λ n. rw n row)
 
   abbrev RowMeans : Form → List ℕ → List IdentifierValue → Type 0
-  RowMeans form s p = list_all (meets_comparator v) (written_by form s p) ≡ meets_by_count form s (filled s p) v
+  RowMeans form s p = list_all passes (written_by form s p) ≡ meets_by_count form s (filled s p) v
 
   below_none : (is_lt (precedence v (exact_bound zero_version)) && true) ≡ false
-  below_none = and-true _ ∙ no_lower _ (not_less v.major _ (major_ge lowest_pre_release lowest_ge))
-
-  any_version : (is_ge (precedence v zero_version) && true) ≡ true
-  any_version = and-true _ ∙ from_zero
+  below_none = and-true _ ∙ no_lower _ (not_less v.major past_major major_ge)
 
   row_none : (form : Form) → RowMeans form [] []
-  row_none bare = any_version
-  row_none equal = any_version
   row_none less = below_none
-  row_none at_most = any_version
   row_none greater = below_none
-  row_none at_least = any_version
-  row_none tilde = any_version
-  row_none caret = any_version
+  row_none _ = refl
 
   row_one : (form : Form) (x : ℕ) → RowMeans form (x ∷ []) []
-  row_one bare x = exact_row v Npm bare (Shape.one x) [] ∙ ap (λ b. b && agrees 1 (x ∷ []) v) (from_is (filled (x ∷ []) []))
-  row_one equal x = exact_row v Npm equal (Shape.one x) [] ∙ ap (λ b. b && agrees 1 (x ∷ []) v) (from_is (filled (x ∷ []) []))
-  row_one less x = and-true _ ∙ is_less (step v.major x) (past_major lowest_pre_release) (major_ge lowest_pre_release lowest_ge)
+  row_one bare x = between (filled (x ∷ []) []) (up 1 (x ∷ [])) (agrees 1 (x ∷ []) v)
+      (exact_row v Npm bare (Shape.one x) []) (exact_row released Npm bare (Shape.one x) [])
+  row_one equal x = between (filled (x ∷ []) []) (up 1 (x ∷ [])) (agrees 1 (x ∷ []) v)
+      (exact_row v Npm equal (Shape.one x) []) (exact_row released Npm equal (Shape.one x) [])
+  row_one less x = and-true _ ∙ is_less (step v.major x) past_major major_ge
   row_one at_most x = exact_row v Npm at_most (Shape.one x) []
-  row_one greater x = and-true _
-  row_one at_least x = exact_row v Npm at_least (Shape.one x) [] ∙ from_is (filled (x ∷ []) [])
-  row_one tilde x = exact_row v Npm tilde (Shape.one x) [] ∙ ap (λ b. b && agrees 1 (x ∷ []) v) (from_is (filled (x ∷ []) []))
-  row_one caret x = exact_row v Npm caret (Shape.one x) []
-      ∙ ap (λ b. b && agrees_past_zeros (x ∷ []) (v.major ∷ v.minor ∷ v.patch ∷ [])) (from_is (filled (x ∷ []) []))
+  row_one greater x = rw (ne_eqb (x + 1) 0 (λ e. omega arith)) (and-true _)
+  row_one at_least x = and-true _
+  row_one tilde x = between (filled (x ∷ []) []) (up 1 (x ∷ [])) (agrees 1 (x ∷ []) v)
+      (exact_row v Npm tilde (Shape.one x) []) (exact_row released Npm tilde (Shape.one x) [])
+  row_one caret x = between (filled (x ∷ []) []) (up 1 (x ∷ [])) (agrees_past_zeros (x ∷ []) (numbers v))
+      (exact_row v Npm caret (Shape.one x) []) (exact_row released Npm caret (Shape.one x) [])
 
   row_two : (form : Form) (x y : ℕ) → RowMeans form (x ∷ y ∷ []) []
-  row_two bare x y = exact_row v Npm bare (Shape.two x y) []
-      ∙ ap (λ b. b && agrees 2 (x ∷ y ∷ []) v) (from_is (filled (x ∷ y ∷ []) []))
-  row_two equal x y = exact_row v Npm equal (Shape.two x y) []
-      ∙ ap (λ b. b && agrees 2 (x ∷ y ∷ []) v) (from_is (filled (x ∷ y ∷ []) []))
-  row_two less x y = and-true _
-      ∙ is_less (behind (step v.major x) (step v.minor y)) (past_minor lowest_pre_release) (minor_ge lowest_pre_release lowest_ge)
+  row_two bare x y = between (filled (x ∷ y ∷ []) []) (up 2 (x ∷ y ∷ [])) (agrees 2 (x ∷ y ∷ []) v)
+      (exact_row v Npm bare (Shape.two x y) []) (exact_row released Npm bare (Shape.two x y) [])
+  row_two equal x y = between (filled (x ∷ y ∷ []) []) (up 2 (x ∷ y ∷ [])) (agrees 2 (x ∷ y ∷ []) v)
+      (exact_row v Npm equal (Shape.two x y) []) (exact_row released Npm equal (Shape.two x y) [])
+  row_two less x y = and-true _ ∙ is_less (behind (step v.major x) (step v.minor y)) past_minor minor_ge
   row_two at_most x y = exact_row v Npm at_most (Shape.two x y) []
-  row_two greater x y = and-true _
-  row_two at_least x y = exact_row v Npm at_least (Shape.two x y) [] ∙ from_is (filled (x ∷ y ∷ []) [])
-  row_two tilde x y = exact_row v Npm tilde (Shape.two x y) []
-      ∙ ap (λ b. b && agrees 2 (x ∷ y ∷ []) v) (from_is (filled (x ∷ y ∷ []) []))
-  row_two caret x y = exact_row v Npm caret (Shape.two x y) []
-      ∙ ap (λ b. b && agrees_past_zeros (x ∷ y ∷ []) (v.major ∷ v.minor ∷ v.patch ∷ [])) (from_is (filled (x ∷ y ∷ []) []))
+  row_two greater x y = rw (ne_eqb (y + 1) 0 (λ e. omega arith), and-false (x == 0)) (and-true _)
+  row_two at_least x y = and-true _
+  row_two tilde x y = between (filled (x ∷ y ∷ []) []) (up 2 (x ∷ y ∷ [])) (agrees 2 (x ∷ y ∷ []) v)
+      (exact_row v Npm tilde (Shape.two x y) []) (exact_row released Npm tilde (Shape.two x y) [])
+  row_two caret x y =
+      between (filled (x ∷ y ∷ []) []) (up (leading_place (x ∷ y ∷ [])) (x ∷ y ∷ [])) (agrees_past_zeros (x ∷ y ∷ []) (numbers v))
+      (exact_row v Npm caret (Shape.two x y) []) (exact_row released Npm caret (Shape.two x y) [])
 
   row_three : (form : Form) (x y w : ℕ) (p : List IdentifierValue) → RowMeans form (x ∷ y ∷ w ∷ []) p
+  row_three at_least x y w p = and-true _
+  row_three tilde x y w p = between (filled (x ∷ y ∷ w ∷ []) p) (up 2 (x ∷ y ∷ w ∷ [])) (agrees 2 (x ∷ y ∷ w ∷ []) v)
+      (exact_row v Npm tilde (Shape.three x y w) p) (exact_row released Npm tilde (Shape.three x y w) p)
+  row_three caret x y w p =
+      between (filled (x ∷ y ∷ w ∷ []) p) (up (leading_place (x ∷ y ∷ w ∷ [])) (x ∷ y ∷ w ∷ []))
+      (agrees_past_zeros (x ∷ y ∷ w ∷ []) (numbers v))
+      (exact_row v Npm caret (Shape.three x y w) p) (exact_row released Npm caret (Shape.three x y w) p)
   row_three bare x y w p = exact_row v Npm bare (Shape.three x y w) p
   row_three equal x y w p = exact_row v Npm equal (Shape.three x y w) p
   row_three less x y w p = exact_row v Npm less (Shape.three x y w) p
   row_three at_most x y w p = exact_row v Npm at_most (Shape.three x y w) p
   row_three greater x y w p = exact_row v Npm greater (Shape.three x y w) p
-  row_three at_least x y w p = exact_row v Npm at_least (Shape.three x y w) p ∙ from_is (filled (x ∷ y ∷ w ∷ []) p)
-  row_three tilde x y w p = exact_row v Npm tilde (Shape.three x y w) p
-      ∙ ap (λ b. b && agrees 2 (x ∷ y ∷ w ∷ []) v) (from_is (filled (x ∷ y ∷ w ∷ []) p))
-  row_three caret x y w p = exact_row v Npm caret (Shape.three x y w) p
-      ∙ ap (λ b. b && agrees_past_zeros (x ∷ y ∷ w ∷ []) (v.major ∷ v.minor ∷ v.patch ∷ [])) (from_is (filled (x ∷ y ∷ w ∷ []) p))
 
   any_row : (form : Form) {s : List ℕ} → Shape s → (p : List IdentifierValue) → ((length s == 3) ≡ false → p ≡ []) → RowMeans form s p
   any_row form Shape.none p none = rw (none refl) (row_none form)
@@ -143,8 +167,22 @@ module _ (v : PlainVersion) (release : v.pre ≡ []) where
   any_row form (Shape.two x y) p none = rw (none refl) (row_two form x y)
   any_row form (Shape.three x y w) p none = row_three form x y w p
 
+  pub simple_passes : (s : Simple) → list_all passes (written_in Npm s) ≡ meets_one (of_simple s) v
+  simple_passes s = any_row s.form (stated_shape s.partial) (pre_release s.partial) (λ n. rw n refl)
+
+module _ (v : PlainVersion) (release : v.pre ≡ []) where
+  is_release : is_empty v.pre ≡ true
+  is_release = ap is_empty release
+
+  -- a release that meets no comparator doesn't pass it
+  same_test : (c : PlainComparator) → meets_comparator v c ≡ passes v c
+  same_test c = by_test (is_from_zero c)
+      (λ y. let parts = and_parts (is_at_least c.op) _ y in
+      rw (y, at_least_is c.op parts.0) (release_ge v release c.version parts.1))
+      (λ n. rw n refl)
+
   simple_meets : (s : Simple) → list_all (meets_comparator v) (written_in Npm s) ≡ meets_one (of_simple s) v
-  simple_meets s = any_row s.form (stated_shape s.partial) (pre_release s.partial) (λ n. rw n refl)
+  simple_meets s = list_all-same (meets_comparator v) (passes v) same_test (written_in Npm s) ∙ simple_passes v s
 
   -- a release meets what asks nothing
   met : (form : Form) {s : List ℕ} → Shape s → (p : List IdentifierValue) → asks_nothing_by form (is_empty s) (is_zero (filled s p)) ≡ true
@@ -176,4 +214,4 @@ module _ (v : PlainVersion) (release : v.pre ≡ []) where
         counted r = rw is_release (and-true _)
 
   pub npm_meets : (tree : SetTree) → meets_set v (rewritten_npm tree) ≡ meets_npm tree v
-  npm_meets tree = set_meets_by npm_table Npm v (λ term. meets_one term v) simple_meets from_zero tree ∙ some_range tree
+  npm_meets tree = set_meets_by npm_table Npm v (λ term. meets_one term v) simple_meets (from_zero v release) tree ∙ some_range tree

@@ -43,7 +43,7 @@ use std::alloc::{AllocError, Global};
 /// `>=1.2.0 <2.0.0-0 || >=3.0.0 <4.0.0-0`.
 ///
 /// A release meets the answer exactly if the text means it. Which pre-releases npm takes
-/// comparators can't say.
+/// comparators can't say: [`read`] answers them as a set.
 ///
 /// # Errors
 ///

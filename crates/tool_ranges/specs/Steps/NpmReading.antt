@@ -1,12 +1,22 @@
--- A means of proof, which no public clause cites: what the reader of npm's range texts finds.
-use Rattle.std.specs.Prelude.{◌≡◌, ℕ, false, Some, None, IsTrue, length}
+-- A means of proof, which no public clause cites: what the reader of npm's range texts finds, and
+-- which versions its comparators mean.
+use Rattle.std.specs.Prelude.{◌≡◌, ℕ, Bool, true, false, not, ◌&&◌, if◌then◌else◌, Some, None}
+use Rattle.std.specs.Prelude.{IsTrue, length, map}
+use Rattle.std.specs.List.{filter, list_all, list_any}
 use Rattle.semver_ranges.specs.declared.grammar.Dialect.TheVariants.{Npm}
+use Rattle.semver_ranges.specs.declared.range.Op.{Op}
+use Rattle.semver_ranges.specs.declared.range.Op.TheVariants.{Gte}
 use Rattle.semver_ranges.specs.declared.range_set.RangeError.{RangeError}
 use Rattle.semver_ranges.specs.declared.range_set.RangeError.TheVariants.{NotARange, NumberTooLarge}
 use Rattle.semver_ranges.specs.declared.range_set.RangeError.TheVariants.{OutOfMemory}
-use Rattle.semver_texts.specs.Texts.{Text}
+use Rattle.semver_texts.specs.Texts.{Text, is_empty}
+use Rattle.semver_texts.specs.Versions.{PlainVersion}
 use Rattle.semver_ranges.specs.RangeTree.{SetTree}
+use Rattle.semver_ranges.specs.RewritingTable.{PlainComparator, PlainRange, PlainSet}
+use Rattle.semver_ranges.specs.Meeting.{meets_set}
+use Rattle.semver_ranges.specs.StatedPreReleases.{meets_set_as_stated}
 use Rattle.semver_ranges.specs.Steps.Reading.{read}
+use Rattle.tool_ranges.specs.NpmMeaning.{is_zero}
 use Rattle.tool_ranges.specs.NpmTable.{npm_fits}
 
 -- a text that is read, fits, and has so many ranges
@@ -21,3 +31,29 @@ IsNpmRefusal t NumberTooLarge =
     (tree : SetTree) × (read Npm t ≡ Some tree) × (npm_fits tree ≡ false)
 IsNpmRefusal t OutOfMemory =
     (tree : SetTree) × (read Npm t ≡ Some tree) × IsTrue (npm_fits tree)
+
+-- whether a comparator is `>=0.0.0`, by which npm asks nothing
+abbrev pub is_at_least : Op → Bool
+is_at_least Gte = true
+is_at_least _ = false
+
+abbrev pub is_from_zero : PlainComparator → Bool
+is_from_zero c = is_at_least c.op && is_zero c.version
+
+-- whether a range has no other
+abbrev pub has_no_other : PlainRange → Bool
+has_no_other r = list_all is_from_zero r.comparators
+
+-- the others of a range
+abbrev pub others_of : PlainRange → PlainRange
+others_of r = record r { comparators = filter (λ c. not (is_from_zero c)) r.comparators }
+
+abbrev pub others_in : PlainSet → PlainSet
+others_in set = record set { ranges = map others_of set.ranges }
+
+-- whether a text means a version, by the comparators that it is rewritten to: where some range has
+-- no other, the releases; else those that the others mean as stated
+abbrev pub is_meant : PlainSet → PlainVersion → Bool
+is_meant set v =
+    if list_any has_no_other set.ranges then is_empty v.pre && meets_set v set
+    else meets_set_as_stated v (others_in set)

@@ -1,12 +1,16 @@
 //! Range texts of npm as sets of versions: what npm takes, with its pre-releases.
 
 ghost use Rattle.std.specs.Prelude.{◌≡◌, IfOk};
+ghost use Rattle.std.specs.List.{list_all, list_any};
 ghost use Rattle.semver_ranges.specs.RangeTree.{SetTree};
+ghost use Rattle.semver_ranges.specs.RangeViews.{comparator_of, range_of, set_of};
 ghost use Rattle.semver_texts.specs.Versions.{PlainVersion};
 ghost use Rattle.version_sets.specs.VersionSets.{has, Fits};
 ghost use Rattle.tool_ranges.specs.NpmGrammar.{SpellsNpm};
 ghost use Rattle.tool_ranges.specs.NpmMeaning.{meets_npm};
 ghost use Rattle.tool_ranges.specs.NpmTexts.{RefusesNpm};
+ghost use Rattle.tool_ranges.specs.Steps.NpmReading.{has_no_other, is_from_zero};
+ghost use Rattle.tool_ranges.specs.Steps.NpmReading.{is_meant, others_in};
 
 use crate::npm::rewrite;
 use semver_ranges::{Comparator, Op, Range, RangeError, RangeSet};
@@ -44,27 +48,58 @@ pub fn read(alloc: Global, range: &str) -> Result<VersionSet, RangeError>
     }
 }
 
-/// What a text means of which these are the comparators.
-fn meant(alloc: Global, mut rewritten: RangeSet) -> Result<VersionSet, AllocError> {
-    if rewritten.ranges.iter().any(asks_nothing) {
+/// What a text means that is rewritten to these comparators.
+fn meant(alloc: Global, rewritten: RangeSet) -> Result<VersionSet, AllocError>
+    ensures { IfOk result (λ set. (v : PlainVersion) → Fits v
+        → has set v ≡ is_meant (set_of rewritten) v) }
+{
+    if some_has_no_other(&rewritten.ranges) {
         return VersionSet::of_set(alloc, &rewritten, PreReleases::Excluded);
     }
-    for range in &mut rewritten.ranges {
+    VersionSet::of_set(alloc, &others_in(rewritten), PreReleases::Stated)
+}
+
+/// The same set without its comparators `>=0.0.0`.
+fn others_in(mut set: RangeSet) -> RangeSet
+    ensures { set_of result ≡ others_in (set_of set) }
+{
+    for range in set.ranges.iter_mut() {
         range
             .comparator_set
             .retain(|comparator| !is_from_zero(comparator));
     }
-    VersionSet::of_set(alloc, &rewritten, PreReleases::Stated)
+    set
 }
 
-/// Whether a range is every release.
-fn asks_nothing(range: &Range) -> bool {
-    range.comparator_set.iter().all(is_from_zero)
+/// Whether some range has no comparator but `>=0.0.0`.
+fn some_has_no_other(ranges: &[Range]) -> bool
+    ensures { result ≡ list_any (λ range. has_no_other (range_of range)) ranges.now }
+{
+    ranges.iter().any(|range| has_no_other(range))
+}
+
+/// Whether a range has no comparator but `>=0.0.0`.
+fn has_no_other(range: &Range) -> bool
+    ensures { result ≡ has_no_other (range_of range.now) }
+{
+    are_from_zero(&range.comparator_set)
+}
+
+/// Whether each comparator is `>=0.0.0`.
+fn are_from_zero(comparators: &[Comparator]) -> bool
+    ensures { result
+        ≡ list_all (λ comparator. is_from_zero (comparator_of comparator)) comparators.now }
+{
+    comparators
+        .iter()
+        .all(|comparator| is_from_zero(comparator))
 }
 
 /// Whether a comparator is `>=0.0.0`, by which npm asks nothing.
-fn is_from_zero(comparator: &Comparator) -> bool {
-    comparator.op == Op::Gte
+fn is_from_zero(comparator: &Comparator) -> bool
+    ensures { result ≡ is_from_zero (comparator_of comparator.now) }
+{
+    matches!(comparator.op, Op::Gte)
         && comparator.major == 0
         && comparator.minor == 0
         && comparator.patch == 0
