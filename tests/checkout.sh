@@ -1,5 +1,6 @@
-# What the tests of the scripts share. Reading this file makes a checkout that nobody edits, `checkout`, in a folder with a blank in its name, and
-# goes there: the scripts, and what is built of the programs and the library. It proves nothing: in place of `rt` stands a script.
+# What the tests of the scripts share. Reading this file makes a checkout that nobody edits,
+# `checkout`, in a folder with a blank in its name, and goes there: the scripts, and what is built
+# of the programs and the library. It proves nothing: in place of `rt` stands a script.
 work=$(mktemp -d)
 trap 'rm -rf "$work"' EXIT
 umask 022
@@ -55,7 +56,8 @@ has() {
     printf '%s\n' "$1" | diff -u - "$work/$2"
 }
 
-# refuses WHY COMMAND..: the command has to end with status 2 and one line that says why, and to write nothing else.
+# refuses WHY COMMAND..: the command has to end with status 2 and one line that says why, and to
+# write nothing else.
 refuses() {
     why=$1
     shift
@@ -102,8 +104,8 @@ shared: 1.4.0' stdout
     ends 0 env -i "$1/compare-ranges" --npm '^1.2' '>=1.2.0 <2.0.0'
 }
 
-# stopped_while_compiling COMMAND.. FOLDER: the command is stopped while a file of C is compiled. It ends by the signal, leaves no temporary file, and
-# puts nothing into the folder.
+# stopped_while_compiling COMMAND.. FOLDER: the command is stopped while a file of C is compiled. It
+# ends by the signal, leaves no temporary file, and puts nothing into the folder.
 stopped_while_compiling() {
     rm -rf "$work/temporary" "$work/half"
     mkdir "$work/temporary"

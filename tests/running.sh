@@ -1,5 +1,5 @@
-# What the scripts that run a program share. Each sets `program`, the program that it runs, and `expected`, the file of what
-# its runs have to write; then it reads this file.
+# What the scripts that run a program share. Each sets `program`, the program that it runs, and
+# `expected`, the file of what its runs have to write; then it reads this file.
 work=$(mktemp -d)
 trap 'rm -rf "$work"' EXIT
 

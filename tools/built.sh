@@ -1,16 +1,19 @@
-# What the scripts share that run, install or package what is built. Each sets `top` first, the folder of the repository, by its whole path, and
-# then reads this file.
+# What the scripts share that run, install or package what is built. Each sets `top` first, the
+# folder of the repository, by its whole path, and then reads this file.
 #
-# What is built lies in out/built, by its last name. It counts as built where it is there, and nothing is newer that it may be made from:
-# crates.txt, and in each crate the folders src, specs and proofs with all that they hold. So times decide and not bytes, and a change of
-# the kit isn't seen. It is put there by one renaming, once its build has ended well, and is dated back to the time at which that began. So
-# a build that fails or is stopped leaves what was there, and what is edited while it runs is newer.
+# What is built lies in out/built, by its last name. It counts as built where it is there, and
+# nothing is newer that it may be made from: crates.txt, and in each crate the folders src, specs
+# and proofs with all that they hold. So times decide and not bytes, and a change of the kit isn't
+# seen. It is put there by one renaming, once its build has ended well, and is dated back to the
+# time at which that began. So a build that fails or is stopped leaves what was there, and what is
+# edited while it runs is newer.
 
 # So that `cd` and what is run go by the names that they are given, and don't look in other folders.
 unset CDPATH
 
-# A folder for what is needed on the way; a file that isn't whole yet; the command that runs beside the script, whether one is being started, and the
-# signal that came meanwhile. Each is empty where there is none.
+# A folder for what is needed on the way; a file that isn't whole yet; the command that runs beside
+# the script, whether one is being started, and the signal that came meanwhile. Each is empty where
+# there is none.
 work='' unfinished='' job='' starting='' came=''
 
 # refuse WHY: says why in one line, and ends with status 2.
@@ -27,7 +30,8 @@ let_go() {
     work='' unfinished='' job=''
 }
 
-# stopped SIGNAL: ends the script by the signal that it was sent, once it is known what has to end with it.
+# stopped SIGNAL: ends the script by the signal that it was sent, once it is known what has to end
+# with it.
 stopped() {
     came=$1
     [ -z "$starting" ] || return 0
@@ -47,7 +51,8 @@ begin() {
     work=$(mktemp -d) || refuse 'cannot make a folder for temporary files'
 }
 
-# beside COMMAND..: runs a command so that a signal to the script ends both, and gives its status. The command gets no input.
+# beside COMMAND..: runs a command so that a signal to the script ends both, and gives its status.
+# The command gets no input.
 beside() {
     beside=0 starting=yes
     "$@" < /dev/null &
@@ -70,7 +75,8 @@ is_built() {
     newer=$(find "$top/crates.txt" "$top"/crates/*/src "$top"/crates/*/specs "$top"/crates/*/proofs -newer "$built") && [ -z "$newer" ]
 }
 
-# may_build NAME: refuses where a build can't be, or would leave files of root among those of another user.
+# may_build NAME: refuses where a build can't be, or would leave files of root among those of
+# another user.
 may_build() {
     if [ "$(id -u)" = 0 ] && [ -z "$(find "$top" -prune -user 0)" ]; then
         refuse "$1 isn't built, and root builds nothing in a checkout of another user: run ./install --build as its owner, then sudo ./install"
@@ -89,7 +95,8 @@ keep() {
     unfinished=''
 }
 
-# in_crate CRATE COMMAND..: runs a command in the folder of a crate. What it makes on the way and leaves lies in the folder `work`.
+# in_crate CRATE COMMAND..: runs a command in the folder of a crate. What it makes on the way and
+# leaves lies in the folder `work`.
 in_crate() {
     cd "$top/crates/$1" || exit
     shift
@@ -98,7 +105,8 @@ in_crate() {
     exec "$@"
 }
 
-# crates_of CRATE: the crates that it stands on, and itself, one on a line, in the order of crates.txt, which has the lowest first.
+# crates_of CRATE: the crates that it stands on, and itself, one on a line, in the order of
+# crates.txt, which has the lowest first.
 crates_of() {
     awk -v wanted="$1" '
         /^[^#]/ { head = $1; sub(":", "", head); names[++count] = head; uses[head] = $0 }
@@ -113,8 +121,8 @@ crates_of() {
     ' "$top/crates.txt"
 }
 
-# tell_crates CRATE: passes its input on to the notes, and says on standard error of each crate that `rt` begins to prove which one it is of those
-# that the crate needs.
+# tell_crates CRATE: passes its input on to the notes, and says on standard error of each crate that
+# `rt` begins to prove which one it is of those that the crate needs.
 tell_crates() {
     crates_of "$1" > "$work/needed"
     all=$(wc -l < "$work/needed")
@@ -142,8 +150,9 @@ prove() {
     return "$proved"
 }
 
-# in_two_lanes: proves what reads versions, and beside it, in a copy, what reads ranges: `rt` works in one crate at a time, and on all that it stands
-# on, so two that both stand on semver_texts wait for each other in one folder. What is proved in the copy is then as if it had been proved here.
+# in_two_lanes: proves what reads versions, and beside it, in a copy, what reads ranges: `rt` works
+# in one crate at a time, and on all that it stands on, so two that both stand on semver_texts wait
+# for each other in one folder. What is proved in the copy is then as if it had been proved here.
 in_two_lanes() {
     lanes='' failed=0
     trap 'kill $lanes; exit 143' TERM
@@ -165,8 +174,9 @@ is_unproved() {
     [ -d "$top/crates/$1/src" ] && [ -z "$(ls -A "$top/crates/$1/out" 2> /dev/null)" ]
 }
 
-# build NAME CRATE FILE COMMAND..: builds what isn't built, by a command in the folder of a crate that makes the file out/FILE there. It says so
-# first, on standard error, and which crate is proved; what is said on the way goes there where it fails, and else nowhere.
+# build NAME CRATE FILE COMMAND..: builds what isn't built, by a command in the folder of a crate
+# that makes the file out/FILE there. It says so first, on standard error, and which crate is
+# proved; what is said on the way goes there where it fails, and else nowhere.
 build() {
     ! is_built "$1" || return 0
     may_build "$1"
@@ -184,7 +194,8 @@ build() {
     keep "$name" "$top/crates/$crate/out/$file" "$work/begun"
 }
 
-# build_semver_parser, build_release_filter and build_compare_ranges: each of the three programs, which also runs once, and has to make status 0.
+# build_semver_parser, build_release_filter and build_compare_ranges: each of the three programs,
+# which also runs once, and has to make status 0.
 build_semver_parser() {
     build semver-parser semver_parser_main semver_parser_main rt run -- 1.2.3
 }

@@ -1,4 +1,5 @@
-# What the comparisons and measurements share: Debian's packages of Rust crates, by which cargo builds without a registry.
+# What the comparisons and measurements share: Debian's packages of Rust crates, by which cargo
+# builds without a registry.
 
 # sources_of PACKAGE: the folder with the sources of a package's crate, and of all others.
 sources_of() {

@@ -1,9 +1,11 @@
-# What the scripts share that make a library of the proved one and of all of c/, or tell its version. Each reads tools/built.sh first. Before it makes a
-# library it begins, and has the proved library built. What is made lies in the folder `work`.
+# What the scripts share that make a library of the proved one and of all of c/, or tell its
+# version. Each reads tools/built.sh first. Before it makes a library it begins, and has the proved
+# library built. What is made lies in the folder `work`.
 
 c=$top/crates/semver_parser_c version=$(cat "$top/VERSION")
 
-# What a program that is linked with the library asks for: a library whose version has the same first number, and while that is 0 the same second too.
+# What a program that is linked with the library asks for: a library whose version has the same
+# first number, and while that is 0 the same second too.
 case $version in 0.*) interface=${version%.*} ;; *) interface=${version%%.*} ;; esac
 soname=libsemver_parser.so.$interface
 
@@ -13,7 +15,8 @@ write_calls() {
         grep -o 'semver_parser_[a-z0-9_]* *(' | tr -d ' (' | LC_ALL=C sort -u > "$work/calls"
 }
 
-# has_calls FILE FLAG..: refuses a library whose global names, as `nm` with the flags tells them, aren't those of the calls.
+# has_calls FILE FLAG..: refuses a library whose global names, as `nm` with the flags tells them,
+# aren't those of the calls.
 has_calls() {
     nm -g --defined-only ${2-} "$1" | sed -n 's/^[0-9a-f]* [A-Za-z] //p' | LC_ALL=C sort | cmp -s - "$work/calls" ||
         refuse "${1##*/} doesn't have the calls of semver_parser.h, and these alone"
@@ -30,7 +33,8 @@ join_library() {
     ld -r -o "$work/semver_parser.o" "$objects"/*.o "$work/proved.o" || refuse 'cannot join the C library'
 }
 
-# The shared library, whose file gets the name `name`. It needs nothing beside it but the C library, and shows the calls' names alone.
+# The shared library, whose file gets the name `name`. It needs nothing beside it but the C library,
+# and shows the calls' names alone.
 link_shared_library() {
     write_calls
     join_library
