@@ -1,24 +1,27 @@
 -- What is said of a requirement's text: it has no tab, it has one tree, and what a call refuses of it.
 use Rattle.std.proofs.Common.{◌≡◌, ℕ, Bool, true, false, ◌==◌, List, [], ◌∷◌, ◌++◌, codes, refl, ap, ◌∙◌}
-use Rattle.std.proofs.Common.{Some, None, append-nil, inl, inr}
-use Rattle.std.specs.Prelude.{Ok, Err}
+use Rattle.std.proofs.Common.{Some, None, append-nil, inl, inr, sym, arith}
+use Rattle.std.specs.Prelude.{Result, Ok, Err}
+use Rattle.std.proofs.Math.Bool.{and-true}
 use Rattle.std.proofs.lemmas.Bool.{and_parts, or_cases, both_ways}
 use Rattle.std.proofs.lemmas.List.Folds.{list_any-append}
 use Rattle.std.specs.Char.{is_ascii_digit}
 use Rattle.std.specs.List.{list_all, join_with_byte}
 use Rattle.std.specs.Str.{all_ascii_digits}
 use Rattle.semver_texts.specs.Texts.{Text, is_part_byte, marked}
+use Rattle.semver_ranges.specs.declared.range_set.RangeSet.{RangeSet}
 use Rattle.semver_ranges.specs.declared.range_set.RangeError.{RangeError}
 use Rattle.semver_ranges.specs.declared.range_set.RangeError.TheVariants.{NotARange, NumberTooLarge, OutOfMemory}
 use Rattle.semver_ranges.specs.RangeTree.{PartialTree, Form, bare, equal, Simple, is_component, is_wildcard, is_number, is_part}
 use Rattle.semver_ranges.specs.RangeTree.{SpellsPartial}
 use Rattle.semver_ranges.proofs.WrittenPieces.{apart}
 use Rattle.tool_ranges.specs.CargoGrammar.{sign, SpellsComparator, SpellsComparators, SpellsRequirement}
-use Rattle.tool_ranges.specs.CargoTable.{requirement_fits}
+use Rattle.tool_ranges.specs.CargoMeaning.{as_read}
+use Rattle.tool_ranges.specs.CargoTable.{requirement_fits, written_one}
 use Rattle.tool_ranges.specs.CargoTexts.{RefusesRequirement}
-use Rattle.tool_ranges.specs.Steps.CargoReading.{has_tab, comparator_at, IsRefusal}
+use Rattle.tool_ranges.specs.Steps.CargoReading.{has_tab, comparator_at, in_one_range, IsRefusal, IsRewritten, IsRewrittenOne}
 use Rattle.tool_ranges.proofs.ComparatorReading.{ended_read, parted_read}
-use Rattle.tool_ranges.proofs.RequirementSteps.{first_left}
+use Rattle.tool_ranges.proofs.RequirementSteps.{at_last, at_start, first_left}
 
 -- ---- tabs
 
@@ -90,7 +93,7 @@ comparators_tabless (s ∷ next ∷ others) t (front, back, h, more, text) =
 
 -- ---- one tree
 
-same_comparators : (tree tree' : List Simple) (t : Text) → SpellsComparators tree t → SpellsComparators tree' t → tree' ≡ tree
+pub same_comparators : (tree tree' : List Simple) (t : Text) → SpellsComparators tree t → SpellsComparators tree' t → tree' ≡ tree
 same_comparators [] tree' t h h' = absurd h
 same_comparators (s ∷ []) tree' t h h' =
     let first = first_left s t None tree' (ended_read s t h) h' in first.1 ∙ ap (λ x. s ∷ x) first.2
@@ -136,3 +139,17 @@ refused t OutOfMemory (tree, h, fit) = record {
   too_large = (λ e. cc, λ (tree', h', large). absurd (same_fit tree tree' t h h' fit large));
   out_of_memory = λ e. (tree, h, fit);
 }
+
+-- ---- one comparator
+
+pub one_rewritten : (t : Text) (s : Simple) (r : Result RangeSet RangeError) → has_tab t ≡ false → comparator_at t ≡ Some (s, None)
+    → IsRewrittenOne (as_read s) r → IsRewritten t r
+one_rewritten t s r none e = rewritten_so r where
+  spelled : SpellsRequirement (s ∷ []) t
+  spelled = record { comparators = (at_last t [] t s (at_start t none) e).0; alone = refl; few = omega arith }
+
+  rewritten_so : (r : Result RangeSet RangeError) → IsRewrittenOne (as_read s) r → IsRewritten t r
+  rewritten_so (Ok set) (fit, same) = (s ∷ [], spelled, and-true _ ∙ fit, same ∙ ap in_one_range (sym (append-nil (written_one s))))
+  rewritten_so (Err NotARange) is = absurd is
+  rewritten_so (Err NumberTooLarge) large = (s ∷ [], spelled, and-true _ ∙ large)
+  rewritten_so (Err OutOfMemory) fit = (s ∷ [], spelled, and-true _ ∙ fit)

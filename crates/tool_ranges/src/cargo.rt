@@ -8,13 +8,17 @@ ghost use Rattle.semver_texts.specs.Versions.{PlainVersion};
 ghost use Rattle.semver_ranges.specs.RangeViews.{comparator_of, range_of, set_of};
 ghost use Rattle.semver_ranges.specs.declared.range.Compat.TheVariants.{Cargo};
 ghost use Rattle.semver_ranges.specs.Meeting.{meets_set};
+ghost use Rattle.semver_ranges.specs.Steps.CursorViews.{IsSimpleOf};
 ghost use Rattle.semver_ranges.specs.PrintedRanges.{IsPrintableSet, set_text};
 ghost use Rattle.semver_ranges.specs.RewritingTable.{fits, rewritten};
 ghost use Rattle.tool_ranges.specs.CargoGrammar.{SpellsRequirement};
 ghost use Rattle.tool_ranges.specs.CargoMeaning.{meets_requirement};
 ghost use Rattle.tool_ranges.specs.CargoTable.{requirement_fits, rewritten_requirement};
 ghost use Rattle.tool_ranges.specs.CargoTexts.{RefusesRequirement};
+ghost use Rattle.tool_ranges.specs.ToolTable.{fits_in, written_in};
 ghost use Rattle.tool_ranges.specs.Steps.CargoReading.{has_tab, EndsAs, IsRefusal};
+ghost use Rattle.tool_ranges.specs.Steps.CargoReading.{in_one_range, IsRewritten};
+ghost use Rattle.tool_ranges.specs.Steps.CargoReading.{IsRewrittenOne};
 ghost use Rattle.tool_ranges.specs.Steps.CargoPreReleases.{counting_one, judging, judging_one};
 
 mod grammar;
@@ -26,6 +30,7 @@ use crate::rows;
 use grammar::read_comparator;
 use judging::{Judged, push_judging};
 pub use reading::read;
+use semver_ranges::grammar::Simple;
 use semver_ranges::{Comparator, Compat, Range, RangeError, RangeSet};
 use std::alloc::{AllocError, Global};
 
@@ -68,9 +73,18 @@ pub fn rewrite(alloc: Global, requirement: &str) -> Result<RangeSet, RangeError>
         × Spells tree (set_text (set_of set)) × IsTrue (fits Cargo tree)
         × (rewritten Cargo tree ≡ set_of set)) }
 {
-    let text = requirement.as_bytes();
+    rewritten(alloc, requirement.as_bytes())
+}
+
+/// The comparators of a requirement. For speed, one comparator is read once.
+fn rewritten(alloc: Global, text: &[u8]) -> Result<RangeSet, RangeError>
+    ensures { IsRewritten text.now result }
+{
     if text.contains(&b'\t') {
         return Err(RangeError::NotARange);
+    }
+    if let Some((simple, None)) = read_comparator(text) {
+        return rewritten_one(alloc, &simple);
     }
     let count = match survey(text) {
         Ok(count) => count,
@@ -80,6 +94,47 @@ pub fn rewrite(alloc: Global, requirement: &str) -> Result<RangeSet, RangeError>
         Ok(set) => Ok(set),
         Err(_) => Err(RangeError::OutOfMemory),
     }
+}
+
+/// The comparators of one, as it is read.
+fn rewritten_one(alloc: Global, simple: &Simple<'_>) -> Result<RangeSet, RangeError>
+    requires { (s : SimpleTree) × IsSimpleOf s simple.now }
+    ensures { (s : SimpleTree) → IsSimpleOf s simple.now → IsRewrittenOne s result }
+{
+    if !rows::fits(simple, Compat::Cargo) {
+        return Err(RangeError::NumberTooLarge);
+    }
+    match build_one(alloc, simple) {
+        Ok(set) => Ok(set),
+        Err(_) => Err(RangeError::OutOfMemory),
+    }
+}
+
+/// The set of one that fits.
+fn build_one(alloc: Global, simple: &Simple<'_>) -> Result<RangeSet, AllocError>
+    requires { (s : SimpleTree) × IsSimpleOf s simple.now × (fits_in Cargo s ≡ true) }
+    ensures { IfOk result (λ set. (s : SimpleTree) → IsSimpleOf s simple.now
+        → fits_in Cargo s ≡ true → set_of set ≡ in_one_range (written_in Cargo s)) }
+{
+    let mut comparators = Vec::with_capacity(alloc, rows::count(simple, Compat::Cargo))?;
+    rows::push(alloc, simple, Compat::Cargo, &mut comparators)?;
+    in_one_range(alloc, comparators)
+}
+
+/// The set of one range that has the comparators.
+fn in_one_range(alloc: Global, comparator_set: Vec<Comparator>) -> Result<RangeSet, AllocError>
+    ensures { IfOk result (λ set. set_of set
+        ≡ in_one_range (map comparator_of comparator_set.items)) }
+{
+    let mut ranges = Vec::with_capacity(alloc, 1)?;
+    ranges.push(Range {
+        comparator_set,
+        compat: Compat::Cargo,
+    })?;
+    Ok(RangeSet {
+        ranges,
+        compat: Compat::Cargo,
+    })
 }
 
 /// How many comparators stand for a requirement without tabs, or why there is no set of it.
@@ -131,16 +186,7 @@ fn build(alloc: Global, text: &[u8], count: usize, judged: Judged) -> Result<Ran
     ensures { IfOk result (λ set. (tree : List SimpleTree) → SpellsRequirement tree text.now
         → set_of set ≡ judging judged tree) }
 {
-    let comparator_set = build_comparators(alloc, text, count, judged)?;
-    let mut ranges = Vec::with_capacity(alloc, 1)?;
-    ranges.push(Range {
-        comparator_set,
-        compat: Compat::Cargo,
-    })?;
-    Ok(RangeSet {
-        ranges,
-        compat: Compat::Cargo,
-    })
+    in_one_range(alloc, build_comparators(alloc, text, count, judged)?)
 }
 
 /// The comparators of a requirement that was surveyed, in a vector that has room for so many.

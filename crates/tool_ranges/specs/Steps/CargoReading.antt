@@ -6,6 +6,8 @@ use Rattle.std.specs.Prelude.{None, List, [], ◌∷◌, IsTrue, Result, Ok, Err
 use Rattle.std.specs.Borrow.{Bor}
 use Rattle.std.specs.List.{list_any}
 use Rattle.semver_ranges.specs.declared.grammar.Dialect.TheVariants.{Crate}
+use Rattle.semver_ranges.specs.declared.range.Compat.TheVariants.{Cargo}
+use Rattle.semver_ranges.specs.declared.range_set.RangeSet.{RangeSet}
 use Rattle.semver_ranges.specs.declared.range_set.RangeError.{RangeError}
 use Rattle.semver_ranges.specs.declared.range_set.RangeError.TheVariants.{NotARange, NumberTooLarge}
 use Rattle.semver_ranges.specs.declared.range_set.RangeError.TheVariants.{OutOfMemory}
@@ -13,10 +15,13 @@ use Rattle.semver_ranges.specs.declared.grammar.Simple as read
 use Rattle.semver_texts.specs.Texts.{Text}
 use Rattle.semver_ranges.specs.RangeTree.{Form, PartialTree, Simple}
 use Rattle.semver_ranges.specs.Steps.Reading.{behind_blanks, operator, with_first, component}
+use Rattle.semver_ranges.specs.RewritingTable.{PlainComparator, PlainSet}
+use Rattle.semver_ranges.specs.RangeViews.{set_of}
 use Rattle.semver_ranges.specs.Steps.CursorViews.{IsSimpleOf}
 use Rattle.tool_ranges.specs.CargoGrammar.{is_of_cargo, SpellsRequirement}
 use Rattle.tool_ranges.specs.CargoMeaning.{as_read}
-use Rattle.tool_ranges.specs.CargoTable.{requirement_fits}
+use Rattle.tool_ranges.specs.CargoTable.{requirement_fits, rewritten_requirement}
+use Rattle.tool_ranges.specs.ToolTable.{fits_in, written_in}
 
 -- whether a text has a tab
 abbrev pub has_tab : Text → Bool
@@ -66,6 +71,25 @@ IsRefusal t NumberTooLarge =
     (tree : List Simple) × SpellsRequirement tree t × (requirement_fits tree ≡ false)
 IsRefusal t OutOfMemory =
     (tree : List Simple) × SpellsRequirement tree t × IsTrue (requirement_fits tree)
+
+-- a set of one range, in Cargo mode
+abbrev pub in_one_range : List PlainComparator → PlainSet
+in_one_range cs =
+    record { ranges = record { comparators = cs; compat = Cargo } ∷ []; compat = Cargo }
+
+-- what a text is rewritten to, or why it isn't
+abbrev pub IsRewritten : Text → Result RangeSet RangeError → Type 0
+IsRewritten t (Ok set) = (tree : List Simple) × SpellsRequirement tree t
+    × IsTrue (requirement_fits tree) × (set_of set ≡ rewritten_requirement tree)
+IsRewritten t (Err e) = IsRefusal t e
+
+-- the same of one, as it is read
+abbrev pub IsRewrittenOne : Simple → Result RangeSet RangeError → Type 0
+IsRewrittenOne s (Ok set) =
+    (fits_in Cargo s ≡ true) × (set_of set ≡ in_one_range (written_in Cargo s))
+IsRewrittenOne s (Err NotARange) = ⊥
+IsRewrittenOne s (Err NumberTooLarge) = fits_in Cargo s ≡ false
+IsRewrittenOne s (Err OutOfMemory) = fits_in Cargo s ≡ true
 
 -- what is answered at the end of a text, where a wildcard stands alone or not, and all fits or not
 abbrev pub EndsAs : Bool → Bool → Result ℕ RangeError → Type 0

@@ -1,50 +1,68 @@
-use Rattle.std.proofs.Common.{ap, sym, ◌∙◌, subst}
-use Rattle.semver_ranges.specs.Meeting.{meets_set}
+use Rattle.std.proofs.Common.{◌≡◌, ap, sym, ◌∙◌, subst, List, []}
+use Rattle.std.specs.Prelude.{IfOk, IsTrue, Result, Ok, Err}
+use Rattle.semver_texts.specs.Texts.{Text}
+use Rattle.semver_texts.specs.Versions.{PlainVersion}
 use Rattle.semver_ranges.specs.declared.range.Compat.TheVariants.{Cargo}
-use Rattle.semver_ranges.specs.declared.range_set.RangeError.TheVariants.{NotARange, OutOfMemory}
-use Rattle.tool_ranges.specs.CargoGrammar.{SpellsRequirement}
-use Rattle.tool_ranges.specs.CargoTexts.{HasRequiredSet}
-use Rattle.tool_ranges.specs.Steps.CargoReading.{has_tab, IsRefusal}
-use Rattle.tool_ranges.proofs.RequirementLaws.{tab_refused, refused, answered}
-use Rattle.semver_ranges.specs.PrintedRanges.{IsPrintableSet}
+use Rattle.semver_ranges.specs.declared.range_set.RangeSet.{RangeSet}
+use Rattle.semver_ranges.specs.declared.range_set.RangeError.{RangeError}
+use Rattle.semver_ranges.specs.Meeting.{meets_set}
+use Rattle.semver_ranges.specs.PrintedRanges.{IsPrintableSet, set_text}
+use Rattle.semver_ranges.specs.RangeTree.{Simple, SetTree, Spells}
 use Rattle.semver_ranges.specs.RangeViews.{set_of}
-use Rattle.tool_ranges.proofs.RequirementPrinted.{requirement_printable, reads_back}
+use Rattle.semver_ranges.specs.RewritingTable.{fits, rewritten}
+use Rattle.tool_ranges.specs.CargoGrammar.{SpellsRequirement}
+use Rattle.tool_ranges.specs.CargoMeaning.{meets_requirement}
+use Rattle.tool_ranges.specs.CargoTable.{rewritten_requirement}
+use Rattle.tool_ranges.specs.CargoTexts.{RefusesRequirement}
+use Rattle.tool_ranges.specs.Steps.CargoReading.{IsRewritten}
 use Rattle.tool_ranges.proofs.ReadMeanings.{requirement_meets}
+use Rattle.tool_ranges.proofs.RequirementLaws.{refused, answered, same_comparators}
+use Rattle.tool_ranges.proofs.RequirementPrinted.{requirement_printable, reads_back}
 use Rattle.tool_ranges.proofs.cargo.rewrite.Goals as goal
 
-pub returns-then-contains-clause-refusals : goal.returns-then-contains-clause-refusals
-returns-then-contains-clause-refusals c = refused c.args.requirement.now NotARange
-    (tab_refused c.args.requirement.now (ap has_tab (sym c.as_bytes-text.ensures.value) ∙ sym c.contains.ensures.value
-    ∙ c.if-contains.true))
+refuses : (t : Text) (r : Result RangeSet RangeError) → IsRewritten t r → RefusesRequirement t r
+refuses t (Ok set) (tree, h, fit, same) = answered t set tree h fit
+refuses t (Err e) none = refused t e none
 
-pub returns-in-Err-clause-refusals : goal.returns-in-Err-clause-refusals
-returns-in-Err-clause-refusals c = refused c.args.requirement.now c.in-Err.refusal
-    (subst (λ t. IsRefusal t c.in-Err.refusal) c.as_bytes-text.ensures.value c.in-Err.ensures)
+as_rewritten : (t : Text) (r : Result RangeSet RangeError) → IsRewritten t r
+    → IfOk r (λ set. (tree : List Simple) → SpellsRequirement tree t → set_of set ≡ rewritten_requirement tree)
+as_rewritten t (Ok set) (tree, h, fit, same) = λ tree' h'.
+    same ∙ ap rewritten_requirement (sym (same_comparators tree tree' t h.comparators h'.comparators))
+as_rewritten t (Err e) none = tt
 
-pub returns-in-Ok-build-clause-refusals : goal.returns-in-Ok-build-clause-refusals
-returns-in-Ok-build-clause-refusals c =
-    let has : HasRequiredSet c.args.requirement.now = subst HasRequiredSet c.as_bytes-text.ensures.value c.in-Ok.ensures in
-    answered c.args.requirement.now c.in-Ok-build.set has.0 has.1 has.2
+releases : (t : Text) (r : Result RangeSet RangeError) → IsRewritten t r
+    → IfOk r (λ set. (tree : List Simple) (v : PlainVersion) → SpellsRequirement tree t → v.pre ≡ []
+    → meets_set v (set_of set) ≡ meets_requirement tree v)
+releases t (Ok set) is = λ tree v h release.
+    ap (meets_set v) (as_rewritten t (Ok set) is tree h) ∙ requirement_meets v tree t release h.comparators
+releases t (Err e) none = tt
 
-pub returns-in-Ok-build-clause-releases : goal.returns-in-Ok-build-clause-releases
-returns-in-Ok-build-clause-releases c = λ tree v h release.
-    let here : SpellsRequirement tree c.as_bytes-text.result.now = subst (SpellsRequirement tree) (sym c.as_bytes-text.ensures.value) h in
-    ap (meets_set v) (c.in-Ok-build.ensures tree here) ∙ requirement_meets v tree c.args.requirement.now release h.comparators
+printable : (t : Text) (r : Result RangeSet RangeError) → IsRewritten t r → IfOk r (λ set. IsPrintableSet (set_of set))
+printable t (Ok set) (tree, h, fit, same) = subst IsPrintableSet (sym same) (requirement_printable tree t h.comparators fit)
+printable t (Err e) none = tt
 
-pub returns-in-Err-build-clause-refusals : goal.returns-in-Err-build-clause-refusals
-returns-in-Err-build-clause-refusals c = refused c.args.requirement.now OutOfMemory
-    (subst HasRequiredSet c.as_bytes-text.ensures.value c.in-Ok.ensures)
+reads_it_back : (t : Text) (r : Result RangeSet RangeError) → IsRewritten t r → IfOk r (λ set. (tree : SetTree)
+    × Spells tree (set_text (set_of set)) × IsTrue (fits Cargo tree) × (rewritten Cargo tree ≡ set_of set))
+reads_it_back t (Ok set) (tree, h, fit, same) = reads_back Cargo (set_of set)
+    (subst IsPrintableSet (sym same) (requirement_printable tree t h.comparators fit)) (ap (λ s. s.compat) same)
+reads_it_back t (Err e) none = tt
 
-pub returns-in-Ok-build-clause-printable : goal.returns-in-Ok-build-clause-printable
-returns-in-Ok-build-clause-printable c =
-    let has = c.in-Ok.ensures in
-    subst IsPrintableSet (sym (c.in-Ok-build.ensures has.0 has.1))
-    (requirement_printable has.0 c.as_bytes-text.result.now has.1.comparators has.2)
+pub returns-clause-refusals : goal.returns-clause-refusals
+returns-clause-refusals c =
+    refuses c.args.requirement.now c.rewritten.result (subst (λ t. IsRewritten t c.rewritten.result) c.as_bytes.ensures.value c.rewritten.ensures)
 
-pub returns-in-Ok-build-clause-reads_back : goal.returns-in-Ok-build-clause-reads_back
-returns-in-Ok-build-clause-reads_back c =
-    let has = c.in-Ok.ensures in
-    let same = c.in-Ok-build.ensures has.0 has.1 in
-    reads_back Cargo (set_of c.in-Ok-build.set)
-    (subst IsPrintableSet (sym same) (requirement_printable has.0 c.as_bytes-text.result.now has.1.comparators has.2))
-    (ap (λ s. s.compat) same)
+pub returns-clause-as_rewritten : goal.returns-clause-as_rewritten
+returns-clause-as_rewritten c = as_rewritten c.args.requirement.now c.rewritten.result
+    (subst (λ t. IsRewritten t c.rewritten.result) c.as_bytes.ensures.value c.rewritten.ensures)
+
+pub returns-clause-releases : goal.returns-clause-releases
+returns-clause-releases c = releases c.args.requirement.now c.rewritten.result
+    (subst (λ t. IsRewritten t c.rewritten.result) c.as_bytes.ensures.value c.rewritten.ensures)
+
+pub returns-clause-printable : goal.returns-clause-printable
+returns-clause-printable c = printable c.args.requirement.now c.rewritten.result
+    (subst (λ t. IsRewritten t c.rewritten.result) c.as_bytes.ensures.value c.rewritten.ensures)
+
+pub returns-clause-reads_back : goal.returns-clause-reads_back
+returns-clause-reads_back c = reads_it_back c.args.requirement.now c.rewritten.result
+    (subst (λ t. IsRewritten t c.rewritten.result) c.as_bytes.ensures.value c.rewritten.ensures)
