@@ -28,7 +28,7 @@ const ACCIDENTS = [
   ['more than one `v` or `=`, or white space between', /[v=]\s*[v=]|v\s/],
   ['white space within an operator', /[<>]\s+=|~\s+>/],
   ['a comparison behind `~` or `^`', /[~^]>?\s*[<>=]/],
-  ['an operator at a side of a hyphen range', /[<>=~^][^|]* - | - [^|]*[<>=~^]/],
+  ['an operator at a side of a hyphen range', /[<>=~^][^|]*\s-\s|\s-\s[^|]*[<>=~^]/],
   ['`*` beside what it replaces', /\*[^\s|.]|[^\s|.<>=~^v]\*|[<>=~^v]\s*\*\S/]
 ]
 
