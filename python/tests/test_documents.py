@@ -36,9 +36,9 @@ class Documents(unittest.TestCase):
     def test_examples(self) -> None:
         failed, tried = doctest.testmod(semver_parser)
         self.assertEqual((failed, tried > 0), (0, True))
-        for document in (TOP / "README.md", TOP / "python" / "README.md"):
-            failed, tried = doctest.testfile(str(document), module_relative=False)
-            self.assertEqual((failed, tried > 0), (0, True), document)
+        document = TOP / "python" / "README.md"
+        failed, tried = doctest.testfile(str(document), module_relative=False)
+        self.assertEqual((failed, tried > 0), (0, True), document)
 
     def test_docstrings(self) -> None:
         found = []
