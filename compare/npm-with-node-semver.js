@@ -29,7 +29,7 @@ const ACCIDENTS = [
   ['white space within an operator', /[<>]\s+=|~\s+>/],
   ['a comparison behind `~` or `^`', /[~^]>?\s*[<>=]/],
   ['an operator at a side of a hyphen range', /[<>=~^][^|]*\s-\s|\s-\s[^|]*[<>=~^]/],
-  ['`*` beside what it replaces', /\*[^\s|.]|[^\s|.<>=~^v]\*|[<>=~^v]\s*\*\S/]
+  ['`*` beside what it replaces', /\*[^\s|.]|[^\s|.<>=~^v]\*|[<>=~^v]\s*\*\S|[^\s|<>][<>]?=\s*\*/]
 ]
 
 function simple (random) {
@@ -87,7 +87,8 @@ function asked (random, of) {
   return [...new Set(asked)]
 }
 
-// `>=0.0.0` with a build asks nothing here, and is a comparator there.
+// `>=0.0.0` with a build asks nothing here, and is a comparator there; so is `0.0.0` with one as the
+// left side of a hyphen range.
 const withoutBuilds = (of) => of.replace(/\+[0-9A-Za-z.-]+/g, '')
 
 function rangeOf (of) {
@@ -120,7 +121,7 @@ function compare (program, what, all, versionsOf) {
         return accidents.set(kind[0], (accidents.get(kind[0]) || 0) + 1)
       }
       if (!range) differ(of, 'not read', answer)
-      const reading = />=\s*v?0\.0\.0\+/.test(of) ? rangeOf(withoutBuilds(of)) : range
+      const reading = /0\.0\.0\+/.test(of) ? rangeOf(withoutBuilds(of)) : range
       const met = versions.filter((version) => reading.test(version))
       if (answer !== ['means', ...met].join(' ')) differ(of, `means ${met.join(' ')}`, answer)
       counts.read++
