@@ -87,9 +87,10 @@ function asked (random, of) {
   return [...new Set(asked)]
 }
 
-// `>=0.0.0` with a build asks nothing here, and is a comparator there; so is `0.0.0` with one as the
-// left side of a hyphen range.
-const withoutBuilds = (of) => of.replace(/\+[0-9A-Za-z.-]+/g, '')
+// `>=0.0.0` with a build or a `v` asks nothing here, and is a comparator there, also as the left side
+// of a hyphen range. So node-semver is asked of the text without both.
+const isOfZero = (of) => /0\.0\.0\+|v0\.0\.0/.test(of)
+const plain = (of) => of.replace(/\+[0-9A-Za-z.-]+/g, '').replace(/v0\.0\.0/g, '0.0.0')
 
 function rangeOf (of) {
   try {
@@ -121,7 +122,7 @@ function compare (program, what, all, versionsOf) {
         return accidents.set(kind[0], (accidents.get(kind[0]) || 0) + 1)
       }
       if (!range) differ(of, 'not read', answer)
-      const reading = /0\.0\.0\+/.test(of) ? rangeOf(withoutBuilds(of)) : range
+      const reading = isOfZero(of) ? rangeOf(plain(of)) : range
       const met = versions.filter((version) => reading.test(version))
       if (answer !== ['means', ...met].join(' ')) differ(of, `means ${met.join(' ')}`, answer)
       counts.read++
