@@ -1,8 +1,9 @@
 //! What the arguments ask for.
 
-use reading_options::{Chosen, OptionError, ReadingOptions};
+use reading_options::{OptionError, ReadingOptions};
 use std::env;
 use std::rt::Env;
+use tool_ranges::meaning::Meaning;
 
 /// What the arguments ask for.
 #[derive(Drop)]
@@ -23,7 +24,7 @@ pub struct Wanted {
     /// The new range text.
     pub new: String,
     /// How both are read.
-    pub chosen: Chosen,
+    pub meaning: Meaning,
 }
 
 /// Why the arguments ask for nothing.
@@ -74,9 +75,9 @@ pub fn requested(rt: &(impl Env + AllocGlobal)) -> Result<Request, Refusal> {
             _ => old = Some(argument),
         }
     }
-    let chosen = reading.finish()?;
+    let meaning = reading.finish()?;
     match (old, new) {
-        (Some(old), Some(new)) => Ok(Request::Compare(Wanted { old, new, chosen })),
+        (Some(old), Some(new)) => Ok(Request::Compare(Wanted { old, new, meaning })),
         _ => Err(Refusal::FewRanges),
     }
 }

@@ -1,6 +1,6 @@
 //! The program `compare-ranges`: arguments, standard output, and exit status, nothing else. What it
 //! tells of two ranges is `VersionSet::compare` and `==` of the library, on the sets that
-//! `Chosen::read` answers.
+//! `meaning::read` answers.
 #![tactic(auto)]
 
 mod arguments;
@@ -15,6 +15,7 @@ use std::alloc::AllocError;
 use std::fmt::Write as _;
 use std::io::{self, ErrorKind, Write};
 use std::process::ExitCode;
+use tool_ranges::meaning;
 use version_sets::{Comparison, VersionSet};
 
 /// How the program is called.
@@ -120,7 +121,7 @@ fn compared<'a>(rt: &HostRuntime, wanted: &'a Wanted) -> Result<Answer, Fault<'a
 
 /// The versions that a range means.
 fn read<'a>(rt: &HostRuntime, wanted: &Wanted, range: &'a str) -> Result<VersionSet, Fault<'a>> {
-    let versions = wanted.chosen.read(rt.alloc(), range);
+    let versions = meaning::read(rt.alloc(), wanted.meaning, range);
     versions.map_err(|error| Fault::Range(error, range))
 }
 
@@ -146,7 +147,7 @@ fn append(lines: &mut String, word: &str, version: &Option<Version>) -> Result<(
 fn tell(rt: &HostRuntime, fault: &Fault<'_>, wanted: &Wanted) -> ExitCode {
     let _ = match fault {
         Fault::Range(error, range) => {
-            match told(rt.alloc(), wanted.chosen.reading, error, range) {
+            match told(rt.alloc(), wanted.meaning.reading(), error, range) {
                 Ok(told) => eprintln!(rt; "compare-ranges: {told}"),
                 Err(_) => eprintln!(rt; "compare-ranges: {error}: {range:?}"),
             }

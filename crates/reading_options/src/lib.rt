@@ -2,10 +2,8 @@
 //! pre-releases count: `--as`, `--npm`, `--releases`, `--pre` and `--pre-stated`.
 #![tactic(auto)]
 
-mod chosen;
 mod error;
 mod options;
 
-pub use chosen::Chosen;
 pub use error::OptionError;
 pub use options::ReadingOptions;

@@ -1,10 +1,9 @@
 //! The options that say how a range text is read.
 
-use crate::chosen::Chosen;
 use crate::error::OptionError;
 use semver_parser::Compat;
 use std::alloc::Global;
-use tool_ranges::reading::Reading;
+use tool_ranges::meaning::Meaning;
 use version_sets::PreReleases;
 
 /// The readings, as `--as` names them.
@@ -107,14 +106,14 @@ impl ReadingOptions {
     ///
     /// `NoReading` where nothing followed `--as`, and `NoRuleOfTool` where `--pre` or
     /// `--pre-stated` was taken with the reading of a tool, which has a rule of its own.
-    pub fn finish(self) -> Result<Chosen, OptionError> {
+    pub fn finish(self) -> Result<Meaning, OptionError> {
         if self.wants_name {
             return Err(OptionError::NoReading);
         }
         let named = self.named.map_or(Named::Cargo, |(named, _)| named);
         match named {
-            Named::Cargo => self.of_tool(Reading::Cargo),
-            Named::Npm => self.of_tool(Reading::Npm),
+            Named::Cargo => self.of_tool(Meaning::Cargo, Meaning::CargoReleases),
+            Named::Npm => self.of_tool(Meaning::Npm, Meaning::NpmReleases),
             Named::CrateCargo => Ok(self.of_crate(Compat::Cargo)),
             Named::CrateNpm => Ok(self.of_crate(Compat::Npm)),
         }
@@ -155,27 +154,18 @@ impl ReadingOptions {
         }
     }
 
-    /// A tool's own reading, which has a rule of its own for pre-releases.
-    fn of_tool(self, reading: Reading) -> Result<Chosen, OptionError> {
+    /// A tool's own reading, which has a rule of its own for pre-releases: with these, or the
+    /// releases of it.
+    fn of_tool(self, own: Meaning, releases: Meaning) -> Result<Meaning, OptionError> {
         match self.rule {
-            None => Ok(Chosen {
-                reading,
-                has_releases_alone: false,
-            }),
-            Some(PreReleases::Excluded) => Ok(Chosen {
-                reading,
-                has_releases_alone: true,
-            }),
+            None => Ok(own),
+            Some(PreReleases::Excluded) => Ok(releases),
             Some(rule) => Err(OptionError::NoRuleOfTool(option_of(rule))),
         }
     }
 
     /// The crate's reading in a mode: by the rule that was asked for, or of releases alone.
-    fn of_crate(self, compat: Compat) -> Chosen {
-        let rule = self.rule.unwrap_or(PreReleases::Excluded);
-        Chosen {
-            reading: Reading::Crate(compat, rule),
-            has_releases_alone: false,
-        }
+    fn of_crate(self, compat: Compat) -> Meaning {
+        Meaning::Crate(compat, self.rule.unwrap_or(PreReleases::Excluded))
     }
 }

@@ -15,7 +15,7 @@ const RESTS: [&str; 7] = ["", "1", "*", "a", "|", "||", " 1"];
 /// stands before it: 4 in `1.2 || 3` as Cargo reads it. It is the length of the text where
 /// something is missing at the end, as in `>=`.
 ///
-/// It takes time in n log n for n bytes, and memory for what the reading answers. `Err` is want of
+/// It takes time in n log n for n bytes, and memory for the comparators that are answered. `Err` is want of
 /// memory.
 pub fn fault_place(alloc: Global, reading: Reading, text: &str) -> Result<usize, AllocError> {
     if goes_on(alloc, reading, text)? {
@@ -62,7 +62,7 @@ fn goes_on(alloc: Global, reading: Reading, front: &str) -> Result<bool, AllocEr
         let mut text = String::with_capacity(alloc, front.len().saturating_add(rest.len()))?;
         text.push_str(front)?;
         text.push_str(rest)?;
-        match reading::read(alloc, reading, text.as_str()) {
+        match reading::rewrite(alloc, reading, text.as_str()) {
             Ok(_) | Err(RangeError::NumberTooLarge) => return Ok(true),
             Err(RangeError::NotARange) => {}
             Err(RangeError::OutOfMemory) => return Err(AllocError),

@@ -1,8 +1,9 @@
 //! What the arguments ask for.
 
-use reading_options::{Chosen, OptionError, ReadingOptions};
+use reading_options::{OptionError, ReadingOptions};
 use std::env;
 use std::rt::Env;
+use tool_ranges::meaning::Meaning;
 
 /// What the arguments ask for.
 #[derive(Drop)]
@@ -21,7 +22,7 @@ pub struct Wanted {
     /// The range text.
     pub range: String,
     /// How it is read.
-    pub chosen: Chosen,
+    pub meaning: Meaning,
     /// What is done with the lines.
     pub options: Options,
 }
@@ -198,11 +199,11 @@ fn request_of(
     if options.wants_prefix {
         return Err(Refusal::NoPrefix);
     }
-    let chosen = reading.finish()?;
+    let meaning = reading.finish()?;
     match range {
         Some(range) => Ok(Request::Filter(Wanted {
             range,
-            chosen,
+            meaning,
             options,
         })),
         None => Err(Refusal::NoRange),

@@ -1,5 +1,5 @@
 //! The program `release-filter`: arguments, standard input and output, and exit status, nothing
-//! else. Its filter is of the versions that `Chosen::read` answers. What it does with that is
+//! else. Its filter is of the versions that `meaning::read` answers. What it does with that is
 //! `copy_lines_behind`, `greatest_line_behind`, `least_line_behind`, and `sorted_lines_behind` with
 //! `write_lines` of the library, on the input behind a byte order mark.
 #![tactic(auto)]
@@ -15,6 +15,7 @@ use semver_parser::RangeError;
 use semver_parser::writing::write_whole;
 use std::io::{self, BufReader, BufWriter, ErrorKind, LineWriter, Write};
 use std::process::ExitCode;
+use tool_ranges::meaning;
 
 /// How the program is called.
 const USAGE: &str = "\
@@ -96,7 +97,7 @@ fn run(rt: &HostRuntime, wanted: &Wanted) -> ExitCode {
 
 /// Filters, and tells whether a line was written.
 fn filtered(rt: &HostRuntime, wanted: &Wanted) -> Result<bool, Fault> {
-    let versions = wanted.chosen.read(rt.alloc(), wanted.range.as_str());
+    let versions = meaning::read(rt.alloc(), wanted.meaning, wanted.range.as_str());
     let filter = Filter::of_versions(versions.map_err(Fault::Range)?);
     let Ok(input) = BufReader::new(rt.alloc(), rt.reader()) else {
         return Err(Fault::Lines(LineError::OutOfMemory));
@@ -164,7 +165,7 @@ fn tell(rt: &HostRuntime, fault: &Fault, wanted: &Wanted) {
     let _ = match fault {
         Fault::Range(error) => {
             let range = wanted.range.as_str();
-            match told(rt.alloc(), wanted.chosen.reading, error, range) {
+            match told(rt.alloc(), wanted.meaning.reading(), error, range) {
                 Ok(told) => eprintln!(rt; "release-filter: {told}"),
                 Err(_) => eprintln!(rt; "release-filter: {error}: {range:?}"),
             }

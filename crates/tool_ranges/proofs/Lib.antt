@@ -12,3 +12,4 @@ mod ToolRows
 mod NpmMeanings
 mod NpmSets
 mod NpmLaws
+mod ReadingLaws

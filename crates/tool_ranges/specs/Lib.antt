@@ -9,3 +9,4 @@ pub mod NpmTable
 pub mod NpmTexts
 pub mod Steps
 pub mod Readings
+pub mod Meanings

@@ -1,33 +1,60 @@
--- Whose reading of a range text: what each refuses, and what it means by a text.
-use Rattle.std.specs.Prelude.{◌≡◌, List, Result}
+-- Whose reading of a range text: its trees, what is refused of a text, and to what it is rewritten.
+use Rattle.std.specs.Prelude.{◌≡◌, Bool, false, List, IsTrue, Result}
 use Rattle.semver_ranges.specs.declared.range_set.RangeError.{RangeError}
 use Rattle.semver_texts.specs.Texts.{Text}
-use Rattle.semver_texts.specs.Versions.{PlainVersion, VersionValue}
 use Rattle.semver_ranges.specs.RangeTree.{SetTree, Simple, Spells}
-use Rattle.semver_ranges.specs.RangeTexts.{RefusesExactly}
-use Rattle.version_sets.specs.PreReleaseRules.{meant_with}
-use Rattle.version_sets.specs.VersionSets.{has, Fits}
-use Rattle.version_sets.specs.declared.version_set.VersionSet.{VersionSet}
+use Rattle.semver_ranges.specs.RangeTexts.{Refuses}
+use Rattle.semver_ranges.specs.RewritingTable.{PlainSet, fits}
+use Rattle.semver_ranges.specs.ExactBounds.{rewritten_exactly}
 use Rattle.tool_ranges.specs.declared.reading.Reading.{Reading}
 use Rattle.tool_ranges.specs.declared.reading.Reading.TheVariants.{Cargo, Npm, Crate}
 use Rattle.tool_ranges.specs.CargoGrammar.{SpellsRequirement}
-use Rattle.tool_ranges.specs.CargoMeaning.{meets_requirement}
-use Rattle.tool_ranges.specs.CargoTexts.{RefusesRequirement}
+use Rattle.tool_ranges.specs.CargoTable.{requirement_fits, rewritten_requirement}
 use Rattle.tool_ranges.specs.NpmGrammar.{SpellsNpm}
-use Rattle.tool_ranges.specs.NpmMeaning.{meets_npm}
-use Rattle.tool_ranges.specs.NpmTexts.{RefusesNpm}
+use Rattle.tool_ranges.specs.NpmTable.{npm_fits, rewritten_npm}
+
+-- the trees of a reading
+abbrev pub TreeOf : Reading → Type 0
+TreeOf Cargo = List Simple
+TreeOf Npm = SetTree
+TreeOf (Crate mode) = SetTree
+
+-- a tree spells a text
+abbrev pub SpellsAs : (reading : Reading) → TreeOf reading → Text → Type 0
+SpellsAs Cargo tree t = SpellsRequirement tree t
+SpellsAs Npm tree t = SpellsNpm tree t
+SpellsAs (Crate mode) tree t = Spells tree t
+
+-- whether the numbers that a tree states, and those of its raised bounds, are at most 2^64 - 1
+abbrev pub fits_as : (reading : Reading) → TreeOf reading → Bool
+fits_as Cargo tree = requirement_fits tree
+fits_as Npm tree = npm_fits tree
+fits_as (Crate mode) tree = fits mode tree
+
+-- the plain comparators that stand for a tree, with exact bounds
+abbrev pub rewritten_as : (reading : Reading) → TreeOf reading → PlainSet
+rewritten_as Cargo tree = rewritten_requirement tree
+rewritten_as Npm tree = rewritten_npm tree
+rewritten_as (Crate mode) tree = rewritten_exactly mode tree
+
+-- a set of the comparators to which each tree of a text is rewritten
+abbrev pub IsRewrittenAs : Reading → Text → PlainSet → Type 0
+IsRewrittenAs reading t set =
+    (tree : TreeOf reading) → SpellsAs reading tree t → set ≡ rewritten_as reading tree
+
+-- what a text is to a reading: a range text or none, one that has a set, and one with a number that
+-- is too large
+abbrev pub IsTextAs : Reading → Text → Type 0
+IsTextAs reading t = (tree : TreeOf reading) × SpellsAs reading tree t
+
+abbrev pub HasSetAs : Reading → Text → Type 0
+HasSetAs reading t =
+    (tree : TreeOf reading) × SpellsAs reading tree t × IsTrue (fits_as reading tree)
+
+abbrev pub IsTooLargeAs : Reading → Text → Type 0
+IsTooLargeAs reading t =
+    (tree : TreeOf reading) × SpellsAs reading tree t × (fits_as reading tree ≡ false)
 
 -- what a call that reads a text by a reading refuses
 abbrev pub RefusesAs : {A : Type 0} → Reading → Text → Result A RangeError → Type 0
-RefusesAs Cargo t r = RefusesRequirement t r
-RefusesAs Npm t r = RefusesNpm t r
-RefusesAs (Crate mode rule) t r = RefusesExactly mode t r
-
--- a set of exactly the versions that each tree of a text means by a reading
-abbrev pub MeansAs : Reading → Text → VersionSet → Type 0
-MeansAs Cargo t set = (tree : List Simple) (v : PlainVersion) → SpellsRequirement tree t → Fits v
-    → has set v ≡ meets_requirement tree v
-MeansAs Npm t set = (tree : SetTree) (v : PlainVersion) → SpellsNpm tree t → Fits v
-    → has set v ≡ meets_npm tree v
-MeansAs (Crate mode rule) t set = (tree : SetTree) (v : VersionValue) → Spells tree t
-    → Fits v.plain → has set v.plain ≡ meant_with rule mode tree v
+RefusesAs reading t r = Refuses (IsTextAs reading t) (IsTooLargeAs reading t) (HasSetAs reading t) r

@@ -2,6 +2,7 @@
 #![tactic(auto)]
 
 pub mod cargo;
+pub mod meaning;
 pub mod npm;
 pub mod reading;
 mod rows;

@@ -1,12 +1,12 @@
 //! Whose reading of a range text: a tool's own, or the port's in one of its modes.
 
 ghost use Rattle.std.specs.Prelude.{IfOk};
-ghost use Rattle.tool_ranges.specs.Readings.{MeansAs, RefusesAs};
+ghost use Rattle.semver_ranges.specs.RangeViews.{set_of};
+ghost use Rattle.tool_ranges.specs.Readings.{IsRewrittenAs, RefusesAs};
 
 use crate::{cargo, npm};
-use semver_ranges::{Compat, RangeError};
+use semver_ranges::{Compat, RangeError, RangeSet};
 use std::alloc::Global;
-use version_sets::{PreReleases, VersionSet};
 
 /// Whose reading of a range text. `docs/MEANING.md` tells them apart ("Whose reading?").
 #[derive(Clone, Copy, PartialEq, Eq, Debug)]
@@ -15,31 +15,30 @@ pub enum Reading {
     Cargo,
     /// npm's own: `>1.2` is `>=1.3.0`, and `v1` is a range.
     Npm,
-    /// The crate's in one of its modes, by a rule for pre-releases.
-    Crate(Compat, PreReleases),
+    /// The crate's in one of its modes.
+    Crate(Compat),
 }
 
-/// Reads a range text, by one of the readings, into the set of the versions that it means.
+/// Rewrites a range text, by one of the readings, into plain comparators with exact bounds.
 ///
-/// It is [`cargo::read`](crate::cargo::read), [`npm::read`](crate::npm::read) or
-/// `VersionSet::of_text`: `^1.2.0, <1.5` has 1.4.0 as Cargo reads it, and is refused by the others.
+/// It is [`cargo::rewrite`](crate::cargo::rewrite), [`npm::rewrite`](crate::npm::rewrite) or
+/// `RangeSet::parse_exact`: `1.2` gives `>=1.2.0 <2.0.0-0` as Cargo reads it, and
+/// `>=1.2.0 <1.3.0-0` by the others.
 ///
 /// # Errors
 ///
 /// `NotARange` exactly where the reading's grammar has no such text, and `NumberTooLarge` exactly
 /// where it has, and a number that it states or a bound that is raised by one is above 2^64 - 1.
 /// These two take no memory; `OutOfMemory` stands in place of a set alone.
-pub fn read(alloc: Global, reading: Reading, range: &str) -> Result<VersionSet, RangeError>
-    // What the reading's grammar hasn't and what is too large is refused, exactly.
+pub fn rewrite(alloc: Global, reading: Reading, range: &str) -> Result<RangeSet, RangeError>
+    // What the reading's grammar hasn't and what is too large is refused, exactly. What is answered
+    // is what each tree of the text is rewritten to.
     ensures refusals { RefusesAs reading range.now result }
-    // A version is in the set exactly if the text means it by the reading.
-    ensures meaning { IfOk result (λ set. MeansAs reading range.now set) }
+    ensures as_rewritten { IfOk result (λ set. IsRewrittenAs reading range.now (set_of set)) }
 {
     match reading {
-        Reading::Cargo => cargo::read(alloc, range),
-        Reading::Npm => npm::read(alloc, range),
-        Reading::Crate(compat, pre_releases) => {
-            VersionSet::of_text(alloc, range, compat, pre_releases)
-        }
+        Reading::Cargo => cargo::rewrite(alloc, range),
+        Reading::Npm => npm::rewrite(alloc, range),
+        Reading::Crate(compat) => RangeSet::parse_exact(alloc, range, compat),
     }
 }

@@ -1,0 +1,92 @@
+//! What a range text means: by whose reading, and with which pre-releases.
+
+ghost use Rattle.std.specs.Prelude.{◌≡◌, ◌&&◌, Bool, IfOk};
+ghost use Rattle.semver_texts.specs.Texts.{Text, is_empty};
+ghost use Rattle.semver_texts.specs.Versions.{PlainVersion};
+ghost use Rattle.tool_ranges.specs.declared.reading.Reading.{Reading};
+ghost use Rattle.tool_ranges.specs.Readings.{RefusesAs, TreeOf};
+ghost use Rattle.tool_ranges.specs.Meanings.{IsSetBy, MeansAs, reading_of};
+
+use crate::reading::Reading;
+use crate::{cargo, npm};
+use semver_ranges::{Compat, RangeError};
+use std::alloc::Global;
+use version_sets::{PreReleases, VersionSet};
+
+/// A reading of a range text, and which pre-releases count by it. A tool has a rule of its own for
+/// them; the crate's reading takes one of three (`docs/MEANING.md`, "Whose reading?").
+#[derive(Clone, Copy, PartialEq, Eq, Debug)]
+pub enum Meaning {
+    /// Cargo's own, with the pre-releases that Cargo takes.
+    Cargo,
+    /// The releases of Cargo's own.
+    CargoReleases,
+    /// npm's own, with the pre-releases that npm takes.
+    Npm,
+    /// The releases of npm's own.
+    NpmReleases,
+    /// The crate's in one of its modes, by a rule for pre-releases.
+    Crate(Compat, PreReleases),
+}
+
+impl Meaning {
+    /// Whose reading it is by.
+    pub fn reading(self) -> Reading
+        ensures { result ≡ reading_of self }
+    {
+        match self {
+            Meaning::Cargo => Reading::Cargo,
+            Meaning::CargoReleases => Reading::Cargo,
+            Meaning::Npm => Reading::Npm,
+            Meaning::NpmReleases => Reading::Npm,
+            Meaning::Crate(compat, _) => Reading::Crate(compat),
+        }
+    }
+}
+
+/// Reads a range text into the set of the versions that it means.
+///
+/// It is [`cargo::read`](crate::cargo::read), [`npm::read`](crate::npm::read) or
+/// `VersionSet::of_text`, of which the releases are taken where these alone are asked for:
+/// `^1.2.0, <1.5` has 1.4.0 as Cargo reads it, and is refused by the others.
+///
+/// # Errors
+///
+/// `NotARange` exactly where the reading's grammar has no such text, and `NumberTooLarge` exactly
+/// where it has, and a number that it states or a bound that is raised by one is above 2^64 - 1.
+/// These two take no memory; `OutOfMemory` stands in place of a set alone.
+pub fn read(alloc: Global, meaning: Meaning, range: &str) -> Result<VersionSet, RangeError>
+    // What the reading's grammar hasn't and what is too large is refused, exactly.
+    ensures refusals { RefusesAs (reading_of meaning) range.now result }
+    // A version is in the set exactly if the text means it.
+    ensures meaning { IfOk result (λ set. MeansAs meaning range.now set) }
+{
+    match meaning {
+        Meaning::Cargo => cargo::read(alloc, range),
+        Meaning::CargoReleases => releases_of(alloc, cargo::read(alloc, range)),
+        Meaning::Npm => npm::read(alloc, range),
+        Meaning::NpmReleases => releases_of(alloc, npm::read(alloc, range)),
+        Meaning::Crate(compat, pre_releases) => {
+            VersionSet::of_text(alloc, range, compat, pre_releases)
+        }
+    }
+}
+
+/// The releases of what was read.
+fn releases_of(
+    alloc: Global,
+    read: Result<VersionSet, RangeError>,
+) -> Result<VersionSet, RangeError>
+    ensures refusals { (reading : Reading) (t : Text) → RefusesAs reading t read
+        → RefusesAs reading t result }
+    ensures releases { (reading : Reading) (t : Text)
+        (meets : TreeOf reading → PlainVersion → Bool)
+        → IfOk read (λ set. IsSetBy reading t meets set)
+        → IfOk result (λ set. IsSetBy reading t
+        (λ tree v. is_empty v.pre && meets tree v) set) }
+{
+    match read {
+        Ok(set) => Ok(set.only_releases(alloc)),
+        Err(refusal) => Err(refusal),
+    }
+}
