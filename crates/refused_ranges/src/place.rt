@@ -15,8 +15,8 @@ const RESTS: [&str; 7] = ["", "1", "*", "a", "|", "||", " 1"];
 /// stands before it: 4 in `1.2 || 3` as Cargo reads it. It is the length of the text where
 /// something is missing at the end, as in `>=`.
 ///
-/// It takes time in n log n for n bytes, and memory for the comparators that are answered. `Err` is want of
-/// memory.
+/// It takes time in n log n for n bytes, and memory for the comparators that are answered. `Err` is
+/// want of memory.
 pub fn fault_place(alloc: Global, reading: Reading, text: &str) -> Result<usize, AllocError> {
     if goes_on(alloc, reading, text)? {
         return Ok(text.len());

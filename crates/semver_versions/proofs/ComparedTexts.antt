@@ -64,7 +64,8 @@ module _ {text : Text} {others : List Identifier} where
   pub longer : (rest : Bor Text) → IsLeft text others (Some rest) [] → (ids : List IdentifierValue)
       → AllZip SpellsIdentifier ids (slice_split is_dot text) → Greater ≡ compared ids others
   longer rest w ids all =
-      at (w.decides ids all).0 (slice_split is_dot rest.now) (length-slice_split is_dot rest.now) (w.decides ids all).1 (w.decides ids all).2
+      let w' = w.decides ids all in
+      at w'.0 (slice_split is_dot rest.now) (length-slice_split is_dot rest.now) w'.1 w'.2
     where
       at : (left : List IdentifierValue) (parts : List Text) → length parts ≡ count_by is_dot rest.now + 1
           → AllZip SpellsIdentifier left parts → compared ids others ≡ compared left [] → Greater ≡ compared ids others

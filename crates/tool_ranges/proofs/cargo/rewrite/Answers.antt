@@ -49,7 +49,8 @@ reads_it_back t (Err e) none = tt
 
 pub returns-clause-refusals : goal.returns-clause-refusals
 returns-clause-refusals c =
-    refuses c.args.requirement.now c.rewritten.result (subst (λ t. IsRewritten t c.rewritten.result) c.as_bytes.ensures.value c.rewritten.ensures)
+    refuses c.args.requirement.now c.rewritten.result
+    (subst (λ t. IsRewritten t c.rewritten.result) c.as_bytes.ensures.value c.rewritten.ensures)
 
 pub returns-clause-as_rewritten : goal.returns-clause-as_rewritten
 returns-clause-as_rewritten c = as_rewritten c.args.requirement.now c.rewritten.result
