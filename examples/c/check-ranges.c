@@ -1,12 +1,19 @@
-/* Checks lines of a range, a tab and a version, from standard input: prints each whose version doesn't meet its range.
+/* Checks lines of a range, a tab and a version, from standard input: prints each whose version
+ * doesn't meet its range.
  *
  *     make
- *     printf '^1.2.0\t1.4.0\n^1.2.0\t2.0.0\n' | out/check-ranges [npm|cargo]
+ *     printf '^1.2.0\t1.4.0\n^1.2.0\t2.0.0\n' | out/check-ranges [READING]
  *
- * prints the second. What stands behind another tab is left alone, and is printed with its line. A line that can't be checked is told on standard
- * error with its number. The status is 0 where all lines hold, 1 where some doesn't, and 2 where some can't be checked, or where the input can't be read
- * to its end or the output can't be written: then what is behind is left unchecked, and that is told. The mode is npm's if none is named.
- * A pre-release meets a range by precedence: 1.3.0-rc meets `^1.2.0`, and 2.0.0-rc doesn't. */
+ * prints the second. What stands behind another tab is left alone, and is printed with its line. A
+ * line that can't be checked is told on standard error with its number. The status is 0 where all
+ * lines hold, 1 where some doesn't, and 2 where some can't be checked, or where the input can't be
+ * read to its end or the output can't be written: then what is behind is left unchecked, and that
+ * is told.
+ *
+ * The reading is `npm` or `cargo`, by which a line holds where this tool itself takes the version;
+ * or `crate-npm` or `crate-cargo`, those of the Rust crate semver-parser, by which a pre-release
+ * meets a range by precedence: 1.3.0-rc meets `^1.2.0`, and 2.0.0-rc doesn't. It is npm's own if
+ * none is named. */
 #define _POSIX_C_SOURCE 200809L
 #include "semver_parser.h"
 
@@ -17,6 +24,20 @@
 
 /* What a line comes to. The status is the greatest but for STOPPED, which is told as CANNOT_BE_CHECKED. */
 enum { HOLDS = 0, DOES_NOT_HOLD = 1, CANNOT_BE_CHECKED = 2, STOPPED = 3 };
+
+/* A reading, and the rule by which pre-releases meet a range. */
+typedef struct {
+    const char *name;
+    int32_t reading;
+    int32_t pre_releases;
+} reading_by_name;
+
+static const reading_by_name readings[] = {
+    {"npm", SEMVER_PARSER_NPM, SEMVER_PARSER_PRE_RELEASES_OF_TOOL},
+    {"cargo", SEMVER_PARSER_CARGO, SEMVER_PARSER_PRE_RELEASES_OF_TOOL},
+    {"crate-npm", SEMVER_PARSER_CRATE_NPM, SEMVER_PARSER_ALL_PRE_RELEASES},
+    {"crate-cargo", SEMVER_PARSER_CRATE_CARGO, SEMVER_PARSER_ALL_PRE_RELEASES},
+};
 
 static int output_fault(unsigned long number) {
     fprintf(stderr, "line %lu: the output can't be written: %s\n", number, strerror(errno));
@@ -32,7 +53,7 @@ static int print(const char *line, size_t length, unsigned long number) {
 }
 
 /* Checks a line. */
-static int check(const char *line, size_t length, unsigned long number, bool npm) {
+static int check(const char *line, size_t length, unsigned long number, const reading_by_name *by) {
     const char *end = line + length;
     const char *tab = memchr(line, '\t', length);
     if (tab == NULL) {
@@ -45,7 +66,8 @@ static int check(const char *line, size_t length, unsigned long number, bool npm
         behind = end;
     }
     bool meets;
-    int32_t answer = semver_parser_meets((const uint8_t *)line, (size_t)(tab - line), npm, SEMVER_PARSER_ALL_PRE_RELEASES, (const uint8_t *)version,
+    int32_t answer = semver_parser_meets((const uint8_t *)line, (size_t)(tab - line), by->reading,
+                                         by->pre_releases, (const uint8_t *)version,
                                          (size_t)(behind - version), &meets);
     if (answer != SEMVER_PARSER_OK) {
         fprintf(stderr, "line %lu: %s\n", number, semver_parser_fault_text(answer));
@@ -55,7 +77,7 @@ static int check(const char *line, size_t length, unsigned long number, bool npm
 }
 
 /* Checks all lines, and answers the status. */
-static int check_all(bool npm) {
+static int check_all(const reading_by_name *by) {
     char *line = NULL;
     size_t room = 0;
     int status = HOLDS;
@@ -70,7 +92,7 @@ static int check_all(bool npm) {
         if (length > 0 && line[length - 1] == '\n') {
             length--;
         }
-        int checked = check(line, (size_t)length, number, npm);
+        int checked = check(line, (size_t)length, number, by);
         status = checked > status ? checked : status;
     }
     /* getline ends at the end of the input, and where it can't be read or there is no memory for the line. */
@@ -86,10 +108,12 @@ static int check_all(bool npm) {
 }
 
 int main(int count, char **arguments) {
-    const char *mode = count == 1 ? "npm" : arguments[1];
-    if (count > 2 || (strcmp(mode, "npm") != 0 && strcmp(mode, "cargo") != 0)) {
-        fprintf(stderr, "check-ranges [npm|cargo] < lines\n");
-        return CANNOT_BE_CHECKED;
+    const char *name = count == 1 ? "npm" : arguments[1];
+    for (size_t at = 0; count <= 2 && at < sizeof readings / sizeof *readings; at++) {
+        if (strcmp(name, readings[at].name) == 0) {
+            return check_all(&readings[at]);
+        }
     }
-    return check_all(strcmp(mode, "npm") == 0);
+    fprintf(stderr, "check-ranges [npm|cargo|crate-npm|crate-cargo] < lines\n");
+    return CANNOT_BE_CHECKED;
 }

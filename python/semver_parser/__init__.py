@@ -1,22 +1,24 @@
 """Version texts and range texts, read, rewritten and compared by a proved library.
 
-    >>> from semver_parser import Compat, Filter, meets, parse_range, parse_version
+    >>> from semver_parser import Filter, Reading, meets, parse_range, parse_version
     >>> parse_version("1.2.3-rc.1+b5").pre
     ('rc', 1)
-    >>> str(parse_range("^1.2 || 3.x", exact=True))
+    >>> str(parse_range("^1.2 || 3.x", Reading.NPM))
     '>=1.2.0 <2.0.0-0 || >=3.0.0 <4.0.0-0'
-    >>> meets("1.2.3", "1.9.0"), meets("1.2.3", "1.9.0", Compat.NPM)
+    >>> meets("1.2.3", "1.9.0"), meets("1.2.3", "1.9.0", Reading.NPM)
     (True, False)
     >>> Filter("^1.2").greatest(["1.2.0", "1.9.0", "2.0.0"])
     '1.9.0'
 
-docs/GRAMMAR.md of the repository says which texts are versions and ranges, and docs/MEANING.md
-what a range means. Texts are `str` or `bytes` in UTF-8. A text that is refused raises
-`VersionError` or `RangeError`, and want of memory `MemoryError`. Everything may be called from
-several threads at once, and nothing from a signal handler or from a forked child of a process
-that has several threads.
+A range is read as Cargo itself reads it unless another `Reading` is given: npm's own, or that of
+the Rust crate `semver-parser` in one of its two modes. docs/GRAMMAR.md of the repository says which
+texts are versions and ranges, and docs/MEANING.md what a range means.
 
-The calls are those of the shared library `libsemver_parser.so.0.2`, which is loaded when the
+Texts are `str` or `bytes` in UTF-8. A text that is refused raises `VersionError` or `RangeError`,
+and want of memory `MemoryError`. Everything may be called from several threads at once, and nothing
+from a signal handler or from a forked child of a process that has several threads.
+
+The calls are those of the shared library `libsemver_parser.so.0.3`, which is loaded when the
 package is imported. It is looked for at the path that the environment variable
 SEMVER_PARSER_LIBRARY has; or else beside these modules, and then where the system looks for
 libraries.
@@ -34,11 +36,12 @@ from .values import (
     PreReleases,
     Range,
     RangeSet,
+    Reading,
     Version,
     precedence,
 )
 
-__version__ = "0.2.0"
+__version__ = "0.3.0"
 
 __all__ = [
     "AnyVersion",
@@ -52,6 +55,7 @@ __all__ = [
     "Range",
     "RangeError",
     "RangeSet",
+    "Reading",
     "Text",
     "Version",
     "VersionError",

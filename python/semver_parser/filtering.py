@@ -10,8 +10,8 @@ from typing import Iterable, List, Optional, TypeVar, Union
 
 from .faults import Text, encoded, raise_fault
 from .library import LIBRARY, TextItem
-from .reading import is_npm, parse_version, rule_number
-from .values import Compat, PrecedenceKey, PreReleases, Version, precedence
+from .reading import numbers_of, parse_version, rule_of
+from .values import PrecedenceKey, PreReleases, Reading, Version, precedence
 
 AnyVersion = Union[str, bytes, Version]
 """A version, as its text or as it was read."""
@@ -36,22 +36,23 @@ def _precedence(version: AnyVersion) -> PrecedenceKey:
 def meets(
     range: Text,
     version: AnyVersion,
-    mode: Compat = Compat.CARGO,
-    pre_releases: PreReleases = PreReleases.STATED,
+    reading: Reading = Reading.CARGO,
+    pre_releases: Optional[PreReleases] = None,
 ) -> bool:
-    """Whether a version meets a range, read in a mode, by a rule for pre-releases. A build never
-    counts.
+    """Whether a version meets a range, by a reading and by a rule for pre-releases, which is the
+    reading's own where none is given. A build never counts.
 
     Raises `RangeError` where the range is none, and else `VersionError` where the version is none.
     """
+    reading_number, rule_number = numbers_of(reading, pre_releases)
     text = _text(version)
     range_bytes, version_bytes = encoded(range), encoded(text)
     answered = ctypes.c_bool()
     answer = LIBRARY.semver_parser_meets(
         range_bytes,
         len(range_bytes),
-        is_npm(mode),
-        rule_number(pre_releases),
+        reading_number,
+        rule_number,
         version_bytes,
         len(version_bytes),
         answered,
@@ -62,23 +63,26 @@ def meets(
 
 @dataclass(frozen=True)
 class Filter:
-    """A text of a range (`range`), the `mode` in which it is read, and the rule for pre-releases
-    (`pre_releases`), to be asked about many versions.
+    """A text of a range (`range`), the `reading` by which it is read, and the rule for pre-releases
+    (`pre_releases`), to be asked about many versions. Where no rule is given, it becomes the
+    reading's own: `OF_TOOL` for the tools' own readings, and `STATED` for the crate's.
 
     Raises `RangeError` where the range is none. `kept` and `greatest` read it once for all versions
     that they are given. `version in chosen` is what `meets` answers.
     """
 
     range: Text
-    mode: Compat = Compat.CARGO
-    pre_releases: PreReleases = PreReleases.STATED
+    reading: Reading = Reading.CARGO
+    pre_releases: Optional[PreReleases] = None
 
     def __post_init__(self) -> None:
+        # So that two filters that mean the same are equal, however their rule was given.
+        object.__setattr__(self, "pre_releases", rule_of(self.reading, self.pre_releases))
         self._answers([])
 
     def meets(self, version: AnyVersion) -> bool:
         """Whether a version meets the range. Raises `VersionError` where the version is none."""
-        return meets(self.range, version, self.mode, self.pre_releases)
+        return meets(self.range, version, self.reading, self.pre_releases)
 
     def __contains__(self, version: AnyVersion) -> bool:
         """What `meets` answers, so that it can be asked as `version in chosen`."""
@@ -115,6 +119,7 @@ class Filter:
 
     def _answers(self, texts: List[Text]) -> bytes:
         """What there is to say of each text, by one call: it meets, it doesn't, or its fault."""
+        reading_number, rule_number = numbers_of(self.reading, self.pre_releases)
         range_bytes = encoded(self.range)
         kept_bytes = [encoded(text) for text in texts]
         items = (TextItem * len(texts))()
@@ -124,8 +129,8 @@ class Filter:
         answer = LIBRARY.semver_parser_meets_each(
             range_bytes,
             len(range_bytes),
-            is_npm(self.mode),
-            rule_number(self.pre_releases),
+            reading_number,
+            rule_number,
             items,
             len(texts),
             answers,
@@ -154,11 +159,11 @@ def _refuse(answer: int, text: Text, index: int, pass_over: bool) -> None:
 def greatest(
     range: Text,
     versions: Iterable[_Given],
-    mode: Compat = Compat.CARGO,
-    pre_releases: PreReleases = PreReleases.STATED,
+    reading: Reading = Reading.CARGO,
+    pre_releases: Optional[PreReleases] = None,
     pass_over: bool = False,
 ) -> Optional[_Given]:
     """The greatest of the versions that meet a range: what `Filter.greatest` answers. A text that
     is no version raises `VersionError` with its `index`, or is passed over with `pass_over=True`.
     """
-    return Filter(range, mode, pre_releases).greatest(versions, pass_over)
+    return Filter(range, reading, pre_releases).greatest(versions, pass_over)

@@ -4,7 +4,7 @@ import ctypes
 import os
 from typing import List, Tuple
 
-FITTING = (0, 2)
+FITTING = (0, 3)
 """The major and minor number of the libraries that fit: while the major is 0, both decide."""
 
 NAME = "libsemver_parser.so." + ".".join(map(str, FITTING))
@@ -110,11 +110,11 @@ def _declare(library: ctypes.CDLL, path: str) -> None:
     rooms = [ctypes.POINTER(ReadComparator), size, counted, ctypes.c_char_p, size, counted]
     calls = {
         "parse_version": [*text, ctypes.POINTER(ReadVersion)],
-        "comparators": [*text, flag, flag, *rooms],
-        "meets": [*text, flag, number, *text, ctypes.POINTER(flag)],
-        "meets_each": [*text, flag, number, ctypes.POINTER(TextItem), size, ctypes.c_char_p],
-        "least": [*text, flag, number, ctypes.c_char_p, size, counted],
-        "compare": [*text, *text, flag, number, ctypes.c_char_p, size, counted, compared],
+        "comparators": [*text, number, flag, *rooms],
+        "meets": [*text, number, number, *text, ctypes.POINTER(flag)],
+        "meets_each": [*text, number, number, ctypes.POINTER(TextItem), size, ctypes.c_char_p],
+        "least": [*text, number, number, ctypes.c_char_p, size, counted],
+        "compare": [*text, *text, number, number, ctypes.c_char_p, size, counted, compared],
         "fault_text": [number],
     }
     for name, takes in calls.items():

@@ -1,18 +1,18 @@
 """Texts read as versions and as ranges."""
 
 import ctypes
-from typing import List, Tuple
+from typing import List, Optional, Tuple
 
 from .faults import NO_ROOM, Text, encoded, raise_fault
 from .library import LIBRARY, Part, ReadComparator, ReadVersion
 from .values import (
     Comparator,
-    Compat,
     Identifier,
     Op,
     PreReleases,
     Range,
     RangeSet,
+    Reading,
     Version,
     identifier_of,
 )
@@ -24,18 +24,37 @@ _COMPARATORS = 8
 _BYTES = 64
 
 
-def is_npm(mode: Compat) -> bool:
-    """Whether a mode is npm's."""
-    if isinstance(mode, Compat):
-        return mode is Compat.NPM
-    raise TypeError(f"a mode is a Compat, and not {mode!r}")
+# The rules for pre-releases that a tool's own reading has, and those of the crate's two: first the
+# one that is taken where none is named.
+_OF_TOOLS = (PreReleases.OF_TOOL, PreReleases.EXCLUDED)
+_OF_CRATE = (PreReleases.STATED, PreReleases.EXCLUDED, PreReleases.INCLUDED)
 
 
-def rule_number(pre_releases: PreReleases) -> int:
-    """The number of a rule for pre-releases."""
-    if isinstance(pre_releases, PreReleases):
-        return pre_releases.value
-    raise TypeError(f"a rule for pre-releases is a PreReleases, and not {pre_releases!r}")
+def reading_number(reading: Reading) -> int:
+    """The number of a reading."""
+    if isinstance(reading, Reading):
+        return reading.value
+    raise TypeError(f"a reading is a Reading, and not {reading!r}")
+
+
+def rule_of(reading: Reading, pre_releases: Optional[PreReleases]) -> PreReleases:
+    """The rule for pre-releases that is meant by a reading: the one that is named, or what the
+    reading takes where none is. Raises `ValueError` where the reading hasn't that rule."""
+    reading_number(reading)
+    rules = _OF_TOOLS if reading in (Reading.CARGO, Reading.NPM) else _OF_CRATE
+    if pre_releases is None:
+        return rules[0]
+    if not isinstance(pre_releases, PreReleases):
+        raise TypeError(f"a rule for pre-releases is a PreReleases, and not {pre_releases!r}")
+    if pre_releases not in rules:
+        *its, last = (it.name for it in rules)
+        raise ValueError(f"{reading} has no rule {pre_releases}, but {', '.join(its)} and {last}")
+    return pre_releases
+
+
+def numbers_of(reading: Reading, pre_releases: Optional[PreReleases]) -> Tuple[int, int]:
+    """The numbers of a reading and of the rule that is meant by it."""
+    return reading_number(reading), rule_of(reading, pre_releases).value
 
 
 def _identifiers(text: bytes, part: Part) -> Tuple[Identifier, ...]:
@@ -58,26 +77,29 @@ def parse_version(text: Text) -> Version:
     return Version(read.major, read.minor, read.patch, pre, build)
 
 
-def parse_range(text: Text, mode: Compat = Compat.CARGO, exact: bool = False) -> RangeSet:
-    """Reads a range and rewrites it to plain comparators, in Cargo mode unless another is given.
+def parse_range(text: Text, reading: Reading = Reading.CARGO, exact: bool = False) -> RangeSet:
+    """Reads a range and rewrites it to plain comparators, as Cargo itself reads it unless another
+    reading is given.
 
-    Where bounds are `exact` an upper bound that is raised by one has the lowest pre-release, as
-    `<2.0.0-0`, so that a pre-release meets the comparators where it meets the text. Else bounds are
+    Where bounds are exact an upper bound that is raised by one has the lowest pre-release, as
+    `<2.0.0-0`, so that no pre-release of that bound meets the comparators. By the readings of Cargo
+    and npm themselves they always are. By those of the crate they are where `exact` holds, and else
     those of the Rust crate, as `<2.0.0`.
 
     Raises `RangeError` where the text is no range.
     """
-    comparators, pre_releases = _comparators(text, is_npm(mode), bool(exact))
+    comparators, pre_releases = _comparators(text, reading_number(reading), bool(exact))
     ranges: List[List[Comparator]] = []
     for it in comparators:
         if it.range == len(ranges):
             ranges.append([])
         pre = _identifiers(pre_releases, it.pre)
         ranges[it.range].append(Comparator(_OPS[it.op], it.major, it.minor, it.patch, pre))
-    return RangeSet(tuple(Range(tuple(them), mode) for them in ranges), mode)
+    compat = reading.compat
+    return RangeSet(tuple(Range(tuple(them), compat) for them in ranges), compat)
 
 
-def _comparators(text: Text, npm: bool, exact: bool) -> Tuple[List[ReadComparator], bytes]:
+def _comparators(text: Text, reading: int, exact: bool) -> Tuple[List[ReadComparator], bytes]:
     """The comparators of a range and the bytes of their pre-releases, in rooms that are large
     enough."""
     text_bytes = encoded(text)
@@ -87,6 +109,8 @@ def _comparators(text: Text, npm: bool, exact: bool) -> Tuple[List[ReadComparato
         comparators = (ReadComparator * count.value)()
         pre_releases = ctypes.create_string_buffer(length.value)
         rooms = (comparators, len(comparators), count, pre_releases, len(pre_releases), length)
-        answer = LIBRARY.semver_parser_comparators(text_bytes, len(text_bytes), npm, exact, *rooms)
+        answer = LIBRARY.semver_parser_comparators(
+            text_bytes, len(text_bytes), reading, exact, *rooms
+        )
     raise_fault(answer, range=text)
     return comparators[: count.value], pre_releases.raw[: length.value]

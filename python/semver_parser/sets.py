@@ -9,8 +9,8 @@ from typing import Optional
 
 from .faults import NO_ROOM, Text, encoded, raise_fault
 from .library import LIBRARY, ComparedRanges, Part
-from .reading import is_npm, parse_version, rule_number
-from .values import Compat, PreReleases, Version
+from .reading import numbers_of, parse_version
+from .values import PreReleases, Reading, Version
 
 # The room for printed versions that is tried first.
 _BYTES = 64
@@ -18,15 +18,16 @@ _BYTES = 64
 
 def least(
     range: Text,
-    mode: Compat = Compat.CARGO,
-    pre_releases: PreReleases = PreReleases.STATED,
+    reading: Reading = Reading.CARGO,
+    pre_releases: Optional[PreReleases] = None,
 ) -> Optional[Version]:
-    """The least version that a range means, read in a mode, by a rule for pre-releases; None where
-    it means none. Least it is by precedence, among all versions with numbers up to 2^64 - 1, and it
-    has no build.
+    """The least version that a range means, by a reading and by a rule for pre-releases, which is
+    the reading's own where none is given; None where it means none. Least it is by precedence,
+    among all versions with numbers up to 2^64 - 1, and it has no build.
 
     Raises `RangeError` where the range is none.
     """
+    reading_number, rule_number = numbers_of(reading, pre_releases)
     range_bytes, length = encoded(range), ctypes.c_size_t(_BYTES)
     answer = NO_ROOM
     while answer == NO_ROOM:
@@ -34,8 +35,8 @@ def least(
         answer = LIBRARY.semver_parser_least(
             range_bytes,
             len(range_bytes),
-            is_npm(mode),
-            rule_number(pre_releases),
+            reading_number,
+            rule_number,
             printed,
             len(printed),
             length,
@@ -78,16 +79,18 @@ class Comparison:
 def compare_ranges(
     old: Text,
     new: Text,
-    mode: Compat = Compat.CARGO,
-    pre_releases: PreReleases = PreReleases.STATED,
+    reading: Reading = Reading.CARGO,
+    pre_releases: Optional[PreReleases] = None,
 ) -> Comparison:
-    """What is lost, gained and shared where a new range takes the place of an old one, both read in
-    a mode, by a rule for pre-releases. Each is told by the least such version by precedence, among
-    all versions with numbers up to 2^64 - 1, and none has a build.
+    """What is lost, gained and shared where a new range takes the place of an old one, both by one
+    reading and by one rule for pre-releases, which is the reading's own where none is given. Each
+    is told by the least such version by precedence, among all versions with numbers up to 2^64 - 1,
+    and none has a build.
 
     Raises `RangeError` where one of the texts is no range; its `which` tells which one, and the old
     one goes first.
     """
+    reading_number, rule_number = numbers_of(reading, pre_releases)
     old_bytes, new_bytes = encoded(old), encoded(new)
     length, compared = ctypes.c_size_t(3 * _BYTES), ComparedRanges()
     answer = NO_ROOM
@@ -98,8 +101,8 @@ def compare_ranges(
             len(old_bytes),
             new_bytes,
             len(new_bytes),
-            is_npm(mode),
-            rule_number(pre_releases),
+            reading_number,
+            rule_number,
             printed,
             len(printed),
             length,

@@ -57,7 +57,8 @@ def _check_identifiers(name: str, identifiers: object) -> None:
 
 
 class Compat(enum.Enum):
-    """The modes, which decide how a bare version of three numbers is read as a range."""
+    """The modes that sets and their ranges have, as those of the Rust crate: they tell how a bare
+    version of three numbers was read. `Reading` is what a range is read by."""
 
     CARGO = "cargo"
     """As with a caret: `1.2.3` is `>=1.2.3 <2.0.0`."""
@@ -65,17 +66,45 @@ class Compat(enum.Enum):
     """As this version alone: `1.2.3` is `=1.2.3`."""
 
 
+class Reading(enum.Enum):
+    """The readings of range texts: those of Cargo and of npm themselves, and that of the Rust crate
+    `semver-parser` in its two modes, which differ from both (docs/MEANING.md, "Whose reading?")."""
+
+    CARGO = 0
+    """Cargo's own: `1.2` is `>=1.2.0 <2.0.0`, and commas part what a version has to meet."""
+    NPM = 1
+    """npm's own: `1.2` is `>=1.2.0 <1.3.0`, and `>1.2` is `>=1.3.0`."""
+    CRATE_CARGO = 2
+    """The crate's in Cargo mode: `1.2` is `>=1.2.0 <1.3.0`, and `1.2.3` is `>=1.2.3 <2.0.0`."""
+    CRATE_NPM = 3
+    """The crate's in npm mode: `>1.2` is `>1.2.0`, and `1.2.3` is `=1.2.3`."""
+
+    @property
+    def compat(self) -> Compat:
+        """The mode of the sets that are read so: Cargo's by both readings that are named after
+        Cargo, and npm's by the other two."""
+        is_npm = self in (Reading.NPM, Reading.CRATE_NPM)
+        return Compat.NPM if is_npm else Compat.CARGO
+
+
 class PreReleases(enum.Enum):
-    """The rules by which versions with a pre-release meet a range. Others count by each of them."""
+    """The rules by which versions with a pre-release meet a range. Others count by each of them.
+
+    Each reading has `EXCLUDED`. A tool's own reading has besides the rule of that tool, `OF_TOOL`,
+    and the crate's readings have `STATED` and `INCLUDED`. Where no rule is named, the first takes
+    `OF_TOOL` and the others `STATED`. A rule that a reading hasn't raises `ValueError`.
+    """
 
     EXCLUDED = 0
     """None meets."""
     STATED = 1
-    """By the rule that npm and Cargo's semver have for pre-releases: one that meets the range by
-    precedence, and of which a term of that range states the three numbers and a pre-release.
-    1.2.3-rc meets `^1.2.3-beta`, and 1.3.0-rc doesn't."""
+    """One that meets the range by precedence, and of which a term of that range states the three
+    numbers and a pre-release. 1.2.3-rc meets `^1.2.3-beta`, and 1.3.0-rc doesn't."""
     INCLUDED = 2
     """Each that meets the range by precedence: 1.3.0-rc meets `^1.2.0`, and 2.0.0-rc doesn't."""
+    OF_TOOL = 3
+    """Those that Cargo or npm itself takes. Mostly these are those of `STATED`; docs/MEANING.md has
+    the others."""
 
 
 class Op(enum.Enum):
@@ -175,8 +204,8 @@ class Comparator:
 
 @dataclass(frozen=True)
 class Range:
-    """A range: comparators that a version meets all together (`comparator_set`), and the mode that
-    it was read in (`compat`)."""
+    """A range: comparators that a version meets all together (`comparator_set`), and the mode of
+    its set (`compat`)."""
 
     comparator_set: Tuple[Comparator, ...]
     compat: Compat
@@ -187,13 +216,15 @@ class Range:
 
 @dataclass(frozen=True)
 class RangeSet:
-    """A range set: ranges of which a version meets one (`ranges`), and the mode that it was read in
-    (`compat`).
+    """A range set: ranges of which a version meets one (`ranges`), and the mode of the reading by
+    which it was read (`compat`).
 
-    `version in range_set` tells whether a version meets the comparators, by the rule of npm and
-    Cargo for pre-releases (`PreReleases.STATED`): what `meets` answers of the printed set. What the
-    text means that it was read from can differ in pre-releases of a raised bound, unless bounds are
-    exact. A version is given as its text or as a `Version`; a text that is none raises
+    `version in range_set` tells whether a version meets the comparators, with pre-releases as they
+    state them (`PreReleases.STATED`): what `meets` answers of the printed set by the crate's
+    reading. It is what the text means that was read, but for some pre-releases: those of a raised
+    bound, unless bounds are exact; and by a tool's own reading those that the tool takes by a rule
+    that comparators can't tell (docs/MEANING.md). So ask `meets` or `Filter`, where the text is
+    there. A version is given as its text or as a `Version`; a text that is none raises
     `VersionError`.
     """
 
@@ -211,7 +242,8 @@ class RangeSet:
         if not self.ranges:
             parse_version(str(version) if isinstance(version, Version) else version)
             return False
-        return meets(str(self), version, self.compat)
+        is_npm = self.compat is Compat.NPM
+        return meets(str(self), version, Reading.CRATE_NPM if is_npm else Reading.CRATE_CARGO)
 
 
 PrecedenceKey = Tuple[int, int, int, bool, Tuple[Tuple[bool, int, str], ...]]

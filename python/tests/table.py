@@ -1,7 +1,9 @@
-"""The table of cases of the repository: rows, and how the table writes what a call answers.
+"""The tables of cases of the repository: rows, and how a table writes what a call answers.
 
 `crates/replayed_cases` of the checkout has the rows in its `stdin` and the wanted answers in its
-`stdout`. How texts are escaped is told by its `src/text.rt`.
+`stdout`; its calls read ranges by the crate's readings. How texts are escaped is told by its
+`src/text.rt`. `crates/cargo_cases` and `crates/npm_cases` have those of Cargo's own reading and of
+npm's own, which were made beside these tools.
 """
 
 import re
@@ -10,19 +12,20 @@ from pathlib import Path
 from typing import Callable, Dict, Iterator, List, NamedTuple, Optional, Tuple
 
 from semver_parser import (
-    Compat,
     Filter,
     Identifier,
     PreReleases,
     RangeError,
     RangeSet,
+    Reading,
     Version,
     VersionError,
     parse_range,
     parse_version,
 )
 
-CASES = Path(__file__).resolve().parents[2] / "crates" / "replayed_cases"
+CRATES = Path(__file__).resolve().parents[2] / "crates"
+CASES = CRATES / "replayed_cases"
 
 _ESCAPES = {"n": "\n", "r": "\r", "t": "\t", "\\": "\\"}
 
@@ -45,7 +48,7 @@ _RULES = {
     "meet": PreReleases.INCLUDED,
 }
 
-# Those of the calls that tell the greatest version, in npm's mode.
+# Those of the calls that tell the greatest version, in the crate's npm mode.
 _RULES_OF_GREATEST = {
     "greatest-release": PreReleases.EXCLUDED,
     "greatest-stated": PreReleases.STATED,
@@ -97,6 +100,19 @@ def rows() -> Iterator[Row]:
         yield Row(call, expanded(text), expanded(steps), answer[len(name) + 2 :])
 
 
+def rows_of_tool(name: str) -> Iterator[Tuple[str, str]]:
+    """All rows of the table of a tool, `cargo` or `npm`: what is asked, and what is wanted."""
+    files = [CRATES / f"{name}_cases" / file for file in ("stdin", "stdout")]
+    asked, wanted = (file.read_bytes().decode().split("\n") for file in files)
+    assert len(asked) == len(wanted) and asked.pop() == wanted.pop() == ""
+    yield from zip(asked, wanted)
+
+
+def _reading(npm: bool) -> Reading:
+    """The crate's reading in one of its modes."""
+    return Reading.CRATE_NPM if npm else Reading.CRATE_CARGO
+
+
 def _kinds(identifiers: Tuple[Identifier, ...]) -> str:
     kinds = ("Numeric" if isinstance(it, int) else "AlphaNumeric" for it in identifiers)
     return "[" + " ".join(f"{kind}({it})" for kind, it in zip(kinds, identifiers)) + "]"
@@ -129,7 +145,7 @@ def _of_range(
     text: str, npm: bool, exact: bool, show: Callable[[RangeSet], str], faults: Dict[str, str]
 ) -> str:
     try:
-        return show(parse_range(text, Compat.NPM if npm else Compat.CARGO, exact))
+        return show(parse_range(text, _reading(npm), exact))
     except RangeError as error:
         return faults[error.name]
 
@@ -152,7 +168,7 @@ def _of_filter(
     show: Callable[[Filter, List[Version]], str],
 ) -> str:
     try:
-        chosen = Filter(text, Compat.NPM if npm else Compat.CARGO, pre_releases)
+        chosen = Filter(text, _reading(npm), pre_releases)
     except RangeError as error:
         return _RANGE_SENTENCES[error.name]
     return show(chosen, [parse_version(item) for item in steps.split(" ") if item])

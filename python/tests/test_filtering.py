@@ -1,11 +1,13 @@
-"""Which versions meet a range by each rule, in order and with repeats, and the greatest of them."""
+"""Which versions meet a range by each reading and each rule, in order and with repeats, and the
+greatest of them."""
 
+import ctypes
 import operator
 import pickle
 import threading
 import unittest
 from functools import partial
-from typing import List
+from typing import List, Optional
 
 from semver_parser import (
     Compat,
@@ -14,14 +16,18 @@ from semver_parser import (
     Range,
     RangeError,
     RangeSet,
+    Reading,
     Version,
     VersionError,
+    compare_ranges,
     greatest,
+    least,
     meets,
     parse_range,
     parse_version,
     precedence,
 )
+from semver_parser.library import LIBRARY
 
 # The versions of the standard's section 11, from the lowest to the greatest.
 ORDERED = [
@@ -36,6 +42,38 @@ ORDERED = [
     "2.0.0",
     "2.1.0",
     "2.1.1",
+]
+
+# The rules of the crate's readings, in the order of their numbers, and those of the tools'.
+OF_CRATE = (PreReleases.EXCLUDED, PreReleases.STATED, PreReleases.INCLUDED)
+OF_TOOLS = (PreReleases.EXCLUDED, PreReleases.OF_TOOL)
+RULES = [
+    (Reading.CARGO, OF_TOOLS),
+    (Reading.NPM, OF_TOOLS),
+    (Reading.CRATE_CARGO, OF_CRATE),
+    (Reading.CRATE_NPM, OF_CRATE),
+]
+
+# Of docs/MEANING.md, "Whose reading?" and what it has of each tool: a range, a version, and whether
+# it meets by each reading, in the order above and by the rule that is taken where none is named;
+# None where the text is no range.
+BY_READING = [
+    ("1.2.3", "1.9.0", (True, False, True, False)),
+    ("1.2", "1.9.0", (True, False, False, False)),
+    (">1.2", "1.2.9", (False, False, True, True)),
+    (">=1.2.3, <2", "1.9.0", (True, None, None, None)),
+    ("1.2 || 3", "3.9.0", (None, True, True, True)),
+    ("v1.2.3", "1.2.3", (None, True, None, None)),
+    ("^v1", "1.9.0", (None, True, None, None)),
+    ("1.2.3\n", "1.2.3", (None, True, None, None)),
+    ("* || =1.0.0-a", "1.0.0-a", (None, False, True, True)),
+    ("=1.2 >=1.2.3-a", "1.2.3-b", (None, True, True, True)),
+    ("=1.2, >=1.2.3-a", "1.2.3-b", (False, None, None, None)),
+    ("<1.0 >=1.0.0-a", "1.0.0-b", (None, False, True, True)),
+    ("<1.0, >=1.0.0-a", "1.0.0-b", (False, None, None, None)),
+    ("^1.2, >=1.2.0-a", "1.2.0-b", (True, None, None, None)),
+    ("^1.2.3-beta", "1.2.3-rc", (True, True, True, True)),
+    ("^1.2.3-beta", "1.3.0-rc", (False, False, False, False)),
 ]
 
 # Of docs/MEANING.md, "Three rules for pre-releases": range, version, and which rules let it meet.
@@ -55,19 +93,96 @@ THREE_RULES = [
 class Meeting(unittest.TestCase):
     def test_rules(self) -> None:
         for text, version, wanted in THREE_RULES:
-            for rule, met in zip(PreReleases, wanted):
+            for rule, met in zip(OF_CRATE, wanted):
                 with self.subTest(range=text, version=version, rule=rule):
-                    self.assertIs(meets(text, version, Compat.NPM, rule), met)
-                    self.assertIs(meets(text, version, Compat.CARGO, rule), met)
-                    chosen = Filter(text, Compat.NPM, rule)
+                    self.assertIs(meets(text, version, Reading.CRATE_NPM, rule), met)
+                    self.assertIs(meets(text, version, Reading.CRATE_CARGO, rule), met)
+                    chosen = Filter(text, Reading.CRATE_NPM, rule)
                     self.assertIs(chosen.meets(parse_version(version)), met)
                     self.assertEqual(chosen.kept([version]), [version] if met else [])
 
+    def check_reading(
+        self, text: str, version: str, reading: Reading, wanted: Optional[bool]
+    ) -> None:
+        """Whether a version meets by the rule of a reading, and among releases alone."""
+        if wanted is None:
+            for rule in (None, *dict(RULES)[reading]):
+                with self.assertRaises(RangeError):
+                    Filter(text, reading, rule)
+                with self.assertRaises(RangeError):
+                    meets(text, version, reading, rule)
+            return
+        taken = PreReleases.OF_TOOL if dict(RULES)[reading] is OF_TOOLS else PreReleases.STATED
+        for rule in (None, taken):
+            self.assertIs(meets(text, version, reading, rule), wanted)
+            chosen = Filter(text, reading, rule)
+            self.assertIs(version in chosen, wanted)
+            self.assertEqual(chosen.kept([version, version]), 2 * [version] if wanted else [])
+            self.assertEqual(greatest(text, [version], reading, rule), version if wanted else None)
+        alone = wanted and "-" not in version
+        self.assertIs(meets(text, version, reading, PreReleases.EXCLUDED), alone)
+
+    def test_readings(self) -> None:
+        for text, version, wanted in BY_READING:
+            for (reading, _), met in zip(RULES, wanted):
+                with self.subTest(range=text, version=version, reading=reading):
+                    self.check_reading(text, version, reading, met)
+
+    def test_rules_of_readings(self) -> None:
+        """Each reading takes its own rules, and refuses the others in every call alike, whatever
+        the texts are, and before any fault of these."""
+        calls = [
+            lambda *by: meets("^1", "1.2.3", *by),
+            lambda *by: meets("^", "x", *by),
+            lambda *by: Filter("^1", *by),
+            lambda *by: Filter("^", *by),
+            lambda *by: greatest("^1", ["1.2.3"], *by),
+            lambda *by: greatest("^", ["x"], *by),
+            lambda *by: least("^1", *by),
+            lambda *by: least("^", *by),
+            lambda *by: compare_ranges("^1", "^1.2", *by),
+            lambda *by: compare_ranges("^", "^", *by),
+        ]
+        for reading, rules in RULES:
+            for rule in PreReleases:
+                for call in calls if rule not in rules else calls[::2]:
+                    with self.subTest(reading=reading, rule=rule):
+                        if rule in rules:
+                            call(reading, rule)
+                            continue
+                        with self.assertRaises(ValueError) as caught:
+                            call(reading, rule)
+                        self.assertIs(type(caught.exception), ValueError)
+                        said = str(caught.exception)
+                        self.assertTrue(said.startswith(f"{reading} has no rule {rule}, "), said)
+                        for its in PreReleases:
+                            self.assertIs(its.name in said, its in (rule, *rules), said)
+
+    def test_rules_of_the_library(self) -> None:
+        """What the package refuses is what the library answers NO_SUCH_RULE for, and each number is
+        one of a reading, beside which there is none."""
+        for reading, rules in RULES:
+            for rule in PreReleases:
+                self.assertIs(self.asked(reading.value, rule.value) == 15, rule not in rules)
+        for number in (-1, len(Reading)):
+            self.assertEqual(self.asked(number, 0), 20)
+
+    def asked(self, reading: int, rule: int) -> int:
+        """What the library answers."""
+        length = ctypes.c_size_t()
+        answer: int = LIBRARY.semver_parser_least(b"1", 1, reading, rule, b"", 0, length)
+        return answer
+
     def test_defaults(self) -> None:
         self.assertTrue(meets("1.2.3", "1.9.0"))
-        self.assertFalse(meets("1.2.3", "1.9.0", Compat.NPM))
+        self.assertTrue(meets("1.2", "1.9.0"))
+        self.assertFalse(meets("1.2.3", "1.9.0", Reading.NPM))
         self.assertTrue(meets("^1.2.3-beta", "1.2.3-rc"))
         self.assertFalse(meets("^1.2.3-beta", "1.3.0-rc"))
+        for reading, rules in RULES:
+            taken = PreReleases.OF_TOOL if rules is OF_TOOLS else PreReleases.STATED
+            self.assertIs(Filter("1", reading).pre_releases, taken)
+            self.assertEqual(Filter("1", reading), Filter("1", reading, taken))
 
     def test_faults(self) -> None:
         for call in (meets, lambda text, version: Filter(text).meets(version)):
@@ -86,8 +201,8 @@ class Meeting(unittest.TestCase):
 
     def test_in_a_filter(self) -> None:
         for text, version, wanted in THREE_RULES:
-            for rule, met in zip(PreReleases, wanted):
-                chosen = Filter(text, Compat.NPM, rule)
+            for rule, met in zip(OF_CRATE, wanted):
+                chosen = Filter(text, Reading.CRATE_NPM, rule)
                 for asked in (version, version.encode(), parse_version(version)):
                     self.assertIs(asked in chosen, met, (text, version, rule))
         with self.assertRaises(VersionError):
@@ -98,18 +213,20 @@ class Meeting(unittest.TestCase):
     def test_in_a_range_set(self) -> None:
         """It goes by the comparators, which differ from the text in pre-releases of a raised bound
         alone, and not where bounds are exact."""
-        for mode in Compat:
+        crate = Reading.CRATE_CARGO
+        for reading in (crate, Reading.CRATE_NPM):
             for text, version, wanted in THREE_RULES:
                 for exact in (False, True):
-                    answered = parse_range(text, mode, exact)
+                    answered = parse_range(text, reading, exact)
                     self.assertIs(version in answered, wanted[1], (text, version, exact))
                     self.assertIs(parse_version(version) in answered, wanted[1])
-        self.assertIn("2.0.0-a", parse_range("^1.2 <2.0.0-b"))
-        self.assertNotIn("2.0.0-a", parse_range("^1.2 <2.0.0-b", exact=True))
+        self.assertIn("2.0.0-a", parse_range("^1.2 <2.0.0-b", crate))
+        self.assertNotIn("2.0.0-a", parse_range("^1.2 <2.0.0-b", crate, exact=True))
         self.assertIn("1.9.0", parse_range("1.2.3"))
-        self.assertNotIn("1.9.0", parse_range("1.2.3", Compat.NPM))
+        self.assertNotIn("1.9.0", parse_range("1.2.3", Reading.NPM))
         for version in ("0.0.0", b"1.0.0", Version(1, 0, 0)):
-            self.assertIn(version, parse_range(""))
+            self.assertIn(version, parse_range("", Reading.NPM))
+            self.assertIn(version, parse_range("*"))
             self.assertIn(version, RangeSet((Range((), Compat.NPM),), Compat.NPM))
             self.assertNotIn(version, RangeSet((), Compat.NPM))
         for answered in (parse_range("^1"), RangeSet((), Compat.CARGO)):
@@ -118,13 +235,35 @@ class Meeting(unittest.TestCase):
             with self.assertRaises(TypeError):
                 1 in answered
 
+    def test_tools_in_a_range_set(self) -> None:
+        """Of releases the comparators tell what the text means to the tool, and of pre-releases
+        what they state: so the text has to be asked for those of the tool."""
+        for text, reading, version, means, states in (
+            ("* || =1.0.0-a", Reading.NPM, "1.0.0-a", False, True),
+            ("^1.2.3-beta", Reading.NPM, "1.2.3-rc", True, True),
+            ("=1.2, >=1.2.0-a", Reading.CARGO, "1.2.0-b", False, False),
+            ("^1.2, >=1.2.0-a", Reading.CARGO, "1.2.0-b", True, False),
+        ):
+            self.assertIs(meets(text, version, reading), means, text)
+            self.assertIs(version in parse_range(text, reading), states, text)
+        for text, version, wanted in BY_READING:
+            for reading, met in zip(Reading, wanted):
+                if met is not None and "-" not in version:
+                    self.assertIs(version in parse_range(text, reading), met, (text, reading))
+
     def test_other_types(self) -> None:
-        for arguments in (("1", 1), (None, "1.2.3"), ("1", "1.2.3", "npm")):
+        for arguments in (("1", 1), (None, "1.2.3"), ("1", "1.2.3", "npm"), ("1", "1.2.3", 1)):
             with self.assertRaises(TypeError):
                 meets(*arguments)
-        for rule in (1, True, "stated", None):
-            with self.assertRaises(TypeError):
-                Filter("1", Compat.NPM, rule)
+        for reading in (1, True, "npm", None, Compat.NPM):
+            for call in (Filter, least, partial(compare_ranges, "1")):
+                for rule in (None, *PreReleases):
+                    with self.assertRaisesRegex(TypeError, "^a reading is a Reading, and not "):
+                        call("1", reading, rule)
+        for rule in (1, True, "stated", Reading.NPM):
+            for call in (Filter, least, partial(compare_ranges, "1")):
+                with self.assertRaisesRegex(TypeError, "^a rule for pre-releases is a PreReleases"):
+                    call("1", Reading.CRATE_NPM, rule)
 
 
 class Kept(unittest.TestCase):
@@ -165,8 +304,9 @@ class Kept(unittest.TestCase):
         self.assertEqual(Filter("1.x").greatest(given), given[-1])
 
     def test_filter_is_a_value(self) -> None:
-        self.assertEqual(Filter("^1"), Filter("^1", Compat.CARGO, PreReleases.STATED))
-        self.assertEqual(len({Filter("^1"), Filter("^1"), Filter("^1", Compat.NPM)}), 2)
+        self.assertEqual(Filter("^1"), Filter("^1", Reading.CARGO, PreReleases.OF_TOOL))
+        self.assertEqual(len({Filter("^1"), Filter("^1"), Filter("^1", Reading.NPM)}), 2)
+        self.assertEqual(pickle.loads(pickle.dumps(Filter("^1"))), Filter("^1"))
 
 
 class Greatest(unittest.TestCase):
@@ -186,7 +326,7 @@ class Greatest(unittest.TestCase):
                 if "-01" in other or "+" in other:
                     continue  # a range has it as another identifier, or drops it
                 below = precedence(parse_version(one)) < precedence(parse_version(other))
-                wanted = meets(f"<{other}", one, pre_releases=PreReleases.INCLUDED)
+                wanted = meets(f"<{other}", one, Reading.CRATE_CARGO, PreReleases.INCLUDED)
                 self.assertIs(below, wanted, (one, other))
 
     def test_other_types(self) -> None:
@@ -232,7 +372,7 @@ class Greatest(unittest.TestCase):
         self.assertEqual(greatest("<1.0.0-rc.1", ORDERED), "1.0.0-beta.11")
         self.assertIsNone(greatest("^3", ORDERED))
         self.assertIsNone(greatest("^3", []))
-        self.assertEqual(greatest("1", ["1.9.0", "1.10.0", "1.2.0"], Compat.NPM), "1.10.0")
+        self.assertEqual(greatest("1", ["1.9.0", "1.10.0", "1.2.0"], Reading.NPM), "1.10.0")
 
     def test_first_among_equals(self) -> None:
         given: List[object] = ["1.0.0", "1.2.0+a", b"1.2.0+b", Version(1, 2, 0)]
@@ -256,7 +396,7 @@ class Threads(unittest.TestCase):
         def ask(number: int) -> None:
             mine = [f"{number}.{minor}.0-rc.{minor}" for minor in range(50)]
             for _ in range(40):
-                chosen = Filter(f"^{number}.10.0-rc", Compat.NPM, PreReleases.INCLUDED)
+                chosen = Filter(f"^{number}.10.0-rc", Reading.CRATE_NPM, PreReleases.INCLUDED)
                 if chosen.kept(mine) != mine[10:] or chosen.greatest(mine) != mine[-1]:
                     wrong.append(number)
                 if [str(parse_version(text)) for text in mine] != mine:

@@ -12,6 +12,7 @@ from semver_parser import (
     Range,
     RangeError,
     RangeSet,
+    Reading,
     Text,
     Version,
     VersionError,
@@ -108,22 +109,49 @@ class Ranges(unittest.TestCase):
             ),
             npm,
         )
-        self.assertEqual(parse_range("^1.2 || 1.2.3-b.007+c", npm, exact=True), wanted)
+        answered = parse_range("^1.2 || 1.2.3-b.007+c", Reading.CRATE_NPM, exact=True)
+        self.assertEqual(answered, wanted)
+        self.assertEqual(parse_range("^1.2 || 1.2.3-b.7+c", Reading.NPM), wanted)
         self.assertEqual(str(wanted), ">=1.2.0 <2.0.0-0 || =1.2.3-b.7")
 
-    def test_modes(self) -> None:
-        self.assertEqual(str(parse_range("1.2.3")), ">=1.2.3 <2.0.0")
-        self.assertEqual(str(parse_range("1.2.3", Compat.CARGO)), ">=1.2.3 <2.0.0")
-        self.assertEqual(str(parse_range("1.2.3", Compat.NPM)), "=1.2.3")
-        self.assertIs(parse_range("1.2.3").compat, Compat.CARGO)
+    def test_readings(self) -> None:
+        """What docs/MEANING.md has in the table of "Whose reading?", with exact bounds."""
+        for text, wanted in READINGS:
+            for reading, set_text in zip(Reading, wanted):
+                with self.subTest(text=text, reading=reading):
+                    if set_text is None:
+                        with self.assertRaises(RangeError) as caught:
+                            parse_range(text, reading, exact=True)
+                        self.assertEqual(caught.exception.name, "not-a-range")
+                    else:
+                        answered = parse_range(text, reading, exact=True)
+                        self.assertEqual(str(answered), set_text)
+                        self.assertIs(answered.compat, reading.compat)
+
+    def test_compat(self) -> None:
+        wanted = [Compat.CARGO, Compat.NPM, Compat.CARGO, Compat.NPM]
+        self.assertEqual([reading.compat for reading in Reading], wanted)
+
+    def test_default(self) -> None:
+        """It is Cargo's own reading."""
+        self.assertEqual(parse_range("1.2"), parse_range("1.2", Reading.CARGO))
+        self.assertEqual(str(parse_range("1.2")), ">=1.2.0 <2.0.0-0")
+        self.assertIs(parse_range("1.2").compat, Compat.CARGO)
 
     def test_exact_bounds(self) -> None:
-        self.assertEqual(str(parse_range("<=1.2", exact=True)), "<1.3.0-0")
-        self.assertEqual(str(parse_range("<=1.2")), "<1.3.0")
-        self.assertEqual(str(parse_range("<2", exact=True)), "<2.0.0")
+        for reading in Reading:
+            exact = [str(parse_range(it, reading, True)) for it in ("<=1.2", "^1.2.3", "<2.0.0")]
+            self.assertEqual(exact, ["<1.3.0-0", ">=1.2.3 <2.0.0-0", "<2.0.0"])
+        for reading in (Reading.CRATE_CARGO, Reading.CRATE_NPM):
+            self.assertEqual(str(parse_range("<=1.2", reading)), "<1.3.0")
+            self.assertEqual(str(parse_range("^1.2.3", reading)), ">=1.2.3 <2.0.0")
+        for reading in (Reading.CARGO, Reading.NPM):
+            self.assertEqual(str(parse_range("<=1.2", reading)), "<1.3.0-0")
+            self.assertEqual(str(parse_range("^1.2.3", reading)), ">=1.2.3 <2.0.0-0")
 
     def test_operators(self) -> None:
-        comparators = parse_range("<1.0.0 <=1.0.0 >1.0.0 >=1.0.0 =1.0.0").ranges[0].comparator_set
+        text = "<1.0.0, <=1.0.0, >1.0.0, >=1.0.0, =1.0.0"
+        comparators = parse_range(text).ranges[0].comparator_set
         self.assertEqual([it.op for it in comparators], [Op.LT, Op.LTE, Op.GT, Op.GTE, Op.EQ])
         self.assertEqual([str(it.op) for it in comparators], ["<", "<=", ">", ">=", "="])
 
@@ -140,19 +168,45 @@ class Ranges(unittest.TestCase):
         for count in (*range(1, 40), 1000):
             text = "||".join(["^1.2.3-rc.1"] * count)
             one = Range((Comparator(Op.GTE, 1, 2, 3, ("rc", 1)), Comparator(Op.LT, 2, 0, 0)), NPM)
-            self.assertEqual(parse_range(text, NPM), RangeSet((one,) * count, NPM))
+            wanted = RangeSet((one,) * count, NPM)
+            self.assertEqual(parse_range(text, Reading.CRATE_NPM), wanted)
         for length in range(40, 100):
             answered = parse_range("=1.2.3-" + "a" * length)
             self.assertEqual(answered.ranges[0].comparator_set[0].pre, ("a" * length,))
 
     def test_sizes(self) -> None:
-        self.assertEqual(len(parse_range("||" * 99_999).ranges), 100_000)
-        self.assertEqual(len(parse_range("* " * 100_000).ranges[0].comparator_set), 100_000)
-        many = parse_range("=1.2.3-" + ".".join(["a", "01"] * 50_000))
+        for reading in (Reading.NPM, Reading.CRATE_CARGO, Reading.CRATE_NPM):
+            self.assertEqual(len(parse_range("||" * 99_999, reading).ranges), 100_000)
+            comparators = parse_range("* " * 100_000, reading).ranges[0].comparator_set
+            self.assertEqual(len(comparators), 100_000)
+        self.assertEqual(len(parse_range(",".join(["1"] * 32)).ranges[0].comparator_set), 64)
+        with self.assertRaises(RangeError):
+            parse_range(",".join(["1"] * 33))
+        many = parse_range("=1.2.3-" + ".".join(["a", "1"] * 50_000))
+        self.assertEqual(many.ranges[0].comparator_set[0].pre, ("a", 1) * 50_000)
+        many = parse_range("=1.2.3-" + ".".join(["a", "01"] * 50_000), Reading.CRATE_CARGO)
         self.assertEqual(many.ranges[0].comparator_set[0].pre, ("a", 1) * 50_000)
 
 
 NPM = Compat.NPM
+
+# A range text, and what it is rewritten to by each reading, or None where it is none: Cargo's own,
+# npm's own, and the crate's in Cargo mode and in npm mode.
+READINGS = [
+    ("1.2.3", (">=1.2.3 <2.0.0-0", "=1.2.3", ">=1.2.3 <2.0.0-0", "=1.2.3")),
+    ("1.2", (">=1.2.0 <2.0.0-0", *3 * (">=1.2.0 <1.3.0-0",))),
+    (">1.2", (*2 * (">=1.3.0",), *2 * (">1.2.0",))),
+    ("<1.2", ("<1.2.0", "<1.2.0-0", *2 * ("<1.2.0",))),
+    (">=1.2.3, <2", (">=1.2.3 <2.0.0", None, None, None)),
+    ("1.2 || 3", (None, *3 * (">=1.2.0 <1.3.0-0 || >=3.0.0 <4.0.0-0",))),
+    ("v1.2.3", (None, "=1.2.3", None, None)),
+    ("^v1", (None, ">=1.0.0 <2.0.0-0", None, None)),
+    ("=v1", (None, ">=1.0.0 <2.0.0-0", None, None)),
+    ("1.2.3\n", (None, "=1.2.3", None, None)),
+    ("\u00a01.2.3", (None, "=1.2.3", None, None)),
+    ("1.2.3-01", (None, None, ">=1.2.3-1 <2.0.0-0", "=1.2.3-1")),
+    ("", (None, *3 * (">=0.0.0",))),
+]
 
 
 class Faults(unittest.TestCase):
@@ -162,9 +216,10 @@ class Faults(unittest.TestCase):
         self.assertEqual((caught.exception.name, caught.exception.text), (name, text))
 
     def refuses_range(self, text: Text, name: str) -> None:
-        with self.assertRaises(RangeError) as caught:
-            parse_range(text)
-        self.assertEqual((caught.exception.name, caught.exception.text), (name, text))
+        for reading in Reading:
+            with self.assertRaises(RangeError) as caught:
+                parse_range(text, reading)
+            self.assertEqual((caught.exception.name, caught.exception.text), (name, text))
 
     def test_versions(self) -> None:
         for text in ("", "1.2", "1.2.3-", " "):
@@ -177,8 +232,12 @@ class Faults(unittest.TestCase):
             self.refuses_version(text, "more-input")
 
     def test_ranges(self) -> None:
-        for text in ("1.2.3 -4", ">=1.0.0, <2.0.0", "v1.2.3", "|", "1\n", "*\0"):
+        for text in ("1.2.3 -4", ">=1.0.0, <2.0.0 || 3", "v 1.2.3", "|", "V1", "*\0"):
             self.refuses_range(text, "not-a-range")
+        for text in (">=1.0.0, <2.0.0", "v1.2.3", "1\n"):
+            for reading in (Reading.CRATE_CARGO, Reading.CRATE_NPM):
+                with self.assertRaises(RangeError):
+                    parse_range(text, reading)
         for text in (f"{MOST + 1}", f"<={MOST}"):
             self.refuses_range(text, "number-too-large")
 
@@ -213,6 +272,6 @@ class Faults(unittest.TestCase):
                 parse_version(value)
             with self.assertRaises(TypeError):
                 parse_range(value)
-        for mode in ("npm", True, None):
-            with self.assertRaises(TypeError):
-                parse_range("1", mode)
+        for reading in ("npm", True, 0, None, Compat.NPM):
+            with self.assertRaisesRegex(TypeError, "^a reading is a Reading, and not "):
+                parse_range("1", reading)

@@ -1,4 +1,4 @@
-"""The least version that a range means, and how two ranges compare, by each rule."""
+"""The least version that a range means, and how two ranges compare, by each reading and rule."""
 
 import pickle
 import unittest
@@ -9,13 +9,18 @@ from semver_parser import (
     Compat,
     PreReleases,
     RangeError,
+    Reading,
     Version,
     compare_ranges,
     least,
 )
 from semver_parser.faults import raise_fault
 
-# A range in npm mode, and the least version by each rule: releases alone, as stated, and all.
+OF_CRATE = (PreReleases.EXCLUDED, PreReleases.STATED, PreReleases.INCLUDED)
+CRATE = (Reading.CRATE_CARGO, Reading.CRATE_NPM)
+
+# A range by the crate in npm mode, and the least version by each rule: releases alone, as stated,
+# and all.
 LEAST = [
     ("^1.2.3", ("1.2.3", "1.2.3", "1.2.3")),
     ("", ("0.0.0", "0.0.0", "0.0.0")),
@@ -35,9 +40,56 @@ LEAST = [
 MOST = str(2**64 - 1)
 LAST = ".".join([MOST] * 3)
 
+# A range, and its least version among releases alone, and by the rule that the reading takes where
+# none is named. They follow from what docs/MEANING.md has of each reading.
+LEAST_BY_READING = [
+    (Reading.CARGO, "1.2", ("1.2.0", "1.2.0")),
+    (Reading.CARGO, ">1.2", ("1.3.0", "1.3.0")),
+    (Reading.CARGO, "^1.2.3-beta", ("1.2.3", "1.2.3-beta")),
+    (Reading.CARGO, "^1.2, >=1.2.0-a", ("1.2.0", "1.2.0-a")),
+    (Reading.CARGO, "=1.2, >=1.2.0-a", ("1.2.0", "1.2.0")),
+    (Reading.CARGO, ">=1, >=2.0.0-a", ("2.0.0", "2.0.0-a")),
+    (Reading.NPM, ">1.2", ("1.3.0", "1.3.0")),
+    (Reading.NPM, "v1.2.3", ("1.2.3", "1.2.3")),
+    (Reading.NPM, "=1.2 >=1.2.3-a", ("1.2.3", "1.2.3-a")),
+    (Reading.NPM, "<1.0 >=1.0.0-a", (None, None)),
+    (Reading.NPM, ">=0 >=0.0.0-a", ("0.0.0", "0.0.0-a")),
+    (Reading.NPM, "* || =1.0.0-a", ("0.0.0", "0.0.0")),
+    (Reading.CRATE_CARGO, ">1.2", ("1.2.1", "1.2.1")),
+    (Reading.CRATE_NPM, ">1.2", ("1.2.1", "1.2.1")),
+    (Reading.CRATE_NPM, "<1.0 >=1.0.0-a", (None, "1.0.0-a")),
+]
+
 Three = Tuple[Optional[str], Optional[str], Optional[str]]
 
-# Two ranges, and what is lost, gained and shared, whatever the rule and the mode.
+# Two ranges, and what is lost, gained and shared in the same two ways.
+COMPARED_BY_READING = [
+    (Reading.CARGO, "1.2", "^1.2", 2 * ((None, None, "1.2.0"),)),
+    (Reading.NPM, "1.2", "^1.2", 2 * ((None, "1.3.0", "1.2.0"),)),
+    (Reading.CRATE_CARGO, "1.2", "^1.2", 2 * ((None, "1.3.0", "1.2.0"),)),
+    (Reading.CRATE_NPM, "1.2", "^1.2", 2 * ((None, "1.3.0", "1.2.0"),)),
+    (Reading.CARGO, ">1.2", ">=1.3.0", 2 * ((None, None, "1.3.0"),)),
+    (Reading.NPM, ">1.2", ">=1.3.0", 2 * ((None, None, "1.3.0"),)),
+    (Reading.CRATE_CARGO, ">1.2", ">=1.3.0", 2 * (("1.2.1", None, "1.3.0"),)),
+    (Reading.CRATE_NPM, ">1.2", ">=1.3.0", 2 * (("1.2.1", None, "1.3.0"),)),
+    (Reading.NPM, "* || =1.0.0-a", "*", 2 * ((None, None, "0.0.0"),)),
+    (
+        Reading.CRATE_NPM,
+        "* || =1.0.0-a",
+        "*",
+        ((None, None, "0.0.0"), ("1.0.0-a", None, "0.0.0")),
+    ),
+    (Reading.NPM, "<1.0 >=1.0.0-a", "<*", 2 * ((None, None, None),)),
+    (
+        Reading.CARGO,
+        "^1.2, >=1.2.0-a",
+        "=1.2, >=1.2.0-a",
+        (("1.3.0", None, "1.2.0"), ("1.2.0-a", None, "1.2.0")),
+    ),
+    (Reading.CARGO, "*", ">=0.0.0-a", ((None, None, "0.0.0"), (None, "0.0.0-a", "0.0.0"))),
+]
+
+# Two ranges, and what is lost, gained and shared, whatever the rule and the mode of the crate.
 ALIKE = [
     ("^1.2.3", "^1.2.3", (None, None, "1.2.3")),
     ("3.x || ^1.2", "^1.2 || 3.x", (None, None, "1.2.0")),
@@ -77,12 +129,19 @@ BY_RULE = [
 
 
 class ComparedTest(unittest.TestCase):
-    def compares(self, old: str, new: str, mode: Compat, rule: PreReleases, wanted: Three) -> None:
+    def compares(
+        self,
+        old: str,
+        new: str,
+        reading: Reading,
+        rule: Optional[PreReleases],
+        wanted: Three,
+    ) -> None:
         """What is lost one way round is gained the other way round."""
         lost, gained, shared = wanted
         for one, other, told in ((old, new, wanted), (new, old, (gained, lost, shared))):
-            with self.subTest(old=one, new=other, mode=mode, rule=rule):
-                answered = compare_ranges(one, other, mode, rule)
+            with self.subTest(old=one, new=other, reading=reading, rule=rule):
+                answered = compare_ranges(one, other, reading, rule)
                 them = (answered.lost, answered.gained, answered.shared)
                 self.assertEqual(tuple(it and str(it) for it in them), told)
                 self.assertIs(answered.overlaps, shared is not None)
@@ -90,19 +149,27 @@ class ComparedTest(unittest.TestCase):
                 self.assertIs(answered.means_same, lost is None and gained is None)
 
     def test_rules(self) -> None:
-        for mode in Compat:
+        for reading in CRATE:
             for old, new, wanted in ALIKE:
-                for rule in PreReleases:
-                    self.compares(old, new, mode, rule, wanted)
+                for rule in OF_CRATE:
+                    self.compares(old, new, reading, rule, wanted)
             for old, new, by_rule in BY_RULE:
-                for rule, wanted in zip(PreReleases, by_rule):
-                    self.compares(old, new, mode, rule, wanted)
+                for rule, wanted in zip(OF_CRATE, by_rule):
+                    self.compares(old, new, reading, rule, wanted)
 
-    def test_modes_and_defaults(self) -> None:
+    def test_readings(self) -> None:
+        for reading, old, new, (alone, taken) in COMPARED_BY_READING:
+            self.compares(old, new, reading, PreReleases.EXCLUDED, alone)
+            self.compares(old, new, reading, None, taken)
+            its = PreReleases.STATED if reading in CRATE else PreReleases.OF_TOOL
+            self.compares(old, new, reading, its, taken)
+
+    def test_defaults(self) -> None:
         version = Version(1, 2, 3)
         self.assertEqual(compare_ranges("1.2.3", b"^1.2.3"), Comparison(None, None, version))
-        npm = compare_ranges("1.2.3", "^1.2.3", Compat.NPM)
+        npm = compare_ranges("1.2.3", "^1.2.3", Reading.NPM)
         self.assertEqual(npm, Comparison(None, Version(1, 2, 4), version))
+        self.assertEqual(compare_ranges("1.2", "^1.2").gained, None)
         self.assertEqual(compare_ranges("<2.0.0", "<2.0.0-0").lost, None)
 
     def test_sizes(self) -> None:
@@ -111,27 +178,28 @@ class ComparedTest(unittest.TestCase):
             compared = compare_ranges(f"={texts[0]}", f"={texts[1]}")
             self.assertEqual([str(compared.lost), str(compared.gained)], texts)
         many = [f"={number}.0.0" for number in range(2000)]
-        compared = compare_ranges("||".join(many), "||".join(many[1998::-1]))
+        compared = compare_ranges("||".join(many), "||".join(many[1998::-1]), Reading.NPM)
         self.assertEqual(compared, Comparison(Version(1999, 0, 0), None, Version(0, 0, 0)))
 
     def test_faults(self) -> None:
         raised_bound = f"<={MOST}"
         for old, new, which, name in [
-            ("v1", "^1", "old", "not-a-range"),
-            ("^1", "v1", "new", "not-a-range"),
-            ("v1", "|", "old", "not-a-range"),
+            ("^", "^1", "old", "not-a-range"),
+            ("^1", "^", "new", "not-a-range"),
+            ("^", "|", "old", "not-a-range"),
             (b"\xff", "^1", "old", "not-utf8"),
             ("^1", "\ud800", "new", "not-utf8"),
             (raised_bound, b"\xff", "old", "number-too-large"),
-            ("", raised_bound, "new", "number-too-large"),
+            ("*", raised_bound, "new", "number-too-large"),
         ]:
-            with self.assertRaises(RangeError) as raised:
-                compare_ranges(old, new)
-            told = raised.exception
-            text = old if which == "old" else new
-            self.assertEqual((told.which, told.name, told.text), (which, name, text))
-            again = pickle.loads(pickle.dumps(told))
-            self.assertEqual((again.which, str(again)), (which, str(told)))
+            for reading in Reading:
+                with self.assertRaises(RangeError) as raised:
+                    compare_ranges(old, new, reading)
+                told = raised.exception
+                text = old if which == "old" else new
+                self.assertEqual((told.which, told.name, told.text), (which, name, text))
+                again = pickle.loads(pickle.dumps(told))
+                self.assertEqual((again.which, str(again)), (which, str(told)))
         with self.assertRaisesRegex(RangeError, r"^not a range, in the new range: 'v1'$"):
             compare_ranges("^1", "v1")
         with self.assertRaises(MemoryError):
@@ -141,19 +209,30 @@ class ComparedTest(unittest.TestCase):
         self.assertIsNone(alone.exception.which)
 
     def test_types(self) -> None:
-        for arguments in ((1, "1"), ("1", None), ("1", "1", "npm"), ("1", "1", Compat.NPM, 1)):
+        for arguments in ((1, "1"), ("1", None), ("1", "1", "npm"), ("1", "1", Reading.NPM, 1)):
             with self.assertRaises(TypeError):
                 compare_ranges(*arguments)  # type: ignore[arg-type]
 
 
 class LeastTest(unittest.TestCase):
     def test_rules(self) -> None:
-        rules = (PreReleases.EXCLUDED, PreReleases.STATED, PreReleases.INCLUDED)
         for range, wanted in LEAST:
-            for rule, text in zip(rules, wanted):
-                with self.subTest(range=range, rule=rule):
-                    answered = least(range, Compat.NPM, rule)
-                    self.assertEqual(None if answered is None else str(answered), text)
+            for rule, text in zip(OF_CRATE, wanted):
+                self.has_least(range, Reading.CRATE_NPM, rule, text)
+
+    def has_least(
+        self, range: str, reading: Reading, rule: Optional[PreReleases], wanted: Optional[str]
+    ) -> None:
+        with self.subTest(range=range, reading=reading, rule=rule):
+            answered = least(range, reading, rule)
+            self.assertEqual(None if answered is None else str(answered), wanted)
+
+    def test_readings(self) -> None:
+        for reading, range, (alone, taken) in LEAST_BY_READING:
+            self.has_least(range, reading, PreReleases.EXCLUDED, alone)
+            self.has_least(range, reading, None, taken)
+            its = PreReleases.STATED if reading in CRATE else PreReleases.OF_TOOL
+            self.has_least(range, reading, its, taken)
 
     def test_defaults(self) -> None:
         self.assertEqual(least(b"^1.2.3-rc"), Version(1, 2, 3, ("rc",)))
@@ -164,10 +243,12 @@ class LeastTest(unittest.TestCase):
             with self.assertRaises(RangeError) as raised:
                 least(range)
             self.assertEqual((raised.exception.name, raised.exception.text), (name, range))
-        with self.assertRaises(RangeError) as raised:
-            least("0.0.18446744073709551615")
-        self.assertEqual(raised.exception.name, "number-too-large")
-        self.assertEqual(least("0.0.18446744073709551615", Compat.NPM), Version(0, 0, 2**64 - 1))
+        for reading in (Reading.CARGO, Reading.CRATE_CARGO):
+            with self.assertRaises(RangeError) as raised:
+                least("0.0.18446744073709551615", reading)
+            self.assertEqual(raised.exception.name, "number-too-large")
+        for reading in (Reading.NPM, Reading.CRATE_NPM):
+            self.assertEqual(least("0.0.18446744073709551615", reading), Version(0, 0, 2**64 - 1))
 
     def test_types(self) -> None:
         with self.assertRaises(TypeError):
@@ -175,7 +256,9 @@ class LeastTest(unittest.TestCase):
         with self.assertRaises(TypeError):
             least("1", "npm")  # type: ignore[arg-type]
         with self.assertRaises(TypeError):
-            least("1", Compat.NPM, 1)  # type: ignore[arg-type]
+            least("1", Reading.NPM, 1)  # type: ignore[arg-type]
+        with self.assertRaises(TypeError):
+            least("1", Compat.NPM)  # type: ignore[arg-type]
 
 
 if __name__ == "__main__":

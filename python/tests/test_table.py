@@ -1,10 +1,20 @@
-"""The rows of the table: versions, ranges in both modes, printing, exact bounds, and filters."""
+"""The rows of the tables: versions, ranges by each reading, printing, exact bounds, and filters."""
 
 import unittest
 from collections import Counter
 from typing import Counter as Counts
+from typing import List
 
-from tests.table import answer, checksum, rows
+from semver_parser import (
+    Filter,
+    PreReleases,
+    RangeError,
+    Reading,
+    meets,
+    parse_range,
+    parse_version,
+)
+from tests.table import answer, checksum, rows, rows_of_tool
 
 _SUM = "sum-of-"
 
@@ -27,3 +37,45 @@ class Table(unittest.TestCase):
         self.assertGreater(min(counts[call] for call in ("version", "cargo", "npm")), 50)
         self.assertGreater(min(counts[call] for call in ("cargo-exact", "npm-exact")), 90)
         self.assertGreater(min(counts[call] for call in ("mean-cargo", "mean-npm")), 90)
+
+
+class Tools(unittest.TestCase):
+    """The rows that were made beside Cargo's `semver` and beside node-semver, by their readings."""
+
+    def test_rows(self) -> None:
+        for name, reading in (("cargo", Reading.CARGO), ("npm", Reading.NPM)):
+            counts: Counts[str] = Counter()
+            for asked, wanted in rows_of_tool(name):
+                text, question, versions = asked.partition(" ? ")
+                with self.subTest(tool=name, asked=asked):
+                    if question:
+                        self.check_meaning(text, reading, versions.split(" "), wanted)
+                    else:
+                        self.check_rewriting(text, reading, wanted)
+                counts["meant" if question else "rewritten"] += 1
+            self.assertGreater(counts["rewritten"], 80)
+            self.assertGreaterEqual(counts["meant"], 50)
+
+    def check_rewriting(self, text: str, reading: Reading, wanted: str) -> None:
+        """By a tool's own reading bounds are exact, whatever is asked for."""
+        for exact in (False, True):
+            try:
+                self.assertEqual(str(parse_range(text, reading, exact)), wanted)
+            except RangeError as error:
+                self.assertEqual(error.name, wanted)
+
+    def check_meaning(self, text: str, reading: Reading, versions: List[str], wanted: str) -> None:
+        """By the tool's own rule, which none stands for too, and of the releases among them."""
+        try:
+            chosen = [Filter(text, reading, rule) for rule in (None, PreReleases.OF_TOOL)]
+            releases = Filter(text, reading, PreReleases.EXCLUDED)
+        except RangeError as error:
+            self.assertEqual(error.name, wanted)
+            return
+        means, *meant = wanted.split(" ")
+        self.assertEqual(means, "means")
+        for each in chosen:
+            self.assertEqual(each.kept(versions), meant)
+        self.assertEqual(releases.kept(versions), [it for it in meant if not parse_version(it).pre])
+        for version in versions:
+            self.assertIs(meets(text, version, reading), version in meant)

@@ -123,16 +123,20 @@ static void free_rooms(rooms *some) {
 /* Which call is made: the first leaves the room of comparators alone. */
 enum { PRINTED, COMPARATORS };
 
-static int32_t call(int which, const text *of, bool npm, bool exact, rooms *to, bool at_null) {
+static int32_t call(int which, const text *of, int32_t reading, bool exact, rooms *to,
+                    bool at_null) {
     uint8_t *bytes = alone(of);
     const uint8_t *from = at_null && of->length == 0 ? NULL : bytes;
     uint8_t *out = at_null && to->room == 0 ? NULL : to->out;
     semver_parser_comparator *comparators = at_null && to->comparator_room == 0 ? NULL : to->comparators;
     int32_t answer;
     if (which == PRINTED) {
-        answer = semver_parser_rewrite(from, of->length, npm, exact, out, to->room, &to->length);
+        answer =
+            semver_parser_rewrite(from, of->length, reading, exact, out, to->room, &to->length);
     } else {
-        answer = semver_parser_comparators(from, of->length, npm, exact, comparators, to->comparator_room, &to->count, out, to->room, &to->length);
+        answer =
+            semver_parser_comparators(from, of->length, reading, exact, comparators,
+                                      to->comparator_room, &to->count, out, to->room, &to->length);
     }
     free(bytes);
     return answer;
@@ -159,11 +163,12 @@ static bool is_same_comparator(const semver_parser_comparator *one, const semver
 }
 
 /* One call in some rooms, which has to answer and to write what is wanted: the bytes, and the comparators where it tells them. */
-static void try_rooms(int which, const text *of, bool npm, bool exact, size_t room, size_t comparator_room, const text *bytes, const comparator_list *list) {
+static void try_rooms(int which, const text *of, int32_t reading, bool exact, size_t room,
+                      size_t comparator_room, const text *bytes, const comparator_list *list) {
     bool is_empty = of->length == 0 || room == 0 || (which == COMPARATORS && comparator_room == 0);
     for (int at_null = 0; at_null < (is_empty ? 2 : 1); at_null++) {
         rooms to = rooms_of(room, comparator_room);
-        int32_t answer = call(which, of, npm, exact, &to, at_null != 0);
+        int32_t answer = call(which, of, reading, exact, &to, at_null != 0);
         bool fits = room >= bytes->length && (which == PRINTED || comparator_room >= list->count);
         require(answer == (fits ? (int32_t)SEMVER_PARSER_OK : (int32_t)SEMVER_PARSER_NO_ROOM), "another answer in another room", of);
         require_kept(which, answer, &to, of);
@@ -183,24 +188,28 @@ static bool is_tried(size_t room, size_t needed, size_t all) {
 
 /* Each room of comparators goes with each room of bytes that decides: none, one that is a byte too small, and one that fits; and each of bytes with a room of
  * comparators that fits. */
-static void try_all_rooms(const text *of, bool npm, bool exact, const text *set, const comparator_list *list) {
+static void try_all_rooms(const text *of, int32_t reading, bool exact, const text *set,
+                          const comparator_list *list) {
     const text *pre_releases = &list->pre_releases;
     for (size_t room = 0; room <= set->length + 1; room++) {
         if (is_tried(room, set->length, 300)) {
-            try_rooms(PRINTED, of, npm, exact, room, 0, set, list);
+            try_rooms(PRINTED, of, reading, exact, room, 0, set, list);
         }
     }
     for (size_t comparator_room = 0; comparator_room <= list->count + 1; comparator_room++) {
         if (!is_tried(comparator_room, list->count, 12)) {
             continue;
         }
-        try_rooms(COMPARATORS, of, npm, exact, 0, comparator_room, pre_releases, list);
-        try_rooms(COMPARATORS, of, npm, exact, pre_releases->length > 0 ? pre_releases->length - 1 : 1, comparator_room, pre_releases, list);
-        try_rooms(COMPARATORS, of, npm, exact, pre_releases->length, comparator_room, pre_releases, list);
+        try_rooms(COMPARATORS, of, reading, exact, 0, comparator_room, pre_releases, list);
+        try_rooms(COMPARATORS, of, reading, exact,
+                  pre_releases->length > 0 ? pre_releases->length - 1 : 1, comparator_room,
+                  pre_releases, list);
+        try_rooms(COMPARATORS, of, reading, exact, pre_releases->length, comparator_room,
+                  pre_releases, list);
     }
     for (size_t room = 0; room <= pre_releases->length + 1; room++) {
         if (is_tried(room, pre_releases->length, 300)) {
-            try_rooms(COMPARATORS, of, npm, exact, room, list->count, pre_releases, list);
+            try_rooms(COMPARATORS, of, reading, exact, room, list->count, pre_releases, list);
         }
     }
 }
@@ -240,11 +249,11 @@ static void require_printed(const text *of, const text *set, const comparator_li
 }
 
 /* A fault of a range, which both calls have to answer. */
-static int32_t require_fault(const text *of, bool npm, bool exact, int32_t fault) {
+static int32_t require_fault(const text *of, int32_t reading, bool exact, int32_t fault) {
     for (int which = PRINTED; which <= COMPARATORS; which++) {
         for (int case_of = 0; case_of < 4; case_of++) {
             rooms to = rooms_of(case_of % 2 == 0 ? 0 : 64, case_of % 2 == 0 ? 0 : 8);
-            int32_t answer = call(which, of, npm, exact, &to, case_of >= 2);
+            int32_t answer = call(which, of, reading, exact, &to, case_of >= 2);
             require(answer == fault, "another fault", of);
             require_kept(which, answer, &to, of);
             free_rooms(&to);
@@ -254,32 +263,35 @@ static int32_t require_fault(const text *of, bool npm, bool exact, int32_t fault
 }
 
 /* What a call puts into rooms of the size that it asks for. */
-static rooms filled_rooms(int which, const text *of, bool npm, bool exact) {
+static rooms filled_rooms(int which, const text *of, int32_t reading, bool exact) {
     rooms none = rooms_of(0, 0);
-    require(call(which, of, npm, exact, &none, false) == SEMVER_PARSER_NO_ROOM, "room for a set of no bytes, or of no comparators", of);
+    require(call(which, of, reading, exact, &none, false) == SEMVER_PARSER_NO_ROOM,
+            "room for a set of no bytes, or of no comparators", of);
     free_rooms(&none);
     rooms to = rooms_of(none.length, which == COMPARATORS ? none.count : 0);
-    require(call(which, of, npm, exact, &to, false) == SEMVER_PARSER_OK, "no room in rooms of its size", of);
+    require(call(which, of, reading, exact, &to, false) == SEMVER_PARSER_OK,
+            "no room in rooms of its size", of);
     require(to.length == none.length && to.count == none.count, "another size", of);
     return to;
 }
 
-int32_t rewrite(const text *of, bool npm, bool exact, text *printed, comparator_list *comparators) {
+int32_t rewrite(const text *of, int32_t reading, bool exact, text *printed,
+                comparator_list *comparators) {
     rooms none = rooms_of(0, 0);
-    int32_t answer = call(PRINTED, of, npm, exact, &none, false);
+    int32_t answer = call(PRINTED, of, reading, exact, &none, false);
     free_rooms(&none);
     if (answer != SEMVER_PARSER_NO_ROOM) {
         require(answer != SEMVER_PARSER_OK, "a set of no bytes", of);
-        return require_fault(of, npm, exact, answer);
+        return require_fault(of, reading, exact, answer);
     }
-    rooms of_set = filled_rooms(PRINTED, of, npm, exact);
-    rooms of_comparators = filled_rooms(COMPARATORS, of, npm, exact);
+    rooms of_set = filled_rooms(PRINTED, of, reading, exact);
+    rooms of_comparators = filled_rooms(COMPARATORS, of, reading, exact);
     text set = {NULL, 0, 0};
     text_add(&set, (const char *)of_set.out, of_set.length);
     comparator_list list = {of_comparators.comparators, of_comparators.count, {NULL, 0, 0}};
     text_add(&list.pre_releases, (const char *)of_comparators.out, of_comparators.length);
     require_printed(of, &set, &list);
-    try_all_rooms(of, npm, exact, &set, &list);
+    try_all_rooms(of, reading, exact, &set, &list);
     text_add(printed, set.bytes, set.length);
     text_free(&set);
     free_rooms(&of_set);
@@ -300,12 +312,14 @@ void free_comparators(comparator_list *comparators) {
 /* ---- meeting */
 
 /* Asks for one version. */
-static int32_t meets_one(const text *range, bool npm, int32_t pre_releases, const text *version, bool at_null, bool before) {
+static int32_t meets_one(const text *range, int32_t reading, int32_t pre_releases,
+                         const text *version, bool at_null, bool before) {
     uint8_t *range_bytes = alone(range);
     uint8_t *version_bytes = alone(version);
     bool met = before;
-    int32_t answer = semver_parser_meets(at_null && range->length == 0 ? NULL : range_bytes, range->length, npm, pre_releases,
-                                         at_null && version->length == 0 ? NULL : version_bytes, version->length, &met);
+    int32_t answer = semver_parser_meets(
+        at_null && range->length == 0 ? NULL : range_bytes, range->length, reading, pre_releases,
+        at_null && version->length == 0 ? NULL : version_bytes, version->length, &met);
     free(range_bytes);
     free(version_bytes);
     require(answer == SEMVER_PARSER_OK || met == before, "an answer at a fault", range);
@@ -313,7 +327,8 @@ static int32_t meets_one(const text *range, bool npm, int32_t pre_releases, cons
 }
 
 /* Asks for many: the version, an empty text at null and one elsewhere, 1.2.3 without its dots, and the version again, of which the first `count` are passed. */
-static void require_each(const text *range, bool npm, int32_t pre_releases, const text *version, int32_t wanted, size_t count) {
+static void require_each(const text *range, int32_t reading, int32_t pre_releases,
+                         const text *version, int32_t wanted, size_t count) {
     uint8_t *range_bytes = alone(range);
     uint8_t *version_bytes = alone(version);
     uint8_t *versions_block = (uint8_t *)block(count * sizeof(semver_parser_text));
@@ -324,7 +339,9 @@ static void require_each(const text *range, bool npm, int32_t pre_releases, cons
     memcpy(versions, all, count * sizeof *versions);
     uint8_t answers[6];
     memset(answers, FILL, sizeof answers);
-    int32_t answer = semver_parser_meets_each(range_bytes, range->length, npm, pre_releases, count != 0 ? versions : NULL, count, count != 0 ? answers : NULL);
+    int32_t answer =
+        semver_parser_meets_each(range_bytes, range->length, reading, pre_releases,
+                                 count != 0 ? versions : NULL, count, count != 0 ? answers : NULL);
     bool read = wanted < 10;
     require(answer == (read ? (int32_t)SEMVER_PARSER_OK : wanted), "another answer for many", range);
     for (size_t at = 0; read && at < count; at++) {
@@ -337,16 +354,18 @@ static void require_each(const text *range, bool npm, int32_t pre_releases, cons
     free(versions_block);
 }
 
-int32_t meets(const text *range, bool npm, int32_t pre_releases, const text *version) {
-    int32_t answer = meets_one(range, npm, pre_releases, version, false, false);
-    require(meets_one(range, npm, pre_releases, version, false, true) == answer, "an answer by what was there", range);
-    require(meets_one(range, npm, pre_releases, version, true, true) == answer, "another answer at null", range);
+int32_t meets(const text *range, int32_t reading, int32_t pre_releases, const text *version) {
+    int32_t answer = meets_one(range, reading, pre_releases, version, false, false);
+    require(meets_one(range, reading, pre_releases, version, false, true) == answer,
+            "an answer by what was there", range);
+    require(meets_one(range, reading, pre_releases, version, true, true) == answer,
+            "another answer at null", range);
     if (answer < 10) {
         for (size_t count = 0; count <= 5; count++) {
-            require_each(range, npm, pre_releases, version, answer, count);
+            require_each(range, reading, pre_releases, version, answer, count);
         }
     } else {
-        require_each(range, npm, pre_releases, version, answer, 5);
+        require_each(range, reading, pre_releases, version, answer, 5);
     }
     return answer;
 }
@@ -354,12 +373,14 @@ int32_t meets(const text *range, bool npm, int32_t pre_releases, const text *ver
 /* ---- the least version */
 
 /* Asks for it in a room of some length. What is behind what was written has to be as it was, and all of it at a fault. */
-static int32_t least_in(const text *range, bool npm, int32_t pre_releases, uint8_t *out, size_t room, size_t *length, bool at_null) {
+static int32_t least_in(const text *range, int32_t reading, int32_t pre_releases, uint8_t *out,
+                        size_t room, size_t *length, bool at_null) {
     uint8_t *range_bytes = alone(range);
     memset(out, FILL, room + 1);
     *length = 777;
-    int32_t answer = semver_parser_least(at_null && range->length == 0 ? NULL : range_bytes, range->length, npm, pre_releases,
-                                         at_null && room == 0 ? NULL : out, room, length);
+    int32_t answer =
+        semver_parser_least(at_null && range->length == 0 ? NULL : range_bytes, range->length,
+                            reading, pre_releases, at_null && room == 0 ? NULL : out, room, length);
     free(range_bytes);
     size_t written = answer == SEMVER_PARSER_OK ? *length : 0;
     require(written <= room && is_filled(out + written, FILL, room + 1 - written), "a byte behind the version, or at a fault", range);
@@ -367,10 +388,10 @@ static int32_t least_in(const text *range, bool npm, int32_t pre_releases, uint8
     return answer;
 }
 
-int32_t least(const text *range, bool npm, int32_t pre_releases, text *printed) {
+int32_t least(const text *range, int32_t reading, int32_t pre_releases, text *printed) {
     uint8_t none;
     size_t wanted;
-    int32_t answer = least_in(range, npm, pre_releases, &none, 0, &wanted, true);
+    int32_t answer = least_in(range, reading, pre_releases, &none, 0, &wanted, true);
     size_t bytes = answer == SEMVER_PARSER_OK || answer == SEMVER_PARSER_NO_ROOM ? wanted : 0;
     require(answer != SEMVER_PARSER_NO_ROOM || wanted > 0, "no room for no byte", range);
     for (size_t room = 0; room <= bytes + 1; room++) {
@@ -379,7 +400,8 @@ int32_t least(const text *range, bool npm, int32_t pre_releases, text *printed) 
         }
         uint8_t *out = (uint8_t *)block(room + 1);
         size_t length;
-        int32_t answered = least_in(range, npm, pre_releases, out, room, &length, room % 2 == 0);
+        int32_t answered =
+            least_in(range, reading, pre_releases, out, room, &length, room % 2 == 0);
         bool fits = room >= bytes;
         require(answered == (answer == SEMVER_PARSER_NO_ROOM && fits ? (int32_t)SEMVER_PARSER_OK : answer), "another answer in another room", range);
         require(length == (bytes > 0 || answer == SEMVER_PARSER_OK ? bytes : 777), "another length in another room", range);
@@ -394,16 +416,18 @@ int32_t least(const text *range, bool npm, int32_t pre_releases, text *printed) 
 /* ---- two ranges */
 
 /* Compares in a room of some length. What is behind what was written has to be as it was, and all of it at a fault. */
-static int32_t compare_in(const text *old_range, const text *new_range, bool npm, int32_t pre_releases, uint8_t *out, size_t room, size_t *length,
+static int32_t compare_in(const text *old_range, const text *new_range, int32_t reading,
+                          int32_t pre_releases, uint8_t *out, size_t room, size_t *length,
                           semver_parser_comparison *told, bool at_null) {
     uint8_t *old_bytes = alone(old_range);
     uint8_t *new_bytes = alone(new_range);
     memset(out, FILL, room + 1);
     memset(told, FILL, sizeof *told);
     *length = 777;
-    int32_t answer = semver_parser_compare(at_null && old_range->length == 0 ? NULL : old_bytes, old_range->length,
-                                           at_null && new_range->length == 0 ? NULL : new_bytes, new_range->length, npm, pre_releases,
-                                           at_null && room == 0 ? NULL : out, room, length, told);
+    int32_t answer = semver_parser_compare(
+        at_null && old_range->length == 0 ? NULL : old_bytes, old_range->length,
+        at_null && new_range->length == 0 ? NULL : new_bytes, new_range->length, reading,
+        pre_releases, at_null && room == 0 ? NULL : out, room, length, told);
     free(old_bytes);
     free(new_bytes);
     size_t written = answer == SEMVER_PARSER_OK ? *length : 0;
@@ -438,24 +462,28 @@ static bool is_same_comparison(const semver_parser_comparison *one, const semver
 }
 
 /* A fault, which has to come in each room. */
-static int32_t require_no_comparison(const text *old_range, const text *new_range, bool npm, int32_t pre_releases, int32_t fault) {
+static int32_t require_no_comparison(const text *old_range, const text *new_range, int32_t reading,
+                                     int32_t pre_releases, int32_t fault) {
     uint8_t out[65];
     for (size_t room = 0; room <= 64; room += 32) {
         semver_parser_comparison told;
         size_t length;
-        int32_t answer = compare_in(old_range, new_range, npm, pre_releases, out, room, &length, &told, room == 0);
+        int32_t answer = compare_in(old_range, new_range, reading, pre_releases, out, room, &length,
+                                    &told, room == 0);
         require(answer == fault, "another fault in another room", old_range);
     }
     return fault;
 }
 
-int32_t compare(const text *old_range, const text *new_range, bool npm, int32_t pre_releases, compared *told) {
+int32_t compare(const text *old_range, const text *new_range, int32_t reading, int32_t pre_releases,
+                compared *told) {
     uint8_t none;
     size_t bytes;
     semver_parser_comparison wanted;
-    int32_t answer = compare_in(old_range, new_range, npm, pre_releases, &none, 0, &bytes, &wanted, true);
+    int32_t answer =
+        compare_in(old_range, new_range, reading, pre_releases, &none, 0, &bytes, &wanted, true);
     if (answer != SEMVER_PARSER_OK && answer != SEMVER_PARSER_NO_ROOM) {
-        return require_no_comparison(old_range, new_range, npm, pre_releases, answer);
+        return require_no_comparison(old_range, new_range, reading, pre_releases, answer);
     }
     require((answer == SEMVER_PARSER_OK) == (bytes == 0), "no room for no byte", old_range);
     require_places(&wanted, bytes, old_range);
@@ -466,7 +494,8 @@ int32_t compare(const text *old_range, const text *new_range, bool npm, int32_t 
         uint8_t *out = (uint8_t *)block(room + 1);
         size_t length;
         semver_parser_comparison here;
-        int32_t answered = compare_in(old_range, new_range, npm, pre_releases, out, room, &length, &here, room % 2 == 0);
+        int32_t answered = compare_in(old_range, new_range, reading, pre_releases, out, room,
+                                      &length, &here, room % 2 == 0);
         require(answered == (room >= bytes ? (int32_t)SEMVER_PARSER_OK : (int32_t)SEMVER_PARSER_NO_ROOM), "another answer in another room", old_range);
         require(length == bytes && is_same_comparison(&here, &wanted), "another comparison in another room", old_range);
         if (room == bytes) {

@@ -22,18 +22,19 @@ typedef struct {
 
 /* Rewrites a range, appends the printed set, and gives its comparators unless `comparators` is null. It tries a room of each length up to one past what is
  * needed (of a set above 300 bytes or 12 comparators, of some lengths), by both calls, and at null where a room or the text is empty. */
-int32_t rewrite(const text *of, bool npm, bool exact, text *printed, comparator_list *comparators);
+int32_t rewrite(const text *of, int32_t reading, bool exact, text *printed,
+                comparator_list *comparators);
 void free_comparators(comparator_list *comparators);
 
 /* The operator of a comparator, as it is printed. */
 const char *operator_text(int32_t op);
 
 /* Whether a version text meets a range text: SEMVER_PARSER_MEETS or _DOES_NOT_MEET, or the fault. It asks for one and for many, which have to agree. */
-int32_t meets(const text *range, bool npm, int32_t pre_releases, const text *version);
+int32_t meets(const text *range, int32_t reading, int32_t pre_releases, const text *version);
 
 /* The least version that a range text means: it is appended to `printed`, or the fault is answered. It tries a room of each length up to one past what is
  * needed (of a version above 300 bytes, of some lengths), and at null where the room or the text is empty. */
-int32_t least(const text *range, bool npm, int32_t pre_releases, text *printed);
+int32_t least(const text *range, int32_t reading, int32_t pre_releases, text *printed);
 
 /* What an old range text and a new one mean alone and together: the text of each of the three versions, empty where there is none. */
 typedef struct {
@@ -44,7 +45,8 @@ typedef struct {
 
 /* Compares two range texts, or answers the fault and leaves `told` alone. It tries a room of each length up to one past what is needed (of more than 300
  * bytes, of some lengths), and at null where the room or a text is empty. The parts have to lie one behind the other. */
-int32_t compare(const text *old_range, const text *new_range, bool npm, int32_t pre_releases, compared *told);
+int32_t compare(const text *old_range, const text *new_range, int32_t reading, int32_t pre_releases,
+                compared *told);
 void free_compared(compared *told);
 
 #endif

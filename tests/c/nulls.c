@@ -24,7 +24,9 @@ static const uint8_t *bytes_of(const char *string) {
     return (const uint8_t *)string;
 }
 
-/* ---- the calls */
+/* ---- the calls, each by this reading */
+
+static int32_t reading;
 
 static int32_t read_text(void) {
     semver_parser_version out;
@@ -48,12 +50,12 @@ static int32_t precedence_other(void) {
 static int32_t rewrite_text(void) {
     uint8_t out[64];
     size_t length;
-    return semver_parser_rewrite(NULL, 5, true, true, out, sizeof out, &length);
+    return semver_parser_rewrite(NULL, 5, reading, true, out, sizeof out, &length);
 }
 
 static int32_t rewrite_out(void) {
     size_t length;
-    return semver_parser_rewrite(bytes_of("^1.2"), 4, true, true, NULL, 64, &length);
+    return semver_parser_rewrite(bytes_of("^1.2"), 4, reading, true, NULL, 64, &length);
 }
 
 static int32_t comparators_text(void) {
@@ -61,49 +63,57 @@ static int32_t comparators_text(void) {
     uint8_t out[64];
     size_t count;
     size_t length;
-    return semver_parser_comparators(NULL, 5, true, true, comparators, 4, &count, out, sizeof out, &length);
+    return semver_parser_comparators(NULL, 5, reading, true, comparators, 4, &count, out,
+                                     sizeof out, &length);
 }
 
 static int32_t comparators_room(void) {
     uint8_t out[64];
     size_t count;
     size_t length;
-    return semver_parser_comparators(bytes_of("^1.2"), 4, true, true, NULL, 4, &count, out, sizeof out, &length);
+    return semver_parser_comparators(bytes_of("^1.2"), 4, reading, true, NULL, 4, &count, out,
+                                     sizeof out, &length);
 }
 
 static int32_t comparators_out(void) {
     semver_parser_comparator comparators[4];
     size_t count;
     size_t length;
-    return semver_parser_comparators(bytes_of("^1.2"), 4, true, true, comparators, 4, &count, NULL, 64, &length);
+    return semver_parser_comparators(bytes_of("^1.2"), 4, reading, true, comparators, 4, &count,
+                                     NULL, 64, &length);
 }
 
 static int32_t meets_range(void) {
     bool meets;
-    return semver_parser_meets(NULL, 5, true, SEMVER_PARSER_RELEASES_ALONE, bytes_of("1.2.3"), 5, &meets);
+    return semver_parser_meets(NULL, 5, reading, SEMVER_PARSER_RELEASES_ALONE, bytes_of("1.2.3"), 5,
+                               &meets);
 }
 
 static int32_t meets_version(void) {
     bool meets;
-    return semver_parser_meets(bytes_of("^1.2"), 4, true, SEMVER_PARSER_RELEASES_ALONE, NULL, 5, &meets);
+    return semver_parser_meets(bytes_of("^1.2"), 4, reading, SEMVER_PARSER_RELEASES_ALONE, NULL, 5,
+                               &meets);
 }
 
 static int32_t least_range(void) {
     uint8_t out[64];
     size_t length;
-    return semver_parser_least(NULL, 5, true, SEMVER_PARSER_RELEASES_ALONE, out, sizeof out, &length);
+    return semver_parser_least(NULL, 5, reading, SEMVER_PARSER_RELEASES_ALONE, out, sizeof out,
+                               &length);
 }
 
 static int32_t least_out(void) {
     size_t length;
-    return semver_parser_least(bytes_of("^1.2"), 4, true, SEMVER_PARSER_RELEASES_ALONE, NULL, 64, &length);
+    return semver_parser_least(bytes_of("^1.2"), 4, reading, SEMVER_PARSER_RELEASES_ALONE, NULL, 64,
+                               &length);
 }
 
 static int32_t compare_texts(const uint8_t *old_range, const uint8_t *new_range, bool has_room) {
     uint8_t out[64];
     size_t length;
     semver_parser_comparison comparison;
-    return semver_parser_compare(old_range, 4, new_range, 4, true, SEMVER_PARSER_RELEASES_ALONE, has_room ? out : NULL, sizeof out, &length, &comparison);
+    return semver_parser_compare(old_range, 4, new_range, 4, reading, SEMVER_PARSER_RELEASES_ALONE,
+                                 has_room ? out : NULL, sizeof out, &length, &comparison);
 }
 
 static int32_t compare_old(void) {
@@ -119,7 +129,8 @@ static int32_t compare_out(void) {
 }
 
 static int32_t each_of(const uint8_t *range, const semver_parser_text *versions, size_t count, uint8_t *answers) {
-    return semver_parser_meets_each(range, 4, true, SEMVER_PARSER_RELEASES_ALONE, versions, count, answers);
+    return semver_parser_meets_each(range, 4, reading, SEMVER_PARSER_RELEASES_ALONE, versions,
+                                    count, answers);
 }
 
 static const semver_parser_text no_text = {NULL, 0};
@@ -243,27 +254,46 @@ static void nulls_with_a_length(void) {
 
 /* ---- more texts than any block has room for */
 
+/* Of a range that is one, or that is refused. A fault of the reading, the rule or the range goes
+ * before the want of memory. */
 static void too_many(const char *range, int32_t rule, int32_t wanted) {
     const size_t least = SIZE_MAX / sizeof(semver_parser_text) + 1;
     uint8_t answers[2] = {7, 7};
     for (size_t more = 0; more < 3; more++) {
-        int32_t answer = semver_parser_meets_each(bytes_of(range), strlen(range), true, rule, &no_text, least + more, answers);
+        int32_t answer = semver_parser_meets_each(bytes_of(range), strlen(range), reading, rule,
+                                                  &no_text, least + more, answers);
         check(answer == wanted, "another answer of too many texts", range);
         check(answers[0] == 7 && answers[1] == 7, "an answer of too many texts", range);
     }
 }
 
 static void too_many_texts(void) {
+    bool is_of_tool = reading == SEMVER_PARSER_CARGO || reading == SEMVER_PARSER_NPM;
+    int32_t rule = is_of_tool ? SEMVER_PARSER_PRE_RELEASES_OF_TOOL : SEMVER_PARSER_ALL_PRE_RELEASES;
+    int32_t no_rule =
+        is_of_tool ? SEMVER_PARSER_ALL_PRE_RELEASES : SEMVER_PARSER_PRE_RELEASES_OF_TOOL;
     too_many("^1.2", SEMVER_PARSER_RELEASES_ALONE, SEMVER_PARSER_RANGE_OUT_OF_MEMORY);
-    too_many("^1.2", 3, SEMVER_PARSER_NO_SUCH_RULE);
-    too_many("v1", SEMVER_PARSER_ALL_PRE_RELEASES, SEMVER_PARSER_NOT_A_RANGE);
-    too_many("<=18446744073709551615", SEMVER_PARSER_STATED_PRE_RELEASES, SEMVER_PARSER_NUMBER_TOO_LARGE);
-    too_many("\xFF", SEMVER_PARSER_STATED_PRE_RELEASES, SEMVER_PARSER_RANGE_NOT_UTF8);
+    too_many("^1.2", rule, SEMVER_PARSER_RANGE_OUT_OF_MEMORY);
+    too_many("^1.2", no_rule, SEMVER_PARSER_NO_SUCH_RULE);
+    too_many("\xFF", no_rule, SEMVER_PARSER_NO_SUCH_RULE);
+    too_many("^", rule, SEMVER_PARSER_NOT_A_RANGE);
+    too_many("<=18446744073709551615", rule, SEMVER_PARSER_NUMBER_TOO_LARGE);
+    too_many("\xFF", rule, SEMVER_PARSER_RANGE_NOT_UTF8);
+}
+
+static void too_many_texts_by_no_reading(void) {
+    for (int32_t rule = -1; rule <= 4; rule++) {
+        too_many("^1.2", rule, SEMVER_PARSER_NO_SUCH_READING);
+        too_many("\xFF", rule, SEMVER_PARSER_NO_SUCH_READING);
+    }
 }
 
 int main(void) {
-    nulls_with_a_length();
-    too_many_texts();
+    for (reading = SEMVER_PARSER_CARGO; reading <= SEMVER_PARSER_CRATE_NPM; reading++) {
+        nulls_with_a_length();
+        too_many_texts();
+    }
+    too_many_texts_by_no_reading();
     printf("nulls: %s\n", failed == 0 ? "passed" : "failed");
     return failed == 0 ? 0 : 1;
 }

@@ -92,8 +92,16 @@ static void order_takes(const char *bytes, const char *other, int requests, int3
     }
 }
 
+/* The reading that is asked, and its rule for the most pre-releases. */
+static int32_t reading;
+
+static int32_t widest_rule(void) {
+    bool is_of_tool = reading == SEMVER_PARSER_CARGO || reading == SEMVER_PARSER_NPM;
+    return is_of_tool ? SEMVER_PARSER_PRE_RELEASES_OF_TOOL : SEMVER_PARSER_ALL_PRE_RELEASES;
+}
+
 /* A range whose rewriting takes requests, or takes none, by the call that prints, or by that of comparators. */
-static void range_takes(const char *bytes, bool npm, bool exact, bool tells, bool some, int32_t wanted) {
+static void range_takes(const char *bytes, bool exact, bool tells, bool some, int32_t wanted) {
     int request = 0;
     do {
         uint8_t out[64];
@@ -105,8 +113,11 @@ static void range_takes(const char *bytes, bool npm, bool exact, bool tells, boo
         size_t count = 777;
         const uint8_t *from = (const uint8_t *)bytes;
         grant(request);
-        int32_t answered = tells ? semver_parser_comparators(from, strlen(bytes), npm, exact, comparators, 4, &count, out, sizeof out, &length)
-                                 : semver_parser_rewrite(from, strlen(bytes), npm, exact, out, sizeof out, &length);
+        int32_t answered =
+            tells ? semver_parser_comparators(from, strlen(bytes), reading, exact, comparators, 4,
+                                              &count, out, sizeof out, &length)
+                  : semver_parser_rewrite(from, strlen(bytes), reading, exact, out, sizeof out,
+                                          &length);
         check(answered == (refused ? (int32_t)SEMVER_PARSER_RANGE_OUT_OF_MEMORY : wanted), "another answer", bytes, request);
         bool is_kept = length == 777 && count == 777 && out[0] == 'x' && memcmp(out, out + 1, sizeof out - 1) == 0 && put[0] == 'x'
             && memcmp(put, put + 1, sizeof comparators - 1) == 0;
@@ -125,8 +136,9 @@ static void both_take(const char *range, bool some, const char *version, int ver
     do {
         bool met = !meets;
         grant(request);
-        int32_t answered = semver_parser_meets((const uint8_t *)range, strlen(range), true, SEMVER_PARSER_ALL_PRE_RELEASES, (const uint8_t *)version,
-                                               strlen(version), &met);
+        int32_t answered =
+            semver_parser_meets((const uint8_t *)range, strlen(range), reading, widest_rule(),
+                                (const uint8_t *)version, strlen(version), &met);
         bool is_range = answered == SEMVER_PARSER_RANGE_OUT_OF_MEMORY;
         bool is_version = answered == SEMVER_PARSER_VERSION_OUT_OF_MEMORY;
         check(refused ? (is_range && of_version == 0) || is_version : answered == wanted, "another answer", range, request);
@@ -147,7 +159,8 @@ static void least_takes(const char *range, bool some, int32_t wanted, size_t byt
         memset(out, 'x', sizeof out);
         size_t length = 777;
         grant(request);
-        int32_t answered = semver_parser_least((const uint8_t *)range, strlen(range), true, SEMVER_PARSER_ALL_PRE_RELEASES, out, sizeof out, &length);
+        int32_t answered = semver_parser_least((const uint8_t *)range, strlen(range), reading,
+                                               widest_rule(), out, sizeof out, &length);
         check(answered == (refused ? (int32_t)SEMVER_PARSER_RANGE_OUT_OF_MEMORY : wanted), "another answer of the least", range, request);
         check(length == (answered == SEMVER_PARSER_OK ? bytes : 777), "another length of the least", range, request);
         check(answered == SEMVER_PARSER_OK || (out[0] == 'x' && memcmp(out, out + 1, sizeof out - 1) == 0), "a byte at a fault", range, request);
@@ -170,8 +183,9 @@ static void comparison_takes(const char *old_range, const char *new_range, bool 
         memset(&told, 'x', sizeof told);
         size_t length = 777;
         grant(request);
-        int32_t answered = semver_parser_compare((const uint8_t *)old_range, strlen(old_range), (const uint8_t *)new_range, strlen(new_range), true,
-                                                 SEMVER_PARSER_ALL_PRE_RELEASES, out, sizeof out, &length, &told);
+        int32_t answered = semver_parser_compare(
+            (const uint8_t *)old_range, strlen(old_range), (const uint8_t *)new_range,
+            strlen(new_range), reading, widest_rule(), out, sizeof out, &length, &told);
         bool is_old = answered == SEMVER_PARSER_RANGE_OUT_OF_MEMORY;
         bool is_new = answered == SEMVER_PARSER_NEW_RANGE_OUT_OF_MEMORY;
         check(refused ? (is_old && by_new == 0) || is_new : answered == wanted, "another answer of a comparison", old_range, request);
@@ -194,7 +208,8 @@ static void many_take(const char *range, bool at_null, int32_t wanted) {
     do {
         uint8_t answers[4] = {'x', 'x', 'x', 'x'};
         grant(request);
-        int32_t answered = semver_parser_meets_each((const uint8_t *)range, strlen(range), true, SEMVER_PARSER_ALL_PRE_RELEASES, versions, 4, answers);
+        int32_t answered = semver_parser_meets_each((const uint8_t *)range, strlen(range), reading,
+                                                    widest_rule(), versions, 4, answers);
         check(answered == wanted || (refused && answered == SEMVER_PARSER_RANGE_OUT_OF_MEMORY), "another answer of many", range, request);
         if (answered == SEMVER_PARSER_OK) {
             check(answers[0] == SEMVER_PARSER_MEETS && answers[2] == SEMVER_PARSER_UNEXPECTED_END, "another version's answer", range, request);
@@ -207,6 +222,65 @@ static void many_take(const char *range, bool at_null, int32_t wanted) {
         request++;
     } while (refused && request < 100);
     check(!refused, "another number of requests", range, request);
+}
+
+/* What each call takes by the reading: the ranges of a text are parted by bars, and the comparators
+ * by blanks or, as Cargo has them, by commas. The caret raises a bound, so the least pre-release of
+ * 2.0.0 is gained where all pre-releases count. */
+static void takes_by_reading(void) {
+    bool is_cargo = reading == SEMVER_PARSER_CARGO;
+    bool is_of_tool = is_cargo || reading == SEMVER_PARSER_NPM;
+    const char *two = is_cargo ? "1.2.3-rc, 4" : "1.2.3-rc || 4";
+    const char *three = is_cargo ? "1, 2, 3" : "1 || 2 || 3";
+    const char *empty = is_cargo ? ">2.0.0, <1.0.0" : ">2.0.0 <1.0.0";
+    const char *other_empty = is_cargo ? ">3.0.0, <1.0.0" : ">3.0.0 <1.0.0";
+    for (int exact = 0; exact < 2; exact++) {
+        for (int which = 0; which < 2; which++) {
+            bool tells = which != 0;
+            int32_t of_many = tells ? (int32_t)SEMVER_PARSER_NO_ROOM : (int32_t)SEMVER_PARSER_OK;
+            range_takes("^1.2", exact != 0, tells, true, SEMVER_PARSER_OK);
+            range_takes(two, exact != 0, tells, true, SEMVER_PARSER_OK);
+            range_takes(three, exact != 0, tells, true, of_many);
+            range_takes("^", exact != 0, tells, false, SEMVER_PARSER_NOT_A_RANGE);
+            range_takes("<=18446744073709551615", exact != 0, tells, false,
+                        SEMVER_PARSER_NUMBER_TOO_LARGE);
+            range_takes("\xFF", exact != 0, tells, false, SEMVER_PARSER_RANGE_NOT_UTF8);
+        }
+    }
+    both_take("1.2.3", true, "1.2.3", 0, SEMVER_PARSER_OK, true);
+    both_take("1.2.3", true, "1.2.3-rc", 0, SEMVER_PARSER_OK, false);
+    both_take("1.2.3", true, "1.2.3-rc.1/", 2, SEMVER_PARSER_UNEXPECTED_CHAR, false);
+    both_take("1.2.3", true, "1.2.3+b.rc", 0, SEMVER_PARSER_OK, true);
+    both_take("1.2.3", true, "2.0.0-rc", 0, SEMVER_PARSER_OK, false);
+    both_take("^", false, "1.2.3-rc", 0, SEMVER_PARSER_NOT_A_RANGE, false);
+    least_takes("^1.2", true, SEMVER_PARSER_OK, 5);
+    least_takes(is_cargo ? ">=1.2.3-rc.1, <2" : ">=1.2.3-rc.1 <2", true, SEMVER_PARSER_OK, 10);
+    least_takes(empty, true, SEMVER_PARSER_OK, 0);
+    least_takes("^", false, SEMVER_PARSER_NOT_A_RANGE, 0);
+    least_takes("<=18446744073709551615", false, SEMVER_PARSER_NUMBER_TOO_LARGE, 0);
+    comparison_takes("^1.2.0", ">=1.4.0", true, true, SEMVER_PARSER_OK, is_of_tool ? 15 : 17);
+    comparison_takes("=1.2.3-a.b", "=1.2.3-b", true, true, SEMVER_PARSER_OK, 16);
+    comparison_takes(empty, other_empty, true, true, SEMVER_PARSER_OK, 0);
+    comparison_takes("^", "^1", false, false, SEMVER_PARSER_NOT_A_RANGE, 0);
+    comparison_takes("^1", "^", true, false, SEMVER_PARSER_NEW_NOT_A_RANGE, 0);
+    comparison_takes("<=18446744073709551615", "*", false, false, SEMVER_PARSER_NUMBER_TOO_LARGE,
+                     0);
+    comparison_takes("^1", "<=18446744073709551615", true, false, SEMVER_PARSER_NEW_NUMBER_TOO_LARGE, 0);
+    for (int at_null = 0; at_null < 2; at_null++) {
+        many_take("=1.2.3", at_null != 0, SEMVER_PARSER_OK);
+        many_take("^", at_null != 0, SEMVER_PARSER_NOT_A_RANGE);
+        many_take("<=18446744073709551615", at_null != 0, SEMVER_PARSER_NUMBER_TOO_LARGE);
+    }
+}
+
+/* `reading` is the number of none then. */
+static void takes_nothing_by_no_reading(void) {
+    range_takes("^1.2", false, false, false, SEMVER_PARSER_NO_SUCH_READING);
+    range_takes("^1.2", true, true, false, SEMVER_PARSER_NO_SUCH_READING);
+    both_take("1.2.3", false, "1.2.3-rc.1/", 0, SEMVER_PARSER_NO_SUCH_READING, false);
+    least_takes("^1.2", false, SEMVER_PARSER_NO_SUCH_READING, 0);
+    comparison_takes("^1.2.0", ">=1.4.0", false, false, SEMVER_PARSER_NO_SUCH_READING, 0);
+    many_take("=1.2.3", false, SEMVER_PARSER_NO_SUCH_READING);
 }
 
 int main(void) {
@@ -222,42 +296,10 @@ int main(void) {
     order_takes("1.2.3", "1.2.3-rc.1/", 2, SEMVER_PARSER_UNEXPECTED_CHAR, true);
     order_takes("1.2.3-rc.1/", "1.2.3-rc", 2, SEMVER_PARSER_UNEXPECTED_CHAR, false);
     order_takes("1.2", "1.2.3-rc", 0, SEMVER_PARSER_UNEXPECTED_END, false);
-    for (int modes = 0; modes < 4; modes++) {
-        bool npm = (modes & 1) != 0;
-        bool exact = (modes & 2) != 0;
-        for (int which = 0; which < 2; which++) {
-            bool tells = which != 0;
-            range_takes("^1.2", npm, exact, tells, true, SEMVER_PARSER_OK);
-            range_takes("1.2.3-rc || 4", npm, exact, tells, true, SEMVER_PARSER_OK);
-            range_takes("1 || 2 || 3", npm, exact, tells, true, tells ? (int32_t)SEMVER_PARSER_NO_ROOM : (int32_t)SEMVER_PARSER_OK);
-            range_takes("v1", npm, exact, tells, false, SEMVER_PARSER_NOT_A_RANGE);
-            range_takes("<=18446744073709551615", npm, exact, tells, false, SEMVER_PARSER_NUMBER_TOO_LARGE);
-            range_takes("\xFF", npm, exact, tells, false, SEMVER_PARSER_RANGE_NOT_UTF8);
-        }
+    for (reading = SEMVER_PARSER_CARGO; reading <= SEMVER_PARSER_CRATE_NPM; reading++) {
+        takes_by_reading();
     }
-    both_take("1.2.3", true, "1.2.3", 0, SEMVER_PARSER_OK, true);
-    both_take("1.2.3", true, "1.2.3-rc", 0, SEMVER_PARSER_OK, false);
-    both_take("1.2.3", true, "1.2.3-rc.1/", 2, SEMVER_PARSER_UNEXPECTED_CHAR, false);
-    both_take("1.2.3", true, "1.2.3+b.rc", 0, SEMVER_PARSER_OK, true);
-    both_take("1.2.3", true, "2.0.0-rc", 0, SEMVER_PARSER_OK, false);
-    both_take("v1", false, "1.2.3-rc", 0, SEMVER_PARSER_NOT_A_RANGE, false);
-    least_takes("^1.2", true, SEMVER_PARSER_OK, 5);
-    least_takes(">=1.2.3-rc.1 <2", true, SEMVER_PARSER_OK, 10);
-    least_takes(">2.0.0 <1.0.0", true, SEMVER_PARSER_OK, 0);
-    least_takes("v1", false, SEMVER_PARSER_NOT_A_RANGE, 0);
-    least_takes("<=18446744073709551615", false, SEMVER_PARSER_NUMBER_TOO_LARGE, 0);
-    comparison_takes("^1.2.0", ">=1.4.0", true, true, SEMVER_PARSER_OK, 17);
-    comparison_takes("=1.2.3-a.b", "=1.2.3-b", true, true, SEMVER_PARSER_OK, 16);
-    comparison_takes(">2.0.0 <1.0.0", ">3.0.0 <1.0.0", true, true, SEMVER_PARSER_OK, 0);
-    comparison_takes("v1", "^1", false, false, SEMVER_PARSER_NOT_A_RANGE, 0);
-    comparison_takes("^1", "v1", true, false, SEMVER_PARSER_NEW_NOT_A_RANGE, 0);
-    comparison_takes("<=18446744073709551615", "", false, false, SEMVER_PARSER_NUMBER_TOO_LARGE, 0);
-    comparison_takes("^1", "<=18446744073709551615", true, false, SEMVER_PARSER_NEW_NUMBER_TOO_LARGE, 0);
-    for (int at_null = 0; at_null < 2; at_null++) {
-        many_take("1.2.3", at_null != 0, SEMVER_PARSER_OK);
-        many_take("v1", at_null != 0, SEMVER_PARSER_NOT_A_RANGE);
-        many_take("<=18446744073709551615", at_null != 0, SEMVER_PARSER_NUMBER_TOO_LARGE);
-    }
+    takes_nothing_by_no_reading();
     printf("refused memory: %s\n", failed == 0 ? "passed" : "failed");
     return failed == 0 ? 0 : 1;
 }

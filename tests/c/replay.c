@@ -1,5 +1,7 @@
-/* Replays the table of cases through the C library: replay STDIN STDOUT, where these are the files of crates/replayed_cases. A row of a call that C has is
- * answered by the library's calls, written as the table writes it, and compared with what the table expects. Ends with status 1 where a row differs.
+/* Replays the table of cases through the C library: replay STDIN STDOUT, where these are the files
+ * of crates/replayed_cases, whose calls read ranges as the Rust crate does in its two modes. A row
+ * of a call that C has is answered by the library's calls, written as the table writes it, and
+ * compared with what the table expects. Ends with status 1 where a row differs.
  *
  * Rows of other calls (tokens, steps of a parser, joined identifiers, sentences of errors) are passed over, and so are the tokens that the table has behind
  * a fault's name, which C isn't told. */
@@ -109,15 +111,15 @@ static int32_t say_printed_version(text *to, const text *of) {
 }
 
 /* Writes the fields of a set. */
-static void say_set(text *to, const text *of, bool npm) {
+static void say_set(text *to, const text *of, int32_t reading) {
     text printed = {NULL, 0, 0};
     comparator_list list = {NULL, 0, {NULL, 0, 0}};
-    int32_t answer = rewrite(of, npm, false, &printed, &list);
+    int32_t answer = rewrite(of, reading, false, &printed, &list);
     if (answer != SEMVER_PARSER_OK) {
         text_say(to, "%s", range_fault(answer, BY_NAME));
         return;
     }
-    text_say(to, npm ? "Npm" : "Cargo");
+    text_say(to, reading == SEMVER_PARSER_CRATE_NPM ? "Npm" : "Cargo");
     for (size_t at = 0; at < list.count; at++) {
         const semver_parser_comparator *one = &list.items[at];
         text_say(to, "%s %s%" PRIu64 ".%" PRIu64 ".%" PRIu64 "[", at > 0 && one->range != list.items[at - 1].range ? " ||" : "", operator_text(one->op),
@@ -129,8 +131,8 @@ static void say_set(text *to, const text *of, bool npm) {
     free_comparators(&list);
 }
 
-static bool say_printed_set(text *to, const text *of, bool npm, bool exact, int how) {
-    int32_t answer = rewrite(of, npm, exact, to, NULL);
+static bool say_printed_set(text *to, const text *of, int32_t reading, bool exact, int how) {
+    int32_t answer = rewrite(of, reading, exact, to, NULL);
     if (answer != SEMVER_PARSER_OK) {
         text_say(to, "%s", range_fault(answer, how));
     }
@@ -144,21 +146,22 @@ static void say_report(text *to, const text *of) {
         text_say(to, "%s", version_word(answer));
     }
     text_say(to, "; cargo: ");
-    bool cargo = say_printed_set(to, of, false, false, BY_WORD);
+    bool cargo = say_printed_set(to, of, SEMVER_PARSER_CRATE_CARGO, false, BY_WORD);
     text_say(to, "; npm: ");
-    bool npm = say_printed_set(to, of, true, false, BY_WORD);
+    bool npm = say_printed_set(to, of, SEMVER_PARSER_CRATE_NPM, false, BY_WORD);
     text_say(to, "; status %d", answer == SEMVER_PARSER_OK || cargo || npm ? 0 : 1);
 }
 
 /* Writes the versions of a list that meet a range. */
-static void say_met(text *to, const text *range, bool npm, int32_t pre_releases, const text *list) {
+static void say_met(text *to, const text *range, int32_t reading, int32_t pre_releases,
+                    const text *list) {
     text ignored = {NULL, 0, 0};
-    int32_t fault = rewrite(range, npm, false, &ignored, NULL);
+    int32_t fault = rewrite(range, reading, false, &ignored, NULL);
     text_free(&ignored);
     if (fault != SEMVER_PARSER_OK) {
         text version = {NULL, 0, 0};
         text_say(&version, "1.2.3");
-        bool same = meets(range, npm, pre_releases, &version) == fault;
+        bool same = meets(range, reading, pre_releases, &version) == fault;
         text_say(to, "%s", same ? range_fault(fault, BY_SENTENCE) : "another fault");
         text_free(&version);
         return;
@@ -170,7 +173,8 @@ static void say_met(text *to, const text *range, bool npm, int32_t pre_releases,
         at += length + 1;
         text version = {NULL, 0, 0};
         text_add(&version, item, length);
-        int32_t answer = length > 0 ? meets(range, npm, pre_releases, &version) : SEMVER_PARSER_DOES_NOT_MEET;
+        int32_t answer = length > 0 ? meets(range, reading, pre_releases, &version)
+                                    : SEMVER_PARSER_DOES_NOT_MEET;
         if (answer == SEMVER_PARSER_MEETS) {
             say_printed_version(to, &version);
             text_say(to, " ");
@@ -184,31 +188,44 @@ static void say_met(text *to, const text *range, bool npm, int32_t pre_releases,
 
 /* ---- rows */
 
+/* The reading of a call of the table: the crate's, in the mode that its name begins or ends with,
+ * and in Cargo's where it has none. */
+static int32_t reading_of(const char *call) {
+    const char *mode = strrchr(call, '-');
+    bool is_npm = strncmp(call, "npm", 3) == 0 || (mode != NULL && strcmp(mode, "-npm") == 0);
+    return is_npm ? SEMVER_PARSER_CRATE_NPM : SEMVER_PARSER_CRATE_CARGO;
+}
+
+/* Whether a call of the table has a name, in either mode. */
+static bool is_call(const char *call, const char *name) {
+    size_t length = strlen(name);
+    return strncmp(call, name, length) == 0
+           && (strcmp(call + length, "-cargo") == 0 || strcmp(call + length, "-npm") == 0);
+}
+
 /* Writes what a call of the table answers. False where C has no such call. */
 static bool say_answer(text *to, const char *call, const text *of, const text *steps) {
+    int32_t reading = reading_of(call);
     if (strcmp(call, "version") == 0) {
         say_version(to, of);
     } else if (strcmp(call, "version-text") == 0) {
         int32_t answer = say_printed_version(to, of);
         text_say(to, "%s", answer == SEMVER_PARSER_OK ? "" : version_fault(answer));
     } else if (strcmp(call, "cargo") == 0 || strcmp(call, "npm") == 0) {
-        say_set(to, of, call[0] == 'n');
-    } else if (strcmp(call, "cargo-text") == 0 || strcmp(call, "npm-text") == 0 || strcmp(call, "from-str") == 0) {
-        say_printed_set(to, of, call[0] == 'n', false, BY_SENTENCE);
+        say_set(to, of, reading);
+    } else if (strcmp(call, "cargo-text") == 0 || strcmp(call, "npm-text") == 0
+               || strcmp(call, "from-str") == 0) {
+        say_printed_set(to, of, reading, false, BY_SENTENCE);
     } else if (strcmp(call, "cargo-exact") == 0 || strcmp(call, "npm-exact") == 0) {
-        say_printed_set(to, of, call[0] == 'n', true, BY_SENTENCE);
+        say_printed_set(to, of, reading, true, BY_SENTENCE);
     } else if (strcmp(call, "report") == 0) {
         say_report(to, of);
-    } else if (strcmp(call, "filter-cargo") == 0 || strcmp(call, "filter-npm") == 0) {
-        say_met(to, of, strcmp(call, "filter-npm") == 0, SEMVER_PARSER_RELEASES_ALONE, steps);
-    } else if (strcmp(call, "meet-cargo") == 0 || strcmp(call, "meet-npm") == 0) {
-        say_met(to, of, strcmp(call, "meet-npm") == 0, SEMVER_PARSER_ALL_PRE_RELEASES, steps);
-    } else if (strcmp(call, "mean-cargo") == 0 || strcmp(call, "mean-npm") == 0) {
-        say_met(to, of, strcmp(call, "mean-npm") == 0, SEMVER_PARSER_ALL_PRE_RELEASES, steps);
-    } else if (strcmp(call, "stated-cargo") == 0 || strcmp(call, "stated-npm") == 0) {
-        say_met(to, of, strcmp(call, "stated-npm") == 0, SEMVER_PARSER_STATED_PRE_RELEASES, steps);
-    } else if (strcmp(call, "releases-cargo") == 0 || strcmp(call, "releases-npm") == 0) {
-        say_met(to, of, strcmp(call, "releases-npm") == 0, SEMVER_PARSER_RELEASES_ALONE, steps);
+    } else if (is_call(call, "filter") || is_call(call, "releases")) {
+        say_met(to, of, reading, SEMVER_PARSER_RELEASES_ALONE, steps);
+    } else if (is_call(call, "meet") || is_call(call, "mean")) {
+        say_met(to, of, reading, SEMVER_PARSER_ALL_PRE_RELEASES, steps);
+    } else if (is_call(call, "stated")) {
+        say_met(to, of, reading, SEMVER_PARSER_STATED_PRE_RELEASES, steps);
     } else {
         return false;
     }

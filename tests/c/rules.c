@@ -5,6 +5,15 @@
 #include <stdio.h>
 #include <string.h>
 
+/* The readings, by short names. */
+enum {
+    CARGO = SEMVER_PARSER_CARGO,
+    NPM = SEMVER_PARSER_NPM,
+    CRATE_CARGO = SEMVER_PARSER_CRATE_CARGO,
+    CRATE_NPM = SEMVER_PARSER_CRATE_NPM,
+    READINGS = 4
+};
+
 static int failed;
 
 static void check(bool holds, const char *what, const text *of) {
@@ -193,28 +202,36 @@ static void faults_of_orders(void) {
 
 /* ---- ranges */
 
-static void range_is(bool npm, bool exact, const char *bytes, const char *wanted) {
+static void range_is(int32_t reading, bool exact, const char *bytes, const char *wanted) {
     text of = string(bytes);
     text printed = {NULL, 0, 0};
     text_add(&printed, "", 0);
-    check(rewrite(&of, npm, exact, &printed, NULL) == SEMVER_PARSER_OK, "not rewritten", &of);
+    check(rewrite(&of, reading, exact, &printed, NULL) == SEMVER_PARSER_OK, "not rewritten", &of);
     check(strcmp(printed.bytes, wanted) == 0, "rewritten to another set", &of);
     text_free(&printed);
     text_free(&of);
 }
 
-static void range_fault_is(const char *bytes, size_t length, int32_t fault) {
-    text of = bytes_of(bytes, length);
+/* A fault that a range has by a reading, with exact bounds and without. */
+static void range_fault_by(int32_t reading, const text *of, int32_t fault) {
     text printed = {NULL, 0, 0};
-    for (int modes = 0; modes < 4; modes++) {
-        check(rewrite(&of, (modes & 1) != 0, (modes & 2) != 0, &printed, NULL) == fault, "another fault of a range", &of);
+    for (int exact = 0; exact < 2; exact++) {
+        int32_t answer = rewrite(of, reading, exact != 0, &printed, NULL);
+        check(answer == fault, "another fault of a range", of);
     }
     text_free(&printed);
+}
+
+/* So by both readings of the crate. */
+static void range_fault_is(const char *bytes, size_t length, int32_t fault) {
+    text of = bytes_of(bytes, length);
+    range_fault_by(CRATE_CARGO, &of, fault);
+    range_fault_by(CRATE_NPM, &of, fault);
     text_free(&of);
 }
 
 /* Many ranges, whose last number is their place, as a text has them and as they are printed. */
-static void many_ranges_are(bool npm, bool exact, const char *before, const char *behind) {
+static void many_ranges_are(int32_t reading, bool exact, const char *before, const char *behind) {
     text of = {NULL, 0, 0};
     text wanted = {NULL, 0, 0};
     for (int at = 0; at < 300; at++) {
@@ -222,19 +239,19 @@ static void many_ranges_are(bool npm, bool exact, const char *before, const char
         text_say(&of, "%s1.2.%d", between, at);
         text_say(&wanted, "%s%s1.2.%d%s", between, before, at, behind);
     }
-    range_is(npm, exact, of.bytes, wanted.bytes);
+    range_is(reading, exact, of.bytes, wanted.bytes);
     text_free(&of);
     text_free(&wanted);
 }
 
 /* Many ranges, one with a long identifier, and faults behind many ranges. */
 static void long_ranges(void) {
-    many_ranges_are(false, false, ">=", " <2.0.0");
-    many_ranges_are(false, true, ">=", " <2.0.0-0");
-    many_ranges_are(true, false, "=", "");
-    many_ranges_are(true, true, "=", "");
+    many_ranges_are(CRATE_CARGO, false, ">=", " <2.0.0");
+    many_ranges_are(CRATE_CARGO, true, ">=", " <2.0.0-0");
+    many_ranges_are(CRATE_NPM, false, "=", "");
+    many_ranges_are(CRATE_NPM, true, "=", "");
     text identifier = long_text("=1.2.3-", "a", "");
-    range_is(false, true, identifier.bytes, identifier.bytes);
+    range_is(CRATE_CARGO, true, identifier.bytes, identifier.bytes);
     text_free(&identifier);
 
     static const struct {
@@ -249,22 +266,22 @@ static void long_ranges(void) {
 }
 
 static void ranges(void) {
-    range_is(false, false, "1.2.3", ">=1.2.3 <2.0.0");
-    range_is(true, false, "1.2.3", "=1.2.3");
-    range_is(false, true, "1.2.3", ">=1.2.3 <2.0.0-0");
-    range_is(true, true, "1.2.3", "=1.2.3");
-    range_is(true, false, "^1.2 || 3.x", ">=1.2.0 <2.0.0 || >=3.0.0 <4.0.0");
-    range_is(true, true, "^1.2 || 3.x", ">=1.2.0 <2.0.0-0 || >=3.0.0 <4.0.0-0");
-    range_is(false, true, "^1.2.3-beta.4", ">=1.2.3-beta.4 <2.0.0-0");
-    range_is(false, true, "<=1.2", "<1.3.0-0");
-    range_is(false, true, "<=1.2.3", "<=1.2.3");
-    range_is(false, true, "1.x - 2", ">=1.0.0 <3.0.0-0");
-    range_is(false, true, "<2.0.0 <2 >1", "<2.0.0 <2.0.0 >1.0.0");
-    range_is(false, true, "~1.2.3", ">=1.2.3 <1.3.0-0");
-    range_is(false, true, "^0.0.1-beta", ">=0.0.1-beta <0.0.2-0");
-    range_is(false, true, "", ">=0.0.0");
-    range_is(false, true, "<*", "<0.0.0");
-    range_is(true, true, "0.0.18446744073709551615", "=0.0.18446744073709551615");
+    range_is(CRATE_CARGO, false, "1.2.3", ">=1.2.3 <2.0.0");
+    range_is(CRATE_NPM, false, "1.2.3", "=1.2.3");
+    range_is(CRATE_CARGO, true, "1.2.3", ">=1.2.3 <2.0.0-0");
+    range_is(CRATE_NPM, true, "1.2.3", "=1.2.3");
+    range_is(CRATE_NPM, false, "^1.2 || 3.x", ">=1.2.0 <2.0.0 || >=3.0.0 <4.0.0");
+    range_is(CRATE_NPM, true, "^1.2 || 3.x", ">=1.2.0 <2.0.0-0 || >=3.0.0 <4.0.0-0");
+    range_is(CRATE_CARGO, true, "^1.2.3-beta.4", ">=1.2.3-beta.4 <2.0.0-0");
+    range_is(CRATE_CARGO, true, "<=1.2", "<1.3.0-0");
+    range_is(CRATE_CARGO, true, "<=1.2.3", "<=1.2.3");
+    range_is(CRATE_CARGO, true, "1.x - 2", ">=1.0.0 <3.0.0-0");
+    range_is(CRATE_CARGO, true, "<2.0.0 <2 >1", "<2.0.0 <2.0.0 >1.0.0");
+    range_is(CRATE_CARGO, true, "~1.2.3", ">=1.2.3 <1.3.0-0");
+    range_is(CRATE_CARGO, true, "^0.0.1-beta", ">=0.0.1-beta <0.0.2-0");
+    range_is(CRATE_CARGO, true, "", ">=0.0.0");
+    range_is(CRATE_CARGO, true, "<*", "<0.0.0");
+    range_is(CRATE_NPM, true, "0.0.18446744073709551615", "=0.0.18446744073709551615");
 
     range_fault_is("v1.2.3", 6, SEMVER_PARSER_NOT_A_RANGE);
     range_fault_is("1.2.3 -4", 8, SEMVER_PARSER_NOT_A_RANGE);
@@ -285,11 +302,14 @@ static semver_parser_comparator comparator(size_t range, int32_t op, uint64_t ma
 }
 
 /* The comparators of a range, and the bytes of their pre-releases. */
-static void comparators_are(bool npm, bool exact, const char *bytes, const semver_parser_comparator *wanted, size_t count, const char *pre_releases) {
+static void comparators_are(int32_t reading, bool exact, const char *bytes,
+                            const semver_parser_comparator *wanted, size_t count,
+                            const char *pre_releases) {
     text of = string(bytes);
     text printed = {NULL, 0, 0};
     comparator_list list = {NULL, 0, {NULL, 0, 0}};
-    check(rewrite(&of, npm, exact, &printed, &list) == SEMVER_PARSER_OK && list.count == count, "another number of comparators", &of);
+    check(rewrite(&of, reading, exact, &printed, &list) == SEMVER_PARSER_OK && list.count == count,
+          "another number of comparators", &of);
     for (size_t at = 0; at < count && at < list.count; at++) {
         const semver_parser_comparator *one = &list.items[at];
         check(one->range == wanted[at].range, "another range", &of);
@@ -308,35 +328,45 @@ static void comparators(void) {
     const semver_parser_comparator two_ranges[] = {
         comparator(0, SEMVER_PARSER_GREATER_EQUAL, 1, 2, 0, part(0, 0)), comparator(0, SEMVER_PARSER_LESS, 2, 0, 0, part(0, 1)),
         comparator(1, SEMVER_PARSER_GREATER_EQUAL, 3, 0, 0, part(1, 0)), comparator(1, SEMVER_PARSER_LESS, 4, 0, 0, part(1, 1))};
-    comparators_are(true, true, "^1.2 || 3.x", two_ranges, 4, "00");
+    comparators_are(CRATE_NPM, true, "^1.2 || 3.x", two_ranges, 4, "00");
     /* >=1.2.3-rc.1 <2.0.0-0 || <2.0.0-a */
     const semver_parser_comparator three[] = {comparator(0, SEMVER_PARSER_GREATER_EQUAL, 1, 2, 3, part(0, 4)),
                                               comparator(0, SEMVER_PARSER_LESS, 2, 0, 0, part(4, 1)), comparator(1, SEMVER_PARSER_LESS, 2, 0, 0, part(5, 1))};
-    comparators_are(false, true, "^1.2.3-rc.1 || <2.0.0-a", three, 3, "rc.10a");
+    comparators_are(CRATE_CARGO, true, "^1.2.3-rc.1 || <2.0.0-a", three, 3, "rc.10a");
+    comparators_are(NPM, false, "^1.2.3-rc.1 || <2.0.0-a", three, 3, "rc.10a");
+    /* >=1.2.3-rc.1 <2.0.0-0 <2.0.0-a */
+    const semver_parser_comparator one_range[] = {
+        three[0], three[1], comparator(0, SEMVER_PARSER_LESS, 2, 0, 0, part(5, 1))};
+    comparators_are(CARGO, false, "^1.2.3-rc.1, <2.0.0-a", one_range, 3, "rc.10a");
     /* <1.0.0-a <=1.0.0 >1.0.0 || =1.0.0-b.10.c-d */
     const semver_parser_comparator stated[] = {
         comparator(0, SEMVER_PARSER_LESS, 1, 0, 0, part(0, 1)), comparator(0, SEMVER_PARSER_LESS_EQUAL, 1, 0, 0, part(1, 0)),
         comparator(0, SEMVER_PARSER_GREATER, 1, 0, 0, part(1, 0)), comparator(1, SEMVER_PARSER_EQUAL, 1, 0, 0, part(1, 8))};
-    comparators_are(true, false, "<1.0.0-a <=1.0.0 >1.0.0||1.0.0-b.10.c-d+build", stated, 4, "ab.10.c-d");
+    comparators_are(CRATE_NPM, false, "<1.0.0-a <=1.0.0 >1.0.0||1.0.0-b.10.c-d+build", stated, 4,
+                    "ab.10.c-d");
     /* =18446744073709551615.10.100-x || >=0.0.0 */
     const semver_parser_comparator long_numbers[] = {comparator(0, SEMVER_PARSER_EQUAL, UINT64_MAX, 10, 100, part(0, 1)),
                                                      comparator(1, SEMVER_PARSER_GREATER_EQUAL, 0, 0, 0, part(1, 0))};
-    comparators_are(true, true, "18446744073709551615.10.100-x ||", long_numbers, 2, "x");
+    comparators_are(CRATE_NPM, true, "18446744073709551615.10.100-x ||", long_numbers, 2, "x");
     const semver_parser_comparator all = comparator(0, SEMVER_PARSER_GREATER_EQUAL, 0, 0, 0, part(0, 0));
-    comparators_are(true, true, "", &all, 1, "");
-    comparators_are(false, true, "*", &all, 1, "");
+    comparators_are(CRATE_NPM, true, "", &all, 1, "");
+    comparators_are(CRATE_CARGO, true, "*", &all, 1, "");
 }
 
 /* ---- whether a version meets a range */
 
 enum { NO = SEMVER_PARSER_DOES_NOT_MEET, YES = SEMVER_PARSER_MEETS };
 
-/* Both modes answer the same: of releases alone, of stated pre-releases, and of all. */
+/* Both readings of the crate answer the same: of releases alone, of stated pre-releases, and of
+ * all. */
 static void texts_meet(const text *range, const text *version, int32_t releases, int32_t stated, int32_t all) {
-    for (int npm = 0; npm < 2; npm++) {
-        check(meets(range, npm != 0, SEMVER_PARSER_RELEASES_ALONE, version) == releases, "another answer among releases", range);
-        check(meets(range, npm != 0, SEMVER_PARSER_STATED_PRE_RELEASES, version) == stated, "another answer among stated pre-releases", range);
-        check(meets(range, npm != 0, SEMVER_PARSER_ALL_PRE_RELEASES, version) == all, "another answer among all versions", range);
+    for (int32_t reading = CRATE_CARGO; reading <= CRATE_NPM; reading++) {
+        check(meets(range, reading, SEMVER_PARSER_RELEASES_ALONE, version) == releases,
+              "another answer among releases", range);
+        check(meets(range, reading, SEMVER_PARSER_STATED_PRE_RELEASES, version) == stated,
+              "another answer among stated pre-releases", range);
+        check(meets(range, reading, SEMVER_PARSER_ALL_PRE_RELEASES, version) == all,
+              "another answer among all versions", range);
     }
 }
 
@@ -375,8 +405,10 @@ static void long_meetings(void) {
 /* A bare version has a caret in Cargo mode alone. */
 static void modes_differ(const text *range) {
     text later = string("1.9.0");
-    check(meets(range, false, SEMVER_PARSER_RELEASES_ALONE, &later) == YES, "no caret in Cargo mode", range);
-    check(meets(range, true, SEMVER_PARSER_RELEASES_ALONE, &later) == NO, "a caret in npm mode", range);
+    check(meets(range, CRATE_CARGO, SEMVER_PARSER_RELEASES_ALONE, &later) == YES,
+          "no caret in Cargo mode", range);
+    check(meets(range, CRATE_NPM, SEMVER_PARSER_RELEASES_ALONE, &later) == NO,
+          "a caret in npm mode", range);
     text_free(&later);
 }
 
@@ -419,7 +451,7 @@ static void fault_is(const char *range, const char *version, int32_t fault) {
     meets_are(range, version, fault, fault, fault);
 }
 
-/* A fault of the rule goes before any of the range, and that before any of the version. */
+/* A fault of the range goes before any of the version. */
 static void faults_in_order(void) {
     fault_is("v1", "1.2", SEMVER_PARSER_NOT_A_RANGE);
     fault_is("<=18446744073709551615", "", SEMVER_PARSER_NUMBER_TOO_LARGE);
@@ -431,16 +463,6 @@ static void faults_in_order(void) {
     fault_is("1", "1.2.3--1", SEMVER_PARSER_UNEXPECTED_TOKEN);
     fault_is("1", "1.2.3/", SEMVER_PARSER_UNEXPECTED_CHAR);
     fault_is("1", "1.2.3 4", SEMVER_PARSER_MORE_INPUT);
-
-    const char *ranges[] = {"1", "", "v1", "\xFF", "<=18446744073709551615"};
-    const int32_t rules[] = {-1, 3, 15, INT32_MAX, INT32_MIN};
-    text version = string("1.0.0");
-    for (size_t at = 0; at < 25; at++) {
-        text range = string(ranges[at / 5]);
-        check(meets(&range, true, rules[at % 5], &version) == SEMVER_PARSER_NO_SUCH_RULE, "a rule that there isn't", &range);
-        text_free(&range);
-    }
-    text_free(&version);
 }
 
 /* ---- many versions, each with an answer of its own */
@@ -459,7 +481,9 @@ static void many(void) {
         }
         memset(answers, 0xA5, sizeof answers);
         text of = string(range);
-        int32_t answer = semver_parser_meets_each((const uint8_t *)range, strlen(range), true, SEMVER_PARSER_STATED_PRE_RELEASES, texts, count, answers);
+        int32_t answer =
+            semver_parser_meets_each((const uint8_t *)range, strlen(range), CRATE_NPM,
+                                     SEMVER_PARSER_STATED_PRE_RELEASES, texts, count, answers);
         check(answer == SEMVER_PARSER_OK && memcmp(answers, wanted, count) == 0, "other answers of many", &of);
         check(answers[count] == 0xA5, "a byte behind the answers", &of);
         text_free(&of);
@@ -467,7 +491,7 @@ static void many(void) {
 }
 
 /* More versions than stand in the table, of which each has the number of its place. The first may be an empty one at null, so that all are copied. */
-static void very_many(bool at_null) {
+static void very_many(int32_t reading, bool at_null) {
     enum { MANY = 3000 };
     static char versions[MANY][16];
     static semver_parser_text texts[MANY];
@@ -481,7 +505,8 @@ static void very_many(bool at_null) {
         texts[0].length = 0;
     }
     text range = string("^1.1000");
-    int32_t answer = semver_parser_meets_each((const uint8_t *)range.bytes, range.length, false, SEMVER_PARSER_RELEASES_ALONE, texts, MANY, answers);
+    int32_t answer = semver_parser_meets_each((const uint8_t *)range.bytes, range.length, reading,
+                                              SEMVER_PARSER_RELEASES_ALONE, texts, MANY, answers);
     check(answer == SEMVER_PARSER_OK, "another answer of very many", &range);
     for (int at = 0; at < MANY; at++) {
         int wanted = at == 0 && at_null ? (int)SEMVER_PARSER_UNEXPECTED_END : at >= 1000 ? (int)YES : (int)NO;
@@ -493,54 +518,60 @@ static void very_many(bool at_null) {
 /* ---- the least version */
 
 /* What the range means least by each rule: releases alone, as stated, and all. An empty text is none. */
-static void least_are(bool npm, const char *bytes, const char *releases, const char *stated, const char *all) {
+static void least_are(int32_t reading, const char *bytes, const char *releases, const char *stated,
+                      const char *all) {
     const char *wanted[3] = {releases, stated, all};
     text range = string(bytes);
     for (int rule = 0; rule < 3; rule++) {
         text printed = {NULL, 0, 0};
         text_add(&printed, "", 0);
-        check(least(&range, npm, rule, &printed) == SEMVER_PARSER_OK, "no least version", &range);
+        check(least(&range, reading, rule, &printed) == SEMVER_PARSER_OK, "no least version",
+              &range);
         check(strcmp(printed.bytes, wanted[rule]) == 0, "another least version", &range);
         text_free(&printed);
     }
     text_free(&range);
 }
 
-static void least_fault_is(bool npm, const char *bytes, size_t length, int32_t rule, int32_t fault) {
+static void least_fault_is(int32_t reading, const char *bytes, size_t length, int32_t rule,
+                           int32_t fault) {
     text range = bytes_of(bytes, length);
     text printed = {NULL, 0, 0};
-    check(least(&range, npm, rule, &printed) == fault, "another fault of a range", &range);
+    check(least(&range, reading, rule, &printed) == fault, "another fault of a range", &range);
     check(printed.length == 0, "a version at a fault", &range);
     text_free(&printed);
     text_free(&range);
 }
 
 static void least_versions(void) {
-    least_are(false, "^1.2.3", "1.2.3", "1.2.3", "1.2.3");
-    least_are(false, "", "0.0.0", "0.0.0", "0.0.0");
-    least_are(true, "*", "0.0.0", "0.0.0", "0.0.0");
-    least_are(false, "3.x || ^1.2 || >=2", "1.2.0", "1.2.0", "1.2.0");
-    least_are(false, "<2.0.0", "0.0.0", "0.0.0", "0.0.0-0");
-    least_are(false, ">1.0.0-rc.1", "1.0.0", "1.0.0-rc.1.0", "1.0.0-rc.1.0");
-    least_are(false, ">1.2.3", "1.2.4", "1.2.4", "1.2.4-0");
-    least_are(true, "=1.2.3-rc.01+b", "", "1.2.3-rc.1", "1.2.3-rc.1");
-    least_are(true, "=2.0.1-a || >=2.0.0", "2.0.0", "2.0.0", "2.0.0");
-    least_are(true, "=1.9.9-a || >=2.0.0", "2.0.0", "1.9.9-a", "1.9.9-a");
-    least_are(true, ">2.0.0 <1.0.0", "", "", "");
-    least_are(true, "<0.0.0", "", "", "0.0.0-0");
-    least_are(true, ">0.0.18446744073709551615", "0.1.0", "0.1.0", "0.1.0-0");
-    least_are(true, ">18446744073709551615.18446744073709551615.18446744073709551615", "", "", "");
-    least_are(true, "=0.0.18446744073709551615", "0.0.18446744073709551615", "0.0.18446744073709551615", "0.0.18446744073709551615");
+    least_are(CRATE_CARGO, "^1.2.3", "1.2.3", "1.2.3", "1.2.3");
+    least_are(CRATE_CARGO, "", "0.0.0", "0.0.0", "0.0.0");
+    least_are(CRATE_NPM, "*", "0.0.0", "0.0.0", "0.0.0");
+    least_are(CRATE_CARGO, "3.x || ^1.2 || >=2", "1.2.0", "1.2.0", "1.2.0");
+    least_are(CRATE_CARGO, "<2.0.0", "0.0.0", "0.0.0", "0.0.0-0");
+    least_are(CRATE_CARGO, ">1.0.0-rc.1", "1.0.0", "1.0.0-rc.1.0", "1.0.0-rc.1.0");
+    least_are(CRATE_CARGO, ">1.2.3", "1.2.4", "1.2.4", "1.2.4-0");
+    least_are(CRATE_NPM, "=1.2.3-rc.01+b", "", "1.2.3-rc.1", "1.2.3-rc.1");
+    least_are(CRATE_NPM, "=2.0.1-a || >=2.0.0", "2.0.0", "2.0.0", "2.0.0");
+    least_are(CRATE_NPM, "=1.9.9-a || >=2.0.0", "2.0.0", "1.9.9-a", "1.9.9-a");
+    least_are(CRATE_NPM, ">2.0.0 <1.0.0", "", "", "");
+    least_are(CRATE_NPM, "<0.0.0", "", "", "0.0.0-0");
+    least_are(CRATE_NPM, ">0.0.18446744073709551615", "0.1.0", "0.1.0", "0.1.0-0");
+    least_are(CRATE_NPM, ">18446744073709551615.18446744073709551615.18446744073709551615", "", "",
+              "");
+    least_are(CRATE_NPM, "=0.0.18446744073709551615", "0.0.18446744073709551615",
+              "0.0.18446744073709551615", "0.0.18446744073709551615");
     text identifier = long_text(">=1.2.3-", "a", "");
-    least_are(false, identifier.bytes, "1.2.3", identifier.bytes + 2, identifier.bytes + 2);
+    least_are(CRATE_CARGO, identifier.bytes, "1.2.3", identifier.bytes + 2, identifier.bytes + 2);
     text_free(&identifier);
 
-    least_fault_is(false, "v1", 2, SEMVER_PARSER_RELEASES_ALONE, SEMVER_PARSER_NOT_A_RANGE);
-    least_fault_is(false, "1.2.3\xC3", 6, SEMVER_PARSER_RELEASES_ALONE, SEMVER_PARSER_RANGE_NOT_UTF8);
-    least_fault_is(true, "<=18446744073709551615", 22, SEMVER_PARSER_STATED_PRE_RELEASES, SEMVER_PARSER_NUMBER_TOO_LARGE);
-    least_fault_is(false, "0.0.18446744073709551615", 24, SEMVER_PARSER_ALL_PRE_RELEASES, SEMVER_PARSER_NUMBER_TOO_LARGE);
-    least_fault_is(true, "v1", 2, 3, SEMVER_PARSER_NO_SUCH_RULE);
-    least_fault_is(true, "\xFF", 1, -1, SEMVER_PARSER_NO_SUCH_RULE);
+    least_fault_is(CRATE_CARGO, "v1", 2, SEMVER_PARSER_RELEASES_ALONE, SEMVER_PARSER_NOT_A_RANGE);
+    least_fault_is(CRATE_CARGO, "1.2.3\xC3", 6, SEMVER_PARSER_RELEASES_ALONE,
+                   SEMVER_PARSER_RANGE_NOT_UTF8);
+    least_fault_is(CRATE_NPM, "<=18446744073709551615", 22, SEMVER_PARSER_STATED_PRE_RELEASES,
+                   SEMVER_PARSER_NUMBER_TOO_LARGE);
+    least_fault_is(CRATE_CARGO, "0.0.18446744073709551615", 24, SEMVER_PARSER_ALL_PRE_RELEASES,
+                   SEMVER_PARSER_NUMBER_TOO_LARGE);
 }
 
 /* ---- two ranges */
@@ -557,9 +588,11 @@ static three differ_by(const char *lost, const char *gained, const char *shared)
     return made;
 }
 
-static void rule_compares(bool npm, int32_t rule, const text *old_range, const text *new_range, three wanted) {
+static void rule_compares(int32_t reading, int32_t rule, const text *old_range,
+                          const text *new_range, three wanted) {
     compared told = {{NULL, 0, 0}, {NULL, 0, 0}, {NULL, 0, 0}};
-    check(compare(old_range, new_range, npm, rule, &told) == SEMVER_PARSER_OK, "no comparison", old_range);
+    check(compare(old_range, new_range, reading, rule, &told) == SEMVER_PARSER_OK, "no comparison",
+          old_range);
     check(strcmp(told.lost.bytes, wanted.lost) == 0, "another version is lost", old_range);
     check(strcmp(told.gained.bytes, wanted.gained) == 0, "another version is gained", old_range);
     check(strcmp(told.shared.bytes, wanted.shared) == 0, "another version is shared", old_range);
@@ -567,29 +600,34 @@ static void rule_compares(bool npm, int32_t rule, const text *old_range, const t
 }
 
 /* What is lost one way round is gained the other way round. */
-static void compare_are(bool npm, const char *old_bytes, const char *new_bytes, three releases, three stated, three all) {
+static void compare_are(int32_t reading, const char *old_bytes, const char *new_bytes,
+                        three releases, three stated, three all) {
     const three wanted[3] = {releases, stated, all};
     text old_range = string(old_bytes);
     text new_range = string(new_bytes);
     for (int rule = 0; rule < 3; rule++) {
-        rule_compares(npm, rule, &old_range, &new_range, wanted[rule]);
-        rule_compares(npm, rule, &new_range, &old_range, differ_by(wanted[rule].gained, wanted[rule].lost, wanted[rule].shared));
+        rule_compares(reading, rule, &old_range, &new_range, wanted[rule]);
+        rule_compares(reading, rule, &new_range, &old_range,
+                      differ_by(wanted[rule].gained, wanted[rule].lost, wanted[rule].shared));
     }
     text_free(&old_range);
     text_free(&new_range);
 }
 
 /* So of ranges that no rule for pre-releases tells apart. */
-static void differ_alike(bool npm, const char *old_bytes, const char *new_bytes, const char *lost, const char *gained, const char *shared) {
+static void differ_alike(int32_t reading, const char *old_bytes, const char *new_bytes,
+                         const char *lost, const char *gained, const char *shared) {
     three wanted = differ_by(lost, gained, shared);
-    compare_are(npm, old_bytes, new_bytes, wanted, wanted, wanted);
+    compare_are(reading, old_bytes, new_bytes, wanted, wanted, wanted);
 }
 
-static void compare_fault_is(bool npm, const char *old_bytes, const char *new_bytes, int32_t rule, int32_t fault) {
+static void compare_fault_is(int32_t reading, const char *old_bytes, const char *new_bytes,
+                             int32_t rule, int32_t fault) {
     text old_range = string(old_bytes);
     text new_range = string(new_bytes);
     compared told = {{NULL, 0, 0}, {NULL, 0, 0}, {NULL, 0, 0}};
-    check(compare(&old_range, &new_range, npm, rule, &told) == fault, "another fault of two ranges", &old_range);
+    check(compare(&old_range, &new_range, reading, rule, &told) == fault,
+          "another fault of two ranges", &old_range);
     check(told.lost.length + told.gained.length + told.shared.length == 0, "a version at a fault", &old_range);
     free_compared(&told);
     text_free(&old_range);
@@ -601,37 +639,45 @@ static void compare_fault_is(bool npm, const char *old_bytes, const char *new_by
 
 /* Pairs of which no rule sees a pre-release that differs, or is the least. */
 static void compared_releases(void) {
-    differ_alike(false, "^1.2.3", "^1.2.3", "", "", "1.2.3");
-    differ_alike(false, "3.x || ^1.2", "^1.2 || 3.x", "", "", "1.2.0");
-    differ_alike(false, "", "*", "", "", "0.0.0");
-    differ_alike(true, "1.2.3+a", "1.2.3+b", "", "", "1.2.3");
-    differ_alike(false, ">2 <1", ">3 <2", "", "", "");
-    differ_alike(true, "0.0." MOST, "=0.0." MOST, "", "", "0.0." MOST);
-    differ_alike(false, "^1", ">2 <1", "1.0.0", "", "");
-    differ_alike(false, "^1", "^2", "1.0.0", "2.0.0", "");
-    differ_alike(true, "=1.2.3", "=1.2.4", "1.2.3", "1.2.4", "");
-    differ_alike(false, ">=" LAST, ">" LAST, LAST, "", "");
+    differ_alike(CRATE_CARGO, "^1.2.3", "^1.2.3", "", "", "1.2.3");
+    differ_alike(CRATE_CARGO, "3.x || ^1.2", "^1.2 || 3.x", "", "", "1.2.0");
+    differ_alike(CRATE_CARGO, "", "*", "", "", "0.0.0");
+    differ_alike(CRATE_NPM, "1.2.3+a", "1.2.3+b", "", "", "1.2.3");
+    differ_alike(CRATE_CARGO, ">2 <1", ">3 <2", "", "", "");
+    differ_alike(CRATE_NPM, "0.0." MOST, "=0.0." MOST, "", "", "0.0." MOST);
+    differ_alike(CRATE_CARGO, "^1", ">2 <1", "1.0.0", "", "");
+    differ_alike(CRATE_CARGO, "^1", "^2", "1.0.0", "2.0.0", "");
+    differ_alike(CRATE_NPM, "=1.2.3", "=1.2.4", "1.2.3", "1.2.4", "");
+    differ_alike(CRATE_CARGO, ">=" LAST, ">" LAST, LAST, "", "");
 }
 
 /* Pairs that the rules tell apart: releases alone, as stated, and all. */
 static void compared_pre_releases(void) {
-    compare_are(false, "^1.2.0", ">=1.4.0", differ_by("1.2.0", "2.0.0", "1.4.0"), differ_by("1.2.0", "2.0.0", "1.4.0"),
-                differ_by("1.2.0", "2.0.0-0", "1.4.0"));
-    compare_are(false, "~1.2.0", "^1.2.0", differ_by("", "1.3.0", "1.2.0"), differ_by("", "1.3.0", "1.2.0"), differ_by("", "1.3.0-0", "1.2.0"));
-    compare_are(false, "<2.0.0", "<2.0.0-0", differ_by("", "", "0.0.0"), differ_by("", "", "0.0.0"), differ_by("2.0.0-0", "", "0.0.0-0"));
-    compare_are(false, "^1.2", ">=1.2.0 <2.0.0", differ_by("", "", "1.2.0"), differ_by("", "", "1.2.0"), differ_by("", "2.0.0-0", "1.2.0"));
-    compare_are(false, ">1.0.0-rc.1", ">=1.0.0-rc.1", differ_by("", "", "1.0.0"), differ_by("", "1.0.0-rc.1", "1.0.0-rc.1.0"),
+    compare_are(CRATE_CARGO, "^1.2.0", ">=1.4.0", differ_by("1.2.0", "2.0.0", "1.4.0"),
+                differ_by("1.2.0", "2.0.0", "1.4.0"), differ_by("1.2.0", "2.0.0-0", "1.4.0"));
+    compare_are(CRATE_CARGO, "~1.2.0", "^1.2.0", differ_by("", "1.3.0", "1.2.0"),
+                differ_by("", "1.3.0", "1.2.0"), differ_by("", "1.3.0-0", "1.2.0"));
+    compare_are(CRATE_CARGO, "<2.0.0", "<2.0.0-0", differ_by("", "", "0.0.0"),
+                differ_by("", "", "0.0.0"), differ_by("2.0.0-0", "", "0.0.0-0"));
+    compare_are(CRATE_CARGO, "^1.2", ">=1.2.0 <2.0.0", differ_by("", "", "1.2.0"),
+                differ_by("", "", "1.2.0"), differ_by("", "2.0.0-0", "1.2.0"));
+    compare_are(CRATE_CARGO, ">1.0.0-rc.1", ">=1.0.0-rc.1", differ_by("", "", "1.0.0"),
+                differ_by("", "1.0.0-rc.1", "1.0.0-rc.1.0"),
                 differ_by("", "1.0.0-rc.1", "1.0.0-rc.1.0"));
-    compare_are(false, "^1.2.3", "^1.2.3-beta", differ_by("", "", "1.2.3"), differ_by("", "1.2.3-beta", "1.2.3"), differ_by("", "1.2.3-beta", "1.2.3"));
-    compare_are(true, "=2.0.1-a || >=2.0.0", ">=2.0.0", differ_by("", "", "2.0.0"), differ_by("2.0.1-a", "", "2.0.0"), differ_by("", "", "2.0.0"));
-    compare_are(true, "=1.2.3-a", "=1.2.3-b", differ_by("", "", ""), differ_by("1.2.3-a", "1.2.3-b", ""), differ_by("1.2.3-a", "1.2.3-b", ""));
-    compare_are(true, ">=1.0.0-2 <1.0.0", ">=1.0.0-10 <1.0.0", differ_by("", "", ""), differ_by("1.0.0-2", "", "1.0.0-10"),
-                differ_by("1.0.0-2", "", "1.0.0-10"));
-    compare_are(true, "=1.2.3-01", "=1.2.3-1", differ_by("", "", ""), differ_by("", "", "1.2.3-1"), differ_by("", "", "1.2.3-1"));
+    compare_are(CRATE_CARGO, "^1.2.3", "^1.2.3-beta", differ_by("", "", "1.2.3"),
+                differ_by("", "1.2.3-beta", "1.2.3"), differ_by("", "1.2.3-beta", "1.2.3"));
+    compare_are(CRATE_NPM, "=2.0.1-a || >=2.0.0", ">=2.0.0", differ_by("", "", "2.0.0"),
+                differ_by("2.0.1-a", "", "2.0.0"), differ_by("", "", "2.0.0"));
+    compare_are(CRATE_NPM, "=1.2.3-a", "=1.2.3-b", differ_by("", "", ""),
+                differ_by("1.2.3-a", "1.2.3-b", ""), differ_by("1.2.3-a", "1.2.3-b", ""));
+    compare_are(CRATE_NPM, ">=1.0.0-2 <1.0.0", ">=1.0.0-10 <1.0.0", differ_by("", "", ""),
+                differ_by("1.0.0-2", "", "1.0.0-10"), differ_by("1.0.0-2", "", "1.0.0-10"));
+    compare_are(CRATE_NPM, "=1.2.3-01", "=1.2.3-1", differ_by("", "", ""),
+                differ_by("", "", "1.2.3-1"), differ_by("", "", "1.2.3-1"));
     text with_a = long_text("=1.2.3-", "a", "");
     text with_b = long_text("=1.2.3-", "b", "");
     three both = differ_by(with_a.bytes + 1, with_b.bytes + 1, "");
-    compare_are(true, with_a.bytes, with_b.bytes, differ_by("", "", ""), both, both);
+    compare_are(CRATE_NPM, with_a.bytes, with_b.bytes, differ_by("", "", ""), both, both);
     text_free(&with_a);
     text_free(&with_b);
 }
@@ -639,28 +685,26 @@ static void compared_pre_releases(void) {
 /* Bare versions, which the modes read apart. */
 static void compared_in_modes(void) {
     three releases = differ_by("", "1.2.4", "1.2.3");
-    compare_are(true, "1.2.3", "^1.2.3", releases, releases, differ_by("", "1.2.4-0", "1.2.3"));
-    differ_alike(false, "1.2.3", "^1.2.3", "", "", "1.2.3");
+    compare_are(CRATE_NPM, "1.2.3", "^1.2.3", releases, releases,
+                differ_by("", "1.2.4-0", "1.2.3"));
+    differ_alike(CRATE_CARGO, "1.2.3", "^1.2.3", "", "", "1.2.3");
 }
 
-/* A fault of the rule goes before any of the old range, and that before any of the new one. */
+/* A fault of the old range goes before any of the new one. */
 static void faults_of_two_ranges(void) {
     const char *no_number = "<=" MOST;
     for (int32_t rule = 0; rule < 3; rule++) {
-        compare_fault_is(false, "v1", "^1", rule, SEMVER_PARSER_NOT_A_RANGE);
-        compare_fault_is(false, "^1", "v1", rule, SEMVER_PARSER_NEW_NOT_A_RANGE);
-        compare_fault_is(false, "\xFF", "^1", rule, SEMVER_PARSER_RANGE_NOT_UTF8);
-        compare_fault_is(false, "^1", "\xFF", rule, SEMVER_PARSER_NEW_RANGE_NOT_UTF8);
-        compare_fault_is(false, no_number, "", rule, SEMVER_PARSER_NUMBER_TOO_LARGE);
-        compare_fault_is(false, "", no_number, rule, SEMVER_PARSER_NEW_NUMBER_TOO_LARGE);
-        compare_fault_is(false, "0.0." MOST, "*", rule, SEMVER_PARSER_NUMBER_TOO_LARGE);
-        compare_fault_is(false, "*", "0.0." MOST, rule, SEMVER_PARSER_NEW_NUMBER_TOO_LARGE);
-        compare_fault_is(false, no_number, "\xFF", rule, SEMVER_PARSER_NUMBER_TOO_LARGE);
-        compare_fault_is(false, "v1", "|", rule, SEMVER_PARSER_NOT_A_RANGE);
+        compare_fault_is(CRATE_CARGO, "v1", "^1", rule, SEMVER_PARSER_NOT_A_RANGE);
+        compare_fault_is(CRATE_CARGO, "^1", "v1", rule, SEMVER_PARSER_NEW_NOT_A_RANGE);
+        compare_fault_is(CRATE_CARGO, "\xFF", "^1", rule, SEMVER_PARSER_RANGE_NOT_UTF8);
+        compare_fault_is(CRATE_CARGO, "^1", "\xFF", rule, SEMVER_PARSER_NEW_RANGE_NOT_UTF8);
+        compare_fault_is(CRATE_CARGO, no_number, "", rule, SEMVER_PARSER_NUMBER_TOO_LARGE);
+        compare_fault_is(CRATE_CARGO, "", no_number, rule, SEMVER_PARSER_NEW_NUMBER_TOO_LARGE);
+        compare_fault_is(CRATE_CARGO, "0.0." MOST, "*", rule, SEMVER_PARSER_NUMBER_TOO_LARGE);
+        compare_fault_is(CRATE_CARGO, "*", "0.0." MOST, rule, SEMVER_PARSER_NEW_NUMBER_TOO_LARGE);
+        compare_fault_is(CRATE_CARGO, no_number, "\xFF", rule, SEMVER_PARSER_NUMBER_TOO_LARGE);
+        compare_fault_is(CRATE_CARGO, "v1", "|", rule, SEMVER_PARSER_NOT_A_RANGE);
     }
-    compare_fault_is(true, "v1", "^1", 3, SEMVER_PARSER_NO_SUCH_RULE);
-    compare_fault_is(true, "^1", "v1", -1, SEMVER_PARSER_NO_SUCH_RULE);
-    compare_fault_is(true, "", "", INT32_MIN, SEMVER_PARSER_NO_SUCH_RULE);
 }
 
 /* ---- what has no proof */
@@ -671,7 +715,7 @@ static void sentences(void) {
     for (int32_t answer = -1; answer <= 21; answer++) {
         const char *sentence = semver_parser_fault_text(answer);
         check(sentence != NULL && sentence[0] != 0, "no sentence", &none);
-        bool is_named = answer == 0 || (answer >= 2 && answer <= 19);
+        bool is_named = answer == 0 || (answer >= 2 && answer <= 20);
         check(is_named == (strcmp(sentence, semver_parser_fault_text(1)) != 0), "the sentence of no answer", &none);
         for (int32_t other = 0; other < answer && is_named; other++) {
             check(strcmp(sentence, semver_parser_fault_text(other)) != 0, "a sentence of two answers", &none);
@@ -692,8 +736,10 @@ int main(void) {
     long_meetings();
     faults_in_order();
     many();
-    very_many(false);
-    very_many(true);
+    for (int32_t reading = 0; reading < READINGS; reading++) {
+        very_many(reading, false);
+        very_many(reading, true);
+    }
     least_versions();
     compared_releases();
     compared_pre_releases();

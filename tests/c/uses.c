@@ -4,7 +4,8 @@
 #include <stdio.h>
 #include <string.h>
 
-#if SEMVER_PARSER_VERSION_MAJOR != 0 || SEMVER_PARSER_VERSION_MINOR < 2 || SEMVER_PARSER_VERSION_PATCH < 0
+#if SEMVER_PARSER_VERSION_MAJOR != 0 || SEMVER_PARSER_VERSION_MINOR < 3                            \
+    || SEMVER_PARSER_VERSION_PATCH < 0
 #error "the version of another library"
 #endif
 
@@ -18,14 +19,18 @@ static int use_rewriting(void) {
     uint8_t out[64];
     size_t count = 0;
     size_t length = 0;
-    int32_t answer = semver_parser_comparators(bytes_of(range), strlen(range), true, true, comparators, 4, &count, out, sizeof out, &length);
+    int32_t answer =
+        semver_parser_comparators(bytes_of(range), strlen(range), SEMVER_PARSER_NPM, false,
+                                  comparators, 4, &count, out, sizeof out, &length);
     if (answer != SEMVER_PARSER_OK || comparators[1].op != SEMVER_PARSER_LESS || comparators[1].pre.length != 1 || out[comparators[1].pre.offset] != '0') {
         return 1;
     }
-    if (semver_parser_rewrite(NULL, 0, false, false, NULL, 0, &length) != SEMVER_PARSER_NO_ROOM) {
+    if (semver_parser_rewrite(NULL, 0, SEMVER_PARSER_CRATE_CARGO, false, NULL, 0, &length)
+        != SEMVER_PARSER_NO_ROOM) {
         return 1;
     }
-    answer = semver_parser_comparators(NULL, 0, false, false, NULL, 0, &count, NULL, 0, &length);
+    answer = semver_parser_comparators(NULL, 0, SEMVER_PARSER_CRATE_NPM, false, NULL, 0, &count,
+                                       NULL, 0, &length);
     return answer == SEMVER_PARSER_NO_ROOM && count == 1 && length == 0 ? 0 : 1;
 }
 
@@ -37,10 +42,15 @@ static int use_meeting(void) {
     versions[0].length = 5;
     versions[1].bytes = NULL;
     versions[1].length = 0;
-    if (semver_parser_meets(bytes_of("1"), 1, true, SEMVER_PARSER_STATED_PRE_RELEASES, bytes_of("1.2.3"), 5, &meets) != SEMVER_PARSER_OK || !meets) {
+    if (semver_parser_meets(bytes_of("1"), 1, SEMVER_PARSER_CRATE_NPM,
+                            SEMVER_PARSER_STATED_PRE_RELEASES, bytes_of("1.2.3"), 5, &meets)
+            != SEMVER_PARSER_OK
+        || !meets) {
         return 1;
     }
-    if (semver_parser_meets_each(bytes_of("1"), 1, true, SEMVER_PARSER_RELEASES_ALONE, versions, 2, answers) != SEMVER_PARSER_OK) {
+    if (semver_parser_meets_each(bytes_of("1"), 1, SEMVER_PARSER_CARGO,
+                                 SEMVER_PARSER_RELEASES_ALONE, versions, 2, answers)
+        != SEMVER_PARSER_OK) {
         return 1;
     }
     return answers[0] == SEMVER_PARSER_MEETS && answers[1] == SEMVER_PARSER_UNEXPECTED_END ? 0 : 1;
@@ -49,7 +59,9 @@ static int use_meeting(void) {
 static int use_least(void) {
     uint8_t out[64];
     size_t length = 0;
-    if (semver_parser_least(bytes_of("^1.2 || 3"), 9, true, SEMVER_PARSER_STATED_PRE_RELEASES, out, sizeof out, &length) != SEMVER_PARSER_OK) {
+    if (semver_parser_least(bytes_of("^1.2 || 3"), 9, SEMVER_PARSER_NPM,
+                            SEMVER_PARSER_PRE_RELEASES_OF_TOOL, out, sizeof out, &length)
+        != SEMVER_PARSER_OK) {
         return 1;
     }
     return length == 5 && memcmp(out, "1.2.0", 5) == 0 ? 0 : 1;
@@ -68,16 +80,18 @@ static int use_compare(void) {
     uint8_t out[64];
     size_t length = 0;
     semver_parser_comparison comparison;
-    int32_t answer = semver_parser_compare(bytes_of("^1.2.0"), 6, bytes_of(">=1.4.0"), 7, true, SEMVER_PARSER_STATED_PRE_RELEASES, out, sizeof out, &length,
-                                           &comparison);
+    int32_t answer = semver_parser_compare(bytes_of("^1.2.0"), 6, bytes_of(">=1.4.0"), 7,
+                                           SEMVER_PARSER_CARGO, SEMVER_PARSER_PRE_RELEASES_OF_TOOL,
+                                           out, sizeof out, &length, &comparison);
     if (answer != SEMVER_PARSER_OK || length != 15 || memcmp(out, "1.2.02.0.01.4.0", 15) != 0) {
         return 1;
     }
     if (comparison.lost.offset != 0 || comparison.gained.offset != 5 || comparison.shared.offset != 10 || comparison.shared.length != 5) {
         return 1;
     }
-    return semver_parser_compare(NULL, 0, bytes_of("v1"), 2, true, SEMVER_PARSER_ALL_PRE_RELEASES, NULL, 0, &length, &comparison) ==
-                   SEMVER_PARSER_NEW_NOT_A_RANGE
+    return semver_parser_compare(NULL, 0, bytes_of("v1"), 2, SEMVER_PARSER_CRATE_NPM,
+                                 SEMVER_PARSER_ALL_PRE_RELEASES, NULL, 0, &length, &comparison)
+                   == SEMVER_PARSER_NEW_NOT_A_RANGE
                ? 0
                : 1;
 }

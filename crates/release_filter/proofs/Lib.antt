@@ -1,6 +1,6 @@
 mod ExtremeSteps
 mod Tests
-mod Passing
+pub mod Passing
 mod KeptVersions
 mod LineReading
 mod ShownLines

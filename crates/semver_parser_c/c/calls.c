@@ -34,30 +34,44 @@ int32_t semver_parser_precedence(const uint8_t *version, size_t version_length, 
     return semver_parser_proved_precedence(text_at(version, version_length), version_length, text_at(other, other_length), other_length, order, in_other);
 }
 
-int32_t semver_parser_rewrite(const uint8_t *text, size_t text_length, bool npm, bool exact, uint8_t *out, size_t room, size_t *length) {
-    return semver_parser_proved_rewrite(text_at(text, text_length), text_length, npm, exact, room_at(out, room), room, length);
+int32_t semver_parser_rewrite(const uint8_t *text, size_t text_length, int32_t reading, bool exact,
+                              uint8_t *out, size_t room, size_t *length) {
+    return semver_parser_proved_rewrite(text_at(text, text_length), text_length, reading, exact,
+                                        room_at(out, room), room, length);
 }
 
-int32_t semver_parser_comparators(const uint8_t *text, size_t text_length, bool npm, bool exact, semver_parser_comparator *comparators,
-                                  size_t comparator_room, size_t *count, uint8_t *out, size_t room, size_t *length) {
-    return semver_parser_proved_comparators(text_at(text, text_length), text_length, npm, exact, comparators_at(comparators, comparator_room),
-                                            comparator_room, count, room_at(out, room), room, length);
+int32_t semver_parser_comparators(const uint8_t *text, size_t text_length, int32_t reading,
+                                  bool exact, semver_parser_comparator *comparators,
+                                  size_t comparator_room, size_t *count, uint8_t *out, size_t room,
+                                  size_t *length) {
+    return semver_parser_proved_comparators(text_at(text, text_length), text_length, reading, exact,
+                                            comparators_at(comparators, comparator_room),
+                                            comparator_room, count, room_at(out, room), room,
+                                            length);
 }
 
-int32_t semver_parser_meets(const uint8_t *range, size_t range_length, bool npm, int32_t pre_releases, const uint8_t *version, size_t version_length,
+int32_t semver_parser_meets(const uint8_t *range, size_t range_length, int32_t reading,
+                            int32_t pre_releases, const uint8_t *version, size_t version_length,
                             bool *meets) {
-    return semver_parser_proved_meets(text_at(range, range_length), range_length, npm, pre_releases, text_at(version, version_length), version_length,
-                                      meets);
+    return semver_parser_proved_meets(text_at(range, range_length), range_length, reading,
+                                      pre_releases, text_at(version, version_length),
+                                      version_length, meets);
 }
 
-int32_t semver_parser_least(const uint8_t *range, size_t range_length, bool npm, int32_t pre_releases, uint8_t *out, size_t room, size_t *length) {
-    return semver_parser_proved_least(text_at(range, range_length), range_length, npm, pre_releases, room_at(out, room), room, length);
+int32_t semver_parser_least(const uint8_t *range, size_t range_length, int32_t reading,
+                            int32_t pre_releases, uint8_t *out, size_t room, size_t *length) {
+    return semver_parser_proved_least(text_at(range, range_length), range_length, reading,
+                                      pre_releases, room_at(out, room), room, length);
 }
 
-int32_t semver_parser_compare(const uint8_t *old_range, size_t old_range_length, const uint8_t *new_range, size_t new_range_length, bool npm,
-                              int32_t pre_releases, uint8_t *out, size_t room, size_t *length, semver_parser_comparison *comparison) {
-    return semver_parser_proved_compare(text_at(old_range, old_range_length), old_range_length, text_at(new_range, new_range_length), new_range_length, npm,
-                                        pre_releases, room_at(out, room), room, length, comparison);
+int32_t semver_parser_compare(const uint8_t *old_range, size_t old_range_length,
+                              const uint8_t *new_range, size_t new_range_length, int32_t reading,
+                              int32_t pre_releases, uint8_t *out, size_t room, size_t *length,
+                              semver_parser_comparison *comparison) {
+    return semver_parser_proved_compare(text_at(old_range, old_range_length), old_range_length,
+                                        text_at(new_range, new_range_length), new_range_length,
+                                        reading, pre_releases, room_at(out, room), room, length,
+                                        comparison);
 }
 
 /* ---- many versions */
@@ -85,21 +99,27 @@ static rattle_answer block_of_texts(size_t count) {
     return count <= SIZE_MAX / sizeof(semver_parser_text) ? rattle_alloc(count * sizeof(semver_parser_text), 16) : refused;
 }
 
-/* The texts are copied only where an empty one is at null. Where that copy is refused, a fault of the range or of the rule goes before it. */
-int32_t semver_parser_meets_each(const uint8_t *range, size_t range_length, bool npm, int32_t pre_releases, const semver_parser_text *versions,
+/* The texts are copied only where an empty one is at null. Where that copy is refused, a fault of
+ * the reading, of the rule or of the range goes before it. */
+int32_t semver_parser_meets_each(const uint8_t *range, size_t range_length, int32_t reading,
+                                 int32_t pre_releases, const semver_parser_text *versions,
                                  size_t count, uint8_t *answers) {
     const uint8_t *range_at = text_at(range, range_length);
     if (!has_null(versions, count)) {
-        return semver_parser_proved_meets_each(range_at, range_length, npm, pre_releases, texts_at(versions, count), count, room_at(answers, count), count);
+        return semver_parser_proved_meets_each(range_at, range_length, reading, pre_releases,
+                                               texts_at(versions, count), count,
+                                               room_at(answers, count), count);
     }
     rattle_answer copies = block_of_texts(count);
     if (!copies.found) {
-        int32_t fault = semver_parser_proved_meets_each(range_at, range_length, npm, pre_releases, &no_text, 0, &no_byte, 0);
+        int32_t fault = semver_parser_proved_meets_each(range_at, range_length, reading,
+                                                        pre_releases, &no_text, 0, &no_byte, 0);
         return fault != SEMVER_PARSER_OK ? fault : (int32_t)SEMVER_PARSER_RANGE_OUT_OF_MEMORY;
     }
     semver_parser_text *texts = (semver_parser_text *)copies.block;
     copy_texts(texts, versions, count);
-    int32_t answer = semver_parser_proved_meets_each(range_at, range_length, npm, pre_releases, texts, count, answers, count);
+    int32_t answer = semver_parser_proved_meets_each(range_at, range_length, reading, pre_releases,
+                                                     texts, count, answers, count);
     rattle_dealloc(copies.block);
     return answer;
 }
@@ -126,11 +146,12 @@ const char *semver_parser_fault_text(int32_t answer) {
     case SEMVER_PARSER_NUMBER_TOO_LARGE: return "the range has a number that is too large";
     case SEMVER_PARSER_RANGE_OUT_OF_MEMORY: return "out of memory at the range";
     case SEMVER_PARSER_NO_ROOM: return "the room is too small";
-    case SEMVER_PARSER_NO_SUCH_RULE: return "no rule for pre-releases has this number";
+    case SEMVER_PARSER_NO_SUCH_RULE: return "the reading has no such rule for pre-releases";
     case SEMVER_PARSER_NEW_RANGE_NOT_UTF8: return "the new range isn't UTF-8";
     case SEMVER_PARSER_NEW_NOT_A_RANGE: return "the new range is not a range";
     case SEMVER_PARSER_NEW_NUMBER_TOO_LARGE: return "the new range has a number that is too large";
     case SEMVER_PARSER_NEW_RANGE_OUT_OF_MEMORY: return "out of memory at the new range";
+    case SEMVER_PARSER_NO_SUCH_READING: return "no reading of range texts has this number";
     default: return "no call answers this number";
     }
 }

@@ -13,23 +13,31 @@ int32_t semver_parser_proved_parse_version(const uint8_t *text, size_t text_leng
 int32_t semver_parser_proved_precedence(const uint8_t *version, size_t version_length, const uint8_t *other, size_t other_length, int32_t *order,
                                         bool *in_other);
 
-int32_t semver_parser_proved_rewrite(const uint8_t *text, size_t text_length, bool npm, bool exact, uint8_t *out, size_t room, size_t *length);
+int32_t semver_parser_proved_rewrite(const uint8_t *text, size_t text_length, int32_t reading,
+                                     bool exact, uint8_t *out, size_t room, size_t *length);
 
-int32_t semver_parser_proved_comparators(const uint8_t *text, size_t text_length, bool npm, bool exact, semver_parser_comparator *comparators,
-                                         size_t comparator_room, size_t *count, uint8_t *out, size_t room, size_t *length);
+int32_t semver_parser_proved_comparators(const uint8_t *text, size_t text_length, int32_t reading,
+                                         bool exact, semver_parser_comparator *comparators,
+                                         size_t comparator_room, size_t *count, uint8_t *out,
+                                         size_t room, size_t *length);
 
-int32_t semver_parser_proved_meets(const uint8_t *range, size_t range_length, bool npm, int32_t pre_releases, const uint8_t *version,
+int32_t semver_parser_proved_meets(const uint8_t *range, size_t range_length, int32_t reading,
+                                   int32_t pre_releases, const uint8_t *version,
                                    size_t version_length, bool *meets);
 
 /* It answers for as many texts as `count` and `answer_room` both have. */
-int32_t semver_parser_proved_meets_each(const uint8_t *range, size_t range_length, bool npm, int32_t pre_releases,
-                                        const semver_parser_text *versions, size_t count, uint8_t *answers, size_t answer_room);
+int32_t semver_parser_proved_meets_each(const uint8_t *range, size_t range_length, int32_t reading,
+                                        int32_t pre_releases, const semver_parser_text *versions,
+                                        size_t count, uint8_t *answers, size_t answer_room);
 
-int32_t semver_parser_proved_least(const uint8_t *range, size_t range_length, bool npm, int32_t pre_releases, uint8_t *out, size_t room,
-                                   size_t *length);
+int32_t semver_parser_proved_least(const uint8_t *range, size_t range_length, int32_t reading,
+                                   int32_t pre_releases, uint8_t *out, size_t room, size_t *length);
 
-int32_t semver_parser_proved_compare(const uint8_t *old_range, size_t old_range_length, const uint8_t *new_range, size_t new_range_length, bool npm,
-                                     int32_t pre_releases, uint8_t *out, size_t room, size_t *length, semver_parser_comparison *comparison);
+int32_t semver_parser_proved_compare(const uint8_t *old_range, size_t old_range_length,
+                                     const uint8_t *new_range, size_t new_range_length,
+                                     int32_t reading, int32_t pre_releases, uint8_t *out,
+                                     size_t room, size_t *length,
+                                     semver_parser_comparison *comparison);
 
 #ifdef __cplusplus
 }

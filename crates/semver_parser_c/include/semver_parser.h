@@ -1,34 +1,48 @@
-/* Version texts and range texts, read, rewritten and compared: the C library of semver_parser, for Linux on x86-64-v2 (what x86-64 processors have had
- * since about 2009).
+/* Version texts and range texts, read, rewritten and compared: the C library of semver_parser, for
+ * Linux on x86-64-v2 (what x86-64 processors have had since about 2009).
  *
- * The files that are named here aren't installed: they lie in the library's source, docs/ at its top, and src/ and c/ beside the folder of this header.
- * docs/GRAMMAR.md says which texts are versions and ranges, and docs/MEANING.md what a range means. What each comment here promises of an answer and of
- * what is written is a proved clause of that call in src/lib.rt, whose names have `proved_` in them. Trusted are the lines of C between: c/calls.c, which
- * puts a pointer to an object in place of null where a length is 0 and has the two calls without proof, and c/heap.c; so is what is said of memory and time.
+ * The files that are named here aren't installed: they lie in the library's source, docs/ at its
+ * top, and src/ and c/ beside the folder of this header. docs/GRAMMAR.md says which texts are
+ * versions and ranges, and docs/MEANING.md what a range means. What each comment here promises of
+ * an answer and of what is written is a proved clause of that call in src/lib.rt, whose names have
+ * `proved_` in them. Trusted are the lines of C between: c/calls.c, which puts a pointer to an
+ * object in place of null where a length is 0 and has the two calls without proof, and c/heap.c; so
+ * is what is said of memory and time.
  *
- * TEXTS AND ROOMS. A text is a pointer to its bytes and their count, in UTF-8; it needs no zero byte at the end. Bytes that are no UTF-8 are a fault of
- * their own, and a zero byte is a byte like any other. All lengths and offsets of texts are counts of bytes. A room is a pointer to what a call may
- * write to, and how many items it has room for. With a length of 0 the pointer of a text, of an array or of a room may be null, or point anywhere. With a
- * greater one null is passed on as any pointer is: nothing is put in its place.
+ * TEXTS AND ROOMS. A text is a pointer to its bytes and their count, in UTF-8; it needs no zero
+ * byte at the end. Bytes that are no UTF-8 are a fault of their own, and a zero byte is a byte like
+ * any other. All lengths and offsets of texts are counts of bytes. A room is a pointer to what a
+ * call may write to, and how many items it has room for. With a length of 0 the pointer of a text,
+ * of an array or of a room may be null, or point anywhere. With a greater one null is passed on as
+ * any pointer is: nothing is put in its place.
  *
  * WHAT THE CALLER OWES. No check of a proof or of a compiler sees it:
- * - A text has as many bytes as is said, an array as many items, and a room has room for as many. They don't change while the call runs, but by the call.
- * - What a call writes to (`out`, `length`, `comparators`, `count`, `meets`, `answers`, `comparison`, `order`, `in_other`) overlaps with nothing else that it is given. It is aligned as its
- *   type is, and so is the array `versions`.
- * - Where a call writes one object (`out` of a version, `length`, `count`, `meets`, `comparison`, `order`, `in_other`), its pointer is never null.
+ * - A text has as many bytes as is said, an array as many items, and a room has room for as many.
+ *   They don't change while the call runs, but by the call.
+ * - What a call writes to (`out`, `length`, `comparators`, `count`, `meets`, `answers`,
+ *   `comparison`, `order`, `in_other`) overlaps with nothing else that it is given. It is aligned
+ *   as its type is, and so is the array `versions`.
+ * - Where a call writes one object (`out` of a version, `length`, `count`, `meets`, `comparison`,
+ *   `order`, `in_other`), its pointer is never null.
  * - A bool is 0 or 1.
- * - No call is made from a signal handler, nor from the forked child of a process that has several threads: calls take memory from `malloc`.
+ * - No call is made from a signal handler, nor from the forked child of a process that has several
+ *   threads: calls take memory from `malloc`.
  *
- * MEMORY. Nothing is kept between calls, and nothing is left for the caller to free: what a call takes from `malloc` it gives back to `free`. So
- * calls may be made from several threads at once, where `malloc` and `free` may. c/heap.c joins the library to these two. How much a call takes at once
- * is said at each call: the most that was measured, on texts of 64 bytes to 2 MB that were made to take much, where a block that grows counts twice while
- * it is moved, and what `malloc` itself needs is left out.
+ * MEMORY. Nothing is kept between calls, and nothing is left for the caller to free: what a call
+ * takes from `malloc` it gives back to `free`. So calls may be made from several threads at once,
+ * where `malloc` and `free` may. c/heap.c joins the library to these two. How much a call takes at
+ * once is said at each call: the most that was measured, on texts of 64 bytes to 2 MB that were
+ * made to take much, where a block that grows counts twice while it is moved, and what `malloc`
+ * itself needs is left out.
  *
- * TIME. Each call reads its texts anew, in time linear in their lengths. Those that ask which versions a range means make the set of these first, half of the
- * range beside the other half, in time that grows as n log n for n comparators; a version is then searched for among its bounds, so `semver_parser_meets_each`
- * takes time that grows as k log n more for k versions, beside that of reading them.
+ * TIME. Each call reads its texts anew, in time linear in their lengths. Those that ask which
+ * versions a range means make the set of these first, half of the range beside the other half, in
+ * time that grows as n log n for n comparators; a version is then searched for among its bounds, so
+ * `semver_parser_meets_each` takes time that grows as k log n more for k versions, beside that of
+ * reading them.
  *
- * Link: by what `pkg-config --cflags --libs semver_parser` tells where it is installed; else cc program.c c/calls.c c/heap.c out/libsemver_parser_c.a
+ * Link: by what `pkg-config --cflags --libs semver_parser` tells where it is installed; else cc
+ * program.c c/calls.c c/heap.c out/libsemver_parser_c.a
  */
 #ifndef SEMVER_PARSER_H
 #define SEMVER_PARSER_H
@@ -39,12 +53,13 @@
 #include <stddef.h>
 #include <stdint.h>
 
-/* The version of the library that this header belongs to. While the first number is 0 a call may change, and the second number is raised where one does: since 0.2
- * `semver_parser_comparators` has a room for the pre-releases of the comparators, and stands by itself. */
+/* The version of the library that this header belongs to. While the first number is 0 a call may
+ * change, and the second number is raised where one does: since 0.3 the calls that read a range
+ * take the number of a reading in place of a mode. */
 #define SEMVER_PARSER_VERSION_MAJOR 0
-#define SEMVER_PARSER_VERSION_MINOR 2
+#define SEMVER_PARSER_VERSION_MINOR 3
 #define SEMVER_PARSER_VERSION_PATCH 0
-#define SEMVER_PARSER_VERSION "0.2.0"
+#define SEMVER_PARSER_VERSION "0.3.0"
 
 #ifdef __cplusplus
 extern "C" {
@@ -67,7 +82,8 @@ enum {
     SEMVER_PARSER_UNEXPECTED_CHAR = 5,
     /* A version is followed by something else, as in `1.2.3 a`. */
     SEMVER_PARSER_MORE_INPUT = 6,
-    /* Two faults that the Rust crate lists and no version text has. They keep their numbers, and no call answers them. */
+    /* Two faults that the Rust crate lists and no version text has. They keep their numbers, and no
+     * call answers them. */
     SEMVER_PARSER_EMPTY_PREDICATE = 7,
     SEMVER_PARSER_EMPTY_RANGE = 8,
     /* Memory ran out at the version. */
@@ -77,9 +93,11 @@ enum {
 
     /* The bytes aren't UTF-8. */
     SEMVER_PARSER_RANGE_NOT_UTF8 = 10,
-    /* The text isn't in the range grammar, as `1.2.3 -4` or `v1.2.3`. */
+    /* The text isn't in the range grammar, which is that of the reading: `1.2.3 -4` is in none, and
+     * `v1.2.3` in that of npm's own alone. docs/GRAMMAR.md says which texts each reading takes. */
     SEMVER_PARSER_NOT_A_RANGE = 11,
-    /* It is, and a number that it states, or an upper bound that is raised by one, is above 2^64 - 1. */
+    /* It is, and a number that it states, or an upper bound that is raised by one, is above 2^64 -
+     * 1. */
     SEMVER_PARSER_NUMBER_TOO_LARGE = 12,
     /* Memory ran out at the range. */
     SEMVER_PARSER_RANGE_OUT_OF_MEMORY = 13,
@@ -88,7 +106,7 @@ enum {
 
     /* A room is too small for what is to be put there. */
     SEMVER_PARSER_NO_ROOM = 14,
-    /* No rule for pre-releases has that number. */
+    /* The reading has no rule for pre-releases of that number. */
     SEMVER_PARSER_NO_SUCH_RULE = 15,
 
     /* Faults of the new range text where two are compared. */
@@ -97,22 +115,51 @@ enum {
     SEMVER_PARSER_NEW_RANGE_NOT_UTF8 = 16,
     /* The text isn't in the range grammar. */
     SEMVER_PARSER_NEW_NOT_A_RANGE = 17,
-    /* It is, and a number that it states, or an upper bound that is raised by one, is above 2^64 - 1. */
+    /* It is, and a number that it states, or an upper bound that is raised by one, is above 2^64 -
+     * 1. */
     SEMVER_PARSER_NEW_NUMBER_TOO_LARGE = 18,
     /* Memory ran out at the new range, or where both are compared. */
-    SEMVER_PARSER_NEW_RANGE_OUT_OF_MEMORY = 19
+    SEMVER_PARSER_NEW_RANGE_OUT_OF_MEMORY = 19,
+
+    /* Another fault of a call. */
+
+    /* No reading of range texts has that number. */
+    SEMVER_PARSER_NO_SUCH_READING = 20
 };
 
-/* The rules for pre-releases, one of which is passed as `pre_releases`. A version without pre-release counts by each of them (docs/MEANING.md, "Three
- * rules for pre-releases"). */
+/* The readings of range texts, one of which is passed as `reading` (docs/MEANING.md, "Whose
+ * reading?"). */
+enum {
+    /* Cargo's own: `1.2` means `>=1.2.0 <2.0.0`, and commas part comparators. */
+    SEMVER_PARSER_CARGO = 0,
+    /* npm's own: `1.2` means `>=1.2.0 <1.3.0`, and `>1.2` means `>=1.3.0`. */
+    SEMVER_PARSER_NPM = 1,
+    /* That of the Rust crate semver-parser in its Cargo mode, which differs from Cargo's own: `1.2`
+     * means `>=1.2.0 <1.3.0`, and `>1.2` means `>1.2.0`. */
+    SEMVER_PARSER_CRATE_CARGO = 2,
+    /* That of the same crate in its npm mode, which differs from npm's own: `>1.2` means `>1.2.0`.
+     * It reads as the one before, but that `1.2.3` means `=1.2.3`. */
+    SEMVER_PARSER_CRATE_NPM = 3
+};
+
+/* The rules for pre-releases, one of which is passed as `pre_releases`. A version without
+ * pre-release counts by each of them. The first is a rule of every reading. The second and the
+ * third are rules of the crate's two readings alone, and the last is one of Cargo's own and npm's
+ * own alone. docs/MEANING.md tells them under "Three rules for pre-releases", and those of the
+ * tools at its end. */
 enum {
     /* No version with a pre-release meets any range. */
     SEMVER_PARSER_RELEASES_ALONE = 0,
-    /* The rule that npm and Cargo's semver have for pre-releases: one meets a range by precedence (SemVer 2.0.0, section 11), and only where a term of
-     * that range states the same three numbers and a pre-release. 1.2.3-rc meets `^1.2.3-beta`, and neither `>=1.2.0` nor `^1.2.0 || =1.2.3-beta`. */
+    /* A pre-release meets a range by precedence (SemVer 2.0.0, section 11), and only where a term
+     * of that range states the same three numbers and a pre-release. 1.2.3-rc meets `^1.2.3-beta`,
+     * and neither `>=1.2.0` nor `^1.2.0 || =1.2.3-beta`. */
     SEMVER_PARSER_STATED_PRE_RELEASES = 1,
-    /* A pre-release meets a range by precedence, as any version does: 2.0.0-alpha meets `>=1.0.0`, and neither `^1.0.0` nor `>=2.0.0`. */
-    SEMVER_PARSER_ALL_PRE_RELEASES = 2
+    /* A pre-release meets a range by precedence, as any version does: 2.0.0-alpha meets `>=1.0.0`,
+     * and neither `^1.0.0` nor `>=2.0.0`. */
+    SEMVER_PARSER_ALL_PRE_RELEASES = 2,
+    /* A pre-release meets a range where the tool itself takes it: Cargo where the reading is its
+     * own, and npm where it is npm's. 1.2.3-rc meets `^1.2.3-beta`, and not `>=1.2.0`. */
+    SEMVER_PARSER_PRE_RELEASES_OF_TOOL = 3
 };
 
 /* How a comparator compares. */
@@ -135,8 +182,9 @@ enum {
     SEMVER_PARSER_MEETS = 1
 };
 
-/* Where a part of a text lies: `length` bytes from `offset` on. `length` is above 0 where there is such a part, and 0 where there is none. `offset` is then 0 too,
- * but in a comparator, where it is always the sum of the lengths before. */
+/* Where a part of a text lies: `length` bytes from `offset` on. `length` is above 0 where there is
+ * such a part, and 0 where there is none. `offset` is then 0 too, but in a comparator, where it is
+ * always the sum of the lengths before. */
 typedef struct {
     size_t offset;
     size_t length;
@@ -156,7 +204,8 @@ typedef struct {
 
 /* A comparator of a rewritten range. */
 typedef struct {
-    /* The number of the range that it belongs to: ranges are counted from 0, in the order of the text. */
+    /* The number of the range that it belongs to: ranges are counted from 0, in the order of the
+     * text. */
     size_t range;
     /* How it compares: SEMVER_PARSER_LESS, _LESS_EQUAL, _GREATER, _GREATER_EQUAL or _EQUAL. */
     int32_t op;
@@ -164,12 +213,13 @@ typedef struct {
     uint64_t major;
     uint64_t minor;
     uint64_t patch;
-    /* Where the room of pre-releases has the identifiers of its pre-release, joined by dots, without a `-` in front of them. */
+    /* Where the room of pre-releases has the identifiers of its pre-release, joined by dots,
+     * without a `-` in front of them. */
     semver_parser_part pre;
 } semver_parser_comparator;
 
-/* What an old range and a new one mean alone and together, each by where the text of the least such version lies. Where there is no such version, both
- * fields of its part are 0. */
+/* What an old range and a new one mean alone and together, each by where the text of the least such
+ * version lies. Where there is no such version, both fields of its part are 0. */
 typedef struct {
     /* The least version that the old range means and the new one doesn't. */
     semver_parser_part lost;
@@ -185,182 +235,247 @@ typedef struct {
     size_t length;
 } semver_parser_text;
 
-/* The version of the library that is linked or loaded, as SEMVER_PARSER_VERSION writes it. Never null; it ends with a zero byte. */
+/* The version of the library that is linked or loaded, as SEMVER_PARSER_VERSION writes it. Never
+ * null; it ends with a zero byte. */
 const char *semver_parser_library_version(void);
 
-/* What an answer says, in English without a capital and a full stop, as "the version ends too early"; another sentence for SEMVER_PARSER_OK, and another
- * for a number that no call answers. Never null; it ends with a zero byte. */
+/* What an answer says, in English without a capital and a full stop, as "the version ends too
+ * early"; another sentence for SEMVER_PARSER_OK, and another for a number that no call answers.
+ * Never null; it ends with a zero byte. */
 const char *semver_parser_fault_text(int32_t answer);
 
 /* Reads a version text of `text_length` bytes into `out`, which is never null.
  *
- * `1.2.3-rc.1+b5` gives 1, 2 and 3, the pre-release at offset 6 with length 4, and the build at offset 11 with length 2. Spaces, tabs, line feeds
- * and carriage returns may stand before the version and behind it; the offsets count from the start of the text all the same.
+ * `1.2.3-rc.1+b5` gives 1, 2 and 3, the pre-release at offset 6 with length 4, and the build at
+ * offset 11 with length 2. Spaces, tabs, line feeds and carriage returns may stand before the
+ * version and behind it; the offsets count from the start of the text all the same.
  *
  * Answers
  * - SEMVER_PARSER_OK exactly where the text spells a version. Then `out` has its numbers and parts.
  * - SEMVER_PARSER_VERSION_NOT_UTF8 exactly where the bytes aren't UTF-8.
- * - SEMVER_PARSER_UNEXPECTED_END, _UNEXPECTED_TOKEN, _UNEXPECTED_CHAR or _MORE_INPUT: the one fault that any other text has, want of memory aside.
- * - SEMVER_PARSER_VERSION_OUT_OF_MEMORY never for a version: only in place of one of these four, where the text has an identifier of a pre-release or a
- *   build, or in place of _MORE_INPUT.
+ * - SEMVER_PARSER_UNEXPECTED_END, _UNEXPECTED_TOKEN, _UNEXPECTED_CHAR or _MORE_INPUT: the one fault
+ *   that any other text has, want of memory aside.
+ * - SEMVER_PARSER_VERSION_OUT_OF_MEMORY never for a version: only in place of one of these four,
+ *   where the text has an identifier of a pre-release or a build, or in place of _MORE_INPUT.
  *
  * After any answer but SEMVER_PARSER_OK `out` is as it was.
  *
- * Memory: none for a version. To tell the fault of another text, none but for the identifiers in front of it; or, where a version is followed by
- * something else, for the tokens behind it that tell SEMVER_PARSER_MORE_INPUT, 24 bytes for each byte.
+ * Memory: none for a version. To tell the fault of another text, none but for the identifiers in
+ * front of it; or, where a version is followed by something else, for the tokens behind it that
+ * tell SEMVER_PARSER_MORE_INPUT, 24 bytes for each byte.
  */
-int32_t semver_parser_parse_version(const uint8_t *text, size_t text_length, semver_parser_version *out);
+int32_t semver_parser_parse_version(const uint8_t *text, size_t text_length,
+                                    semver_parser_version *out);
 
-/* How a version text compares with another by precedence (SemVer 2.0.0, section 11). Neither `order` nor `in_other` is null.
+/* How a version text compares with another by precedence (SemVer 2.0.0, section 11). Neither
+ * `order` nor `in_other` is null.
  *
- * 1.2.3-rc.4 is below 1.2.3-rc.11, and that is below 1.2.3. Builds don't count: 1.2.3+a and 1.2.3+b are equal by precedence.
+ * 1.2.3-rc.4 is below 1.2.3-rc.11, and that is below 1.2.3. Builds don't count: 1.2.3+a and 1.2.3+b
+ * are equal by precedence.
  *
  * Answers
- * - SEMVER_PARSER_OK exactly where both texts spell versions, want of memory aside. Then `order` is -1 where the version is below the other one, 0 where both
- *   are equal, and 1 where it is above.
- * - A fault of one of the texts, as those of `semver_parser_parse_version`: SEMVER_PARSER_VERSION_NOT_UTF8, _UNEXPECTED_END, _UNEXPECTED_TOKEN,
- *   _UNEXPECTED_CHAR, _MORE_INPUT or _VERSION_OUT_OF_MEMORY. `in_other` is then whether it is that of `other`: the first text is read first, so it holds exactly
- *   where that spells a version. Of two versions the answer is SEMVER_PARSER_VERSION_OUT_OF_MEMORY only where the other one has a pre-release or a build.
+ * - SEMVER_PARSER_OK exactly where both texts spell versions, want of memory aside. Then `order` is
+ *   -1 where the version is below the other one, 0 where both are equal, and 1 where it is above.
+ * - A fault of one of the texts, as those of `semver_parser_parse_version`:
+ *   SEMVER_PARSER_VERSION_NOT_UTF8, _UNEXPECTED_END, _UNEXPECTED_TOKEN, _UNEXPECTED_CHAR,
+ *   _MORE_INPUT or _VERSION_OUT_OF_MEMORY. `in_other` is then whether it is that of `other`: the
+ *   first text is read first, so it holds exactly where that spells a version. Of two versions the
+ *   answer is SEMVER_PARSER_VERSION_OUT_OF_MEMORY only where the other one has a pre-release or a
+ *   build.
  *
- * After any answer but SEMVER_PARSER_OK `order` is as it was, and after SEMVER_PARSER_OK `in_other` is.
+ * After any answer but SEMVER_PARSER_OK `order` is as it was, and after SEMVER_PARSER_OK `in_other`
+ * is.
  *
  * Memory: none for the first version, and the identifiers of the other one.
  */
-int32_t semver_parser_precedence(const uint8_t *version, size_t version_length, const uint8_t *other, size_t other_length, int32_t *order, bool *in_other);
+int32_t semver_parser_precedence(const uint8_t *version, size_t version_length,
+                                 const uint8_t *other, size_t other_length, int32_t *order,
+                                 bool *in_other);
 
-/* Rewrites a range text of `text_length` bytes into plain comparators, and prints them into the `room` bytes at `out`. `length` is never null.
+/* Rewrites a range text of `text_length` bytes into plain comparators, and prints them into the
+ * `room` bytes at `out`. `length` is never null.
  *
- * The mode is npm's where `npm` holds, and else Cargo's; it decides how a bare version of three numbers is read, and nothing else. Where `exact`
- * holds, the bounds are exact: an upper bound that is raised by one has the lowest pre-release, as `<2.0.0-0`. Else the bounds are those of the Rust
- * crate, as `<2.0.0`. `^1.2 || 3.x` gives `>=1.2.0 <2.0.0-0 || >=3.0.0 <4.0.0-0` with exact bounds, and `>=1.2.0 <2.0.0 || >=3.0.0 <4.0.0` without.
+ * `reading` is the number of a reading. Where `exact` holds, the bounds are exact: an upper bound
+ * that is raised by one has the lowest pre-release, as `<2.0.0-0`. Else those of the crate's two
+ * readings are as the Rust crate has them, as `<2.0.0`; those of Cargo's own and npm's own are
+ * exact whatever `exact` says. By SEMVER_PARSER_CRATE_NPM `^1.2 || 3.x` gives `>=1.2.0 <2.0.0-0 ||
+ * >=3.0.0 <4.0.0-0` with exact bounds, and `>=1.2.0 <2.0.0 || >=3.0.0 <4.0.0` without. By Cargo's
+ * own and npm's own the comparators tell which releases the text means; of pre-releases
+ * `semver_parser_meets` tells.
  *
  * Answers
- * - SEMVER_PARSER_OK: the printed set stands at the front of `out`, with no zero byte behind it, and `length` is how many bytes it has. What `out` has
- *   behind these is as it was.
- * - SEMVER_PARSER_NO_ROOM: the set has more than `room` bytes. `length` is how many it has, and `out` is as it was. So a call with `room` 0 asks for
- *   the length.
- * - SEMVER_PARSER_RANGE_NOT_UTF8 exactly where the bytes aren't UTF-8.
+ * - SEMVER_PARSER_OK: the printed set stands at the front of `out`, with no zero byte behind it,
+ *   and `length` is how many bytes it has. What `out` has behind these is as it was.
+ * - SEMVER_PARSER_NO_ROOM: the set has more than `room` bytes. `length` is how many it has, and
+ *   `out` is as it was. So a call with `room` 0 asks for the length.
+ * - SEMVER_PARSER_NO_SUCH_READING exactly where `reading` is the number of no reading, whatever the
+ *   text is.
+ * - SEMVER_PARSER_RANGE_NOT_UTF8 exactly where there is such a reading, and the bytes aren't UTF-8.
  * - SEMVER_PARSER_NOT_A_RANGE exactly where they are, and aren't in the range grammar.
- * - SEMVER_PARSER_NUMBER_TOO_LARGE exactly where they are in the grammar, and a number that the text states, or a raised bound, is above 2^64 - 1.
+ * - SEMVER_PARSER_NUMBER_TOO_LARGE exactly where they are in the grammar, and a number that the
+ *   text states, or a raised bound, is above 2^64 - 1.
  * - SEMVER_PARSER_RANGE_OUT_OF_MEMORY only in place of the first two.
  *
- * After any answer but SEMVER_PARSER_OK `out` is as it was, and after a fault of the text (the last four) `length` is too.
+ * After any answer but SEMVER_PARSER_OK `out` is as it was, and after any but the first two
+ * `length` is too.
  *
- * Memory: 98 bytes for each byte of the text, of `1 1 1 ..`, whose printed set has 8.5 for each; of most texts far less.
+ * Memory: 98 bytes for each byte of the text, of `1 1 1 ..`, whose printed set has 8.5 for each; of
+ * most texts far less.
  */
-int32_t semver_parser_rewrite(const uint8_t *text, size_t text_length, bool npm, bool exact, uint8_t *out, size_t room, size_t *length);
+int32_t semver_parser_rewrite(const uint8_t *text, size_t text_length, int32_t reading, bool exact,
+                              uint8_t *out, size_t room, size_t *length);
 
-/* Rewrites a range text as `semver_parser_rewrite` does, and tells its comparators as plain data: it puts them into the `comparator_room` places at `comparators`,
- * in the order in which the set is printed, and their pre-releases into the `room` bytes at `out`, one behind the other. Of a pre-release these are its
- * identifiers, joined by dots, without a `-` in front of them. Neither `count` nor `length` is null.
+/* Rewrites a range text as `semver_parser_rewrite` does, and tells its comparators as plain data:
+ * it puts them into the `comparator_room` places at `comparators`, in the order in which the set is
+ * printed, and their pre-releases into the `room` bytes at `out`, one behind the other. Of a
+ * pre-release these are its identifiers, joined by dots, without a `-` in front of them. Neither
+ * `count` nor `length` is null.
  *
- * `^1.2.3-rc.1 || <2.0.0-a` gives with exact bounds three, and the pre-releases `rc.10a`: of range 0 `>=` 1, 2, 3 with a pre-release at offset 0 with length 4 and
- * `<` 2, 0, 0 with one at offset 4 with length 1, and of range 1 `<` 2, 0, 0 with one at offset 5 with length 1. An offset is the sum of the lengths before it,
- * so a comparator without pre-release has that offset and length 0. Texts without pre-release in their comparators need a room of no bytes.
+ * `^1.2.3-rc.1 || <2.0.0-a` gives by npm's own reading three, and the pre-releases `rc.10a`: of
+ * range 0 `>=` 1, 2, 3 with a pre-release at offset 0 with length 4 and `<` 2, 0, 0 with one at
+ * offset 4 with length 1, and of range 1 `<` 2, 0, 0 with one at offset 5 with length 1. An offset
+ * is the sum of the lengths before it, so a comparator without pre-release has that offset and
+ * length 0. Texts without pre-release in their comparators need a room of no bytes.
  *
  * Answers
- * - SEMVER_PARSER_OK: the comparators stand at the front of `comparators` and the pre-releases at the front of `out`, with no zero byte between or behind them;
- *   `count` and `length` are how many comparators and bytes there are. What is behind them is as it was.
- * - SEMVER_PARSER_NO_ROOM: one of the rooms is too small. `count` and `length` are what is needed, and both rooms are as they were. So a call with two rooms of
- *   0 asks for both.
- * - A fault of the text, as those of `semver_parser_rewrite`: SEMVER_PARSER_RANGE_NOT_UTF8, _NOT_A_RANGE, _NUMBER_TOO_LARGE or _RANGE_OUT_OF_MEMORY. Both
+ * - SEMVER_PARSER_OK: the comparators stand at the front of `comparators` and the pre-releases at
+ *   the front of `out`, with no zero byte between or behind them; `count` and `length` are how many
+ *   comparators and bytes there are. What is behind them is as it was.
+ * - SEMVER_PARSER_NO_ROOM: one of the rooms is too small. `count` and `length` are what is needed,
+ *   and both rooms are as they were. So a call with two rooms of 0 asks for both.
+ * - SEMVER_PARSER_NO_SUCH_READING, or a fault of the text, as of `semver_parser_rewrite`:
+ *   SEMVER_PARSER_RANGE_NOT_UTF8, _NOT_A_RANGE, _NUMBER_TOO_LARGE or _RANGE_OUT_OF_MEMORY. Both
  *   rooms are as they were, and so are `count` and `length`.
  *
- * Memory: 241 bytes for each byte of the text, of `1 1 1 ..`, which has a comparator for each byte; of most texts far less.
+ * Memory: 241 bytes for each byte of the text, of `1 1 1 ..`, which has a comparator for each byte;
+ * of most texts far less.
  */
-int32_t semver_parser_comparators(const uint8_t *text, size_t text_length, bool npm, bool exact, semver_parser_comparator *comparators, size_t comparator_room,
-                                  size_t *count, uint8_t *out, size_t room, size_t *length);
+int32_t semver_parser_comparators(const uint8_t *text, size_t text_length, int32_t reading,
+                                  bool exact, semver_parser_comparator *comparators,
+                                  size_t comparator_room, size_t *count, uint8_t *out, size_t room,
+                                  size_t *length);
 
-/* Whether a version text meets a range text. The mode is npm's where `npm` holds, and else Cargo's. `pre_releases` is the number of a rule for
- * pre-releases. `meets` is never null.
+/* Whether a version text meets a range text. `reading` is the number of a reading, and
+ * `pre_releases` that of a rule for pre-releases that the reading has. `meets` is never null.
  *
- * It goes by what the range means by itself (docs/MEANING.md), and not by the comparators that it is rewritten to. A build never counts.
+ * It goes by what the range means by itself (docs/MEANING.md), and not by the comparators that it
+ * is rewritten to. A build never counts.
  *
  * Answers
- * - SEMVER_PARSER_OK exactly where there is a rule of that number and both texts are read, want of memory aside. Then `meets` is whether the version meets
- *   the range by that rule.
- * - SEMVER_PARSER_NO_SUCH_RULE exactly where `pre_releases` is the number of no rule, whatever the texts are.
- * - A fault of the range, as those of `semver_parser_rewrite`, whatever the version is: SEMVER_PARSER_RANGE_NOT_UTF8, _NOT_A_RANGE, _NUMBER_TOO_LARGE
- *   or _RANGE_OUT_OF_MEMORY. The range is read first.
- * - Where the range has none, a fault of the version, as those of `semver_parser_parse_version`: SEMVER_PARSER_VERSION_NOT_UTF8, _UNEXPECTED_END,
- *   _UNEXPECTED_TOKEN, _UNEXPECTED_CHAR, _MORE_INPUT or _VERSION_OUT_OF_MEMORY.
+ * - SEMVER_PARSER_OK exactly where there is such a reading, it has that rule, and both texts are
+ *   read, want of memory aside. Then `meets` is whether the version meets the range by both.
+ * - SEMVER_PARSER_NO_SUCH_READING exactly where `reading` is the number of no reading, whatever the
+ *   texts are.
+ * - SEMVER_PARSER_NO_SUCH_RULE exactly where there is such a reading and `pre_releases` is the
+ *   number of no rule of it, whatever the texts are.
+ * - A fault of the range, as those of `semver_parser_rewrite`, whatever the version is:
+ *   SEMVER_PARSER_RANGE_NOT_UTF8, _NOT_A_RANGE, _NUMBER_TOO_LARGE or _RANGE_OUT_OF_MEMORY. The
+ *   range is read first.
+ * - Where the range has none, a fault of the version, as those of `semver_parser_parse_version`:
+ *   SEMVER_PARSER_VERSION_NOT_UTF8, _UNEXPECTED_END, _UNEXPECTED_TOKEN, _UNEXPECTED_CHAR,
+ *   _MORE_INPUT or _VERSION_OUT_OF_MEMORY.
  *
  * After any answer but SEMVER_PARSER_OK `meets` is as it was.
  *
- * Memory: 74 bytes for each byte of the range, of `1 1 1 ..`, while it is read, and the set of versions that it means while this is asked. A
- * version takes some only where its fault is told.
+ * Memory: 74 bytes for each byte of the range, of `1 1 1 ..`, while it is read, and the set of
+ * versions that it means while this is asked. A version takes some only where its fault is told.
  */
-int32_t semver_parser_meets(const uint8_t *range, size_t range_length, bool npm, int32_t pre_releases, const uint8_t *version, size_t version_length,
+int32_t semver_parser_meets(const uint8_t *range, size_t range_length, int32_t reading,
+                            int32_t pre_releases, const uint8_t *version, size_t version_length,
                             bool *meets);
 
-/* Whether each of `count` version texts meets a range text, as `semver_parser_meets` says; the range is read once. `versions` and `answers` have `count`
- * items. The texts don't overlap with `answers`.
+/* Whether each of `count` version texts meets a range text, as `semver_parser_meets` says; the
+ * range is read once. `versions` and `answers` have `count` items. The texts don't overlap with
+ * `answers`.
  *
  * Answers
- * - SEMVER_PARSER_OK exactly where there is a rule of that number and the range is read, want of memory aside. Then each byte of `answers` is what there is
- *   to say of the text at the same place of `versions`: SEMVER_PARSER_MEETS, SEMVER_PARSER_DOES_NOT_MEET, or its fault: SEMVER_PARSER_VERSION_NOT_UTF8,
- *   _UNEXPECTED_END, _UNEXPECTED_TOKEN, _UNEXPECTED_CHAR, _MORE_INPUT or _VERSION_OUT_OF_MEMORY. One text's want of memory leaves the others' answers as
+ * - SEMVER_PARSER_OK exactly where there is such a reading, it has that rule, and the range is
+ *   read, want of memory aside. Then each byte of `answers` is what there is to say of the text at
+ *   the same place of `versions`: SEMVER_PARSER_MEETS, SEMVER_PARSER_DOES_NOT_MEET, or its fault:
+ *   SEMVER_PARSER_VERSION_NOT_UTF8, _UNEXPECTED_END, _UNEXPECTED_TOKEN, _UNEXPECTED_CHAR,
+ *   _MORE_INPUT or _VERSION_OUT_OF_MEMORY. One text's want of memory leaves the others' answers as
  *   they are.
- * - SEMVER_PARSER_NO_SUCH_RULE, SEMVER_PARSER_RANGE_NOT_UTF8, _NOT_A_RANGE, _NUMBER_TOO_LARGE or _RANGE_OUT_OF_MEMORY, as of `semver_parser_meets`.
+ * - SEMVER_PARSER_NO_SUCH_READING, _NO_SUCH_RULE, _RANGE_NOT_UTF8, _NOT_A_RANGE, _NUMBER_TOO_LARGE
+ *   or _RANGE_OUT_OF_MEMORY, as of `semver_parser_meets`.
  *
  * After any answer but SEMVER_PARSER_OK `answers` is as it was.
  *
- * A text of `versions` whose pointer is null with a length of 0 is empty, as anywhere. Where there is such a text, the array is copied first; where
- * memory runs out at that, or its size is more than a size_t holds, the answer is SEMVER_PARSER_RANGE_OUT_OF_MEMORY, unless the rule or the range has
- * another fault.
+ * A text of `versions` whose pointer is null with a length of 0 is empty, as anywhere. Where there
+ * is such a text, the array is copied first; where memory runs out at that, or its size is more
+ * than a size_t holds, the answer is SEMVER_PARSER_RANGE_OUT_OF_MEMORY, unless the reading, the
+ * rule or the range has another fault.
  *
- * Memory: as the call above, of one version after the other; and 16 bytes for each text where an empty one is at null.
+ * Memory: as the call above, of one version after the other; and 16 bytes for each text where an
+ * empty one is at null.
  */
-int32_t semver_parser_meets_each(const uint8_t *range, size_t range_length, bool npm, int32_t pre_releases, const semver_parser_text *versions, size_t count,
-                                 uint8_t *answers);
+int32_t semver_parser_meets_each(const uint8_t *range, size_t range_length, int32_t reading,
+                                 int32_t pre_releases, const semver_parser_text *versions,
+                                 size_t count, uint8_t *answers);
 
-/* Prints the least version that a range text of `range_length` bytes means, by the rule for pre-releases that `pre_releases` names, into the `room` bytes at
- * `out`. The mode is npm's where `npm` holds, and else Cargo's. `length` is never null.
+/* Prints the least version that a range text of `range_length` bytes means into the `room` bytes at
+ * `out`. `reading` and `pre_releases` are as of `semver_parser_meets`. `length` is never null.
  *
- * Least it is by precedence, and it has no build. It goes by what the range means by itself, as `semver_parser_meets` does, among all versions with numbers
- * up to 2^64 - 1. `>1.0.0-rc.1` has 1.0.0 by SEMVER_PARSER_RELEASES_ALONE and 1.0.0-rc.1.0 by the other rules, and `>2.0.0 <1.0.0` has none.
+ * Least it is by precedence, and it has no build. It goes by what the range means by itself, as
+ * `semver_parser_meets` does, among all versions with numbers up to 2^64 - 1. `>1.0.0-rc.1` has
+ * 1.0.0 by SEMVER_PARSER_RELEASES_ALONE and 1.0.0-rc.1.0 by each other rule that the reading has,
+ * and `<0.0.0` has none by SEMVER_PARSER_RELEASES_ALONE.
  *
  * Answers
- * - SEMVER_PARSER_OK: the version stands at the front of `out`, with no zero byte behind it, and `length` is how many bytes it has: 0 exactly where the range
- *   means no version. What `out` has behind these is as it was.
- * - SEMVER_PARSER_NO_ROOM: it has more than `room` bytes. `length` is how many it has, and `out` is as it was. So a call with `room` 0 asks for the length.
- * - SEMVER_PARSER_NO_SUCH_RULE exactly where no rule for pre-releases has that number.
- * - A fault of the range, as those of `semver_parser_rewrite`: SEMVER_PARSER_RANGE_NOT_UTF8, _NOT_A_RANGE, _NUMBER_TOO_LARGE or _RANGE_OUT_OF_MEMORY.
+ * - SEMVER_PARSER_OK: the version stands at the front of `out`, with no zero byte behind it, and
+ *   `length` is how many bytes it has: 0 exactly where the range means no version. What `out` has
+ *   behind these is as it was.
+ * - SEMVER_PARSER_NO_ROOM: it has more than `room` bytes. `length` is how many it has, and `out` is
+ *   as it was. So a call with `room` 0 asks for the length.
+ * - SEMVER_PARSER_NO_SUCH_READING or _NO_SUCH_RULE, exactly as of `semver_parser_meets`.
+ * - A fault of the range, as those of `semver_parser_rewrite`: SEMVER_PARSER_RANGE_NOT_UTF8,
+ *   _NOT_A_RANGE, _NUMBER_TOO_LARGE or _RANGE_OUT_OF_MEMORY.
  *
- * After any answer but SEMVER_PARSER_OK `out` is as it was, and after any but the first two `length` is too.
+ * After any answer but SEMVER_PARSER_OK `out` is as it was, and after any but the first two
+ * `length` is too.
  *
  * Time: that of sorting the comparators of the range.
  */
-int32_t semver_parser_least(const uint8_t *range, size_t range_length, bool npm, int32_t pre_releases, uint8_t *out, size_t room, size_t *length);
+int32_t semver_parser_least(const uint8_t *range, size_t range_length, int32_t reading,
+                            int32_t pre_releases, uint8_t *out, size_t room, size_t *length);
 
-/* Compares what an old range text means with what a new one means, by the rule for pre-releases that `pre_releases` names, and prints three versions into the
- * `room` bytes at `out`, one behind the other: the least that the old range means and the new one doesn't, the least that the new one means and the old one
- * doesn't, and the least that both mean. `comparison` tells where each lies. Both texts are read in npm's mode where `npm` holds, and else in Cargo's.
- * Neither `length` nor `comparison` is null.
+/* Compares what an old range text means with what a new one means, and prints three versions into
+ * the `room` bytes at `out`, one behind the other: the least that the old range means and the new
+ * one doesn't, the least that the new one means and the old one doesn't, and the least that both
+ * mean. `comparison` tells where each lies. `reading` and `pre_releases` are as of
+ * `semver_parser_meets`, of both texts. Neither `length` nor `comparison` is null.
  *
- * `^1.2.0` and `>=1.4.0` give `1.2.02.0.01.4.0`: 1.2.0 is lost, at offset 0, 2.0.0 is gained, at offset 5, and 1.4.0 is shared, at offset 10, each with length
- * 5. Every version of the old range is one of the new range exactly where nothing is lost, and both mean the same exactly where nothing is gained either.
+ * By SEMVER_PARSER_RELEASES_ALONE `^1.2.0` and `>=1.4.0` give `1.2.02.0.01.4.0`: 1.2.0 is lost, at
+ * offset 0, 2.0.0 is gained, at offset 5, and 1.4.0 is shared, at offset 10, each with length 5.
+ * Every version of the old range is one of the new range exactly where nothing is lost, and both
+ * mean the same exactly where nothing is gained either.
  *
- * Least they are by precedence, and they have no build. It goes by what the ranges mean by themselves, as `semver_parser_meets` does, among all versions
- * with numbers up to 2^64 - 1.
+ * Least they are by precedence, and they have no build. It goes by what the ranges mean by
+ * themselves, as `semver_parser_meets` does, among all versions with numbers up to 2^64 - 1.
  *
  * Answers
- * - SEMVER_PARSER_OK: the texts stand at the front of `out`, with no zero byte between or behind them, `length` is how many bytes they have together, and
- *   `comparison` has where each lies. What `out` has behind these is as it was.
- * - SEMVER_PARSER_NO_ROOM: they have more than `room` bytes. `length` and `comparison` are told all the same, and `out` is as it was. So a call with `room` 0
- *   answers which of the three there are.
- * - SEMVER_PARSER_NO_SUCH_RULE exactly where no rule for pre-releases has that number, whatever the texts are.
- * - A fault of the old range, as those of `semver_parser_rewrite`, whatever the new one is: SEMVER_PARSER_RANGE_NOT_UTF8, _NOT_A_RANGE, _NUMBER_TOO_LARGE
- *   or _RANGE_OUT_OF_MEMORY. The old range is read first.
- * - Where the old range has none, a fault of the new one: SEMVER_PARSER_NEW_RANGE_NOT_UTF8, _NEW_NOT_A_RANGE or _NEW_NUMBER_TOO_LARGE, exactly as the
- *   first three of the old one; or SEMVER_PARSER_NEW_RANGE_OUT_OF_MEMORY where memory ran out at the new range, which is one that fits, or later.
+ * - SEMVER_PARSER_OK: the texts stand at the front of `out`, with no zero byte between or behind
+ *   them, `length` is how many bytes they have together, and `comparison` has where each lies. What
+ *   `out` has behind these is as it was.
+ * - SEMVER_PARSER_NO_ROOM: they have more than `room` bytes. `length` and `comparison` are told all
+ *   the same, and `out` is as it was. So a call with `room` 0 answers which of the three there are.
+ * - SEMVER_PARSER_NO_SUCH_READING or _NO_SUCH_RULE, exactly as of `semver_parser_meets`.
+ * - A fault of the old range, as those of `semver_parser_rewrite`, whatever the new one is:
+ *   SEMVER_PARSER_RANGE_NOT_UTF8, _NOT_A_RANGE, _NUMBER_TOO_LARGE or _RANGE_OUT_OF_MEMORY. The old
+ *   range is read first.
+ * - Where the old range has none, a fault of the new one: SEMVER_PARSER_NEW_RANGE_NOT_UTF8,
+ *   _NEW_NOT_A_RANGE or _NEW_NUMBER_TOO_LARGE, exactly as the first three of the old one; or
+ *   SEMVER_PARSER_NEW_RANGE_OUT_OF_MEMORY where memory ran out at the new range, which is one that
+ *   fits, or later.
  *
- * After any answer but SEMVER_PARSER_OK `out` is as it was, and after any but the first two `length` and `comparison` are too.
+ * After any answer but SEMVER_PARSER_OK `out` is as it was, and after any but the first two
+ * `length` and `comparison` are too.
  *
  * Time: that of sorting the comparators of both ranges.
  */
-int32_t semver_parser_compare(const uint8_t *old_range, size_t old_range_length, const uint8_t *new_range, size_t new_range_length, bool npm,
-                              int32_t pre_releases, uint8_t *out, size_t room, size_t *length, semver_parser_comparison *comparison);
+int32_t semver_parser_compare(const uint8_t *old_range, size_t old_range_length,
+                              const uint8_t *new_range, size_t new_range_length, int32_t reading,
+                              int32_t pre_releases, uint8_t *out, size_t room, size_t *length,
+                              semver_parser_comparison *comparison);
 
 #ifdef __cplusplus
 }

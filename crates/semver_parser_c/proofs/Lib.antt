@@ -1,6 +1,7 @@
 mod EachPlace
 mod ToldComparators
 mod Steps
+mod RangeFaults
 mod LeastVersions
 mod ComparedVersions
 mod NewRanges

@@ -1,8 +1,7 @@
--- The numbers of what reading a version text or a range text answers.
-use Rattle.std.proofs.Common.{◌≡◌, ◌≢◌, ◌⊎◌, ◌↔◌, ℕ, ℤ, Bool, true, false, List, [], ◌∷◌, ◌++◌, Option, Some, None}
+-- The numbers of what reading a version text answers, and of lists.
+use Rattle.std.proofs.Common.{◌≡◌, ◌≢◌, ◌⊎◌, ℕ, ℤ, Bool, true, false, List, [], ◌∷◌, Option, Some, None}
 use Rattle.std.proofs.Common.{Result, Ok, Err, refl, sym}
-use Rattle.std.proofs.Common.{arith, length, pos, ◌<◌, ap, ◌∙◌, inl, inr, ⊎_elim, subst, IsUtf8, w32, to_z, of_z, ◌&&◌, ◌||◌, not}
-use Rattle.std.specs.Prelude.{⊤}
+use Rattle.std.proofs.Common.{arith, length, ◌<◌, ap, ◌∙◌, inl, inr, ⊎_elim, subst, IsUtf8, w32, to_z, of_z, ◌&&◌, ◌||◌, not}
 use Rattle.std.specs.Ordering.{int_eq}
 use Rattle.std.proofs.lemmas.Bool.Decides.{Decides-int_eq}
 use Rattle.std.proofs.Math.Bool.{or-true}
@@ -13,8 +12,6 @@ use Rattle.semver_parser.specs.declared.version.Version.{Version}
 use Rattle.semver_parser.specs.declared.parser.Error.{Error}
 use Rattle.semver_parser.specs.declared.parser.Error.TheVariants as error
 use Rattle.semver_parser.specs.declared.lexer.Error.TheVariants as lexer_error
-use Rattle.semver_parser.specs.declared.RangeError.{RangeError}
-use Rattle.semver_parser.specs.declared.RangeError.TheVariants as range_error
 use Rattle.semver_parser.specs.Versions.{IdentifierValue, VersionValue}
 use Rattle.semver_parser.specs.VersionGrammar.{SpellsVersion, IsVersionText}
 use Rattle.semver_parser.specs.VersionReading.{Refuses, ReadsVersion, IsOutcomeOf, TextMayRunOut, whole_answer}
@@ -22,19 +19,11 @@ use Rattle.semver_parser.specs.ParserState as fault
 use Rattle.semver_parser.specs.ParserState.{ParserState, Fault}
 use Rattle.semver_parser.specs.ParserViews.{fault_of, answer_of, UnlessOutOfMemory, IfOutOfMemory}
 use Rattle.semver_parser.specs.VersionViews.{version_value}
-use Rattle.semver_parser.specs.declared.Compat.{Compat}
-use Rattle.semver_parser.specs.RangeTexts.{HasSet}
-use Rattle.semver_parser.specs.RewritingTable.{fits}
-use Rattle.semver_parser.proofs.ReadingComplete.{same_tree}
-use Rattle.semver_ranges.specs.declared.grammar.Dialect.TheVariants.{Crate}
 use Rattle.semver_parser.proofs.OneVersion.{one_version}
 use Rattle.semver_parser.proofs.VersionMemory.{may_run_out}
 use Rattle.semver_parser.specs.Outlines.{OutlineValue, outline_behind, dotted_text}
-use Rattle.release_filter.specs.declared.PreReleases.{PreReleases}
-use Rattle.semver_parser_c.specs.Numbers.{ok, no_room, version_not_utf8, version_out_of_memory, no_such_rule}
-use Rattle.semver_parser_c.specs.Faults.{IsOneOf, RangeIsRead, fault_number, range_fault_number, outcome_number, version_faults}
-use Rattle.semver_parser_c.specs.Faults.{range_faults, RangeNumbers, RefusesBy, RefusesRange, RefusesVersion, range_numbers}
-use Rattle.semver_parser_c.specs.Rules.{IsAnswer, IsMeeting, IsRule}
+use Rattle.semver_parser_c.specs.Numbers.{version_not_utf8, version_out_of_memory}
+use Rattle.semver_parser_c.specs.Faults.{IsOneOf, RefusesVersion, fault_number, outcome_number, version_faults}
 
 -- ---- the faults that a version text has
 
@@ -71,7 +60,7 @@ outcome_is text e w = ap answer_is_of_text w.whole ∙ read_is w.start w.end w.a
 
 -- ---- numbers of lists
 
-clash : {P : Type 0} → false ≡ true → P
+pub clash : {P : Type 0} → false ≡ true → P
 clash h = cc
 
 abbrev is_one_of : List ℤ → ℤ → Bool
@@ -183,126 +172,3 @@ refused_memory text utf8 v spells some = without_memory text utf8 (may_run_out v
 pub told_version : (text : Text) (n : ℤ) → RefusesVersion text n → to_z w32 (of_z w32 n) ≡ n
 told_version text n refused =
     among (λ m. to_z w32 (of_z w32 m) ≡ m) version_faults (refl, (refl, (refl, (refl, (refl, (refl, tt)))))) n refused.one
-
--- ---- whether a version meets a range
-
--- a refused range text has the number of one of these
-pub range_number : (e : RangeError) (z : ℤ) → z ≡ range_fault_number e → IsOneOf range_faults z
-range_number range_error.NotARange z is = inr (inl is)
-range_number range_error.NumberTooLarge z is = inr (inr (inl is))
-range_number range_error.OutOfMemory z is = inr (inr (inr (inl is)))
-
--- at a fault nothing is put into a room
-pub nothing_put : (faults : List ℤ) → are_apart faults (ok ∷ no_room ∷ []) ≡ true → (n : ℤ) → IsOneOf faults n
-    → (n ≡ ok) ⊎ (n ≡ no_room) → ⊥
-nothing_put faults none n one put = apart faults (ok ∷ no_room ∷ []) none n one (⊎_elim (λ is. inl is) (λ is. inr (inl is)) put)
-
--- a refused range text: C gets the number of its fault, and nothing is put into a room
-pub record IsRefused (mode : Compat) (text : Text) (z : ℤ) : Type 0 where
-  pub numbers : IsOneOf (ok ∷ no_room ∷ range_faults) z
-  pub nothing : (z ≡ ok) ⊎ (z ≡ no_room) → ⊥
-  pub refusals : RefusesRange ⊤ mode text z
-
-pub refused_range : (mode : Compat) (text : Text) (n : ℤ) → IsOneOf range_faults n → RefusesRange ⊤ mode text n
-    → IsRefused mode text (to_z w32 (of_z w32 n))
-refused_range mode text n one refused =
-    let same = among (λ m. to_z w32 (of_z w32 m) ≡ m) range_faults (refl, (refl, (refl, (refl, tt)))) n one in
-    subst (IsRefused mode text) (sym same)
-    (record { numbers = inr (inr one); nothing = nothing_put range_faults refl n one; refusals = refused })
-
--- a refusal by the number that C gets, and by the rule that it gave
-pub refused_alike : (rule rule' : ℤ) (mode : Compat) (text : Text) (z n : ℤ) → rule' ≡ rule → z ≡ n
-    → RefusesRange (IsRule rule') mode text n → RefusesRange (IsRule rule) mode text z
-refused_alike rule rule' mode text z n same told refused =
-    subst (RefusesRange (IsRule rule) mode text) (sym told) (subst (λ r. RefusesRange (IsRule r) mode text n) same refused)
-
--- a text that was refused with the number of a fault of ranges isn't read
-isnt_read : (Asked : Type 0) (mode : Compat) (text : Text) (z n : ℤ) → z ≡ n → IsOneOf range_faults n
-    → Asked → RefusesRange Asked mode text n → RangeIsRead mode text z → ⊥
-isnt_read Asked mode text z n same one asked refused read = among (λ m. n ≡ m → ⊥) range_faults (
-  λ is. (refused.not_utf8 asked).0 is read.utf8,
-  (
-    λ is. (refused.not_a_range asked read.utf8).0 is (read.tree, read.spells),
-    (
-      λ is. let h = (refused.too_large asked read.utf8).0 is in
-          clash (sym h.2 ∙ ap (fits mode) (same_tree Crate h.0 read.tree text h.1 read.spells) ∙ read.fit),
-      (λ is. read.memory (same ∙ is), tt),
-    ),
-  ),
-) n one refl
-
--- what says something against a range but that its memory wasn't found
-abbrev pub against : RangeNumbers → List ℤ
-against by = by.not_utf8 ∷ by.not_a_range ∷ by.too_large ∷ []
-
--- by another number a range that fits isn't refused
-pub not_refused : (by : RangeNumbers) (Asked : Type 0) (mode : Compat) (range : Text) (n : ℤ) → (IsOneOf (against by) n → ⊥) → IsUtf8 range
-    → HasSet mode range → RefusesBy by Asked mode range n
-not_refused by Asked mode range n other utf8 (tree, spells, fit) = record {
-  not_utf8 = λ _. (λ is. absurd (other (inl is)), λ bad. absurd (bad utf8));
-  not_a_range = λ _ _. (λ is. absurd (other (inr (inl is))), λ bad. absurd (bad (tree, spells)));
-  too_large = λ _ _. (
-    λ is. absurd (other (inr (inr (inl is)))),
-    λ h. clash (sym h.2 ∙ ap (fits mode) (same_tree Crate h.0 tree range h.1 spells) ∙ fit),
-  );
-  out_of_memory = λ _. (tree, spells, fit);
-}
-
--- a range that was read isn't refused where the version is
-pub range_stands : (Asked : Type 0) (mode : Compat) (range : Text) (n : ℤ) → IsOneOf version_faults n → IsUtf8 range → HasSet mode range
-    → RefusesRange Asked mode range n
-range_stands Asked mode range n one = not_refused range_numbers Asked mode range n (apart version_faults (against range_numbers) refl n one)
-
--- and one that was refused for the rule or the range isn't
-pub isnt_read_by : (rule : ℤ) (mode : Compat) (text : Text) (z n : ℤ) → z ≡ n → IsOneOf (no_such_rule ∷ range_faults) n
-    → IsRule rule → ((n ≡ no_such_rule) ↔ ¬ (IsRule rule)) → RefusesRange (IsRule rule) mode text n
-    → RangeIsRead mode text z → ⊥
-isnt_read_by rule mode text z n same one is no_rule refused read = ⊎_elim
-    (λ such. no_rule.0 such is)
-    (λ others. isnt_read (IsRule rule) mode text z n same others is refused read)
-    one
-
--- where the rule or the range was refused: C gets the number of that, and nothing was read
-pub record IsRefusedByRule (rule : ℤ) (mode : Compat) (text : Text) (z : ℤ) : Type 0 where
-  pub number : IsOneOf (no_such_rule ∷ range_faults) z
-  pub nothing : (z ≡ ok) ⊎ (z ≡ no_room) → ⊥
-  pub of_version : IsOneOf version_faults z → ⊥
-  pub no_such_rule : (z ≡ no_such_rule) ↔ ¬ (IsRule rule)
-  pub refusals : RefusesRange (IsRule rule) mode text z
-  pub unread : IsRule rule → RangeIsRead mode text z → ⊥
-
-pub refused_by_rule : (rule rule' : ℤ) (mode : Compat) (text : Text) (z n : ℤ) → rule' ≡ rule → z ≡ n
-    → IsOneOf (no_such_rule ∷ range_faults) n → ((n ≡ no_such_rule) ↔ ¬ (IsRule rule')) → RefusesRange (IsRule rule') mode text n
-    → IsRefusedByRule rule mode text z
-refused_by_rule rule rule' mode text z n same told one no_rule refused =
-    subst (λ r. IsRefusedByRule r mode text z) same (subst (IsRefusedByRule rule' mode text) (sym told) (record {
-      number = one;
-      nothing = nothing_put (no_such_rule ∷ range_faults) refl n one;
-      of_version = apart (no_such_rule ∷ range_faults) version_faults refl n one;
-      no_such_rule = no_rule;
-      refusals = refused;
-      unread = λ is read. isnt_read_by rule' mode text n n refl one is no_rule refused read;
-    }))
-
--- a number of the first of two lists
-pub of_first : (ms ns : List ℤ) (n : ℤ) → IsOneOf ms n → IsOneOf (ms ++ ns) n
-of_first [] ns n one = absurd one
-of_first (m ∷ ms) ns n one = ⊎_elim (λ is. inl is) (λ later. inr (of_first ms ns n later)) one
-
--- the number of a fault of a version says of no version whether it meets
-no_meeting : (byte : ℕ) → IsOneOf version_faults (pos byte) → IsMeeting byte → ⊥
-no_meeting byte one meeting =
-    apart version_faults (pos 0 ∷ pos 1 ∷ []) refl (pos byte) one (⊎_elim (λ is. inl (ap pos is)) (λ is. inr (inl (ap pos is))) meeting)
-
--- so the byte for it is what there is to say of the text
-pub fault_answer : (rule : PreReleases) (mode : Compat) (range text : Text) (byte : ℕ) → RefusesVersion text (pos byte)
-    → IsAnswer rule mode range text byte
-fault_answer rule mode range text byte r = record {
-  one = inr r.one;
-  meaning = λ meeting. absurd (no_meeting byte r.one meeting);
-  read = λ meeting. absurd (no_meeting byte r.one meeting);
-  accepted = λ v utf8 spelled. inr (r.accepted v utf8 spelled);
-  not_utf8 = r.not_utf8;
-  refused = λ utf8 none other. r.refused utf8 other;
-  out_of_memory = r.out_of_memory;
-}

@@ -3,23 +3,25 @@ use Rattle.std.specs.Prelude.{◌≡◌, ◌↔◌, ℕ, ◌++◌, Option, Some,
 use Rattle.semver_parser.specs.Texts.{Text}
 use Rattle.semver_parser.specs.Versions.{PlainVersion}
 use Rattle.semver_parser.specs.declared.version.Version.{Version}
-use Rattle.semver_parser.specs.declared.Compat.{Compat}
-use Rattle.semver_parser.specs.RangeTree.{SetTree}
 use Rattle.version_sets.specs.VersionSets.{SetValue}
 use Rattle.version_sets.specs.Comparisons.{TellsLeast, IsInFirstAlone, IsInBoth}
 use Rattle.version_sets.specs.declared.comparison.Comparison.{Comparison}
-use Rattle.release_filter.specs.declared.PreReleases.{PreReleases}
+use Rattle.tool_ranges.specs.declared.meaning.Meaning.{Meaning}
+use Rattle.tool_ranges.specs.Readings.{TreeOf}
+use Rattle.tool_ranges.specs.Meanings.{reading_of}
 use Rattle.semver_parser_c.specs.declared.Part.{Part}
 use Rattle.semver_parser_c.specs.declared.ComparedRanges.{ComparedRanges}
 use Rattle.semver_parser_c.specs.Sets.{IsMeant, text_of}
 
--- the first tree means it by the rule, and the second doesn't
-abbrev pub IsMeantAlone : PreReleases → Compat → SetTree → SetTree → PlainVersion → Type 0
-IsMeantAlone rule mode first second v = IsMeant rule mode first v × (¬ IsMeant rule mode second v)
+-- the first tree means it, and the second doesn't
+abbrev pub IsMeantAlone : (m : Meaning) → (first second : TreeOf (reading_of m)) → PlainVersion
+    → Type 0
+IsMeantAlone m first second v = IsMeant m first v × (¬ IsMeant m second v)
 
 -- both mean it
-abbrev pub IsMeantByBoth : PreReleases → Compat → SetTree → SetTree → PlainVersion → Type 0
-IsMeantByBoth rule mode first second v = IsMeant rule mode first v × IsMeant rule mode second v
+abbrev pub IsMeantByBoth : (m : Meaning) → (first second : TreeOf (reading_of m)) → PlainVersion
+    → Type 0
+IsMeantByBoth m first second v = IsMeant m first v × IsMeant m second v
 
 -- lost is the least of the versions that the old set has alone, gained of those that the new one
 -- has alone, and shared of those that both have
@@ -30,22 +32,22 @@ pub record ComparesSets (old new : SetValue) (told : Comparison) : Type 0 where
 
 -- lost is the least version that the old tree means alone, gained the least that the new one means
 -- alone, and shared the least that both mean; each is none exactly where there is none
-pub record Compares (rule : PreReleases) (mode : Compat) (old new : SetTree) (told : Comparison)
+pub record Compares (m : Meaning) (old new : TreeOf (reading_of m)) (told : Comparison)
     : Type 0 where
-  pub lost : TellsLeast (IsMeantAlone rule mode old new) told.lost
-  pub gained : TellsLeast (IsMeantAlone rule mode new old) told.gained
-  pub shared : TellsLeast (IsMeantByBoth rule mode old new) told.shared
+  pub lost : TellsLeast (IsMeantAlone m old new) told.lost
+  pub gained : TellsLeast (IsMeantAlone m new old) told.gained
+  pub shared : TellsLeast (IsMeantByBoth m old new) told.shared
 
 -- a part is empty exactly where no version is one of those asked for
 abbrev pub IsEmptyWithout : (PlainVersion → Type 0) → Part → Type 0
 IsEmptyWithout IsOne part = (part.length ≡ 0) ↔ ((v : PlainVersion) → ¬ IsOne v)
 
 -- so are the three parts
-pub record TellsWhich (rule : PreReleases) (mode : Compat) (old new : SetTree)
-    (places : ComparedRanges) : Type 0 where
-  pub lost : IsEmptyWithout (IsMeantAlone rule mode old new) places.lost
-  pub gained : IsEmptyWithout (IsMeantAlone rule mode new old) places.gained
-  pub shared : IsEmptyWithout (IsMeantByBoth rule mode old new) places.shared
+pub record TellsWhich (m : Meaning) (old new : TreeOf (reading_of m)) (places : ComparedRanges)
+    : Type 0 where
+  pub lost : IsEmptyWithout (IsMeantAlone m old new) places.lost
+  pub gained : IsEmptyWithout (IsMeantAlone m new old) places.gained
+  pub shared : IsEmptyWithout (IsMeantByBoth m old new) places.shared
 
 -- the texts of the three, one behind the other
 abbrev pub joined_texts : Comparison → Text

@@ -1,22 +1,24 @@
--- Which number stands for which fault and answer, and what C says by a bool.
-use Rattle.std.specs.Prelude.{ℤ, Bool, true, false, ◌≡◌, ◌≢◌, ◌⊎◌, ◌↔◌, IsTrue, IsUtf8, List}
+-- Which number stands for which fault and answer, and what is refused by which.
+use Rattle.std.specs.Prelude.{ℤ, Bool, false, ◌≡◌, ◌≢◌, ◌⊎◌, ◌↔◌, ⊤, IsTrue, IsUtf8, List}
 use Rattle.std.specs.Prelude.{[], ◌∷◌, Result, Ok, Err}
 use Rattle.semver_parser.specs.Texts.{Text}
 use Rattle.semver_parser.specs.Versions.{VersionValue}
 use Rattle.semver_parser.specs.VersionGrammar.{SpellsVersion}
 use Rattle.semver_parser.specs.VersionReading.{IsOutcomeOf, TextMayRunOut}
-use Rattle.semver_parser.specs.declared.Compat.{Compat}
-use Rattle.semver_parser.specs.declared.Compat.TheVariants.{Cargo, Npm}
 use Rattle.semver_parser.specs.declared.RangeError.{RangeError}
 use Rattle.semver_parser.specs.declared.RangeError.TheVariants as range_error
 use Rattle.semver_parser.specs.ParserState as fault
 use Rattle.semver_parser.specs.ParserState.{Fault}
-use Rattle.semver_parser.specs.RangeTree.{SetTree, Spells}
-use Rattle.semver_parser.specs.RangeTexts.{IsRangeText, HasSet, IsTooLarge}
-use Rattle.semver_parser.specs.RewritingTable.{fits, rewritten, PlainSet}
-use Rattle.semver_parser.specs.ExactBounds.{rewritten_exactly}
+use Rattle.semver_parser.specs.RewritingTable.{rewritten, PlainSet}
+use Rattle.tool_ranges.specs.declared.reading.Reading.{Reading}
+use Rattle.tool_ranges.specs.declared.reading.Reading.TheVariants.{Crate}
+use Rattle.tool_ranges.specs.declared.meaning.Meaning.{Meaning}
+use Rattle.tool_ranges.specs.Readings.{TreeOf, SpellsAs, fits_as, rewritten_as}
+use Rattle.tool_ranges.specs.Readings.{IsTextAs, HasSetAs, IsTooLargeAs}
+use Rattle.tool_ranges.specs.Meanings.{reading_of}
 use Rattle.semver_parser_c.specs.Numbers as number
 use Rattle.semver_parser_c.specs.Numbers.{version_out_of_memory}
+use Rattle.semver_parser_c.specs.Readings.{IsReading, IsMeaning, IsNamed, reading_number}
 
 -- the number of a fault of a version text
 abbrev pub fault_number : Fault → ℤ
@@ -92,32 +94,52 @@ range_faults = listed range_numbers
 abbrev pub new_range_faults : List ℤ
 new_range_faults = listed new_range_numbers
 
--- the mode that C names by a bool
-abbrev pub mode_of : Bool → Compat
-mode_of true = Npm
-mode_of false = Cargo
+-- those of a range that is read by the numbers of a reading and of a rule
+abbrev pub named_faults : List ℤ
+named_faults = number.no_such_reading ∷ number.no_such_rule ∷ range_faults
 
--- what a tree is rewritten to, with exact bounds or without
-abbrev pub set_for : Bool → Compat → SetTree → PlainSet
-set_for true mode tree = rewritten_exactly mode tree
-set_for false mode tree = rewritten mode tree
+-- what a tree is rewritten to, with exact bounds or without: those of a tool are always exact
+abbrev pub set_for : Bool → (reading : Reading) → TreeOf reading → PlainSet
+set_for false (Crate mode) tree = rewritten mode tree
+set_for exact reading tree = rewritten_as reading tree
+
+-- a set of the comparators to which each tree of a text is so rewritten
+abbrev pub IsSetFor : Bool → Reading → Text → PlainSet → Type 0
+IsSetFor exact reading text set = (tree : TreeOf reading) → SpellsAs reading tree text
+    → set ≡ set_for exact reading tree
 
 -- what a call refuses of a range text by the number that it answers, where it is asked for: bytes
 -- that are no UTF-8, texts that are no range, and numbers that are too large, all exactly. Memory
 -- runs out only where the text is a range that fits
-pub record RefusesBy (by : RangeNumbers) (Asked : Type 0) (mode : Compat) (text : Text) (n : ℤ)
+pub record RefusesBy (by : RangeNumbers) (Asked : Type 0) (reading : Reading) (text : Text) (n : ℤ)
     : Type 0 where
   pub not_utf8 : Asked → (n ≡ by.not_utf8) ↔ ¬ (IsUtf8 text)
-  pub not_a_range : Asked → IsUtf8 text → (n ≡ by.not_a_range) ↔ ¬ (IsRangeText text)
-  pub too_large : Asked → IsUtf8 text → (n ≡ by.too_large) ↔ IsTooLarge mode text
-  pub out_of_memory : n ≡ by.out_of_memory → HasSet mode text
+  pub not_a_range : Asked → IsUtf8 text → (n ≡ by.not_a_range) ↔ ¬ (IsTextAs reading text)
+  pub too_large : Asked → IsUtf8 text → (n ≡ by.too_large) ↔ IsTooLargeAs reading text
+  pub out_of_memory : n ≡ by.out_of_memory → HasSetAs reading text
 
--- so of a range, and of the new one where two are compared
-abbrev pub RefusesRange : Type 0 → Compat → Text → ℤ → Type 0
-RefusesRange = RefusesBy range_numbers
+-- what a call that rewrites refuses by a number: the number of the reading, exactly, and else what
+-- that reading refuses of the text
+pub record RefusesText (reading : ℤ) (text : Text) (n : ℤ) : Type 0 where
+  pub named : (n ≡ number.no_such_reading) ⊎ IsReading reading
+  pub no_such_reading : (n ≡ number.no_such_reading) ↔ ¬ (IsReading reading)
+  pub range : (r : Reading) → reading ≡ reading_number r → RefusesBy range_numbers ⊤ r text n
 
-abbrev pub RefusesNewRange : Type 0 → Compat → Text → ℤ → Type 0
-RefusesNewRange = RefusesBy new_range_numbers
+-- what a call that asks what a range means refuses by a number: the number of the reading, exactly,
+-- that of the rule, exactly, and else what that reading refuses of the text
+pub record RefusesRange (reading rule : ℤ) (text : Text) (n : ℤ) : Type 0 where
+  pub named : IsOneOf (number.no_such_reading ∷ number.no_such_rule ∷ []) n
+      ⊎ IsMeaning reading rule
+  pub no_such_reading : (n ≡ number.no_such_reading) ↔ ¬ (IsReading reading)
+  pub no_such_rule : (n ≡ number.no_such_rule)
+      ↔ (IsReading reading × (¬ (IsMeaning reading rule)))
+  pub range : (m : Meaning) → IsNamed m reading rule
+      → RefusesBy range_numbers ⊤ (reading_of m) text n
+
+-- what it refuses of the new range, where it is asked for, if two are compared
+abbrev pub RefusesNewRange : Type 0 → ℤ → ℤ → Text → ℤ → Type 0
+RefusesNewRange Asked reading rule text n = (m : Meaning) → IsNamed m reading rule
+    → RefusesBy new_range_numbers Asked (reading_of m) text n
 
 -- a number of the new range that stands for one of a range, at the same place of their lists
 abbrev pub IsNumberOfNew : ℤ → ℤ → Type 0
@@ -137,17 +159,26 @@ pub record RefusesVersion (text : Text) (n : ℤ) : Type 0 where
       → (e : Fault) × IsOutcomeOf text (Err e) × (n ≡ fault_number e)
   pub out_of_memory : n ≡ version_out_of_memory → TextMayRunOut text
 
--- the text is a range that fits, and its memory was found
-pub record IsReadBy (by : RangeNumbers) (mode : Compat) (text : Text) (answer : ℤ) : Type 0 where
+-- the text is a range that fits to a reading, and its memory was found
+pub record IsReadBy (by : RangeNumbers) (reading : Reading) (text : Text) (answer : ℤ)
+    : Type 0 where
   pub utf8 : IsUtf8 text
-  pub tree : SetTree
-  pub spells : Spells tree text
-  pub fit : IsTrue (fits mode tree)
+  pub tree : TreeOf reading
+  pub spells : SpellsAs reading tree text
+  pub fit : IsTrue (fits_as reading tree)
   pub memory : answer ≢ by.out_of_memory
 
--- so of a range, and of the new one where two are compared
-abbrev pub RangeIsRead : Compat → Text → ℤ → Type 0
-RangeIsRead = IsReadBy range_numbers
+-- the numbers name a meaning, and the text is so read by its reading
+abbrev pub RangeIsRead : ℤ → ℤ → Text → ℤ → Type 0
+RangeIsRead reading rule text answer = (m : Meaning) × IsNamed m reading rule
+    × IsReadBy range_numbers (reading_of m) text answer
 
-abbrev pub NewRangeIsRead : Compat → Text → ℤ → Type 0
-NewRangeIsRead = IsReadBy new_range_numbers
+-- so of the new range, where two are compared
+abbrev pub NewRangeIsRead : ℤ → ℤ → Text → ℤ → Type 0
+NewRangeIsRead reading rule text answer = (m : Meaning) × IsNamed m reading rule
+    × IsReadBy new_range_numbers (reading_of m) text answer
+
+-- the text is a range that fits to the reading that is named
+abbrev pub IsAccepted : ℤ → ℤ → Text → Type 0
+IsAccepted reading rule text = (m : Meaning) × IsNamed m reading rule × IsUtf8 text
+    × HasSetAs (reading_of m) text

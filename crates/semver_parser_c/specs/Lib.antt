@@ -1,9 +1,10 @@
 pub mod Numbers
+pub mod Readings
 pub mod Faults
 pub mod Places
 pub mod Printing
 pub mod Comparators
-pub mod Rules
+pub mod Meetings
 pub mod Sets
 pub mod Compared
 pub mod Orders

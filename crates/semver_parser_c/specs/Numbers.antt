@@ -58,7 +58,7 @@ range_out_of_memory = pos 13
 abbrev pub no_room : ℤ
 no_room = pos 14
 
--- no rule for pre-releases has that number
+-- the reading has no rule for pre-releases of that number
 abbrev pub no_such_rule : ℤ
 no_such_rule = pos 15
 
@@ -78,6 +78,26 @@ new_number_too_large = pos 18
 abbrev pub new_range_out_of_memory : ℤ
 new_range_out_of_memory = pos 19
 
+-- no reading of range texts has that number
+abbrev pub no_such_reading : ℤ
+no_such_reading = pos 20
+
+-- the readings of a range text: Cargo's own
+abbrev pub cargo : ℤ
+cargo = pos 0
+
+-- npm's own
+abbrev pub npm : ℤ
+npm = pos 1
+
+-- the crate's in Cargo mode
+abbrev pub crate_cargo : ℤ
+crate_cargo = pos 2
+
+-- the crate's in npm mode
+abbrev pub crate_npm : ℤ
+crate_npm = pos 3
+
 -- the rules for pre-releases: none meets
 abbrev pub releases_alone : ℤ
 releases_alone = pos 0
@@ -89,6 +109,10 @@ stated_pre_releases = pos 1
 -- each is compared as any version
 abbrev pub all_pre_releases : ℤ
 all_pre_releases = pos 2
+
+-- those meet that a tool takes, by its own reading
+abbrev pub pre_releases_of_tool : ℤ
+pre_releases_of_tool = pos 3
 
 -- the operators: `<`
 abbrev pub less : ℤ

@@ -1,28 +1,22 @@
 -- Sets of the versions that range texts mean, and the texts of their least versions.
-use Rattle.std.specs.Prelude.{◌≡◌, [], Option, Some, None, IsTrue}
+use Rattle.std.specs.Prelude.{[], Option, Some, None, IsTrue}
 use Rattle.semver_parser.specs.Texts.{Text}
 use Rattle.semver_parser.specs.Versions.{PlainVersion, VersionValue}
 use Rattle.semver_parser.specs.VersionViews.{version_value}
 use Rattle.semver_parser.specs.PrintedText.{version_text}
 use Rattle.semver_parser.specs.declared.version.Version.{Version}
-use Rattle.semver_parser.specs.declared.Compat.{Compat}
-use Rattle.semver_parser.specs.RangeTree.{SetTree, Spells}
-use Rattle.version_sets.specs.VersionSets.{SetValue, Fits, has}
-use Rattle.release_filter.specs.PreReleaseRules.{meant_with}
-use Rattle.release_filter.specs.declared.PreReleases.{PreReleases}
+use Rattle.version_sets.specs.VersionSets.{Fits}
+use Rattle.tool_ranges.specs.declared.meaning.Meaning.{Meaning}
+use Rattle.tool_ranges.specs.Readings.{TreeOf}
+use Rattle.tool_ranges.specs.Meanings.{reading_of, meant_as}
 
 -- a version without a build
 abbrev pub plain : PlainVersion → VersionValue
 plain v = record { plain = v; build = [] }
 
--- a version whose numbers fit is one that a tree means by a rule
-abbrev pub IsMeant : PreReleases → Compat → SetTree → PlainVersion → Type 0
-IsMeant rule mode tree v = Fits v × IsTrue (meant_with rule mode tree (plain v))
-
--- what is in the set is what the range text means by the rule
-abbrev pub IsSetOf : SetValue → PreReleases → Compat → Text → Type 0
-IsSetOf set rule mode range = (tree : SetTree) (v : VersionValue) → Spells tree range
-    → Fits v.plain → has set v.plain ≡ meant_with rule mode tree v
+-- a version whose numbers fit is one that a tree means
+abbrev pub IsMeant : (m : Meaning) → TreeOf (reading_of m) → PlainVersion → Type 0
+IsMeant m tree v = Fits v × IsTrue (meant_as m tree (plain v))
 
 -- the text of a version, and an empty one where there is none
 abbrev pub text_of : Option Version → Text

@@ -13,10 +13,11 @@ mod compared;
 mod meeting;
 mod numbers;
 mod range_text;
+mod readings;
 mod sets;
 mod version_text;
 
-ghost use Rattle.std.specs.Prelude.{◌≡◌, ◌≢◌, ◌⊎◌, ◌↔◌, ◌<◌, ⊤, ℕ, [], ◌∷◌, ◌++◌, IsTrue};
+ghost use Rattle.std.specs.Prelude.{◌≡◌, ◌≢◌, ◌⊎◌, ◌↔◌, ◌<◌, ℕ, [], ◌∷◌, ◌++◌, IsTrue};
 ghost use Rattle.std.specs.Prelude.{IfSome, IsUtf8, Option, Result, drop, length, slice_get};
 ghost use Rattle.std.specs.Prelude.{slice_index, take};
 ghost use Rattle.semver_parser.specs.Versions.{VersionValue};
@@ -26,22 +27,24 @@ ghost use Rattle.semver_parser.specs.Outlines.{OutlineValue, IsOutlineOf, dotted
 ghost use Rattle.semver_parser.specs.Precedence.{precedence};
 ghost use Rattle.semver_parser.specs.VersionReading.{IsOutcomeOf, TextMayRunOut};
 ghost use Rattle.semver_parser.specs.ParserState.{Fault};
-ghost use Rattle.semver_parser.specs.RangeTree.{SetTree, Spells};
-ghost use Rattle.semver_parser.specs.RewritingTable.{fits};
 ghost use Rattle.semver_parser.specs.PrintedRanges.{set_text};
-ghost use Rattle.release_filter.specs.PreReleaseRules.{meant_with};
-ghost use Rattle.release_filter.specs.declared.PreReleases.{PreReleases as Rule};
+ghost use Rattle.tool_ranges.specs.declared.reading.Reading.{Reading};
+ghost use Rattle.tool_ranges.specs.declared.meaning.Meaning.{Meaning};
+ghost use Rattle.tool_ranges.specs.Readings.{SpellsAs, TreeOf, fits_as};
+ghost use Rattle.tool_ranges.specs.Meanings.{meant_as, reading_of};
 ghost use Rattle.semver_parser_c.specs.Numbers as number;
-ghost use Rattle.semver_parser_c.specs.Faults.{IsOneOf, NewRangeIsRead, RangeIsRead, mode_of};
-ghost use Rattle.semver_parser_c.specs.Faults.{RefusesNewRange, RefusesRange, new_range_faults};
-ghost use Rattle.semver_parser_c.specs.Faults.{outcome_number, range_faults, set_for};
+ghost use Rattle.semver_parser_c.specs.Readings.{IsNamed, reading_number};
+ghost use Rattle.semver_parser_c.specs.Faults.{IsOneOf, NewRangeIsRead, RangeIsRead};
+ghost use Rattle.semver_parser_c.specs.Faults.{RefusesNewRange, RefusesRange, RefusesText};
+ghost use Rattle.semver_parser_c.specs.Faults.{named_faults, new_range_faults, outcome_number};
+ghost use Rattle.semver_parser_c.specs.Faults.{range_faults, set_for};
 ghost use Rattle.semver_parser_c.specs.Faults.{RefusesVersion, version_faults};
 ghost use Rattle.semver_parser_c.specs.Orders.{at_fault, order_number};
 ghost use Rattle.semver_parser_c.specs.Places.{bytes_at, told};
 ghost use Rattle.semver_parser_c.specs.Comparators.{HasPreReleases, comparators_of};
 ghost use Rattle.semver_parser_c.specs.Comparators.{pre_releases, told_comparators};
 ghost use Rattle.semver_parser_c.specs.Printing.{Puts, PutsBoth};
-ghost use Rattle.semver_parser_c.specs.Rules.{IsAnswer, IsRule, rule_number};
+ghost use Rattle.semver_parser_c.specs.Meetings.{IsAnswer};
 ghost use Rattle.semver_parser_c.specs.Sets.{IsMeant, text_of};
 ghost use Rattle.semver_parser_c.specs.Compared.{Compares, TellsWhich, joined_texts, places_of};
 ghost use Rattle.version_sets.specs.Comparisons.{TellsLeast};
@@ -168,8 +171,10 @@ pub extern "C" fn semver_parser_proved_parse_version(
 }
 
 /// Rewrites a range text into plain comparators, and prints them: `OK` with the printed set at the
-/// front of `out`. The mode is npm's where `npm` holds, and else Cargo's. Where `exact` holds, the
-/// bounds are exact, as `<2.0.0-0`, and else those of the Rust crate, as `<2.0.0`.
+/// front of `out`. `reading` is the number of a reading: `CARGO` and `NPM` are the tools' own, and
+/// `CRATE_CARGO` and `CRATE_NPM` those of the crate. Where `exact` holds, the bounds are exact, as
+/// `<2.0.0-0`; else they are so by a tool's reading, and by the crate's those of the Rust crate, as
+/// `<2.0.0`.
 ///
 /// `length` becomes the length of the printed set, also where `out` has no room for it (`NO_ROOM`);
 /// so a call with an empty `out` asks for the length. `out` is as it was behind the printed set,
@@ -177,29 +182,33 @@ pub extern "C" fn semver_parser_proved_parse_version(
 ///
 /// # Faults
 ///
-/// `RANGE_NOT_UTF8`, those of `RangeSet::parse`, which are `NOT_A_RANGE`, `NUMBER_TOO_LARGE` and
+/// `NO_SUCH_READING`, whatever the text. Then `RANGE_NOT_UTF8`, those of
+/// `tool_ranges::reading::rewrite`, which are `NOT_A_RANGE`, `NUMBER_TOO_LARGE` and
 /// `RANGE_OUT_OF_MEMORY`, and `NO_ROOM`.
 #[unsafe(no_mangle)]
 pub extern "C" fn semver_parser_proved_rewrite(
     alloc: Global,
     text: &[u8],
-    npm: bool,
+    reading: i32,
     exact: bool,
     out: &mut [u8],
     length: &mut usize,
 ) -> i32
-    ensures numbers { IsOneOf (number.ok ∷ number.no_room ∷ range_faults) result }
+    ensures numbers { IsOneOf (number.ok ∷ number.no_room ∷ number.no_such_reading ∷ range_faults)
+        result }
     // What is put into the room is the printed text of what the text is rewritten to.
     ensures rewritten { (result ≡ number.ok) ⊎ (result ≡ number.no_room)
-        → (tree : SetTree) × Spells tree text.now × IsTrue (fits (mode_of npm) tree)
-        × Puts (set_text (set_for exact (mode_of npm) tree)) out.old out.new length.new result }
+        → (r : Reading) × (reading ≡ reading_number r)
+        × (tree : TreeOf r) × SpellsAs r tree text.now × IsTrue (fits_as r tree)
+        × Puts (set_text (set_for exact r tree)) out.old out.new length.new result }
 
-    // Faults of the text, whatever the room.
-    ensures refusals { RefusesRange ⊤ (mode_of npm) text.now result }
+    // Faults of the reading and of the text, whatever the room.
+    ensures refusals { RefusesText reading text.now result }
     ensures room_unchanged { result ≢ number.ok → out.new ≡ out.old }
-    ensures length_unchanged { IsOneOf range_faults result → length.new ≡ length.old }
+    ensures length_unchanged { IsOneOf (number.no_such_reading ∷ range_faults) result
+        → length.new ≡ length.old }
 {
-    let set = match range_text::read(alloc, text, npm, exact) {
+    let set = match range_text::read(alloc, text, reading, exact) {
         Ok(set) => set,
         Err(number) => return number,
     };
@@ -230,45 +239,48 @@ pub extern "C" fn semver_parser_proved_rewrite(
 pub extern "C" fn semver_parser_proved_comparators(
     alloc: Global,
     text: &[u8],
-    npm: bool,
+    reading: i32,
     exact: bool,
     comparators: &mut [RewrittenComparator],
     count: &mut usize,
     out: &mut [u8],
     length: &mut usize,
 ) -> i32
-    ensures numbers { IsOneOf (number.ok ∷ number.no_room ∷ range_faults) result }
+    ensures numbers { IsOneOf (number.ok ∷ number.no_room ∷ number.no_such_reading ∷ range_faults)
+        result }
     // What is put into the rooms are the comparators that the text is rewritten to, in order, each
     // with the number of its range, and the texts of their pre-releases, one behind the other.
     ensures rewritten { (result ≡ number.ok) ⊎ (result ≡ number.no_room)
-        → (tree : SetTree) × Spells tree text.now × IsTrue (fits (mode_of npm) tree)
+        → (r : Reading) × (reading ≡ reading_number r)
+        × (tree : TreeOf r) × SpellsAs r tree text.now × IsTrue (fits_as r tree)
         × PutsBoth
         (record {
-          items = told_comparators (comparators_of (set_for exact (mode_of npm) tree));
+          items = told_comparators (comparators_of (set_for exact r tree));
           old = comparators.old;
           new = comparators.new;
           told = count.new;
         })
         (record {
-          items = pre_releases (comparators_of (set_for exact (mode_of npm) tree));
+          items = pre_releases (comparators_of (set_for exact r tree));
           old = out.old;
           new = out.new;
           told = length.new;
         })
         result }
     // At the place that is told of each stands its pre-release, its identifiers joined by dots.
-    ensures pre_releases { result ≡ number.ok → (tree : SetTree) → Spells tree text.now
+    ensures pre_releases { result ≡ number.ok → (r : Reading) → reading ≡ reading_number r
+        → (tree : TreeOf r) → SpellsAs r tree text.now
         → HasPreReleases out.new (take count.new comparators.new)
-        (comparators_of (set_for exact (mode_of npm) tree)) }
+        (comparators_of (set_for exact r tree)) }
 
-    // Faults of the text, whatever the rooms.
-    ensures refusals { RefusesRange ⊤ (mode_of npm) text.now result }
+    // Faults of the reading and of the text, whatever the rooms.
+    ensures refusals { RefusesText reading text.now result }
     ensures rooms_unchanged { result ≢ number.ok
         → (comparators.new ≡ comparators.old) × (out.new ≡ out.old) }
-    ensures numbers_unchanged { IsOneOf range_faults result
+    ensures numbers_unchanged { IsOneOf (number.no_such_reading ∷ range_faults) result
         → (count.new ≡ count.old) × (length.new ≡ length.old) }
 {
-    let rewritten = match range_text::read(alloc, text, npm, exact) {
+    let rewritten = match range_text::read(alloc, text, reading, exact) {
         Ok(set) => set,
         Err(number) => return number,
     };
@@ -278,51 +290,50 @@ pub extern "C" fn semver_parser_proved_comparators(
     }
 }
 
-/// Whether a version meets a range, by the rule for pre-releases that a number names: `OK` with the
-/// answer in `meets`, or the number of a fault with `meets` as it was. The mode is npm's where
-/// `npm` holds, and else Cargo's.
+/// Whether a version meets a range, by the reading and by the rule for pre-releases that numbers
+/// name: `OK` with the answer in `meets`, or the number of a fault with `meets` as it was.
 ///
 /// It goes by what the range text means by itself, and not by comparators. By `RELEASES_ALONE` no
-/// version with a pre-release meets any range. By `STATED_PRE_RELEASES` one meets the range where a
-/// term states the same three numbers and a pre-release, and by `ALL_PRE_RELEASES` by precedence
-/// alone (SemVer 2.0.0, section 11), as any version.
+/// version with a pre-release meets any range. The tools' own readings, `CARGO` and `NPM`, have
+/// besides `PRE_RELEASES_OF_TOOL`: those that the tool takes. `CRATE_CARGO` and `CRATE_NPM` have
+/// besides `STATED_PRE_RELEASES`, by which one meets the range where a term states the same three
+/// numbers and a pre-release, and `ALL_PRE_RELEASES`, by which one is compared by precedence alone
+/// (SemVer 2.0.0, section 11), as any version.
 ///
 /// # Faults
 ///
-/// `NO_SUCH_RULE`, whatever the texts. Then the range is read: `RANGE_NOT_UTF8`, `NOT_A_RANGE`,
-/// `NUMBER_TOO_LARGE` and `RANGE_OUT_OF_MEMORY`, whatever the version. Then those of
-/// `semver_parser_proved_parse_version`.
+/// `NO_SUCH_READING`, and where there is a reading of that number `NO_SUCH_RULE`, whatever the
+/// texts. Then the range is read: `RANGE_NOT_UTF8`, `NOT_A_RANGE`, `NUMBER_TOO_LARGE` and
+/// `RANGE_OUT_OF_MEMORY`, whatever the version. Then those of `semver_parser_proved_parse_version`.
 #[unsafe(no_mangle)]
 pub extern "C" fn semver_parser_proved_meets(
     alloc: Global,
     range: &[u8],
-    npm: bool,
+    reading: i32,
     pre_releases: i32,
     version: &[u8],
     meets: &mut bool,
 ) -> i32
-    ensures numbers { IsOneOf (number.ok ∷ number.no_such_rule ∷ range_faults ++ version_faults)
-        result }
-    // An answer is that of the range's own meaning by the rule, and comes where both texts are
-    // read.
-    ensures meaning { result ≡ number.ok → (rule : Rule) → pre_releases ≡ rule_number rule
-        → (tree : SetTree) (v : VersionValue) → Spells tree range.now → SpellsVersion v version.now
-        → meets.new ≡ meant_with rule (mode_of npm) tree v }
-    ensures both_read { result ≡ number.ok → IsRule pre_releases
-        × RangeIsRead (mode_of npm) range.now result × IsVersionText version.now }
-    ensures accepted { IsRule pre_releases → RangeIsRead (mode_of npm) range.now result
+    ensures numbers { IsOneOf (number.ok ∷ named_faults ++ version_faults) result }
+    // An answer is that of the range's own meaning, and comes where both texts are read.
+    ensures meaning { result ≡ number.ok → (m : Meaning) → IsNamed m reading pre_releases
+        → (tree : TreeOf (reading_of m)) (v : VersionValue)
+        → SpellsAs (reading_of m) tree range.now → SpellsVersion v version.now
+        → meets.new ≡ meant_as m tree v }
+    ensures both_read { result ≡ number.ok
+        → RangeIsRead reading pre_releases range.now result × IsVersionText version.now }
+    ensures accepted { RangeIsRead reading pre_releases range.now result
         → (v : VersionValue) → IsUtf8 version.now → SpellsVersion v version.now
         → IsOneOf (number.ok ∷ number.version_out_of_memory ∷ []) result }
     ensures unchanged { result ≢ number.ok → meets.new ≡ meets.old }
 
-    // Faults of the rule, and of the range, whatever the version.
-    ensures no_such_rule { (result ≡ number.no_such_rule) ↔ ¬ (IsRule pre_releases) }
-    ensures refusals { RefusesRange (IsRule pre_releases) (mode_of npm) range.now result }
+    // Faults of the reading, of the rule, and of the range, whatever the version.
+    ensures refusals { RefusesRange reading pre_releases range.now result }
 
     // Faults of the version, where the range is read.
-    ensures version_not_utf8 { IsRule pre_releases → RangeIsRead (mode_of npm) range.now result
+    ensures version_not_utf8 { RangeIsRead reading pre_releases range.now result
         → (result ≡ number.version_not_utf8) ↔ ¬ (IsUtf8 version.now) }
-    ensures version_refused { IsRule pre_releases → RangeIsRead (mode_of npm) range.now result
+    ensures version_refused { RangeIsRead reading pre_releases range.now result
         → IsUtf8 version.now → ¬ (IsVersionText version.now)
         → result ≢ number.version_out_of_memory
         → (e : Fault) × IsOutcomeOf version.now (Result.Err e)
@@ -330,7 +341,7 @@ pub extern "C" fn semver_parser_proved_meets(
     ensures version_out_of_memory { result ≡ number.version_out_of_memory
         → TextMayRunOut version.now }
 {
-    let filter = match meeting::filter_of(alloc, range, npm, pre_releases) {
+    let filter = match meeting::filter_of(alloc, range, reading, pre_releases) {
         Ok(filter) => filter,
         Err(number) => return number,
     };
@@ -352,35 +363,32 @@ pub extern "C" fn semver_parser_proved_meets(
 ///
 /// # Faults
 ///
-/// `NO_SUCH_RULE`, whatever the texts, and those of the range: `RANGE_NOT_UTF8`, `NOT_A_RANGE`,
-/// `NUMBER_TOO_LARGE` and `RANGE_OUT_OF_MEMORY`.
+/// `NO_SUCH_READING` and `NO_SUCH_RULE`, whatever the texts, and those of the range:
+/// `RANGE_NOT_UTF8`, `NOT_A_RANGE`, `NUMBER_TOO_LARGE` and `RANGE_OUT_OF_MEMORY`.
 #[unsafe(no_mangle)]
 pub extern "C" fn semver_parser_proved_meets_each(
     alloc: Global,
     range: &[u8],
-    npm: bool,
+    reading: i32,
     pre_releases: i32,
     versions: &[&[u8]],
     answers: &mut [u8],
 ) -> i32
-    ensures numbers { IsOneOf (number.ok ∷ number.no_such_rule ∷ range_faults) result }
-    // Each byte is what there is to say of the text at its place, by the rule and the range's own
-    // meaning.
-    ensures answers { result ≡ number.ok → (rule : Rule) → pre_releases ≡ rule_number rule
+    ensures numbers { IsOneOf (number.ok ∷ named_faults) result }
+    // Each byte is what there is to say of the text at its place, by the range's own meaning.
+    ensures answers { result ≡ number.ok → (m : Meaning) → IsNamed m reading pre_releases
         → (k : ℕ) → k < length versions.now → k < length answers.old
         → IfSome (slice_get versions.now k)
-        (λ text. IsAnswer rule (mode_of npm) range.now text.now (slice_index answers.new k)) }
+        (λ text. IsAnswer m range.now text.now (slice_index answers.new k)) }
     ensures behind { drop (length versions.now) answers.new
         ≡ drop (length versions.now) answers.old }
-    ensures read { result ≡ number.ok → IsRule pre_releases
-        × RangeIsRead (mode_of npm) range.now result }
+    ensures read { result ≡ number.ok → RangeIsRead reading pre_releases range.now result }
     ensures unchanged { result ≢ number.ok → answers.new ≡ answers.old }
 
-    // Faults of the rule, and of the range.
-    ensures no_such_rule { (result ≡ number.no_such_rule) ↔ ¬ (IsRule pre_releases) }
-    ensures refusals { RefusesRange (IsRule pre_releases) (mode_of npm) range.now result }
+    // Faults of the reading, of the rule, and of the range.
+    ensures refusals { RefusesRange reading pre_releases range.now result }
 {
-    let filter_of_all = match meeting::filter_of(alloc, range, npm, pre_releases) {
+    let filter_of_all = match meeting::filter_of(alloc, range, reading, pre_releases) {
         Ok(filter) => filter,
         Err(number) => return number,
     };
@@ -388,48 +396,45 @@ pub extern "C" fn semver_parser_proved_meets_each(
     numbers::OK
 }
 
-/// Puts the text of the least version that a range means into a room, by the rule for pre-releases
-/// that a number names: `OK` with the text at the front of `out`. The mode is npm's where `npm`
-/// holds, and else Cargo's. Least is it by precedence (SemVer 2.0.0, section 11), and it has no
+/// Puts the text of the least version that a range means into a room, by the reading and by the
+/// rule for pre-releases that numbers name, as in `semver_parser_proved_meets`: `OK` with the text
+/// at the front of `out`. Least is it by precedence (SemVer 2.0.0, section 11), and it has no
 /// build; numbers go up to 2^64 - 1.
 ///
 /// `length` becomes the length of the text, also where `out` has no room for it (`NO_ROOM`). It is
 /// 0 exactly where the range means no version. `out` is as it was behind the text, and all of it
-/// after any answer but `OK`. `length` is as it was after a fault of the rule or of the text.
+/// after any answer but `OK`. `length` is as it was after a fault of the numbers or of the text.
 ///
 /// # Faults
 ///
-/// `NO_SUCH_RULE`, whatever the text. Then those of `RangeSet::parse` and `RANGE_NOT_UTF8`, and
-/// `NO_ROOM`.
+/// `NO_SUCH_READING` and `NO_SUCH_RULE`, whatever the text. Then `RANGE_NOT_UTF8`, `NOT_A_RANGE`,
+/// `NUMBER_TOO_LARGE` and `RANGE_OUT_OF_MEMORY`, and `NO_ROOM`.
 #[unsafe(no_mangle)]
 pub extern "C" fn semver_parser_proved_least(
     alloc: Global,
     range: &[u8],
-    npm: bool,
+    reading: i32,
     pre_releases: i32,
     out: &mut [u8],
     length: &mut usize,
 ) -> i32
-    ensures numbers { IsOneOf (number.ok ∷ number.no_room ∷ number.no_such_rule ∷ range_faults)
-        result }
-    // What is put into the room is the text of the least version that the range means by the rule,
-    // and an empty one exactly where it means none.
+    ensures numbers { IsOneOf (number.ok ∷ number.no_room ∷ named_faults) result }
+    // What is put into the room is the text of the least version that the range means, and an empty
+    // one exactly where it means none.
     ensures least { (result ≡ number.ok) ⊎ (result ≡ number.no_room)
-        → (rule : Rule) → pre_releases ≡ rule_number rule
-        → (tree : SetTree) → Spells tree range.now
-        → (least : Option Version) × TellsLeast (IsMeant rule (mode_of npm) tree) least
+        → (m : Meaning) → IsNamed m reading pre_releases
+        → (tree : TreeOf (reading_of m)) → SpellsAs (reading_of m) tree range.now
+        → (least : Option Version) × TellsLeast (IsMeant m tree) least
         × Puts (text_of least) out.old out.new length.new result }
-    ensures read { (result ≡ number.ok) ⊎ (result ≡ number.no_room) → IsRule pre_releases
-        × RangeIsRead (mode_of npm) range.now result }
+    ensures read { (result ≡ number.ok) ⊎ (result ≡ number.no_room)
+        → RangeIsRead reading pre_releases range.now result }
 
-    // Faults of the rule, and of the range, whatever the room.
-    ensures no_such_rule { (result ≡ number.no_such_rule) ↔ ¬ (IsRule pre_releases) }
-    ensures refusals { RefusesRange (IsRule pre_releases) (mode_of npm) range.now result }
+    // Faults of the reading, of the rule, and of the range, whatever the room.
+    ensures refusals { RefusesRange reading pre_releases range.now result }
     ensures room_unchanged { result ≢ number.ok → out.new ≡ out.old }
-    ensures length_unchanged { IsOneOf (number.no_such_rule ∷ range_faults) result
-        → length.new ≡ length.old }
+    ensures length_unchanged { IsOneOf named_faults result → length.new ≡ length.old }
 {
-    let meant = match sets::set_of(alloc, range, npm, pre_releases) {
+    let meant = match sets::set_of(alloc, range, reading, pre_releases) {
         Ok(set) => set,
         Err(number) => return number,
     };
@@ -439,24 +444,25 @@ pub extern "C" fn semver_parser_proved_least(
     }
 }
 
-/// Compares what an old range means with what a new one means, by the rule for pre-releases that a
-/// number names: `OK` with three texts at the front of `out`, one behind the other, and where each
-/// lies in `comparison`. They are the least version that the old range means and the new one
-/// doesn't, the least that the new one means and the old one doesn't, and the least that both mean.
-/// Both are read in npm's mode where `npm` holds, and else in Cargo's. Least are they by precedence
-/// (SemVer 2.0.0, section 11), and they have no build; numbers go up to 2^64 - 1.
+/// Compares what an old range means with what a new one means, both by the reading and by the rule
+/// for pre-releases that numbers name, as in `semver_parser_proved_meets`: `OK` with three texts at
+/// the front of `out`, one behind the other, and where each lies in `comparison`. They are the
+/// least version that the old range means and the new one doesn't, the least that the new one means
+/// and the old one doesn't, and the least that both mean. Least are they by precedence (SemVer
+/// 2.0.0, section 11), and they have no build; numbers go up to 2^64 - 1.
 ///
 /// `^1.2.0` and `>=1.4.0` give `1.2.02.0.01.4.0`: 1.2.0 is lost, 2.0.0 is gained, 1.4.0 is shared.
 ///
 /// `length` becomes the length of the three texts together and `comparison` where they lie, also
 /// where `out` has no room for them (`NO_ROOM`), so a call with an empty `out` asks which there
 /// are. `out` is as it was behind the texts, and all of it after any answer but `OK`. `length` and
-/// `comparison` are as they were after a fault of the rule or of a text.
+/// `comparison` are as they were after a fault of the numbers or of a text.
 ///
 /// # Faults
 ///
-/// `NO_SUCH_RULE`, whatever the texts. Then the old range is read: `RANGE_NOT_UTF8`, `NOT_A_RANGE`,
-/// `NUMBER_TOO_LARGE` and `RANGE_OUT_OF_MEMORY`, whatever the new one. Then the new one:
+/// `NO_SUCH_READING` and `NO_SUCH_RULE`, whatever the texts. Then the old range is read:
+/// `RANGE_NOT_UTF8`, `NOT_A_RANGE`, `NUMBER_TOO_LARGE` and `RANGE_OUT_OF_MEMORY`, whatever the new
+/// one. Then the new one:
 /// `NEW_RANGE_NOT_UTF8`, `NEW_NOT_A_RANGE`, `NEW_NUMBER_TOO_LARGE` and `NEW_RANGE_OUT_OF_MEMORY`,
 /// which also tells want of memory while both are compared. Then `NO_ROOM`.
 #[unsafe(no_mangle)]
@@ -464,45 +470,45 @@ pub extern "C" fn semver_parser_proved_compare(
     alloc: Global,
     old_range: &[u8],
     new_range: &[u8],
-    npm: bool,
+    reading: i32,
     pre_releases: i32,
     out: &mut [u8],
     length: &mut usize,
     comparison: &mut ComparedRanges,
 ) -> i32
-    ensures numbers { IsOneOf (number.ok ∷ number.no_room ∷ number.no_such_rule
-        ∷ range_faults ++ new_range_faults) result }
+    ensures numbers { IsOneOf (number.ok ∷ number.no_room ∷ named_faults ++ new_range_faults)
+        result }
     // What is put into the room are the texts of what is lost, gained and shared by what both
-    // ranges themselves mean by the rule, and where each lies is told.
+    // ranges themselves mean, and where each lies is told.
     ensures told { (result ≡ number.ok) ⊎ (result ≡ number.no_room)
-        → (rule : Rule) → pre_releases ≡ rule_number rule
-        → (old new : SetTree) → Spells old old_range.now → Spells new new_range.now
-        → (told : Comparison) × Compares rule (mode_of npm) old new told
+        → (m : Meaning) → IsNamed m reading pre_releases → (old new : TreeOf (reading_of m))
+        → SpellsAs (reading_of m) old old_range.now → SpellsAs (reading_of m) new new_range.now
+        → (told : Comparison) × Compares m old new told
         × Puts (joined_texts told) out.old out.new length.new result
         × (comparison.new ≡ places_of told) }
     // A part has no length exactly where there is no such version.
     ensures which { (result ≡ number.ok) ⊎ (result ≡ number.no_room)
-        → (rule : Rule) → pre_releases ≡ rule_number rule
-        → (old new : SetTree) → Spells old old_range.now → Spells new new_range.now
-        → TellsWhich rule (mode_of npm) old new comparison.new }
-    ensures read { (result ≡ number.ok) ⊎ (result ≡ number.no_room) → IsRule pre_releases
-        × RangeIsRead (mode_of npm) old_range.now result
-        × NewRangeIsRead (mode_of npm) new_range.now result }
+        → (m : Meaning) → IsNamed m reading pre_releases → (old new : TreeOf (reading_of m))
+        → SpellsAs (reading_of m) old old_range.now → SpellsAs (reading_of m) new new_range.now
+        → TellsWhich m old new comparison.new }
+    ensures read { (result ≡ number.ok) ⊎ (result ≡ number.no_room)
+        → RangeIsRead reading pre_releases old_range.now result
+        × NewRangeIsRead reading pre_releases new_range.now result }
 
-    // Faults of the rule, of the old range, and where that is read of the new one, whatever the
-    // room.
-    ensures no_such_rule { (result ≡ number.no_such_rule) ↔ ¬ (IsRule pre_releases) }
-    ensures refusals { RefusesRange (IsRule pre_releases) (mode_of npm) old_range.now result }
+    // Faults of the reading, of the rule, of the old range, and where that is read of the new one,
+    // whatever the room.
+    ensures refusals { RefusesRange reading pre_releases old_range.now result }
     ensures new_refusals { RefusesNewRange
-        (IsRule pre_releases × RangeIsRead (mode_of npm) old_range.now result)
-        (mode_of npm) new_range.now result }
+        (RangeIsRead reading pre_releases old_range.now result)
+        reading pre_releases new_range.now result }
     ensures room_unchanged { result ≢ number.ok → out.new ≡ out.old }
-    ensures length_unchanged { IsOneOf (number.no_such_rule ∷ range_faults ++ new_range_faults)
-        result → length.new ≡ length.old }
-    ensures comparison_unchanged { IsOneOf (number.no_such_rule ∷ range_faults ++ new_range_faults)
-        result → comparison.new ≡ comparison.old }
+    ensures length_unchanged { IsOneOf (named_faults ++ new_range_faults) result
+        → length.new ≡ length.old }
+    ensures comparison_unchanged { IsOneOf (named_faults ++ new_range_faults) result
+        → comparison.new ≡ comparison.old }
 {
-    let (old_set, new_set) = match sets::sets_of(alloc, old_range, new_range, npm, pre_releases) {
+    let both = sets::sets_of(alloc, old_range, new_range, reading, pre_releases);
+    let (old_set, new_set) = match both {
         Ok(sets) => sets,
         Err(number) => return number,
     };

@@ -28,7 +28,7 @@ pub const NUMBER_TOO_LARGE: i32 = 12;
 pub const RANGE_OUT_OF_MEMORY: i32 = 13;
 /// A room is too small for what is put there.
 pub const NO_ROOM: i32 = 14;
-/// No rule for pre-releases has that number.
+/// The reading has no rule for pre-releases of that number.
 pub const NO_SUCH_RULE: i32 = 15;
 /// The bytes of the new range aren't UTF-8, where two are compared.
 pub const NEW_RANGE_NOT_UTF8: i32 = 16;
@@ -39,12 +39,26 @@ pub const NEW_NUMBER_TOO_LARGE: i32 = 18;
 /// Memory ran out at the new range, or where both are compared.
 pub const NEW_RANGE_OUT_OF_MEMORY: i32 = 19;
 
+/// No reading of range texts has that number.
+pub const NO_SUCH_READING: i32 = 20;
+
+/// Cargo's own reading of a range text.
+pub const CARGO: i32 = 0;
+/// npm's own reading.
+pub const NPM: i32 = 1;
+/// The crate's reading in Cargo mode.
+pub const CRATE_CARGO: i32 = 2;
+/// The crate's reading in npm mode.
+pub const CRATE_NPM: i32 = 3;
+
 /// The rule for pre-releases by which none meets a range.
 pub const RELEASES_ALONE: i32 = 0;
 /// The rule by which one meets where the range states a pre-release of the same three numbers.
 pub const STATED_PRE_RELEASES: i32 = 1;
 /// The rule by which each is compared as any version.
 pub const ALL_PRE_RELEASES: i32 = 2;
+/// The rule that a tool has by its own reading.
+pub const PRE_RELEASES_OF_TOOL: i32 = 3;
 
 /// The operator `<`.
 pub const LESS: i32 = 0;

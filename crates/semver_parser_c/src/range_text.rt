@@ -1,51 +1,61 @@
 //! Range texts: the set of one, or the number of its fault, and its printed text in the room of a
 //! caller.
 
-ghost use Rattle.std.specs.Prelude.{◌≡◌, ⊤, IsTrue, IsUtf8, IfOk, IfErr};
-ghost use Rattle.semver_parser.specs.Versions.{PlainVersion};
-ghost use Rattle.semver_parser.specs.RangeTexts.{HasSet};
-ghost use Rattle.semver_parser.specs.RangeTree.{SetTree, Spells};
-ghost use Rattle.semver_parser.specs.OwnMeaning.{meets_tree};
-ghost use Rattle.semver_parser.specs.Meeting.{meets_set};
+ghost use Rattle.std.specs.Prelude.{◌≡◌, ◌∷◌, IsUtf8, IfOk, IfErr};
 ghost use Rattle.semver_parser.specs.RangeViews.{set_of};
-ghost use Rattle.semver_parser_c.specs.Faults.{IsOneOf, mode_of, number_of, range_fault_number};
-ghost use Rattle.semver_parser_c.specs.Faults.{RefusesRange, range_faults, set_for};
+ghost use Rattle.tool_ranges.specs.declared.reading.Reading.{Reading};
+ghost use Rattle.tool_ranges.specs.Readings.{HasSetAs, RefusesAs};
+ghost use Rattle.semver_parser_c.specs.Numbers as number;
+ghost use Rattle.semver_parser_c.specs.Readings.{reading_number};
+ghost use Rattle.semver_parser_c.specs.Faults.{IsOneOf, IsSetFor, RefusesText, number_of};
+ghost use Rattle.semver_parser_c.specs.Faults.{range_fault_number, range_faults};
 ghost use Rattle.semver_parser_c.specs.Printing.{Puts};
 
-use crate::numbers;
-use semver_parser::{Compat, RangeError, RangeSet};
+use crate::{numbers, readings};
+use semver_parser::{RangeError, RangeSet};
 use std::alloc::Global;
+use tool_ranges::reading::{self, Reading};
+use tool_ranges::{cargo, npm};
 
-/// The set of a range text, or the number of its fault.
-pub fn read(alloc: Global, text: &[u8], npm: bool, exact: bool) -> Result<RangeSet, i32>
-    ensures accepted { IfOk result (λ set. HasSet (mode_of npm) text.now) }
-    ensures utf8 { IfOk result (λ set. IsUtf8 text.now) }
-    ensures as_rewritten { IfOk result (λ set. (tree : SetTree) → Spells tree text.now
-        → set_of set ≡ set_for exact (mode_of npm) tree) }
-    ensures meaning { IfOk result (λ set. IsTrue exact → (tree : SetTree) (v : PlainVersion)
-        → Spells tree text.now → meets_set v (set_of set) ≡ meets_tree (mode_of npm) tree v) }
-    ensures numbers { IfErr result (λ n. IsOneOf range_faults n) }
-    ensures refusals { RefusesRange ⊤ (mode_of npm) text.now (number_of result) }
+/// The set of a range text by the reading of a number, or the number of the fault.
+pub fn read(alloc: Global, text: &[u8], reading: i32, exact: bool) -> Result<RangeSet, i32>
+    ensures accepted { IfOk result (λ set. (r : Reading) × (reading ≡ reading_number r)
+        × IsUtf8 text.now × HasSetAs r text.now) }
+    ensures as_rewritten { IfOk result (λ set. (r : Reading) → reading ≡ reading_number r
+        → IsSetFor exact r text.now (set_of set)) }
+    ensures numbers { IfErr result (λ n. IsOneOf (number.no_such_reading ∷ range_faults) n) }
+    ensures refusals { RefusesText reading text.now (number_of result) }
 {
+    let Some(reading) = readings::reading_of(reading) else {
+        return Err(numbers::NO_SUCH_READING);
+    };
     let Ok(text) = std::str::from_utf8(text) else {
         return Err(numbers::RANGE_NOT_UTF8);
     };
-    let read = if exact {
-        RangeSet::parse_exact(alloc, text, mode(npm))
-    } else {
-        RangeSet::parse(alloc, text, mode(npm))
-    };
-    match read {
+    match rewritten(alloc, text, reading, exact) {
         Ok(set) => Ok(set),
         Err(error) => Err(fault_number(&error)),
     }
 }
 
-/// The mode that C names by a bool.
-pub fn mode(npm: bool) -> Compat
-    ensures { result ≡ mode_of npm }
+/// The set of a range text, with exact bounds or, by the crate's reading, those of the crate.
+fn rewritten(
+    alloc: Global,
+    text: &str,
+    reading: Reading,
+    exact: bool,
+) -> Result<RangeSet, RangeError>
+    ensures refusals { RefusesAs reading text.now result }
+    ensures as_rewritten { IfOk result (λ set. IsSetFor exact reading text.now (set_of set)) }
 {
-    if npm { Compat::Npm } else { Compat::Cargo }
+    if exact {
+        return reading::rewrite(alloc, reading, text);
+    }
+    match reading {
+        Reading::Cargo => cargo::rewrite(alloc, text),
+        Reading::Npm => npm::rewrite(alloc, text),
+        Reading::Crate(compat) => RangeSet::parse(alloc, text, compat),
+    }
 }
 
 /// The number of a fault.

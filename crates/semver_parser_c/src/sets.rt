@@ -1,76 +1,73 @@
-//! Sets of the versions that range texts mean, by the rule for pre-releases that a number names,
-//! and the texts of their least versions.
+//! Sets of the versions that range texts mean, and the texts of their least versions.
 
-ghost use Rattle.std.specs.Prelude.{◌≡◌, ◌↔◌, ◌∷◌, ◌++◌, IfOk, IfErr, IsUtf8, Option};
-ghost use Rattle.std.specs.Prelude.{string_bytes};
-ghost use Rattle.semver_parser.specs.RangeTexts.{HasSet};
+ghost use Rattle.std.specs.Prelude.{◌≡◌, ◌++◌, IfOk, IfErr, Option, string_bytes};
 ghost use Rattle.semver_parser.specs.declared.version.Version.{Version as SomeVersion};
 ghost use Rattle.version_sets.specs.VersionSets.{IsIn};
 ghost use Rattle.version_sets.specs.Comparisons.{TellsLeast};
-ghost use Rattle.release_filter.specs.declared.PreReleases.{PreReleases as Rule};
-ghost use Rattle.semver_parser_c.specs.Numbers as number;
-ghost use Rattle.semver_parser_c.specs.Faults.{IsOneOf, mode_of, number_of};
+ghost use Rattle.tool_ranges.specs.declared.meaning.Meaning.{Meaning};
+ghost use Rattle.tool_ranges.specs.Meanings.{MeansAs};
+ghost use Rattle.semver_parser_c.specs.Readings.{IsNamed};
+ghost use Rattle.semver_parser_c.specs.Faults.{IsAccepted, IsNumberOfNew, IsOneOf, number_of};
 ghost use Rattle.semver_parser_c.specs.Faults.{RangeIsRead, RefusesNewRange, RefusesRange};
-ghost use Rattle.semver_parser_c.specs.Faults.{IsNumberOfNew, new_range_faults, range_faults};
-ghost use Rattle.semver_parser_c.specs.Rules.{IsRule, rule_number};
-ghost use Rattle.semver_parser_c.specs.Sets.{IsSetOf, text_of};
+ghost use Rattle.semver_parser_c.specs.Faults.{named_faults, new_range_faults, range_faults};
+ghost use Rattle.semver_parser_c.specs.Sets.{text_of};
 
-use crate::{meeting, numbers, range_text};
+use crate::{numbers, range_text, readings};
 use semver_parser::version::Version;
 use std::alloc::{AllocError, Global};
+use tool_ranges::meaning;
 use version_sets::VersionSet;
 
-/// The set of a range text by the rule of a number, or the number of a fault.
-pub fn set_of(alloc: Global, range: &[u8], npm: bool, pre_releases: i32) -> Result<VersionSet, i32>
-    ensures accepted { IfOk result (λ set. IsRule pre_releases × IsUtf8 range.now
-        × HasSet (mode_of npm) range.now) }
-    ensures meaning { IfOk result (λ set. (rule : Rule) → pre_releases ≡ rule_number rule
-        → IsSetOf set rule (mode_of npm) range.now) }
-    ensures numbers { IfErr result (λ n. IsOneOf (number.no_such_rule ∷ range_faults) n) }
-    ensures no_such_rule { (number_of result ≡ number.no_such_rule) ↔ ¬ (IsRule pre_releases) }
-    ensures refusals { RefusesRange (IsRule pre_releases) (mode_of npm) range.now
-        (number_of result) }
+/// The set of the versions that a range text means, by the numbers of a reading and a rule, or the
+/// number of the fault.
+pub fn set_of(
+    alloc: Global,
+    range: &[u8],
+    reading: i32,
+    pre_releases: i32,
+) -> Result<VersionSet, i32>
+    ensures accepted { IfOk result (λ set. IsAccepted reading pre_releases range.now) }
+    ensures meaning { IfOk result (λ set. (m : Meaning) → IsNamed m reading pre_releases
+        → MeansAs m range.now set) }
+    ensures numbers { IfErr result (λ n. IsOneOf named_faults n) }
+    ensures refusals { RefusesRange reading pre_releases range.now (number_of result) }
 {
-    let Some(rule) = meeting::rule_of(pre_releases) else {
-        return Err(numbers::NO_SUCH_RULE);
+    let meaning = match readings::meaning_of(reading, pre_releases) {
+        Ok(meaning) => meaning,
+        Err(number) => return Err(number),
     };
     let Ok(text) = std::str::from_utf8(range) else {
         return Err(numbers::RANGE_NOT_UTF8);
     };
-    match VersionSet::of_text(alloc, text, range_text::mode(npm), rule) {
+    match meaning::read(alloc, meaning, text) {
         Ok(set) => Ok(set),
         Err(error) => Err(range_text::fault_number(&error)),
     }
 }
 
-/// The sets of an old and of a new range text by the rule of a number, or the number of a fault.
+/// The sets of an old and of a new range text, or the number of a fault.
 pub fn sets_of(
     alloc: Global,
     old_range: &[u8],
     new_range: &[u8],
-    npm: bool,
+    reading: i32,
     pre_releases: i32,
 ) -> Result<(VersionSet, VersionSet), i32>
-    ensures accepted { IfOk result (λ sets. IsRule pre_releases
-        × (IsUtf8 old_range.now × HasSet (mode_of npm) old_range.now)
-        × (IsUtf8 new_range.now × HasSet (mode_of npm) new_range.now)) }
-    ensures meaning { IfOk result (λ sets. (rule : Rule) → pre_releases ≡ rule_number rule
-        → IsSetOf sets.0 rule (mode_of npm) old_range.now
-        × IsSetOf sets.1 rule (mode_of npm) new_range.now) }
-    ensures numbers { IfErr result (λ n.
-        IsOneOf (number.no_such_rule ∷ range_faults ++ new_range_faults) n) }
-    ensures no_such_rule { (number_of result ≡ number.no_such_rule) ↔ ¬ (IsRule pre_releases) }
-    ensures refusals { RefusesRange (IsRule pre_releases) (mode_of npm) old_range.now
-        (number_of result) }
+    ensures accepted { IfOk result (λ sets. IsAccepted reading pre_releases old_range.now
+        × IsAccepted reading pre_releases new_range.now) }
+    ensures meaning { IfOk result (λ sets. (m : Meaning) → IsNamed m reading pre_releases
+        → MeansAs m old_range.now sets.0 × MeansAs m new_range.now sets.1) }
+    ensures numbers { IfErr result (λ n. IsOneOf (named_faults ++ new_range_faults) n) }
+    ensures refusals { RefusesRange reading pre_releases old_range.now (number_of result) }
     ensures new_refusals { RefusesNewRange
-        (IsRule pre_releases × RangeIsRead (mode_of npm) old_range.now (number_of result))
-        (mode_of npm) new_range.now (number_of result) }
+        (RangeIsRead reading pre_releases old_range.now (number_of result))
+        reading pre_releases new_range.now (number_of result) }
 {
-    let old_set = match set_of(alloc, old_range, npm, pre_releases) {
+    let old_set = match set_of(alloc, old_range, reading, pre_releases) {
         Ok(set) => set,
         Err(number) => return Err(number),
     };
-    match set_of(alloc, new_range, npm, pre_releases) {
+    match set_of(alloc, new_range, reading, pre_releases) {
         Ok(new_set) => Ok((old_set, new_set)),
         Err(number) => Err(number_of_new(number)),
     }

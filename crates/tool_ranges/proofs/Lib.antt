@@ -12,4 +12,4 @@ mod ToolRows
 mod NpmMeanings
 mod NpmSets
 mod NpmLaws
-mod ReadingLaws
+pub mod ReadingLaws

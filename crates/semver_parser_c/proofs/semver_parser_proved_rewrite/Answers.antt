@@ -1,22 +1,20 @@
-use Rattle.std.proofs.Common.{rules, ◌≡◌, ⊎_elim, inl, inr, refl, ◌∙◌, w32, to_z, of_z}
-use Rattle.semver_parser_c.proofs.Steps.{refused_range}
+use Rattle.std.proofs.Common.{rules, ◌≡◌, [], ◌∷◌, ⊎_elim, inl, inr, refl, sym, ◌∙◌, w32, to_z, of_z}
+use Rattle.std.proofs.Math.Facts.{to_z-of_z}
+use Rattle.semver_parser_c.specs.Numbers.{ok, no_room, range_out_of_memory}
+use Rattle.semver_parser_c.proofs.RangeFaults.{text_stands}
 use Rattle.semver_parser_c.proofs.semver_parser_proved_rewrite.Goals as goal
 
-pub returns-in-Err : goal.returns-in-Err
-returns-in-Err c =
-    let refused = refused_range _ _ _ c.in-Err.ensures.numbers c.in-Err.ensures.refusals in
-    record {
-      numbers = refused.numbers;
-      rewritten = λ put. absurd (refused.nothing put);
-      refusals = refused.refusals;
-      room_unchanged = λ _. refl;
-      length_unchanged = λ _. refl;
-    }
-
-pub returns-in-Ok-to_string-clause-numbers : goal.returns-in-Ok-to_string-clause-numbers
-returns-in-Ok-to_string-clause-numbers c =
+pub returns-in-Ok-to_string-clause-refusals : goal.returns-in-Ok-to_string-clause-refusals
+returns-in-Ok-to_string-clause-refusals c =
+    let n = to_z-of_z c.ranges.reading in
     let same : to_z w32 (of_z w32 c.put.result) ≡ c.put.result = search rules in
-    ⊎_elim (λ put. inl (same ∙ put.0)) (λ left. inr (inl (same ∙ left.0))) c.put.ensures.1
+    let (r, named, utf8, set) = c.in-Ok.ensures.accepted in
+    text_stands (ok ∷ no_room ∷ []) refl r _ _ _ _ same (⊎_elim (λ put. inl put.0) (λ left. inr (inl left.0)) c.put.ensures.1)
+    (sym n ∙ named) utf8 set
 
-pub returns-clause-numbers : goal.returns-clause-numbers
-returns-clause-numbers c = inr (inr (inr (inr (inr (inl refl)))))
+pub returns-clause-refusals : goal.returns-clause-refusals
+returns-clause-refusals c =
+    let n = to_z-of_z c.ranges.reading in
+    let (r, named, utf8, set) = c.in-Ok.ensures.accepted in
+    text_stands (range_out_of_memory ∷ []) refl r _ _ _ _ refl (inl refl)
+    (sym n ∙ named) utf8 set

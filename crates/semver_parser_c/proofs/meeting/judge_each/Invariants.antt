@@ -1,13 +1,12 @@
 use Rattle.std.proofs.Common.{◌≡◌, ◌<◌, ℕ, drop, get_or, IfSome, slice_get}
 use Rattle.semver_parser.specs.Texts.{Text}
-use Rattle.semver_parser.specs.declared.Compat.{Compat}
-use Rattle.release_filter.specs.declared.PreReleases.{PreReleases}
-use Rattle.semver_parser_c.specs.Rules.{IsAnswer, IsFilterOf}
+use Rattle.tool_ranges.specs.declared.meaning.Meaning.{Meaning}
+use Rattle.semver_parser_c.specs.Meetings.{IsAnswer, IsFilterOf}
 use Rattle.semver_parser_c.proofs.meeting.judge_each.Given as goal
 
 abbrev pub invariant-loop-at : goal.invariant-loop-at
 invariant-loop-at l = record {
-  said : (rule : PreReleases) (mode : Compat) (range : Text) → IsFilterOf l.fn.filter rule mode range
-      → (k : ℕ) → k < l.at → IfSome (slice_get l.versions k) (λ text. IsAnswer rule mode range text.now (get_or l.answers k 0));
+  said : (m : Meaning) (range : Text) → IsFilterOf l.fn.filter m range
+      → (k : ℕ) → k < l.at → IfSome (slice_get l.versions k) (λ text. IsAnswer m range text.now (get_or l.answers k 0));
   behind : drop l.at l.answers ≡ drop l.at l.initial.answers;
 }

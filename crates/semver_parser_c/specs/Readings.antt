@@ -1,0 +1,45 @@
+-- Readings of range texts and rules for pre-releases, by their numbers.
+use Rattle.std.specs.Prelude.{ℤ, ◌≡◌}
+use Rattle.semver_parser.specs.declared.Compat.TheVariants as compat
+use Rattle.version_sets.specs.declared.PreReleases.{PreReleases}
+use Rattle.version_sets.specs.declared.PreReleases.TheVariants.{Excluded, Stated, Included}
+use Rattle.tool_ranges.specs.declared.reading.Reading.{Reading}
+use Rattle.tool_ranges.specs.declared.reading.Reading.TheVariants as reading
+use Rattle.tool_ranges.specs.declared.meaning.Meaning.{Meaning}
+use Rattle.tool_ranges.specs.declared.meaning.Meaning.TheVariants.{Cargo, CargoReleases}
+use Rattle.tool_ranges.specs.declared.meaning.Meaning.TheVariants.{Npm, NpmReleases, Crate}
+use Rattle.tool_ranges.specs.Meanings.{reading_of}
+use Rattle.semver_parser_c.specs.Numbers as number
+
+-- the number of a reading
+abbrev pub reading_number : Reading → ℤ
+reading_number reading.Cargo = number.cargo
+reading_number reading.Npm = number.npm
+reading_number (reading.Crate compat.Cargo) = number.crate_cargo
+reading_number (reading.Crate compat.Npm) = number.crate_npm
+
+-- the number of a rule of the crate's reading
+abbrev pub crate_rule_number : PreReleases → ℤ
+crate_rule_number Excluded = number.releases_alone
+crate_rule_number Stated = number.stated_pre_releases
+crate_rule_number Included = number.all_pre_releases
+
+-- the number of the rule that a meaning has for pre-releases
+abbrev pub rule_number : Meaning → ℤ
+rule_number Cargo = number.pre_releases_of_tool
+rule_number CargoReleases = number.releases_alone
+rule_number Npm = number.pre_releases_of_tool
+rule_number NpmReleases = number.releases_alone
+rule_number (Crate mode rule) = crate_rule_number rule
+
+-- some reading has the number
+abbrev pub IsReading : ℤ → Type 0
+IsReading n = (r : Reading) × (n ≡ reading_number r)
+
+-- the numbers of a reading and of a rule name a meaning
+abbrev pub IsNamed : Meaning → ℤ → ℤ → Type 0
+IsNamed meaning n rule = (n ≡ reading_number (reading_of meaning)) × (rule ≡ rule_number meaning)
+
+-- they name some meaning: the reading has the rule
+abbrev pub IsMeaning : ℤ → ℤ → Type 0
+IsMeaning n rule = (meaning : Meaning) × IsNamed meaning n rule

@@ -1,0 +1,83 @@
+//! Readings of range texts, and what is meant by them, by the numbers that C has for them.
+
+ghost use Rattle.std.specs.Prelude.{◌≡◌, ◌⊎◌, IfOk, IfErr, MatchOption};
+ghost use Rattle.tool_ranges.specs.declared.meaning.Meaning.{Meaning};
+ghost use Rattle.version_sets.specs.declared.PreReleases.{PreReleases as Rule};
+ghost use Rattle.tool_ranges.specs.Meanings.{reading_of};
+ghost use Rattle.semver_parser_c.specs.Numbers as number;
+ghost use Rattle.semver_parser_c.specs.Readings.{IsMeaning, IsNamed, IsReading};
+ghost use Rattle.semver_parser_c.specs.Readings.{crate_rule_number, reading_number, rule_number};
+
+use crate::numbers;
+use semver_parser::Compat;
+use tool_ranges::meaning::Meaning;
+use tool_ranges::reading::Reading;
+use version_sets::PreReleases;
+
+/// What is meant by a reading and a rule for pre-releases, or the number of why there is none.
+pub fn meaning_of(reading: i32, pre_releases: i32) -> Result<Meaning, i32>
+    ensures named { IfOk result (λ m. IsNamed m reading pre_releases) }
+    ensures unnamed { IfErr result (λ n.
+        ((n ≡ number.no_such_reading) × (¬ (IsReading reading)))
+        ⊎ ((n ≡ number.no_such_rule) × IsReading reading
+        × (¬ (IsMeaning reading pre_releases)))) }
+{
+    let Some(reading) = reading_of(reading) else {
+        return Err(numbers::NO_SUCH_READING);
+    };
+    match meaning_by(reading, pre_releases) {
+        Some(meaning) => Ok(meaning),
+        None => Err(numbers::NO_SUCH_RULE),
+    }
+}
+
+/// The reading of a number.
+pub fn reading_of(number: i32) -> Option<Reading>
+    ensures { MatchOption result (¬ (IsReading number)) (λ reading.
+        number ≡ reading_number reading) }
+{
+    match number {
+        numbers::CARGO => Some(Reading::Cargo),
+        numbers::NPM => Some(Reading::Npm),
+        numbers::CRATE_CARGO => Some(Reading::Crate(Compat::Cargo)),
+        numbers::CRATE_NPM => Some(Reading::Crate(Compat::Npm)),
+        _ => None,
+    }
+}
+
+/// What is meant by a reading and the rule of a number.
+fn meaning_by(reading: Reading, rule: i32) -> Option<Meaning>
+    ensures { MatchOption result
+        (¬ ((m : Meaning) × (reading_of m ≡ reading) × (rule ≡ rule_number m)))
+        (λ m. (reading_of m ≡ reading) × (rule ≡ rule_number m)) }
+{
+    match reading {
+        Reading::Cargo => match rule {
+            numbers::PRE_RELEASES_OF_TOOL => Some(Meaning::Cargo),
+            numbers::RELEASES_ALONE => Some(Meaning::CargoReleases),
+            _ => None,
+        },
+        Reading::Npm => match rule {
+            numbers::PRE_RELEASES_OF_TOOL => Some(Meaning::Npm),
+            numbers::RELEASES_ALONE => Some(Meaning::NpmReleases),
+            _ => None,
+        },
+        Reading::Crate(compat) => match rule_of(rule) {
+            Some(rule) => Some(Meaning::Crate(compat, rule)),
+            None => None,
+        },
+    }
+}
+
+/// The rule of a number, of those that the crate's reading has.
+fn rule_of(number: i32) -> Option<PreReleases>
+    ensures { MatchOption result (¬ ((rule : Rule) × (number ≡ crate_rule_number rule)))
+        (λ rule. number ≡ crate_rule_number rule) }
+{
+    match number {
+        numbers::RELEASES_ALONE => Some(PreReleases::Excluded),
+        numbers::STATED_PRE_RELEASES => Some(PreReleases::Stated),
+        numbers::ALL_PRE_RELEASES => Some(PreReleases::Included),
+        _ => None,
+    }
+}

@@ -1,0 +1,159 @@
+/* Replays a table of a tool through the C library, by the reading that is this tool's own: tools
+ * cargo STDIN STDOUT, or tools npm STDIN STDOUT, where these are the files of crates/cargo_cases or
+ * of crates/npm_cases. Each line of STDIN is a range text, of which STDOUT has what it is rewritten
+ * to, or the word of its fault; or a range text, ` ? ` and versions, of which STDOUT has those that
+ * the range means. Ends with status 1 where a line differs. */
+#include "calls.h"
+
+#include <inttypes.h>
+#include <stdio.h>
+#include <string.h>
+
+static const char *fault_word(int32_t answer) {
+    switch (answer) {
+    case SEMVER_PARSER_NOT_A_RANGE: return "not-a-range";
+    case SEMVER_PARSER_NUMBER_TOO_LARGE: return "number-too-large";
+    default: return "another number";
+    }
+}
+
+static text string(const char *bytes, size_t length) {
+    text made = {NULL, 0, 0};
+    text_add(&made, bytes, length);
+    return made;
+}
+
+/* Whether a version text has a pre-release. */
+static bool has_pre_release(const text *version) {
+    semver_parser_version read;
+    return read_version(version, &read) == SEMVER_PARSER_OK && read.pre.length > 0;
+}
+
+/* Writes those versions of a list that meet a range by a rule, as the table does, or the word of
+ * the range's fault. The versions are parted by spaces. */
+static void say_meant(text *to, const text *range, int32_t reading, int32_t rule,
+                      const char *list) {
+    text_say(to, "means");
+    while (*list != 0) {
+        size_t length = strcspn(list, " ");
+        text version = string(list, length);
+        int32_t answer = meets(range, reading, rule, &version);
+        if (answer == SEMVER_PARSER_MEETS) {
+            text_say(to, " ");
+            text_add(to, version.bytes, version.length);
+        } else if (answer != SEMVER_PARSER_DOES_NOT_MEET) {
+            to->length = 0;
+            text_say(to, "%s", fault_word(answer));
+        }
+        text_free(&version);
+        list += length + strspn(list + length, " ");
+        if (answer > SEMVER_PARSER_MEETS) {
+            return;
+        }
+    }
+}
+
+/* What the table has, without the versions that have a pre-release. */
+static text releases_of(const char *expected) {
+    text kept = {NULL, 0, 0};
+    text_add(&kept, "", 0);
+    while (*expected != 0) {
+        size_t length = strcspn(expected, " ");
+        text word = string(expected, length);
+        if (!has_pre_release(&word)) {
+            text_say(&kept, kept.length > 0 ? " " : "");
+            text_add(&kept, word.bytes, word.length);
+        }
+        text_free(&word);
+        expected += length + strspn(expected + length, " ");
+    }
+    return kept;
+}
+
+static bool is_answer(const text *answer, const char *expected, const char *line, const char *how) {
+    if (strlen(expected) == answer->length
+        && memcmp(expected, answer->bytes, answer->length) == 0) {
+        return true;
+    }
+    printf("%s, %s\n  expected %s\n  answered %s\n", line, how, expected, answer->bytes);
+    return false;
+}
+
+/* Replays a line on what a range means: by the tool's own rule, and among releases alone. */
+static bool replay_meaning(const char *line, const char *versions, int32_t reading,
+                           const char *expected) {
+    text range = string(line, (size_t)(versions - line));
+    text of_tool = {NULL, 0, 0};
+    text alone = {NULL, 0, 0};
+    say_meant(&of_tool, &range, reading, SEMVER_PARSER_PRE_RELEASES_OF_TOOL, versions + 3);
+    say_meant(&alone, &range, reading, SEMVER_PARSER_RELEASES_ALONE, versions + 3);
+    text releases = releases_of(expected);
+    bool passed = is_answer(&of_tool, expected, line, "by the rule of the tool")
+                  && is_answer(&alone, releases.bytes, line, "among releases alone");
+    text_free(&releases);
+    text_free(&alone);
+    text_free(&of_tool);
+    text_free(&range);
+    return passed;
+}
+
+/* Replays a line on what a range is rewritten to, where it doesn't matter what `exact` says. */
+static bool replay_rewriting(const char *line, int32_t reading, const char *expected) {
+    text range = string(line, strlen(line));
+    bool passed = true;
+    for (int exact = 0; exact < 2; exact++) {
+        text printed = {NULL, 0, 0};
+        int32_t answer = rewrite(&range, reading, exact != 0, &printed, NULL);
+        if (answer != SEMVER_PARSER_OK) {
+            text_say(&printed, "%s", fault_word(answer));
+        }
+        passed &= is_answer(&printed, expected, line, exact != 0 ? "exact" : "not exact");
+        text_free(&printed);
+    }
+    text_free(&range);
+    return passed;
+}
+
+/* The line at a place, ended by a zero byte, and the place moved behind it. */
+static char *next_line(char **at) {
+    char *line = *at;
+    char *end = strchr(line, '\n');
+    if (end == NULL) {
+        *at = line + strlen(line);
+    } else {
+        *end = 0;
+        *at = end + 1;
+    }
+    return line;
+}
+
+int main(int count, char **arguments) {
+    bool is_cargo = count == 4 && strcmp(arguments[1], "cargo") == 0;
+    if (!is_cargo && !(count == 4 && strcmp(arguments[1], "npm") == 0)) {
+        fprintf(stderr, "tools cargo STDIN STDOUT, or tools npm STDIN STDOUT\n");
+        return 2;
+    }
+    int32_t reading = is_cargo ? SEMVER_PARSER_CARGO : SEMVER_PARSER_NPM;
+    text lines = text_of_file(arguments[2]);
+    text answers = text_of_file(arguments[3]);
+    char *at = lines.bytes;
+    char *answer_at = answers.bytes;
+    int rewritten = 0;
+    int meant = 0;
+    int failed = 0;
+    while (*at != 0 && *answer_at != 0) {
+        const char *line = next_line(&at);
+        const char *expected = next_line(&answer_at);
+        const char *versions = strstr(line, " ? ");
+        bool passed = versions != NULL ? replay_meaning(line, versions, reading, expected)
+                                       : replay_rewriting(line, reading, expected);
+        rewritten += passed && versions == NULL;
+        meant += passed && versions != NULL;
+        failed += !passed;
+    }
+    bool is_whole = *at == 0 && *answer_at == 0;
+    printf("%s: %d rewritten, %d meant, %d failed\n", arguments[1], rewritten, meant, failed);
+    text_free(&lines);
+    text_free(&answers);
+    return is_whole && failed == 0 && rewritten > 80 && meant >= 50 ? 0 : 1;
+}
