@@ -1,11 +1,11 @@
 #!/usr/bin/env python3
 """Lists the versions of a lock file of npm that aren't what is asked for.
 
-    check_lock_file.py PACKAGE-LOCK.JSON
+    check_lock_file.py [--strict] [--package-json FILE] PACKAGE-LOCK.JSON
 
-It reads files of lockfileVersion 1, 2 and 3, and judges by the port's npm mode, and by the rule that
-a pre-release meets a range only where a term of it states the same numbers and a pre-release.
-It needs the package `semver_parser`, which `./install --python` puts.
+It reads files of lockfileVersion 1, 2 and 3, and judges by npm's own reading of ranges, with its
+rule for pre-releases. A `-` is standard input. It needs the package `semver_parser`, which
+`./install --python` puts.
 
 WHO ASKS. Each package asks for its `dependencies`, `optionalDependencies` and `peerDependencies`,
 and the project and its workspaces, which lie below no `node_modules`, for their `devDependencies`
@@ -16,300 +16,244 @@ isn't in such a file.
 WHAT IS FOUND. The nearest package of the name: in the package's own `node_modules`, or else in
 that of a folder round it. A peer is looked for from the folder round the package on; those of the
 project and its workspaces, round which there is none, lie in their own. A link is followed. What
-isn't found has no version, and nothing is said of it: `npm ls` tells what is missing.
+isn't found has no version, and without `--strict` nothing is said of it.
+
+OVERRIDES. They don't stand in a lock file, but in the project's package.json. It is looked for
+beside the lock file, unless `--package-json` names one; beside standard input there is none. What
+an override replaces is judged by what the override asks for.
 
 OUTPUT. Standard output has a line for each version that isn't what is asked for, in the order of
 the file:
 
     RANGE<TAB>VERSION<TAB>WHO asks for NAME
 
-WHO is the place of a package, or `the project`. `npm:NAME@RANGE` is judged by its range. A text
-that is no version is never what is asked for. Standard error has a line for what can't be judged,
-which is no failure: what is asked for is no range but a tag, an address or a path, or the package
-that is found has no version or, in lockfileVersion 1, an address for one:
+WHO is the place of a package, or `the project`. `npm:NAME@RANGE` is judged by its range. A fourth
+field tells what else there is to know:
+
+    RANGE<TAB>VERSION<TAB>WHO asks for NAME<TAB>overridden
+    npm:NAME@RANGE<TAB>OTHER NAME<TAB>WHO asks for NAME<TAB>another package
+    <TAB>VERSION<TAB>PLACE<TAB>no version
+
+The range of the first is that of an override. The second tells that the package which is found has
+another name than is asked for, and the third that npm takes the text of a version for none. Such a
+text is never what is asked for. Standard error has a line for what can't be judged, which is no
+failure: what is asked for is no range but a tag, an address or a path, or the package that is found
+has no version or, in lockfileVersion 1, an address for one:
 
     passed over<TAB>NAME<TAB>SPEC
 
+With `--strict` that is a failure, and so is a package that isn't there and isn't optional.
+Standard output has their lines then:
+
+    SPEC<TAB>VERSION<TAB>WHO asks for NAME<TAB>passed over
+    SPEC<TAB><TAB>WHO asks for NAME<TAB>not there
+
 Backslashes and control characters in these texts are written as JSON writes them.
 
-STATUS. 0 where nothing is wrong, 1 where something is, 2 where the file can't be read or isn't such
-a lock file, which one line on standard error tells.
+STATUS. 0 where nothing is wrong, 1 where something is, 2 where a file can't be read or isn't such
+a file, or the program is misused, which one line on standard error tells.
 
-The overrides of a project and `acceptDependencies` aren't looked at: what they let in is listed.
+The `acceptDependencies` of a project aren't looked at: what they let in is listed.
 """
 
-import json
 import os
 import sys
-from typing import Any, Dict, Iterator, List, NamedTuple, NoReturn, Optional, Tuple
+from typing import List, NamedTuple, Optional, Tuple
 
-try:
-    from semver_parser import Compat, PreReleases, RangeError, VersionError, meets
-except ImportError as error:
-    print(f"check_lock_file.py: {error}", file=sys.stderr)
-    sys.exit(2)
+from checking import (
+    STANDARD_INPUT,
+    Entry,
+    Misuse,
+    Options,
+    Program,
+    is_met,
+    is_version,
+    object_at,
+    read_object,
+    run,
+    taking,
+    tell_fault,
+    tell_passed_over,
+    text_at,
+)
+from npm_lock import (
+    ASKS_OF_OLD_PROJECTS,
+    Ask,
+    alias_of,
+    asks_at,
+    is_pinned,
+    packages_of,
+    range_of,
+    version_at,
+)
+from npm_overrides import Rule, rule_for, rules_of, where_rules_hold
+from semver_parser import Reading
 
-Entry = Dict[str, Any]
+PAGE = """\
+usage: check_lock_file.py [--strict] [--package-json FILE] PACKAGE-LOCK.JSON
 
-ASKS_OF_EACH = ("dependencies", "optionalDependencies", "peerDependencies")
-ASKS_OF_TOPS = (*ASKS_OF_EACH, "devDependencies")
+Lists the versions of a lock file of npm that aren't what is asked for, by npm's
+own reading of ranges. - is standard input.
+
+    --strict             what can't be judged, and a package that isn't there
+                         and isn't optional, count and are listed
+    --package-json FILE  take the overrides from this package.json, and not from
+                         that beside the lock file
+    -h, --help           write this
+    --                   end the options
+
+Its status is 0 where nothing is wrong, 1 where something is listed, and 2 after
+a fault, which standard error tells."""
+
+# What npm's semver lets stand round a version, and how long and how great one may be.
+BLANKS = (
+    "\t\n\v\f\r \u00a0\u1680\u2000\u2001\u2002\u2003\u2004\u2005\u2006\u2007\u2008\u2009"
+    "\u200a\u2028\u2029\u202f\u205f\u3000\ufeff"
+)
+LONGEST_VERSION = 256
+GREATEST_NUMBER = 2**53 - 1
 
 
-class NoLockFile(Exception):
-    """The file isn't such a lock file: why."""
+class Judgement(NamedTuple):
+    """How what is asked for was judged: by which text, whether that is an override, whether the
+    package has the name that it asks for, and whether its version is met, if that can be told."""
 
-
-class Ask(NamedTuple):
-    """Who asks for what, as the file has it, and the version that is found, where it has one."""
-
-    place: str
-    name: str
     spec: str
-    version: Optional[str]
+    is_overridden: bool
+    has_name: bool
+    is_met: Optional[bool]
 
 
-# ---- what the file has
+# ---- the files
 
 
-def refuse_constant(name: str) -> NoReturn:
-    """Refuses what Python reads as JSON, and JSON hasn't."""
-    raise ValueError(f"{name} isn't JSON")
+def manifest_path(options: Options) -> Optional[str]:
+    """Where the project's package.json is, if there is one."""
+    named = options.given.get("--package-json")
+    if named == STANDARD_INPUT == options.path:
+        raise Misuse("both files are standard input")
+    if named is not None or options.path == STANDARD_INPUT:
+        return named
+    beside = os.path.join(os.path.dirname(options.path), "package.json")
+    return beside if os.path.exists(beside) else None
 
 
-def read(path: str) -> Entry:
-    """What the file holds."""
-    try:
-        with open(path, "rb") as file:
-            return object_at(json.loads(file.read(), parse_constant=refuse_constant), "the file")
-    except OSError as error:
-        raise NoLockFile(f"it can't be read: {error.strerror}") from None
-    except json.JSONDecodeError as error:
-        raise NoLockFile(f"it isn't JSON: line {error.lineno} column {error.colno}") from None
-    except ValueError:
-        raise NoLockFile("it isn't JSON") from None
-
-
-def object_at(value: Any, where: str) -> Entry:
-    """An object of the file."""
-    if isinstance(value, dict):
-        return value
-    raise NoLockFile(f"it is no lock file: {where} isn't an object")
-
-
-def objects_at(value: Any, where: str) -> Dict[str, Entry]:
-    """An object of the file that holds objects."""
-    entries = object_at(value, where)
-    return {key: object_at(entry, f"{where}: {key}") for key, entry in entries.items()}
-
-
-def text_at(value: Any, where: str) -> str:
-    """A text of the file."""
-    if isinstance(value, str):
-        return value
-    raise NoLockFile(f"it is no lock file: {where} isn't a text")
-
-
-def specs_at(entry: Entry, kind: str, where: str) -> Iterator[Tuple[str, str]]:
-    """The names that an entry asks for in one way, each with what is asked for."""
-    for name, spec in object_at(entry[kind], f"{where}: {kind}").items():
-        yield name, text_at(spec, f"{where}: {kind}: {name}")
-
-
-def asks_of(lock: Entry) -> Iterator[Ask]:
-    """All that is asked for, in the order of the file."""
-    version = lock.get("lockfileVersion")
-    if version in (2, 3) and type(version) is int:
-        return asks_of_packages(objects_at(lock.get("packages"), "packages"))
-    if version == 1 and type(version) is int:
-        return asks_of_nested(lock, "", [])
-    raise NoLockFile("it is no lock file of lockfileVersion 1, 2 or 3")
-
-
-# ---- lockfileVersion 2 and 3: a map from places to packages
-
-
-def folders(place: str) -> Iterator[str]:
-    """The folders from a place upward, itself first, up to the project.
-
-    Of a place outside the project, as `../other`, they end where only `..` is left.
-    """
-    parts = place.split("/") if place else []
-    while parts and parts[-1] != "..":
-        if parts[-1] != "node_modules":
-            yield "/".join(parts)
-        parts.pop()
-    yield "/".join(parts)
-
-
-def inside(folder: str, name: str) -> str:
-    """The place of a name in the `node_modules` of a folder."""
-    return f"{folder}/node_modules/{name}" if folder else f"node_modules/{name}"
-
-
-def is_top(place: str) -> bool:
-    """Whether a place is the project, a workspace or what else lies below no `node_modules`."""
-    return "node_modules" not in place.split("/")
-
-
-def folder_round(place: str) -> str:
-    """The folder whose `node_modules` has the package."""
-    parts = place.split("/")
-    while parts.pop() != "node_modules":
-        pass
-    return "/".join(parts)
-
-
-def followed(packages: Dict[str, Entry], place: str) -> Optional[Entry]:
-    """The package at a place, behind its links; None where a link leads nowhere."""
-    seen = set()
-    while packages[place].get("link"):
-        seen.add(place)
-        place = text_at(packages[place].get("resolved"), f"{place}: resolved")
-        if place in seen or place not in packages:
-            return None
-    return packages[place]
-
-
-def asks_of_packages(packages: Dict[str, Entry]) -> Iterator[Ask]:
-    """What the packages ask for, of which something is found."""
-    for place, entry in packages.items():
-        if entry.get("link"):
-            continue
-        for kind, name, spec in asked_at(place, entry):
-            is_peer = kind == "peerDependencies" and not is_top(place)
-            start = folder_round(place) if is_peer else place
-            places = (inside(folder, name) for folder in folders(start))
-            found = next((it for it in places if it in packages), None)
-            if found is not None:
-                yield Ask(place, name, spec, version_at(followed(packages, found), found))
-
-
-def asked_at(place: str, entry: Entry) -> Iterator[Tuple[str, str, str]]:
-    """What the package at a place asks for: in which way, for which name, and for what."""
-    where = place or "the project"
-    optional = object_at(entry.get("optionalDependencies", {}), f"{where}: optionalDependencies")
-    for kind in entry:
-        if kind in (ASKS_OF_TOPS if is_top(place) else ASKS_OF_EACH):
-            for name, spec in specs_at(entry, kind, where):
-                if kind != "dependencies" or name not in optional:
-                    yield kind, name, spec
-
-
-def version_at(entry: Optional[Entry], where: str) -> Optional[str]:
-    """The version of a package, where it has one."""
-    if entry is None or "version" not in entry:
-        return None
-    return text_at(entry["version"], f"{where}: version")
-
-
-# ---- lockfileVersion 1: packages inside packages
-
-
-def asks_of_nested(holder: Entry, place: str, scopes: List[Dict[str, Entry]]) -> Iterator[Ask]:
-    """What the packages inside a package or the project ask for, of which something is found.
-
-    The scopes are the packages inside those round the holder, the outermost first.
-    """
-    where = f"{place}: dependencies" if place else "dependencies"
-    packages = objects_at(holder.get("dependencies", {}), where)
-    for name, entry in packages.items():
-        its_place = inside(place, name)
-        its_scopes = [*scopes, packages]
-        for key, value in entry.items():
-            if key == "requires" and not isinstance(value, bool):
-                yield from asks_of_one(entry, its_place, its_scopes)
-            elif key == "dependencies":
-                yield from asks_of_nested(entry, its_place, its_scopes)
-
-
-def asks_of_one(entry: Entry, place: str, scopes: List[Dict[str, Entry]]) -> Iterator[Ask]:
-    """What one package of lockfileVersion 1 asks for."""
-    own = objects_at(entry.get("dependencies", {}), f"{place}: dependencies")
-    for name, spec in specs_at(entry, "requires", place):
-        found = next((scope[name] for scope in (own, *reversed(scopes)) if name in scope), None)
-        if found is not None:
-            version = version_at(found, f"{name} for {place}")
-            yield Ask(place, name, spec, version and stated_version(version))
-
-
-def stated_version(version: str) -> Optional[str]:
-    """The version in what stands in its place in lockfileVersion 1; None for an address."""
-    if version.startswith("npm:"):
-        version = alias_range(version) or ""
-    return None if ":" in version or "/" in version else version
+def read_manifest(path: Optional[str]) -> Tuple[Entry, Rule]:
+    """The project's package.json, and the rules of its overrides."""
+    if path is None:
+        return {}, rules_of({})
+    with taking(path, "package.json"):
+        manifest = read_object(path)
+        for kind in ASKS_OF_OLD_PROJECTS:
+            for name, spec in object_at(manifest.get(kind, {}), kind).items():
+                text_at(spec, f"{kind}: {name}")
+        return manifest, rules_of(manifest)
 
 
 # ---- the judgement
 
 
-def alias_range(spec: str) -> Optional[str]:
-    """The range of `npm:NAME@RANGE`, empty where there is none; None where it is no alias."""
-    if spec[:4].lower() != "npm:" or len(spec) == 4:
-        return None
-    at = spec.find("@", 5)
-    return spec[at + 1 :] if at >= 0 else ""
+def npm_version(text: str) -> Optional[str]:
+    """The version that npm's semver reads strictly from a text, if it does."""
+    bare = text.strip(BLANKS)
+    bare = bare[1:] if bare.startswith("v") else bare
+    is_one = len(text) <= LONGEST_VERSION and is_version(bare, GREATEST_NUMBER)
+    return bare if is_one else None
 
 
-def is_met(ask: Ask) -> Optional[bool]:
-    """Whether the version that is found is what is asked for; None where it can't be judged."""
-    alias = alias_range(ask.spec)
-    wanted = ask.spec if alias is None else alias
-    try:
-        return meets(wanted, ask.version or "", Compat.NPM, PreReleases.STATED)
-    except RangeError:
-        return None
-    except VersionError:
-        return None if ask.version is None else False
+def judged_by(spec: str, is_overridden: bool, ask: Ask) -> Judgement:
+    """The judgement of what is found by a text."""
+    alias = alias_of(spec)
+    name, version = (None, None) if ask.found is None else ask.found[1:]
+    has_name = alias is None or name is None or alias[0] == name
+    met = None
+    if version is not None:
+        bare = npm_version(version)
+        wanted = range_of(spec)
+        # So what is no range stays told apart from a version that is none.
+        met = is_met(wanted, bare or "0.0.0", Reading.NPM)
+        met = False if bare is None and met is not None else met
+    return Judgement(spec, is_overridden, has_name, met)
 
 
-def escaped(text: str) -> str:
-    """A text in which backslashes and control characters are written as JSON writes them."""
-    return "".join(json.dumps(it)[1:-1] if it < " " or it == "\\" else it for it in text)
+def judged(ask: Ask, rules: List[Rule], is_pinned: bool) -> Judgement:
+    """The judgement of what is found: of the ways in which who asks is reached, the one by which
+    the most is right."""
+    return max(
+        (judged_under(ask, rule, is_pinned) for rule in rules),
+        key=lambda it: (it.has_name, it.is_met is not False, it.is_met is not None),
+    )
 
 
-def check(path: str) -> int:
-    """Writes what isn't as it is asked for, and what is passed over. The status."""
-    status = 0
-    for ask in list(asks_of(read(path))):
-        met = is_met(ask)
-        who, name = escaped(ask.place or "the project"), escaped(ask.name)
-        if met is None:
-            print(f"passed over\t{name}\t{escaped(ask.spec)}", file=sys.stderr)
-        elif not met:
-            print(f"{escaped(ask.spec)}\t{escaped(ask.version or '')}\t{who} asks for {name}")
-            status = 1
-    sys.stdout.flush()
-    return status
+def judged_under(ask: Ask, here: Rule, is_pinned: bool) -> Judgement:
+    """The judgement of what is found where a rule holds. The project itself asks for what it asks
+    for: npm refuses an override that differs."""
+    version = None if ask.found is None else ask.found.version
+    rule = rule_for(here, ask.name, ask.range, version)
+    if rule is None or rule.spec is None or is_pinned or not ask.place:
+        return judged_by(ask.spec, False, ask)
+    return judged_by(rule.spec, rule.spec != ask.spec, ask)
 
 
-def open_output() -> None:
-    """Has texts written as UTF-8, wherever the program runs, and what is closed take nothing."""
-    sys.stdout = sys.stdout or open(os.devnull)
-    sys.stderr = sys.stderr or open(os.devnull, "w")
-    for stream in (sys.stdout, sys.stderr):
-        stream.reconfigure(encoding="utf-8", errors="backslashreplace", newline="\n")
+# ---- the lines
 
 
-def main(arguments: List[str]) -> int:
-    """The status: 0, 1 or 2, as is told above."""
-    open_output()
-    if len(arguments) != 2:
-        print("usage: check_lock_file.py PACKAGE-LOCK.JSON", file=sys.stderr)
-        return 2
-    try:
-        return check(arguments[1])
-    except NoLockFile as error:
-        why = str(error)
-    except RecursionError:
-        why = "it is no lock file: it is nested too deep"
-    except MemoryError:
-        why = "out of memory"
-    except OSError as error:
-        why = f"the output can't be written: {error.strerror or error}"
-        os.dup2(os.open(os.devnull, os.O_WRONLY), 1)
-    print(f"check_lock_file.py: {escaped(arguments[1])}: {escaped(why)}", file=sys.stderr)
-    return 2
+def tell(ask: Ask, judgement: Judgement, is_strict: bool) -> bool:
+    """Writes what there is to say of what is asked for. Whether something is wrong."""
+    who = f"{ask.place or 'the project'} asks for {ask.name}"
+    spec = judgement.spec
+    if ask.found is None:
+        is_wrong = is_strict and ask.is_required
+        if is_wrong:
+            tell_fault(spec, "", who, "not there")
+        return is_wrong
+    version = ask.found.version or ""
+    if not judgement.has_name:
+        tell_fault(spec, ask.found.name or "", who, "another package")
+    if judgement.is_met is False:
+        tell_fault(spec, version, who, "overridden" if judgement.is_overridden else "")
+    elif judgement.is_met is None and is_strict:
+        tell_fault(spec, version, who, "passed over")
+    elif judgement.is_met is None:
+        tell_passed_over(ask.name, spec)
+    return not judgement.has_name or judgement.is_met is False or (
+        judgement.is_met is None and is_strict
+    )
 
+
+def tell_version(place: str, version: Optional[str]) -> bool:
+    """Writes where a package has a version that npm wouldn't take. Whether it has."""
+    if version is None or npm_version(version) is not None:
+        return False
+    tell_fault("", version, place or "the project", "no version")
+    return True
+
+
+def check(options: Options) -> int:
+    """Writes what is wrong with a lock file, and what is passed over. The status."""
+    manifest_at = manifest_path(options)
+    with taking(options.path, "lock file"):
+        lock = read_object(options.path)
+    manifest, outermost = read_manifest(manifest_at)
+    with taking(options.path, "lock file"):
+        packages = packages_of(lock, manifest)
+        asks = {place: list(asks_at(packages, place)) for place in packages}
+        versions = {
+            place: None if entry.get("link") else version_at(entry, place or "the project")
+            for place, entry in packages.items()
+        }
+        held = where_rules_hold(packages, asks, outermost)
+    is_strict = "--strict" in options.given
+    wrong = False
+    for place in packages:
+        wrong |= tell_version(place, versions[place])
+        for ask in asks[place]:
+            pinned = ask.found is not None and is_pinned(packages, ask.found.place)
+            wrong |= tell(ask, judged(ask, held[place], pinned), is_strict)
+    return int(wrong)
+
+
+PROGRAM = Program("check_lock_file.py", PAGE, {"--strict": False, "--package-json": True}, check)
 
 if __name__ == "__main__":
-    sys.exit(main(sys.argv))
+    sys.exit(run(PROGRAM, sys.argv[1:]))
