@@ -1,4 +1,4 @@
-// Compares npm's own reading with node-semver, by PROGRAM, which is the built `npm_cases`.
+// Compares npm's own reading with node-semver, by PROGRAM, which is the built `tool_cases`.
 //
 // `node npm-with-node-semver.js PROGRAM COUNT SEED` makes COUNT texts by the grammar, COUNT that are
 // changed at a place, and all texts of a few characters. It asks whether each is read, and of those
@@ -111,7 +111,7 @@ function compare (program, what, all, versionsOf) {
   const accidents = new Map()
   for (let at = 0; at < all.length; at += BATCH) {
     const batch = all.slice(at, at + BATCH).map((of) => ({ of, versions: versionsOf(of) }))
-    const told = answers(program, batch.map(({ of, versions }) => `${of} ? ${versions.join(' ')}`), '')
+    const told = answers(program, batch.map(({ of, versions }) => `${of} ? ${versions.join(' ')}`), 'npm ')
     batch.forEach(({ of, versions }, place) => {
       const [range, answer] = [rangeOf(of), told[place]]
       counts.texts++

@@ -2,8 +2,8 @@
 
 `crates/replayed_cases` of the checkout has the rows in its `stdin` and the wanted answers in its
 `stdout`; its calls read ranges by the crate's readings. How texts are escaped is told by its
-`src/text.rt`. `crates/cargo_cases` and `crates/npm_cases` have those of Cargo's own reading and of
-npm's own, which were made beside these tools.
+`src/text.rt`. `crates/tool_cases` has those of Cargo's own reading and of npm's own, which were
+made beside these tools.
 """
 
 import re
@@ -26,6 +26,7 @@ from semver_parser import (
 
 CRATES = Path(__file__).resolve().parents[2] / "crates"
 CASES = CRATES / "replayed_cases"
+TOOL_CASES = CRATES / "tool_cases"
 
 _ESCAPES = {"n": "\n", "r": "\r", "t": "\t", "\\": "\\"}
 
@@ -100,12 +101,14 @@ def rows() -> Iterator[Row]:
         yield Row(call, expanded(text), expanded(steps), answer[len(name) + 2 :])
 
 
-def rows_of_tool(name: str) -> Iterator[Tuple[str, str]]:
-    """All rows of the table of a tool, `cargo` or `npm`: what is asked, and what is wanted."""
-    files = [CRATES / f"{name}_cases" / file for file in ("stdin", "stdout")]
-    asked, wanted = (file.read_bytes().decode().split("\n") for file in files)
-    assert len(asked) == len(wanted) and asked.pop() == wanted.pop() == ""
-    yield from zip(asked, wanted)
+def rows_of_tools() -> Iterator[Tuple[str, str, str]]:
+    """All rows of the tools: `cargo` or `npm`, what is asked, and what is wanted."""
+    lines = (TOOL_CASES / "stdin").read_bytes().decode().split("\n")
+    wanted = (TOOL_CASES / "stdout").read_bytes().decode().split("\n")
+    assert len(lines) == len(wanted) and lines.pop() == wanted.pop() == ""
+    for line, answer in zip(lines, wanted):
+        tool, _, asked = line.partition(" ")
+        yield tool, asked, answer
 
 
 def _reading(npm: bool) -> Reading:

@@ -3,7 +3,7 @@
 import unittest
 from collections import Counter
 from typing import Counter as Counts
-from typing import List
+from typing import List, Tuple
 
 from semver_parser import (
     Filter,
@@ -14,9 +14,10 @@ from semver_parser import (
     parse_range,
     parse_version,
 )
-from tests.table import answer, checksum, rows, rows_of_tool
+from tests.table import answer, checksum, rows, rows_of_tools
 
 _SUM = "sum-of-"
+_READINGS_OF_TOOLS = {"cargo": Reading.CARGO, "npm": Reading.NPM}
 
 
 class Table(unittest.TestCase):
@@ -43,18 +44,19 @@ class Tools(unittest.TestCase):
     """The rows that were made beside Cargo's `semver` and beside node-semver, by their readings."""
 
     def test_rows(self) -> None:
-        for name, reading in (("cargo", Reading.CARGO), ("npm", Reading.NPM)):
-            counts: Counts[str] = Counter()
-            for asked, wanted in rows_of_tool(name):
-                text, question, versions = asked.partition(" ? ")
-                with self.subTest(tool=name, asked=asked):
-                    if question:
-                        self.check_meaning(text, reading, versions.split(" "), wanted)
-                    else:
-                        self.check_rewriting(text, reading, wanted)
-                counts["meant" if question else "rewritten"] += 1
-            self.assertGreater(counts["rewritten"], 80)
-            self.assertGreaterEqual(counts["meant"], 50)
+        counts: Counts[Tuple[str, str]] = Counter()
+        for tool, asked, wanted in rows_of_tools():
+            text, question, versions = asked.partition(" ? ")
+            with self.subTest(tool=tool, asked=asked):
+                reading = _READINGS_OF_TOOLS[tool]
+                if question:
+                    self.check_meaning(text, reading, versions.split(" "), wanted)
+                else:
+                    self.check_rewriting(text, reading, wanted)
+            counts[tool, "meant" if question else "rewritten"] += 1
+        for tool in _READINGS_OF_TOOLS:
+            self.assertGreater(counts[tool, "rewritten"], 80)
+            self.assertGreaterEqual(counts[tool, "meant"], 50)
 
     def check_rewriting(self, text: str, reading: Reading, wanted: str) -> None:
         """By a tool's own reading bounds are exact, whatever is asked for."""

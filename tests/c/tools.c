@@ -1,13 +1,23 @@
-/* Replays a table of a tool through the C library, by the reading that is this tool's own: tools
- * cargo STDIN STDOUT, or tools npm STDIN STDOUT, where these are the files of crates/cargo_cases or
- * of crates/npm_cases. Each line of STDIN is a range text, of which STDOUT has what it is rewritten
- * to, or the word of its fault; or a range text, ` ? ` and versions, of which STDOUT has those that
- * the range means. Ends with status 1 where a line differs. */
+/* Replays the table of the tools through the C library: tools STDIN STDOUT, where these are the
+ * files of crates/tool_cases. Each line of STDIN begins with `cargo ` or `npm `, which names the
+ * reading that it is asked by. Behind that stands a range text, of which STDOUT has what it is
+ * rewritten to, or the word of its fault; or a range text, ` ? ` and versions, of which STDOUT has
+ * those that the range means. Ends with status 1 where a line differs or begins otherwise, and
+ * where a tool has few lines. */
 #include "calls.h"
 
 #include <inttypes.h>
 #include <stdio.h>
 #include <string.h>
+
+/* The name that a tool's lines begin with, its reading, and how many of them passed and failed. */
+typedef struct {
+    const char *name;
+    int32_t reading;
+    int rewritten;
+    int meant;
+    int failed;
+} tool;
 
 static const char *fault_word(int32_t answer) {
     switch (answer) {
@@ -114,6 +124,35 @@ static bool replay_rewriting(const char *line, int32_t reading, const char *expe
     return passed;
 }
 
+/* The tool of a line, or NULL. */
+static tool *tool_of(tool *tools, int count, const char *line) {
+    size_t length = strcspn(line, " ");
+    for (int at = 0; line[length] == ' ' && at < count; at++) {
+        if (strlen(tools[at].name) == length && memcmp(line, tools[at].name, length) == 0) {
+            return &tools[at];
+        }
+    }
+    printf("%s\n  begins with no tool\n", line);
+    return NULL;
+}
+
+/* Replays what stands behind the name in a tool's line, and counts it. */
+static void replay(tool *of, const char *line, const char *expected) {
+    const char *versions = strstr(line, " ? ");
+    bool passed = versions != NULL ? replay_meaning(line, versions, of->reading, expected)
+                                   : replay_rewriting(line, of->reading, expected);
+    of->rewritten += passed && versions == NULL;
+    of->meant += passed && versions != NULL;
+    of->failed += !passed;
+}
+
+/* Tells of a tool's lines, and answers whether all passed and there were enough. */
+static bool is_whole(const tool *of) {
+    printf("%s: %d rewritten, %d meant, %d failed\n", of->name, of->rewritten, of->meant,
+           of->failed);
+    return of->failed == 0 && of->rewritten > 80 && of->meant >= 50;
+}
+
 /* The line at a place, ended by a zero byte, and the place moved behind it. */
 static char *next_line(char **at) {
     char *line = *at;
@@ -128,32 +167,30 @@ static char *next_line(char **at) {
 }
 
 int main(int count, char **arguments) {
-    bool is_cargo = count == 4 && strcmp(arguments[1], "cargo") == 0;
-    if (!is_cargo && !(count == 4 && strcmp(arguments[1], "npm") == 0)) {
-        fprintf(stderr, "tools cargo STDIN STDOUT, or tools npm STDIN STDOUT\n");
+    if (count != 3) {
+        fprintf(stderr, "tools STDIN STDOUT\n");
         return 2;
     }
-    int32_t reading = is_cargo ? SEMVER_PARSER_CARGO : SEMVER_PARSER_NPM;
-    text lines = text_of_file(arguments[2]);
-    text answers = text_of_file(arguments[3]);
-    char *at = lines.bytes;
+    tool tools[] = {{"cargo", SEMVER_PARSER_CARGO, 0, 0, 0}, {"npm", SEMVER_PARSER_NPM, 0, 0, 0}};
+    text lines = text_of_file(arguments[1]);
+    text answers = text_of_file(arguments[2]);
+    char *line_at = lines.bytes;
     char *answer_at = answers.bytes;
-    int rewritten = 0;
-    int meant = 0;
-    int failed = 0;
-    while (*at != 0 && *answer_at != 0) {
-        const char *line = next_line(&at);
+    bool passed = true;
+    while (*line_at != 0 && *answer_at != 0) {
+        const char *line = next_line(&line_at);
         const char *expected = next_line(&answer_at);
-        const char *versions = strstr(line, " ? ");
-        bool passed = versions != NULL ? replay_meaning(line, versions, reading, expected)
-                                       : replay_rewriting(line, reading, expected);
-        rewritten += passed && versions == NULL;
-        meant += passed && versions != NULL;
-        failed += !passed;
+        tool *of = tool_of(tools, 2, line);
+        if (of != NULL) {
+            replay(of, line + strlen(of->name) + 1, expected);
+        }
+        passed &= of != NULL;
     }
-    bool is_whole = *at == 0 && *answer_at == 0;
-    printf("%s: %d rewritten, %d meant, %d failed\n", arguments[1], rewritten, meant, failed);
+    passed &= *line_at == 0 && *answer_at == 0;
+    for (int at = 0; at < 2; at++) {
+        passed &= is_whole(&tools[at]);
+    }
     text_free(&lines);
     text_free(&answers);
-    return is_whole && failed == 0 && rewritten > 80 && meant >= 50 ? 0 : 1;
+    return passed ? 0 : 1;
 }

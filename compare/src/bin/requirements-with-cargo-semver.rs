@@ -2,7 +2,7 @@
 //! is read, which releases meet what it is rewritten to, and which versions it means, releases and
 //! pre-releases at and round the numbers that it states.
 //!
-//! `requirements-with-cargo-semver PROGRAM COUNT SEED`, where PROGRAM is the built `cargo_cases`,
+//! `requirements-with-cargo-semver PROGRAM COUNT SEED`, where PROGRAM is the built `tool_cases`,
 //! makes COUNT texts, by the grammar and changed at one place. Their numbers stay small, so that none
 //! is too large. `requirements-with-cargo-semver PROGRAM --texts TEXTS VERSIONS` takes the lines of
 //! two files. It prints the first difference, and then ends with status 1.
@@ -105,12 +105,12 @@ fn version(numbers: &[u64], pre: &str) -> Version {
     Version { pre, ..Version::new(numbers[0], numbers[1], numbers[2]) }
 }
 
-/// What the program answers to each line.
+/// What the program answers to each text, as Cargo reads it.
 fn answers(program: &str, texts: &[String]) -> Vec<String> {
     let mut child =
         Command::new(program).stdin(Stdio::piped()).stdout(Stdio::piped()).spawn().expect("the program runs");
     let mut input = child.stdin.take().expect("its input is a pipe");
-    let lines: String = texts.iter().map(|text| format!("{text}\n")).collect();
+    let lines: String = texts.iter().map(|text| format!("cargo {text}\n")).collect();
     let writer = std::thread::spawn(move || input.write_all(lines.as_bytes()).expect("it reads all texts"));
     let output = child.wait_with_output().expect("it ends");
     writer.join().expect("all texts were written");

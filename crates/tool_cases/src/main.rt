@@ -1,13 +1,15 @@
-//! Replays a table of range texts: of each line of standard input the line of standard output is
-//! what npm's reading rewrites it to, or the word of its refusal. Where versions follow behind
-//! ` ? `, it is those that the text means, pre-releases among them.
+//! Replays a table of range texts as Cargo or npm itself reads them. Each line of standard input
+//! begins with `cargo ` or `npm `, the line of standard output is what that reading rewrites the
+//! rest to, or the word of its refusal. Where versions follow behind ` ? `, it is those that the
+//! text means, pre-releases among them.
 #![tactic(auto)]
 
 use semver_parser::{RangeError, version};
 use std::alloc::Global;
 use std::io;
 use std::io::{BufRead, BufReader, BufWriter, Write};
-use tool_ranges::npm;
+use tool_ranges::meaning::{self, Meaning};
+use tool_ranges::reading;
 use version_sets::VersionSet;
 
 fn main(rt: HostRuntime) -> io::Result<()> {
@@ -22,13 +24,27 @@ fn main(rt: HostRuntime) -> io::Result<()> {
 
 /// Writes the answer to a line.
 fn replay<W: Write>(alloc: Global, line: &str, out: &mut W) -> io::Result<()> {
-    if let Some((range, versions)) = line.split_once(" ? ") {
-        return match npm::read(alloc, range) {
+    match line.split_once(' ') {
+        Some(("cargo", asked)) => write_answer(alloc, Meaning::Cargo, asked, out),
+        Some(("npm", asked)) => write_answer(alloc, Meaning::Npm, asked, out),
+        _ => write!(out, "no-reading"),
+    }
+}
+
+/// Writes what a range text means or is rewritten to, where it stands with versions or alone.
+fn write_answer<W: Write>(
+    alloc: Global,
+    meaning: Meaning,
+    asked: &str,
+    out: &mut W,
+) -> io::Result<()> {
+    if let Some((range, versions)) = asked.split_once(" ? ") {
+        return match meaning::read(alloc, meaning, range) {
             Ok(set) => write_meant(alloc, &set, versions, out),
             Err(refusal) => write_refusal(&refusal, out),
         };
     }
-    match npm::rewrite(alloc, line) {
+    match reading::rewrite(alloc, meaning.reading(), asked) {
         Ok(set) => write!(out, "{set}"),
         Err(refusal) => write_refusal(&refusal, out),
     }
