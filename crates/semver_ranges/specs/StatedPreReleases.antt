@@ -1,6 +1,6 @@
 -- The rule that npm and Cargo's semver have for pre-releases: one meets a range only where some
--- term of that range states its three numbers and a pre-release. First what that is for a text, by its
--- terms alone, and then what it is for comparators.
+-- term of that range states its three numbers and a pre-release. First what that is for a text, by
+-- its terms alone, and then what it is for comparators.
 use Rattle.std.specs.Prelude.{Bool, false, not, ◌&&◌, ◌||◌, nat_eq}
 use Rattle.std.specs.List.{list_any, list_all}
 use Rattle.std.specs.Cmp.Lexicographic.{pointwise}
