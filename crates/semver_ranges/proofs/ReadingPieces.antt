@@ -8,7 +8,7 @@ use Rattle.std.specs.Char.{is_ascii_digit}
 use Rattle.std.specs.Str.{all_ascii_digits}
 use Rattle.std.specs.List.{list_all, slice_split, join_with_byte}
 use Rattle.semver_ranges.specs.declared.grammar.Dialect.{Dialect}
-use Rattle.semver_ranges.specs.declared.grammar.Dialect.TheVariants.{Crate, Npm}
+use Rattle.semver_ranges.specs.declared.grammar.Dialect.TheVariants.{Crate, Cargo, Npm}
 use Rattle.semver_ranges.specs.RangeTree.{PartialTree, one, two, three, Form, Simple, is_blank, is_wildcard, is_number, is_component}
 use Rattle.semver_ranges.specs.RangeTree.{is_part, AreBlanks, SpellsPartial, SpellsWord, IsSignAndBlanks, SpellsForm, SpellsSimple}
 use Rattle.semver_texts.specs.Texts.{Text, is_empty, marked, is_dot}
@@ -233,6 +233,7 @@ no_v (b ∷ t) e = rw (component_no_v b e) refl where
 
 pub word_parts : (d : Dialect) (p : PartialTree) (t : Text) → SpellsWord d p t → Word d p t
 word_parts Crate p t h = record { front = []; back = t; spelled = h; taken = refl; behind = λ u. refl; text = refl }
+word_parts Cargo p t h = record { front = []; back = t; spelled = h; taken = refl; behind = λ u. refl; text = refl }
 word_parts Npm p t (front, back, inl none, spelled, zeros, text) = record {
   front = front;
   back = back;
@@ -261,6 +262,7 @@ component_word (b ∷ t) e = or_left (is_component_byte b) (b == 118) e
 
 pub word_starts : (d : Dialect) (p : PartialTree) (t : Text) → SpellsWord d p t → starts is_word_byte t ≡ true
 word_starts Crate p t h = component_word t (partial_starts p t h)
+word_starts Cargo p t h = component_word t (partial_starts p t h)
 word_starts Npm p t (front, back, inl none, spelled, zeros, text) =
     rw (text, none) (component_word back (partial_starts p back spelled))
 word_starts Npm p t (front, back, inr mark, spelled, zeros, text) = rw (text, mark) refl
@@ -276,6 +278,7 @@ Words d p t u = (w : Text) × SpellsWord d p w × (t ≡ w ++ u)
 word_spelled : (d : Dialect) (p : PartialTree) (t back u : Text) → SpellsPartial p back → takes d p ≡ true → behind_v d t ≡ back ++ u
     → Words d p t u
 word_spelled Crate p t back u spelled taken e = (back, spelled, e)
+word_spelled Cargo p t back u spelled taken e = (back, spelled, e)
 word_spelled Npm p [] back u spelled taken e = (back, ([], back, inl refl, spelled, taken, refl), e)
 word_spelled Npm p (b ∷ t) back u spelled taken e = elim (cases_Bool (b == 118)) [
   | inl y ↦

@@ -2,7 +2,7 @@
 use Rattle.std.proofs.Common.{◌≡◌, ℕ, zero, suc, ◌<◌, ◌≤◌, Bool, true, false, ◌&&◌, ◌==◌, if◌then◌else◌, List, [], ◌∷◌, length, refl}
 use Rattle.std.proofs.Common.{sym, ap, ◌∙◌, subst, Option, Some, None, arith, length-append}
 use Rattle.semver_ranges.specs.declared.grammar.Dialect.{Dialect}
-use Rattle.semver_ranges.specs.declared.grammar.Dialect.TheVariants.{Crate, Npm}
+use Rattle.semver_ranges.specs.declared.grammar.Dialect.TheVariants.{Crate, Cargo, Npm}
 use Rattle.semver_ranges.specs.RangeTree.{PartialTree, Simple, RangeTree, SetTree, is_blank}
 use Rattle.semver_texts.specs.Texts.{Text}
 use Rattle.semver_ranges.proofs.ReadingPieces.{front-back, WordAt, partial_sound, starts, is_word_byte, word_starts, SimpleAt}
@@ -42,6 +42,7 @@ simple_leaves d n t h = left (simple d t) (simple_sound d t) where
 
 no_simple : (d : Dialect) → simple d [] ≡ None
 no_simple Crate = refl
+no_simple Cargo = refl
 no_simple Npm = refl
 
 pub shorter_simple : (d : Dialect) (t u : Text) (s : Simple) → simple d t ≡ Some (s, u) → length u < length t

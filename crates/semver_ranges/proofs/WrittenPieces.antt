@@ -12,7 +12,7 @@ use Rattle.std.specs.Int.{is_in_range}
 use Rattle.std.specs.Str.{all_ascii_digits}
 use Rattle.std.specs.List.{list_all, slice_split, join_with_byte}
 use Rattle.semver_ranges.specs.declared.grammar.Dialect.{Dialect}
-use Rattle.semver_ranges.specs.declared.grammar.Dialect.TheVariants.{Crate, Npm}
+use Rattle.semver_ranges.specs.declared.grammar.Dialect.TheVariants.{Crate, Cargo, Npm}
 use Rattle.semver_ranges.specs.RangeTree.{PartialTree, one, two, three, Form, bare, equal, less, at_most, greater, at_least, tilde, caret}
 use Rattle.semver_ranges.specs.RangeTree.{Simple, is_blank, is_wildcard, is_number, is_component, is_part, AreBlanks}
 use Rattle.semver_ranges.specs.RangeTree.{SpellsPartial, SpellsWord, SpellsForm, SpellsSimple}
@@ -73,6 +73,7 @@ is_written b = is_partial_byte b || ((b == 42) || (is_in_range 60 62 b || ((b ==
 
 pub no_blank_byte : (d : Dialect) (b : ℕ) → is_written b ≡ true → is_blank d b ≡ false
 no_blank_byte Crate b e = rw (apart is_written b 32 e refl, apart is_written b 9 e refl) refl
+no_blank_byte Cargo b e = apart is_written b 32 e refl
 no_blank_byte Npm b e = grind (arith, nat_tests)
 
 -- where a word ends, a partial does

@@ -9,7 +9,7 @@ use Rattle.std.specs.Int.{is_in_range}
 use Rattle.std.specs.List.{list_all, join_with_byte}
 use Rattle.std.specs.Str.{all_ascii_digits}
 use Rattle.semver_ranges.specs.declared.grammar.Dialect.{Dialect}
-use Rattle.semver_ranges.specs.declared.grammar.Dialect.TheVariants.{Crate, Npm}
+use Rattle.semver_ranges.specs.declared.grammar.Dialect.TheVariants.{Crate, Cargo, Npm}
 use Rattle.semver_texts.specs.Texts.{Text, is_empty, is_part_byte, marked}
 
 -- a partial: one to three components; behind three, the parts of a pre-release and of a build
@@ -37,11 +37,12 @@ pub data RangeTree : Type 0 where
 abbrev pub SetTree : Type 0
 SetTree = List RangeTree
 
--- a byte of a blank: a space or a tab. To npm a space, each byte from the tab to the carriage
+-- a byte of a blank: a space or a tab, to Cargo a space alone. To npm a space, each byte from the tab to the carriage
 -- return, and those of characters beyond ASCII: which of these are blanks is a condition on the
 -- whole text
 abbrev pub is_blank : Dialect → ℕ → Bool
 is_blank Crate b = (b == code " ") || (b == code "\t")
+is_blank Cargo b = b == code " "
 is_blank Npm b = (is_in_range 9 13 b || (b == code " ")) || is_in_range 128 255 b
 
 -- any number of blanks, none included
@@ -110,6 +111,7 @@ has_no_leading_zeros (three a b c pre build) = list_all has_no_leading_zero pre
 -- pre-release has a leading zero
 abbrev pub SpellsWord : Dialect → PartialTree → Text → Type 0
 SpellsWord Crate p t = SpellsPartial p t
+SpellsWord Cargo p t = SpellsPartial p t
 SpellsWord Npm p t = (front : Text) × (back : Text) × ((front ≡ []) ⊎ (front ≡ codes "v"))
     × SpellsPartial p back × IsTrue (has_no_leading_zeros p) × (t ≡ front ++ back)
 

@@ -38,6 +38,8 @@ use semver_texts::dotted::{Hyphens, behind_mark, marked_part, split_at_dot};
 pub enum Dialect {
     /// The crate's.
     Crate,
+    /// Cargo's own, as to blanks: what may stand in a requirement is told above.
+    Cargo,
     /// npm's own, but for the characters beyond ASCII: each byte of one counts as a blank here.
     Npm,
 }
@@ -165,7 +167,7 @@ fn takes(written: &Components<'_>, dialect: Dialect) -> bool
     ensures { (p : PartialTree) → AreWritten p written.now → result ≡ takes dialect p }
 {
     match dialect {
-        Dialect::Crate => true,
+        Dialect::Crate | Dialect::Cargo => true,
         Dialect::Npm => written.count < 3 || have_no_leading_zeros(written.pre),
     }
 }
@@ -289,7 +291,8 @@ fn read_component(text: &[u8]) -> Option<(Component, &[u8])>
     }
 }
 
-/// The value of a first digit and the digits at the front of a text, and what follows them.
+/// The value of a first digit and the digits at the front of a text, and what follows them. One
+/// digit alone is told first, for speed: so the loop runs for longer numbers only.
 #[inline(always)]
 fn read_digits(first: u64, text: &[u8]) -> (Option<u64>, &[u8])
     requires { first < 10 }
@@ -297,6 +300,9 @@ fn read_digits(first: u64, text: &[u8]) -> (Option<u64>, &[u8])
         result.0 }
     ensures rest { result.1.now ≡ back is_ascii_digit text.now }
 {
+    if !decimals::begins_with_digit(text) {
+        return (Some(first), text);
+    }
     let mut value = Some(first);
     for at in 0..text.len() {
         let digit = text[at];
@@ -381,6 +387,7 @@ fn is_blank(byte: u8, dialect: Dialect) -> bool
 {
     match dialect {
         Dialect::Crate => byte == b' ' || byte == b'\t',
+        Dialect::Cargo => byte == b' ',
         Dialect::Npm => is_white_space(byte),
     }
 }

@@ -11,7 +11,7 @@ use Rattle.semver_ranges.specs.RangeTree.{at_most, greater, at_least, tilde, car
 use Rattle.semver_ranges.specs.RangeTree.{RangeTree, empty, hyphen, simples, SetTree, is_blank}
 use Rattle.semver_ranges.specs.RangeTree.{is_wildcard, is_part, has_no_leading_zeros}
 use Rattle.semver_ranges.specs.declared.grammar.Dialect.{Dialect}
-use Rattle.semver_ranges.specs.declared.grammar.Dialect.TheVariants.{Crate, Npm}
+use Rattle.semver_ranges.specs.declared.grammar.Dialect.TheVariants.{Crate, Cargo, Npm}
 use Rattle.semver_texts.specs.Texts.{Text, begins_with, is_dot, is_dotted_byte}
 
 -- the longest front whose bytes pass, and what is left
@@ -105,11 +105,13 @@ with_first (Some found) = behind_one found.0 found.1
 -- what follows one `v`, to npm; and whether the parts of a pre-release are read
 abbrev pub behind_v : Dialect → Text → Text
 behind_v Crate t = t
+behind_v Cargo t = t
 behind_v Npm [] = []
 behind_v Npm (b ∷ t) = if b == code "v" then t else b ∷ t
 
 abbrev pub takes : Dialect → PartialTree → Bool
 takes Crate p = true
+takes Cargo p = true
 takes Npm p = has_no_leading_zeros p
 
 -- a partial, up to the end of its word
