@@ -1,41 +1,20 @@
 -- What the reader finds at the front of a requirement is what stands there: one comparator, up to its comma or the end.
 use Rattle.std.proofs.Common.{◌≡◌, ℕ, Bool, true, false, ◌==◌, [], ◌∷◌, ◌++◌, codes, refl, sym, ap, ◌∙◌, subst}
 use Rattle.std.proofs.Common.{Option, Some, None, append_assoc, append-nil, inl, inr}
-use Rattle.std.proofs.lemmas.Bool.{and_parts, and_from, or_parts, or_cases, eqb-true, not-true, true≢false}
-use Rattle.std.proofs.lemmas.List.Folds.{list_all-append, list_any-append}
+use Rattle.std.proofs.lemmas.Bool.{and_parts, and_from, eqb-true, not-true, true≢false}
+use Rattle.std.proofs.lemmas.List.Folds.{list_all-append}
 use Rattle.std.specs.List.{list_all}
 use Rattle.semver_texts.specs.Texts.{Text}
-use Rattle.semver_ranges.specs.declared.grammar.Dialect.TheVariants.{Crate}
+use Rattle.semver_ranges.specs.declared.grammar.Dialect.TheVariants.{Cargo}
 use Rattle.semver_ranges.specs.RangeTree.{PartialTree, Form, bare, equal, less, at_most, greater, at_least, tilde, caret, Simple}
 use Rattle.semver_ranges.specs.RangeTree.{is_blank, AreBlanks, SpellsPartial, SpellsForm}
 use Rattle.semver_ranges.specs.Steps.Reading.{front, behind_blanks, operator, with_first, component}
 use Rattle.semver_ranges.proofs.ReadingPieces.{front-back, front_all, operator_sound, first_sound, component_sound, PartialAt, FormAt}
 use Rattle.semver_ranges.proofs.ReadingPieces.{starts, starts-append, is_word_byte, component_word, partial_starts}
 use Rattle.semver_ranges.proofs.WrittenPieces.{stops, ends_partial, apart, first_read, operator_read, blanks_behind, no_blank, no_sign}
-use Rattle.semver_ranges.proofs.Tests.{list_all-weaker}
 use Rattle.semver_texts.proofs.Lists.{by_test}
 use Rattle.tool_ranges.specs.CargoGrammar.{AreSpaces, sign, is_of_cargo, SpellsComparator}
-use Rattle.tool_ranges.specs.Steps.CargoReading.{has_tab, begins_with_tilde_greater, at_end, with_operator, comparator_here, comparator_at}
-
--- ---- spaces
-
-spaces_blank : (t : Text) → AreSpaces t → AreBlanks Crate t
-spaces_blank t h = list_all-weaker (λ b. b == 32) (is_blank Crate) (λ b e. rw (eqb-true b 32 e) refl) t h
-
-blanks_space : (t : Text) → AreBlanks Crate t → has_tab t ≡ false → AreSpaces t
-blanks_space [] h e = refl
-blanks_space (b ∷ t) h e =
-    let blank = and_parts (is_blank Crate b) (list_all (is_blank Crate) t) h in
-    let tabs = or_parts (b == 9) (has_tab t) e in
-    and_from _ _ (elim (or_cases (b == 32) (b == 9) blank.0) [ inl y ↦ y | inr y ↦ absurd (true≢false (sym y ∙ tabs.0)) ])
-    (blanks_space t blank.1 tabs.1)
-
--- a part of a text without tabs
-pub front_tabless : (a b : Text) → has_tab (a ++ b) ≡ false → has_tab a ≡ false
-front_tabless a b e = (or_parts (has_tab a) (has_tab b) (sym (list_any-append (λ x. x == 9) a b) ∙ e)).0
-
-pub back_tabless : (a b : Text) → has_tab (a ++ b) ≡ false → has_tab b ≡ false
-back_tabless a b e = (or_parts (has_tab a) (has_tab b) (sym (list_any-append (λ x. x == 9) a b) ∙ e)).1
+use Rattle.tool_ranges.specs.Steps.CargoReading.{begins_with_tilde_greater, at_end, with_operator, comparator_here, comparator_at}
 
 -- ---- what is found stands there
 
@@ -49,23 +28,18 @@ ComparatorAt t None = Unit {0}
 ComparatorAt t (Some found) = (front : Text) × SpellsComparator found.0 front × Follows front t found.1
 
 -- the sign of an operator, without `~>`
-signed : (sign_text blanks w t : Text) → has_tab (w ++ t) ≡ false → AreBlanks Crate blanks → w ≡ sign_text ++ blanks
-    → (gap : Text) × AreSpaces gap × (w ≡ sign_text ++ gap)
-signed sign_text blanks w t e h text =
-    (blanks, blanks_space blanks h (back_tabless sign_text blanks (ap has_tab (sym text) ∙ front_tabless w t e)), text)
-
-form_signed : (f : Form) (w t : Text) → SpellsForm Crate f w → has_tab (w ++ t) ≡ false → begins_with_tilde_greater (w ++ t) ≡ false
+form_signed : (f : Form) (w t : Text) → SpellsForm Cargo f w → begins_with_tilde_greater (w ++ t) ≡ false
     → (gap : Text) × AreSpaces gap × (w ≡ sign f ++ gap)
-form_signed bare w t h e n = ([], refl, h)
-form_signed equal w t (blanks, h, text) e n = signed (codes "=") blanks w t e h text
-form_signed less w t (blanks, h, text) e n = signed (codes "<") blanks w t e h text
-form_signed at_most w t (blanks, h, text) e n = signed (codes "<=") blanks w t e h text
-form_signed greater w t (blanks, h, text) e n = signed (codes ">") blanks w t e h text
-form_signed at_least w t (blanks, h, text) e n = signed (codes ">=") blanks w t e h text
-form_signed tilde w t (inl (blanks, h, text)) e n = signed (codes "~") blanks w t e h text
-form_signed tilde w t (inr (blanks, h, text)) e n =
+form_signed bare w t h n = ([], refl, h)
+form_signed tilde w t (inl h) n = h
+form_signed tilde w t (inr (blanks, h, text)) n =
     absurd (true≢false (ap (λ x. begins_with_tilde_greater (x ++ t)) (sym text) ∙ n))
-form_signed caret w t (blanks, h, text) e n = signed (codes "^") blanks w t e h text
+form_signed equal w t h n = h
+form_signed less w t h n = h
+form_signed at_most w t h n = h
+form_signed greater w t h n = h
+form_signed at_least w t h n = h
+form_signed caret w t h n = h
 
 -- a comparator of its pieces, behind which nothing or a comma stands
 made : (s : Simple) (before gap word after v t : Text) → AreSpaces before → AreSpaces gap → AreSpaces after → SpellsPartial s.partial word
@@ -106,36 +80,29 @@ made s before gap word after (c ∷ v) t b g a p r text = by_test (c == 44)
     (λ e. rw e tt)
 
 partial_made : (before gap t u : Text) (f : Form) (o : Option (PartialTree × Text)) → AreSpaces before → AreSpaces gap
-    → has_tab u ≡ false → t ≡ before ++ ((sign f ++ gap) ++ u) → PartialAt u o → ComparatorAt t (with_operator f o)
-partial_made before gap t u f None b g n text h = tt
-partial_made before gap t u f (Some (p, v)) b g n text (word, spelled, whole) = by_test (is_of_cargo (record { form = f; partial = p }))
-    (λ e. rw e (made (record { form = f; partial = p }) before gap word (front (is_blank Crate) v) (behind_blanks Crate v) t b g
-    (blanks_space (front (is_blank Crate) v) (front_all (is_blank Crate) v)
-    (front_tabless (front (is_blank Crate) v) (behind_blanks Crate v) (ap has_tab (sym (front-back (is_blank Crate) v))
-    ∙ back_tabless word v (ap has_tab (sym whole) ∙ n))))
-    spelled e
-    (text ∙ ap (λ x. before ++ ((sign f ++ gap) ++ x)) (whole ∙ ap (λ x. word ++ x) (front-back (is_blank Crate) v)))))
+    → t ≡ before ++ ((sign f ++ gap) ++ u) → PartialAt u o → ComparatorAt t (with_operator f o)
+partial_made before gap t u f None b g text h = tt
+partial_made before gap t u f (Some (p, v)) b g text (word, spelled, whole) = by_test (is_of_cargo (record { form = f; partial = p }))
+    (λ e. rw e (made (record { form = f; partial = p }) before gap word (front (is_blank Cargo) v) (behind_blanks Cargo v) t b g
+    (front_all (is_blank Cargo) v) spelled e
+    (text ∙ ap (λ x. before ++ ((sign f ++ gap) ++ x)) (whole ∙ ap (λ x. word ++ x) (front-back (is_blank Cargo) v)))))
     (λ e. rw e tt)
 
-here_sound : (before u t : Text) (found : Form × Text) → AreSpaces before → t ≡ before ++ u → has_tab u ≡ false
-    → begins_with_tilde_greater u ≡ false → FormAt Crate u found → ComparatorAt t (with_operator found.0 (with_first (component found.1)))
-here_sound before u t found b text n m (w, form, whole) =
-    let tabless : has_tab (w ++ found.1) ≡ false = ap has_tab (sym whole) ∙ n in
-    let signed = form_signed found.0 w found.1 form tabless (ap begins_with_tilde_greater (sym whole) ∙ m) in
-    partial_made before signed.0 t found.1 found.0 (with_first (component found.1)) b signed.1 (back_tabless w found.1 tabless)
+here_sound : (before u t : Text) (found : Form × Text) → AreSpaces before → t ≡ before ++ u
+    → begins_with_tilde_greater u ≡ false → FormAt Cargo u found → ComparatorAt t (with_operator found.0 (with_first (component found.1)))
+here_sound before u t found b text m (w, form, whole) =
+    let signed = form_signed found.0 w found.1 form (ap begins_with_tilde_greater (sym whole) ∙ m) in
+    partial_made before signed.0 t found.1 found.0 (with_first (component found.1)) b signed.1
     (text ∙ ap (λ x. before ++ x) (whole ∙ ap (λ x. x ++ found.1) signed.2))
     (first_sound found.1 (component found.1) (component_sound found.1))
 
-pub comparator_sound : (t : Text) → has_tab t ≡ false → ComparatorAt t (comparator_at t)
-comparator_sound t n =
-    let u = behind_blanks Crate t in
-    let whole : t ≡ front (is_blank Crate) t ++ u = front-back (is_blank Crate) t in
-    let tabless : has_tab (front (is_blank Crate) t ++ u) ≡ false = ap has_tab (sym whole) ∙ n in
+pub comparator_sound : (t : Text) → ComparatorAt t (comparator_at t)
+comparator_sound t =
+    let u = behind_blanks Cargo t in
     by_test (begins_with_tilde_greater u)
     (λ e. rw e tt)
-    (λ e. rw e (here_sound (front (is_blank Crate) t) u t (operator Crate u)
-    (blanks_space (front (is_blank Crate) t) (front_all (is_blank Crate) t) (front_tabless (front (is_blank Crate) t) u tabless))
-    whole (back_tabless (front (is_blank Crate) t) u tabless) e (operator_sound Crate u)))
+    (λ e. rw e (here_sound (front (is_blank Cargo) t) u t (operator Cargo u)
+    (front_all (is_blank Cargo) t) (front-back (is_blank Cargo) t) e (operator_sound Cargo u)))
 
 -- ---- what stands there is found
 
@@ -153,31 +120,31 @@ starts_no_tilde (b ∷ t) e = no_tilde b t (apart is_word_byte b 126 e refl)
 
 -- an operator and its spaces, before what begins with a component
 abbrev Begins : Form → Text → Text → Type 0
-Begins f gap x = (begins_with_tilde_greater ((sign f ++ gap) ++ x) ≡ false) × (operator Crate ((sign f ++ gap) ++ x) ≡ (f, x))
+Begins f gap x = (begins_with_tilde_greater ((sign f ++ gap) ++ x) ≡ false) × (operator Cargo ((sign f ++ gap) ++ x) ≡ (f, x))
 
-begins_with : (f : Form) (gap x : Text) → AreBlanks Crate gap → starts is_word_byte x ≡ true
+begins_with : (f : Form) (gap x : Text) → AreBlanks Cargo gap → starts is_word_byte x ≡ true
     → ((f ≡ bare) → ⊥) → Begins f gap x
 begins_with bare gap x g e other = absurd (other refl)
-begins_with equal gap x g e other = (no_tilde 61 (gap ++ x) refl, operator_read Crate equal (codes "=" ++ gap) x (gap, g, refl) e)
-begins_with less gap x g e other = (no_tilde 60 (gap ++ x) refl, operator_read Crate less (codes "<" ++ gap) x (gap, g, refl) e)
+begins_with equal gap x g e other = (no_tilde 61 (gap ++ x) refl, operator_read Cargo equal (codes "=" ++ gap) x (gap, g, refl) e)
+begins_with less gap x g e other = (no_tilde 60 (gap ++ x) refl, operator_read Cargo less (codes "<" ++ gap) x (gap, g, refl) e)
 begins_with at_most gap x g e other =
-    (no_tilde 60 (61 ∷ (gap ++ x)) refl, operator_read Crate at_most (codes "<=" ++ gap) x (gap, g, refl) e)
-begins_with greater gap x g e other = (no_tilde 62 (gap ++ x) refl, operator_read Crate greater (codes ">" ++ gap) x (gap, g, refl) e)
+    (no_tilde 60 (61 ∷ (gap ++ x)) refl, operator_read Cargo at_most (codes "<=" ++ gap) x (gap, g, refl) e)
+begins_with greater gap x g e other = (no_tilde 62 (gap ++ x) refl, operator_read Cargo greater (codes ">" ++ gap) x (gap, g, refl) e)
 begins_with at_least gap x g e other =
-    (no_tilde 62 (61 ∷ (gap ++ x)) refl, operator_read Crate at_least (codes ">=" ++ gap) x (gap, g, refl) e)
+    (no_tilde 62 (61 ∷ (gap ++ x)) refl, operator_read Cargo at_least (codes ">=" ++ gap) x (gap, g, refl) e)
 begins_with tilde gap x g e other =
-    (tilde_alone (gap ++ x) (no_sign Crate 62 refl refl gap x g e), operator_read Crate tilde (codes "~" ++ gap) x (inl (gap, g, refl)) e)
-begins_with caret gap x g e other = (no_tilde 94 (gap ++ x) refl, operator_read Crate caret (codes "^" ++ gap) x (gap, g, refl) e)
+    (tilde_alone (gap ++ x) (no_sign Cargo 62 refl refl gap x g e), operator_read Cargo tilde (codes "~" ++ gap) x (inl (gap, g, refl)) e)
+begins_with caret gap x g e other = (no_tilde 94 (gap ++ x) refl, operator_read Cargo caret (codes "^" ++ gap) x (gap, g, refl) e)
 
 -- behind blanks, the operator and what it stands before
 abbrev Reads : Form → Text → Text → Type 0
-Reads f u x = (begins_with_tilde_greater u ≡ false) × (operator Crate u ≡ (f, x))
+Reads f u x = (begins_with_tilde_greater u ≡ false) × (operator Cargo u ≡ (f, x))
 
 abbrev pub is_bare_form : Form → Bool
 is_bare_form bare = true
 is_bare_form _ = false
 
-signs_stop : (f : Form) (gap x : Text) → is_bare_form f ≡ false → stops (is_blank Crate) ((sign f ++ gap) ++ x) ≡ true
+signs_stop : (f : Form) (gap x : Text) → is_bare_form f ≡ false → stops (is_blank Cargo) ((sign f ++ gap) ++ x) ≡ true
 signs_stop bare gap x e = cc
 signs_stop equal gap x e = refl
 signs_stop less gap x e = refl
@@ -191,17 +158,17 @@ bare_form : (f : Form) → is_bare_form f ≡ true → f ≡ bare
 bare_form bare e = refl
 bare_form _ e = cc
 
-reads : (f : Form) (before gap x : Text) → AreBlanks Crate before → AreBlanks Crate gap → starts is_word_byte x ≡ true
-    → Reads f (behind_blanks Crate (before ++ ((sign f ++ gap) ++ x))) x
+reads : (f : Form) (before gap x : Text) → AreBlanks Cargo before → AreBlanks Cargo gap → starts is_word_byte x ≡ true
+    → Reads f (behind_blanks Cargo (before ++ ((sign f ++ gap) ++ x))) x
 reads f before gap x b g e = by_test (is_bare_form f)
-    (λ y. let is = bare_form f y in subst (λ h. Reads h (behind_blanks Crate (before ++ ((sign h ++ gap) ++ x))) x) (sym is)
+    (λ y. let is = bare_form f y in subst (λ h. Reads h (behind_blanks Cargo (before ++ ((sign h ++ gap) ++ x))) x) (sym is)
     (rw (
       sym (append_assoc before gap x),
-      blanks_behind Crate (before ++ gap) x (list_all-append (is_blank Crate) before gap
-          ∙ and_from _ _ b g) (no_blank Crate x e),
+      blanks_behind Cargo (before ++ gap) x (list_all-append (is_blank Cargo) before gap
+          ∙ and_from _ _ b g) (no_blank Cargo x e),
     )
-    (starts_no_tilde x e, operator_read Crate bare [] x refl e)))
-    (λ n. rw (blanks_behind Crate before ((sign f ++ gap) ++ x) b (signs_stop f gap x n))
+    (starts_no_tilde x e, operator_read Cargo bare [] x refl e)))
+    (λ n. rw (blanks_behind Cargo before ((sign f ++ gap) ++ x) b (signs_stop f gap x n))
     (begins_with f gap x g e (λ is. absurd (true≢false (sym (ap is_bare_form is) ∙ n)))))
 
 spaces_end : (after v : Text) → AreSpaces after → ends_partial v ≡ true → ends_partial (after ++ v) ≡ true
@@ -209,7 +176,7 @@ spaces_end [] v a e = e
 spaces_end (b ∷ after) v a e = rw (eqb-true b 32 (and_parts (b == 32) (list_all (λ b. b == 32) after) a).0) refl
 
 comparator_here_read : (s : Simple) (word after v u : Text) → AreSpaces after → SpellsPartial s.partial word → is_of_cargo s ≡ true
-    → ends_partial v ≡ true → stops (is_blank Crate) v ≡ true → Reads s.form u (word ++ (after ++ v)) → comparator_here u ≡ at_end s v
+    → ends_partial v ≡ true → stops (is_blank Cargo) v ≡ true → Reads s.form u (word ++ (after ++ v)) → comparator_here u ≡ at_end s v
 comparator_here_read s word after v u a p r e n (other, form) =
     let x = word ++ (after ++ v) in
     rw (
@@ -217,11 +184,11 @@ comparator_here_read s word after v u a p r e n (other, form) =
       form,
       first_read s.partial word (after ++ v) p (spaces_end after v a e),
       r,
-      blanks_behind Crate after v
-          (spaces_blank after a) n,
+      blanks_behind Cargo after v
+          a n,
     ) refl
 
-pub comparator_read : (s : Simple) (w v : Text) → SpellsComparator s w → ends_partial v ≡ true → stops (is_blank Crate) v ≡ true
+pub comparator_read : (s : Simple) (w v : Text) → SpellsComparator s w → ends_partial v ≡ true → stops (is_blank Cargo) v ≡ true
     → comparator_at (w ++ v) ≡ at_end s v
 comparator_read s w v has e n =
     let x = has.word ++ (has.after ++ v) in
@@ -229,9 +196,9 @@ comparator_read s w v has e n =
     starts-append is_word_byte has.word (has.after ++ v) (component_word has.word (partial_starts s.partial has.word has.partial)) in
     let whole : w ++ v ≡ has.before ++ ((sign s.form ++ has.gap) ++ x) = ap (λ y. y ++ v) has.text ∙ simp append_assoc in
     ap comparator_at whole
-    ∙ comparator_here_read s has.word has.after v (behind_blanks Crate (has.before ++
+    ∙ comparator_here_read s has.word has.after v (behind_blanks Cargo (has.before ++
     ((sign s.form ++ has.gap) ++ x))) has.after_is has.partial has.is_read e n
-    (reads s.form has.before has.gap x (spaces_blank has.before has.before_is) (spaces_blank has.gap has.gap_is) begins)
+    (reads s.form has.before has.gap x has.before_is has.gap_is begins)
 
 pub ended_read : (s : Simple) (t : Text) → SpellsComparator s t → comparator_at t ≡ Some (s, None)
 ended_read s t has = ap comparator_at (sym (append-nil t)) ∙ comparator_read s t [] has refl refl

@@ -2,7 +2,7 @@
 use Rattle.std.proofs.Common.{◌≡◌, ◌-◌, ◌≤◌, Bool, true, false, ◌==◌, [], ◌∷◌, length, get_or, take, drop, Some, None}
 use Rattle.std.proofs.Common.{refl, sym, ap, ◌∙◌, arith}
 use Rattle.semver_texts.specs.Texts.{Text}
-use Rattle.semver_ranges.specs.declared.grammar.Dialect.TheVariants.{Crate}
+use Rattle.semver_ranges.specs.declared.grammar.Dialect.TheVariants.{Cargo}
 use Rattle.semver_ranges.specs.RangeTree.{PartialTree, Form, Simple}
 use Rattle.semver_ranges.specs.Steps.Reading.{behind_blanks, operator, with_first, component}
 use Rattle.semver_ranges.proofs.ComponentSteps.{first_apart}
@@ -10,16 +10,16 @@ use Rattle.tool_ranges.specs.CargoGrammar.{is_of_cargo}
 use Rattle.tool_ranges.specs.Steps.CargoReading.{begins_with_tilde_greater, at_end, if_read, with_operator, comparator_here, comparator_at}
 
 -- an operator and a partial were found
-pub pieces_found : (t u v w : Text) (f : Form) (p : PartialTree) → u ≡ behind_blanks Crate t → false ≡ begins_with_tilde_greater u
-    → (f, v) ≡ operator Crate u → with_first (component v) ≡ Some (p, w) → comparator_at t ≡ if_read (record { form = f; partial = p }) w
+pub pieces_found : (t u v w : Text) (f : Form) (p : PartialTree) → u ≡ behind_blanks Cargo t → false ≡ begins_with_tilde_greater u
+    → (f, v) ≡ operator Cargo u → with_first (component v) ≡ Some (p, w) → comparator_at t ≡ if_read (record { form = f; partial = p }) w
 pieces_found t u v w f p e n sign found =
     let other : begins_with_tilde_greater u ≡ false = sym n in
     ap comparator_here (sym e) ∙ rw other (ap (λ o. with_operator o.0 (with_first (component o.1))) (sym sign) ∙ ap (with_operator f) found)
 
-pub tilde_found : (t u : Text) → u ≡ behind_blanks Crate t → begins_with_tilde_greater u ≡ true → comparator_at t ≡ None
+pub tilde_found : (t u : Text) → u ≡ behind_blanks Cargo t → begins_with_tilde_greater u ≡ true → comparator_at t ≡ None
 tilde_found t u e y = ap comparator_here (sym e) ∙ rw y refl
 
-pub no_pieces : (t u v : Text) (f : Form) → u ≡ behind_blanks Crate t → (f, v) ≡ operator Crate u → with_first (component v) ≡ None
+pub no_pieces : (t u v : Text) (f : Form) → u ≡ behind_blanks Cargo t → (f, v) ≡ operator Cargo u → with_first (component v) ≡ None
     → comparator_at t ≡ None
 no_pieces t u v f e sign none = ap comparator_here (sym e) ∙ go (begins_with_tilde_greater u) refl where
   go : (b : Bool) → begins_with_tilde_greater u ≡ b → comparator_here u ≡ None
@@ -30,20 +30,20 @@ no_pieces t u v f e sign none = ap comparator_here (sym e) ∙ go (begins_with_t
 pub not_read : (s : Simple) (w : Text) → is_of_cargo s ≡ false → if_read s w ≡ None
 not_read s w e = rw e refl
 
-pub ends : (s : Simple) (w v : Text) → is_of_cargo s ≡ true → v ≡ behind_blanks Crate w → length v ≡ 0 → if_read s w ≡ Some (s, None)
+pub ends : (s : Simple) (w v : Text) → is_of_cargo s ≡ true → v ≡ behind_blanks Cargo w → length v ≡ 0 → if_read s w ≡ Some (s, None)
 ends s w v e is none = rw e (ap (at_end s) (sym is ∙ empty v none)) where
   empty : (v : Text) → length v ≡ 0 → v ≡ []
   empty [] none = refl
   empty (b ∷ v) none = absurd (omega (arith, none))
 
-pub parted : (s : Simple) (w v : Text) → is_of_cargo s ≡ true → v ≡ behind_blanks Crate w → 1 ≤ length v → get_or v 0 0 ≡ 44
+pub parted : (s : Simple) (w v : Text) → is_of_cargo s ≡ true → v ≡ behind_blanks Cargo w → 1 ≤ length v → get_or v 0 0 ≡ 44
     → if_read s w ≡ Some (s, Some (take (length v - 1) (drop 1 v)))
 parted s w v e is some comma =
     let first : v ≡ 44 ∷ take (length v - 1) (drop 1 v) =
     first_apart v some ∙ ap (λ b. b ∷ take (length v - 1) (drop 1 v)) comma in
     rw e (ap (at_end s) (sym is ∙ first))
 
-pub other_byte : (s : Simple) (w v : Text) → is_of_cargo s ≡ true → v ≡ behind_blanks Crate w → 1 ≤ length v → (get_or v 0 0 == 44) ≡ false
+pub other_byte : (s : Simple) (w v : Text) → is_of_cargo s ≡ true → v ≡ behind_blanks Cargo w → 1 ≤ length v → (get_or v 0 0 == 44) ≡ false
     → if_read s w ≡ None
 other_byte s w v e is some other =
     rw e (ap (at_end s) (sym is ∙ first_apart v some) ∙ rw other refl)

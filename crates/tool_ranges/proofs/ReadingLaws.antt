@@ -1,5 +1,5 @@
 -- Whatever the reading is: a text has one tree, and what is refused isn't by what is answered.
-use Rattle.std.proofs.Common.{◌≡◌, sym, Result, Ok, Err, IfOk, subst}
+use Rattle.std.proofs.Common.{◌≡◌, Ok, Err}
 use Rattle.semver_texts.specs.Texts.{Text}
 use Rattle.semver_ranges.specs.declared.grammar.Dialect.TheVariants as dialect
 use Rattle.semver_ranges.specs.declared.range_set.RangeError.{RangeError}

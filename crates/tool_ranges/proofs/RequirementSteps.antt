@@ -21,18 +21,17 @@ use Rattle.tool_ranges.specs.CargoMeaning.{as_read}
 use Rattle.tool_ranges.specs.CargoTable.{requirement_fits}
 use Rattle.tool_ranges.specs.ToolTable.{fits_in}
 use Rattle.semver_texts.proofs.Lists.{by_test}
-use Rattle.tool_ranges.specs.Steps.CargoReading.{has_tab, comparator_at, EndsAs, IsRefusal}
-use Rattle.tool_ranges.proofs.ComparatorReading.{ComparatorAt, Follows, comparator_sound, ended_read, parted_read, back_tabless}
+use Rattle.tool_ranges.specs.Steps.CargoReading.{comparator_at, EndsAs, IsRefusal}
+use Rattle.tool_ranges.proofs.ComparatorReading.{ComparatorAt, Follows, comparator_sound, ended_read, parted_read}
 
 -- where `done` were read, and `rest` is left: whatever is spelled there goes on with them, and nothing else does
 pub record IsAt (text : Text) (done : List Simple) (rest : Text) : Type 0 where
-  pub tabless : has_tab rest ≡ false
   pub sound : (left : List Simple) → SpellsComparators left rest → SpellsComparators (done ++ left) text
   pub whole : (tree : List Simple) → SpellsComparators tree text
       → (left : List Simple) × (tree ≡ done ++ left) × SpellsComparators left rest
 
-pub at_start : (text : Text) → has_tab text ≡ false → IsAt text [] text
-at_start text n = record { tabless = n; sound = λ left h. h; whole = λ tree h. (tree, refl, h) }
+pub at_start : (text : Text) → IsAt text [] text
+at_start text = record { sound = λ left h. h; whole = λ tree h. (tree, refl, h) }
 
 -- the comparators that are left where one was found: itself, and those behind its comma
 abbrev pub Left : List Simple → Option Text → Type 0
@@ -62,17 +61,15 @@ goes_on : (s : Simple) (front rest u : Text) (left : List Simple) → SpellsComp
 goes_on s front rest u [] spelled text h = absurd h
 goes_on s front rest u (next ∷ others) spelled text h = (front, u, spelled, h, text)
 
-found_here : (s : Simple) (rest : Text) (behind : Option Text) → has_tab rest ≡ false → comparator_at rest ≡ Some (s, behind)
+found_here : (s : Simple) (rest : Text) (behind : Option Text) → comparator_at rest ≡ Some (s, behind)
     → (front : Text) × SpellsComparator s front × Follows front rest behind
-found_here s rest behind n e = let h : ComparatorAt rest (Some (s, behind)) = subst (ComparatorAt rest) e (comparator_sound rest n) in h
+found_here s rest behind e = let h : ComparatorAt rest (Some (s, behind)) = subst (ComparatorAt rest) e (comparator_sound rest) in h
 
 pub at_next : (text : Text) (done : List Simple) (rest : Text) (s : Simple) (u : Text) → IsAt text done rest
     → comparator_at rest ≡ Some (s, Some u) → IsAt text (done ++ s ∷ []) u
 at_next text done rest s u at e =
-    let here = found_here s rest (Some u) at.tabless e in
+    let here = found_here s rest (Some u) e in
     record {
-      tabless = back_tabless (here.0 ++ 44 ∷ []) u
-          (ap has_tab (append_assoc here.0 (44 ∷ []) u ∙ sym here.2) ∙ at.tabless);
       sound = λ left h. subst (λ ss. SpellsComparators ss text) (sym (one_more s done left))
           (at.sound (s ∷ left) (goes_on s here.0 rest u left here.1 here.2 h));
       whole = λ tree h.
@@ -85,7 +82,7 @@ at_next text done rest s u at e =
 pub at_last : (text : Text) (done : List Simple) (rest : Text) (s : Simple) → IsAt text done rest → comparator_at rest ≡ Some (s, None)
     → SpellsComparators (done ++ s ∷ []) text × ((tree : List Simple) → SpellsComparators tree text → tree ≡ done ++ s ∷ [])
 at_last text done rest s at e =
-    let here = found_here s rest None at.tabless e in (
+    let here = found_here s rest None e in (
       at.sound (s ∷ []) (subst (SpellsComparator s) (sym here.2) here.1),
       λ tree h.
           let l = at.whole tree h in
@@ -132,8 +129,8 @@ pub record IsSurveyed (text : Text) (done : List Simple) (rest : Text) (at : ℕ
   pub stated : states_all ≡ list_all states_number done
   pub fitting : fit ≡ list_all read_fits done
 
-pub surveyed_start : (text : Text) → has_tab text ≡ false → IsSurveyed text [] text 0 true true
-surveyed_start text n = record { place = at_start text n; count = refl; stated = refl; fitting = refl }
+pub surveyed_start : (text : Text) → IsSurveyed text [] text 0 true true
+surveyed_start text = record { place = at_start text; count = refl; stated = refl; fitting = refl }
 
 all_more : (p : Simple → Bool) (done : List Simple) (s : Simple) (b : Bool) → b ≡ list_all p done → (b && p s) ≡ list_all p (done ++ s ∷ [])
 all_more p done s b e = ap (λ x. x && p s) e ∙ ap (λ x. list_all p done && x) (sym (and-true (p s))) ∙ sym (list_all-append p done (s ∷ []))

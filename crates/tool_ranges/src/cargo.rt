@@ -15,8 +15,8 @@ ghost use Rattle.tool_ranges.specs.CargoGrammar.{SpellsRequirement};
 ghost use Rattle.tool_ranges.specs.CargoMeaning.{meets_requirement};
 ghost use Rattle.tool_ranges.specs.CargoTable.{requirement_fits, rewritten_requirement};
 ghost use Rattle.tool_ranges.specs.CargoTexts.{RefusesRequirement};
-ghost use Rattle.tool_ranges.specs.ToolTable.{fits_in, written_in};
-ghost use Rattle.tool_ranges.specs.Steps.CargoReading.{has_tab, EndsAs, IsRefusal};
+ghost use Rattle.tool_ranges.specs.Steps.Cells.{cell_fits, cell_written, IsBuildableAt};
+ghost use Rattle.tool_ranges.specs.Steps.CargoReading.{EndsAs, IsRefusal};
 ghost use Rattle.tool_ranges.specs.Steps.CargoReading.{in_one_range, IsRewritten};
 ghost use Rattle.tool_ranges.specs.Steps.CargoReading.{IsRewrittenOne};
 ghost use Rattle.tool_ranges.specs.Steps.CargoPreReleases.{counting_one, judging, judging_one};
@@ -26,11 +26,12 @@ mod judging;
 mod pre_releases;
 mod reading;
 
-use crate::rows;
+use crate::rows::{self, Cell};
 use grammar::read_comparator;
 use judging::{Judged, push_judging};
 pub use reading::read;
 use semver_ranges::grammar::Simple;
+use semver_ranges::partial::Partial;
 use semver_ranges::{Comparator, Compat, Range, RangeError, RangeSet};
 use std::alloc::{AllocError, Global};
 
@@ -80,12 +81,18 @@ pub fn rewrite(alloc: Global, requirement: &str) -> Result<RangeSet, RangeError>
 fn rewritten(alloc: Global, text: &[u8]) -> Result<RangeSet, RangeError>
     ensures { IsRewritten text.now result }
 {
-    if text.contains(&b'\t') {
-        return Err(RangeError::NotARange);
-    }
     if let Some((simple, None)) = read_comparator(text) {
         return rewritten_one(alloc, &simple);
     }
+    rewritten_all(alloc, text)
+}
+
+/// The comparators of a requirement in two runs: the first surveys all of it, and the second
+/// builds. For speed it is a function of its own: that of one comparator stays small.
+#[inline(never)]
+fn rewritten_all(alloc: Global, text: &[u8]) -> Result<RangeSet, RangeError>
+    ensures { IsRewritten text.now result }
+{
     let count = match survey(text) {
         Ok(count) => count,
         Err(refusal) => return Err(refusal),
@@ -101,23 +108,24 @@ fn rewritten_one(alloc: Global, simple: &Simple<'_>) -> Result<RangeSet, RangeEr
     requires { (s : SimpleTree) × IsSimpleOf s simple.now }
     ensures { (s : SimpleTree) → IsSimpleOf s simple.now → IsRewrittenOne s result }
 {
-    if !rows::fits(simple, Compat::Cargo) {
+    let cell = rows::cell_of(simple, Compat::Cargo);
+    if !cell.fits(&simple.partial) {
         return Err(RangeError::NumberTooLarge);
     }
-    match build_one(alloc, simple) {
+    match build_one(alloc, &simple.partial, cell) {
         Ok(set) => Ok(set),
         Err(_) => Err(RangeError::OutOfMemory),
     }
 }
 
-/// The set of one that fits.
-fn build_one(alloc: Global, simple: &Simple<'_>) -> Result<RangeSet, AllocError>
-    requires { (s : SimpleTree) × IsSimpleOf s simple.now × (fits_in Cargo s ≡ true) }
-    ensures { IfOk result (λ set. (s : SimpleTree) → IsSimpleOf s simple.now
-        → fits_in Cargo s ≡ true → set_of set ≡ in_one_range (written_in Cargo s)) }
+/// The set of one cell that fits.
+fn build_one(alloc: Global, partial: &Partial<'_>, cell: Cell) -> Result<RangeSet, AllocError>
+    requires buildable { IsBuildableAt cell partial.now }
+    requires fits { cell_fits cell partial.now ≡ true }
+    ensures { IfOk result (λ set. set_of set ≡ in_one_range (cell_written cell partial.now)) }
 {
-    let mut comparators = Vec::with_capacity(alloc, rows::count(simple, Compat::Cargo))?;
-    rows::push(alloc, simple, Compat::Cargo, &mut comparators)?;
+    let mut comparators = Vec::with_capacity(alloc, cell.count())?;
+    cell.push(alloc, partial, &mut comparators)?;
     in_one_range(alloc, comparators)
 }
 
@@ -137,9 +145,8 @@ fn in_one_range(alloc: Global, comparator_set: Vec<Comparator>) -> Result<RangeS
     })
 }
 
-/// How many comparators stand for a requirement without tabs, or why there is no set of it.
+/// How many comparators stand for a requirement, or why there is no set of it.
 fn survey(text: &[u8]) -> Result<usize, RangeError>
-    requires { has_tab text.now ≡ false }
     ensures { MatchResult result
         (λ count. (tree : List SimpleTree) × SpellsRequirement tree text.now
         × IsTrue (requirement_fits tree))
@@ -154,8 +161,9 @@ fn survey(text: &[u8]) -> Result<usize, RangeError>
             return Err(RangeError::NotARange);
         };
         states_all &= !simple.partial.states_nothing();
-        fit &= rows::fits(&simple, Compat::Cargo);
-        count = count.saturating_add(rows::count(&simple, Compat::Cargo));
+        let cell = rows::cell_of(&simple, Compat::Cargo);
+        fit &= cell.fits(&simple.partial);
+        count = count.saturating_add(cell.count());
         if let Some(behind) = behind {
             rest = behind;
             continue;
@@ -180,8 +188,7 @@ fn ended(stands_alone: bool, fit: bool, count: usize) -> Result<usize, RangeErro
 
 /// The set of a requirement that was surveyed, by which releases or pre-releases are judged.
 fn build(alloc: Global, text: &[u8], count: usize, judged: Judged) -> Result<RangeSet, AllocError>
-    requires tabless { has_tab text.now ≡ false }
-    requires fits { (tree : List SimpleTree) × SpellsRequirement tree text.now
+    requires { (tree : List SimpleTree) × SpellsRequirement tree text.now
         × IsTrue (requirement_fits tree) }
     ensures { IfOk result (λ set. (tree : List SimpleTree) → SpellsRequirement tree text.now
         → set_of set ≡ judging judged tree) }
@@ -196,8 +203,7 @@ fn build_comparators(
     count: usize,
     judged: Judged,
 ) -> Result<Vec<Comparator>, AllocError>
-    requires tabless { has_tab text.now ≡ false }
-    requires fits { (tree : List SimpleTree) × SpellsRequirement tree text.now
+    requires { (tree : List SimpleTree) × SpellsRequirement tree text.now
         × IsTrue (requirement_fits tree) }
     ensures { IfOk result (λ comparators. (tree : List SimpleTree)
         → SpellsRequirement tree text.now
@@ -220,8 +226,7 @@ fn build_comparators(
 
 /// The ranges of the pre-releases that count: one for each comparator that states a pre-release.
 fn build_counting(alloc: Global, text: &[u8]) -> Result<Vec<Range>, AllocError>
-    requires tabless { has_tab text.now ≡ false }
-    requires fits { (tree : List SimpleTree) × SpellsRequirement tree text.now
+    requires { (tree : List SimpleTree) × SpellsRequirement tree text.now
         × IsTrue (requirement_fits tree) }
     ensures { IfOk result (λ ranges. (tree : List SimpleTree)
         → SpellsRequirement tree text.now

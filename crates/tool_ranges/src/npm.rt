@@ -120,7 +120,9 @@ fn survey(text: &[u8]) -> Result<usize, RangeError>
     let mut fit = true;
     while let Some(event) = events.next_in(Dialect::Npm) {
         match event? {
-            Event::Simple(simple) => fit &= rows::fits(&simple, Compat::Npm),
+            Event::Simple(simple) => {
+                fit &= rows::cell_of(&simple, Compat::Npm).fits(&simple.partial);
+            }
             Event::NextRange => ended += 1,
         }
     }
@@ -169,7 +171,7 @@ fn build_range(alloc: Global, events: &mut Events<'_>, count: usize) -> Result<R
 fn count_ahead(mut events: Events<'_>) -> usize {
     let mut count = 0usize;
     while let Some(Ok(Event::Simple(simple))) = events.next_in(Dialect::Npm) {
-        count = count.saturating_add(rows::count(&simple, Compat::Npm));
+        count = count.saturating_add(rows::cell_of(&simple, Compat::Npm).count());
     }
     count
 }

@@ -1,5 +1,5 @@
-//! The comparators that stand for a simple in the tables of Cargo and npm. Nothing here takes
-//! memory but `push`, which comes once all is known to fit.
+//! The cells of the tables of Cargo and npm that have the comparators of a simple. Nothing here
+//! takes memory but `push`, which comes once all is known to fit.
 
 ghost use Rattle.std.specs.Prelude.{◌≡◌, ◌++◌, ◌&&◌, true, false, length, map, IfOk, MatchOption};
 ghost use Rattle.semver_ranges.specs.RangeTree.{Simple as SimpleTree};
@@ -11,12 +11,91 @@ ghost use Rattle.semver_ranges.specs.ExactBounds.{lowest_pre_release};
 ghost use Rattle.semver_ranges.specs.Steps.PartialViews.{version_of, PartsPass};
 ghost use Rattle.tool_ranges.specs.ToolTable.{fits_in, is_greater, states_some, ends_at};
 ghost use Rattle.tool_ranges.specs.ToolTable.{written_in};
+ghost use Rattle.tool_ranges.specs.Steps.Cells.{cell_fits, cell_written, IsBuildableAt, IsCellOf};
 
 use semver_ranges::grammar::{Form, Simple};
 use semver_ranges::partial::{Partial, PartialKind, Place, RaisedBounds};
-use semver_ranges::rewriting::rewritten;
+use semver_ranges::rewriting::{Bounds, rewritten};
 use semver_ranges::{Comparator, Compat, Identifier, Op};
 use std::alloc::{AllocError, Global};
+
+/// The cell of a tool's table that has the comparators of a simple.
+#[derive(Drop)]
+pub(crate) enum Cell {
+    /// `>` of one or two numbers begins at the bound that is raised at the last of them.
+    Above(Place),
+    /// npm puts an upper bound below every pre-release of it.
+    BelowAll,
+    /// As in the port's table, with exact bounds.
+    Shared(Bounds),
+}
+
+impl Cell {
+    /// Whether the numbers that are stated, and the bound that is raised, are at most 2^64 - 1.
+    #[inline(always)]
+    pub(crate) fn fits(&self, partial: &Partial<'_>) -> bool
+        requires { IsBuildableAt self.now partial.now }
+        ensures { result ≡ cell_fits self.now partial.now }
+    {
+        match self {
+            Cell::Above(place) => partial.fits() && partial.may_rise(*place),
+            Cell::BelowAll => partial.fits(),
+            Cell::Shared(bounds) => bounds.fits(partial),
+        }
+    }
+
+    /// How many comparators there are. Vectors are asked for at this size.
+    #[inline(always)]
+    pub(crate) fn count(&self) -> usize {
+        match self {
+            Cell::Above(_) | Cell::BelowAll => 1,
+            Cell::Shared(bounds) => bounds.count(),
+        }
+    }
+
+    /// Adds the comparators.
+    #[inline(always)]
+    pub(crate) fn push(
+        self,
+        alloc: Global,
+        partial: &Partial<'_>,
+        comparators: &mut Vec<Comparator>,
+    ) -> Result<(), AllocError>
+        requires buildable { IsBuildableAt self partial.now }
+        requires fits { cell_fits self partial.now ≡ true }
+        ensures { IfOk result (λ _. map comparator_of comparators.new.items
+            ≡ map comparator_of comparators.old.items ++ cell_written self partial.now) }
+    {
+        match self {
+            Cell::Above(place) => {
+                let bound = partial.raised(alloc, place, RaisedBounds::Plain)?;
+                comparators.push(Comparator {
+                    op: Op::Gte,
+                    ..bound
+                })?;
+                Ok(())
+            }
+            Cell::BelowAll => {
+                comparators.push(lowest_below(alloc, partial)?)?;
+                Ok(())
+            }
+            Cell::Shared(bounds) => bounds.push(alloc, partial, comparators, RaisedBounds::Exact),
+        }
+    }
+}
+
+/// The cell of a simple.
+#[inline(always)]
+pub(crate) fn cell_of(simple: &Simple<'_>, compat: Compat) -> Cell
+    ensures { (s : SimpleTree) → IsSimpleOf s simple.now
+        → IsCellOf compat s simple.now.partial result }
+{
+    match begins_above(simple) {
+        Some(place) => Cell::Above(place),
+        None if ends_below(simple, compat) => Cell::BelowAll,
+        None => Cell::Shared(rewritten(simple, compat)),
+    }
+}
 
 /// The last place of `>` of one or two numbers, which begins at the bound that is raised there.
 #[inline(always)]
@@ -49,28 +128,20 @@ fn ends_below(simple: &Simple<'_>, compat: Compat) -> bool
     }
 }
 
-/// Whether the numbers that are stated, and the bound that is raised, are at most 2^64 - 1.
+/// Below every pre-release of a partial, which has none.
 #[inline(always)]
-pub(crate) fn fits(simple: &Simple<'_>, compat: Compat) -> bool
-    requires { (s : SimpleTree) × IsSimpleOf s simple.now }
-    ensures { (s : SimpleTree) → IsSimpleOf s simple.now → result ≡ fits_in compat s }
+fn lowest_below(alloc: Global, partial: &Partial<'_>) -> Result<Comparator, AllocError>
+    requires { PartsPass partial.now }
+    ensures { IfOk result (λ c. comparator_of c ≡ comparator Op.Lt
+        (with_pre_release ((version_of partial.now).pre ++ lowest_pre_release)
+        (version_of partial.now))) }
 {
-    match begins_above(simple) {
-        Some(place) => simple.partial.fits() && simple.partial.may_rise(place),
-        None => rewritten(simple, compat).fits(&simple.partial),
-    }
+    let mut bound = partial.as_comparator(alloc, Op::Lt)?;
+    bound.pre.push(Identifier::Numeric(0))?;
+    Ok(bound)
 }
 
-/// How many comparators there are. Vectors are asked for at this size.
-#[inline(always)]
-pub(crate) fn count(simple: &Simple<'_>, compat: Compat) -> usize {
-    match begins_above(simple) {
-        Some(_) => 1,
-        None => rewritten(simple, compat).count(),
-    }
-}
-
-/// Adds the comparators.
+/// Adds the comparators of a simple that fits.
 #[inline(always)]
 pub(crate) fn push(
     alloc: Global,
@@ -83,37 +154,5 @@ pub(crate) fn push(
         → fits_in compat s ≡ true → map comparator_of comparators.new.items
         ≡ map comparator_of comparators.old.items ++ written_in compat s) }
 {
-    match begins_above(simple) {
-        Some(place) => {
-            let bound = simple.partial.raised(alloc, place, RaisedBounds::Plain)?;
-            comparators.push(Comparator {
-                op: Op::Gte,
-                ..bound
-            })?;
-            Ok(())
-        }
-        None if ends_below(simple, compat) => {
-            comparators.push(lowest_below(alloc, &simple.partial)?)?;
-            Ok(())
-        }
-        None => rewritten(simple, compat).push(
-            alloc,
-            &simple.partial,
-            comparators,
-            RaisedBounds::Exact,
-        ),
-    }
-}
-
-/// Below every pre-release of a partial, which has none.
-#[inline(always)]
-fn lowest_below(alloc: Global, partial: &Partial<'_>) -> Result<Comparator, AllocError>
-    requires { PartsPass partial.now }
-    ensures { IfOk result (λ c. comparator_of c ≡ comparator Op.Lt
-        (with_pre_release ((version_of partial.now).pre ++ lowest_pre_release)
-        (version_of partial.now))) }
-{
-    let mut bound = partial.as_comparator(alloc, Op::Lt)?;
-    bound.pre.push(Identifier::Numeric(0))?;
-    Ok(bound)
+    cell_of(simple, compat).push(alloc, &simple.partial, comparators)
 }

@@ -4,8 +4,7 @@ use Prim.Native.Char.{code}
 use Rattle.std.specs.Prelude.{◌≡◌, ℕ, Bool, true, false, ◌&&◌, ◌==◌, if◌then◌else◌, Option, Some}
 use Rattle.std.specs.Prelude.{None, List, [], ◌∷◌, IsTrue, Result, Ok, Err}
 use Rattle.std.specs.Borrow.{Bor}
-use Rattle.std.specs.List.{list_any}
-use Rattle.semver_ranges.specs.declared.grammar.Dialect.TheVariants.{Crate}
+use Rattle.semver_ranges.specs.declared.grammar.Dialect.TheVariants as dialect
 use Rattle.semver_ranges.specs.declared.range.Compat.TheVariants.{Cargo}
 use Rattle.semver_ranges.specs.declared.range_set.RangeSet.{RangeSet}
 use Rattle.semver_ranges.specs.declared.range_set.RangeError.{RangeError}
@@ -23,10 +22,6 @@ use Rattle.tool_ranges.specs.CargoMeaning.{as_read}
 use Rattle.tool_ranges.specs.CargoTable.{requirement_fits, rewritten_requirement}
 use Rattle.tool_ranges.specs.ToolTable.{fits_in, written_in}
 
--- whether a text has a tab
-abbrev pub has_tab : Text → Bool
-has_tab t = list_any (λ b. b == code "\t") t
-
 -- whether a text begins with `~>`
 abbrev pub begins_with_tilde_greater : Text → Bool
 begins_with_tilde_greater (a ∷ b ∷ t) = (a == code "~") && (b == code ">")
@@ -38,7 +33,7 @@ at_end s [] = Some (s, None)
 at_end s (b ∷ t) = if b == code "," then Some (s, Some t) else None
 
 abbrev pub if_read : Simple → Text → Option (Simple × Option Text)
-if_read s t = if is_of_cargo s then at_end s (behind_blanks Crate t) else None
+if_read s t = if is_of_cargo s then at_end s (behind_blanks dialect.Cargo t) else None
 
 abbrev pub with_operator : Form → Option (PartialTree × Text) → Option (Simple × Option Text)
 with_operator form None = None
@@ -47,10 +42,10 @@ with_operator form (Some found) = if_read (record { form = form; partial = found
 abbrev pub comparator_here : Text → Option (Simple × Option Text)
 comparator_here t =
     if begins_with_tilde_greater t then None
-    else with_operator (operator Crate t).0 (with_first (component (operator Crate t).1))
+    else with_operator (operator dialect.Cargo t).0 (with_first (component (operator dialect.Cargo t).1))
 
 abbrev pub comparator_at : Text → Option (Simple × Option Text)
-comparator_at t = comparator_here (behind_blanks Crate t)
+comparator_at t = comparator_here (behind_blanks dialect.Cargo t)
 
 -- what stands behind a comma, where one is there
 abbrev pub behind_comma : Option (Bor Text) → Option Text

@@ -18,16 +18,16 @@ use semver_ranges::grammar::{
 use semver_ranges::partial::{Component, Components, Partial};
 
 /// The comparator at the front of a text, up to a comma or the end, and what follows the comma. One
-/// without operator is answered as `^`, or with a wildcard as `=`. Tabs are taken for spaces.
+/// without operator is answered as `^`, or with a wildcard as `=`.
 #[inline(always)]
 pub(crate) fn read_comparator(text: &[u8]) -> Option<(Simple<'_>, Option<&[u8]>)>
     ensures { FindsComparator (comparator_at text.now) result }
 {
-    let text = behind_blanks(text, Dialect::Crate);
+    let text = behind_blanks(text, Dialect::Cargo);
     if begins_with_tilde_greater(text) {
         return None;
     }
-    let (form, text) = read_operator(text, Dialect::Crate);
+    let (form, text) = read_operator(text, Dialect::Cargo);
     let (written, rest) = read_components(text)?;
     if !is_read(form, &written) {
         return None;
@@ -36,7 +36,7 @@ pub(crate) fn read_comparator(text: &[u8]) -> Option<(Simple<'_>, Option<&[u8]>)
         form: named(form, has_wildcard(&written)),
         partial: Partial::new(written.major, written.minor, written.patch, written.pre),
     };
-    match behind_blanks(rest, Dialect::Crate) {
+    match behind_blanks(rest, Dialect::Cargo) {
         [] => Some((simple, None)),
         [b',', behind @ ..] => Some((simple, Some(behind))),
         _ => None,

@@ -12,7 +12,6 @@ ghost use Rattle.tool_ranges.specs.CargoMeaning.{meets_requirement};
 ghost use Rattle.tool_ranges.specs.CargoTable.{requirement_fits, rewritten_requirement};
 ghost use Rattle.tool_ranges.specs.CargoTexts.{RefusesRequirement};
 ghost use Rattle.tool_ranges.specs.declared.cargo.judging.Judged.TheVariants as judged;
-ghost use Rattle.tool_ranges.specs.Steps.CargoReading.{has_tab};
 ghost use Rattle.tool_ranges.specs.Steps.CargoPreReleases.{counting, counting_one, judging};
 
 use crate::cargo::judging::Judged;
@@ -54,7 +53,6 @@ pub fn read(alloc: Global, requirement: &str) -> Result<VersionSet, RangeError>
 
 /// What a requirement means, of which the set that it is rewritten to tells the releases.
 fn meant(alloc: Global, text: &[u8], rewritten: &RangeSet) -> Result<VersionSet, AllocError>
-    requires tabless { has_tab text.now ≡ false }
     requires fits { (tree : List SimpleTree) × SpellsRequirement tree text.now
         × IsTrue (requirement_fits tree) }
     requires rewritten { (tree : List SimpleTree) → SpellsRequirement tree text.now
@@ -86,7 +84,6 @@ fn counted(
     count: usize,
     ranges: Vec<Range>,
 ) -> Result<VersionSet, AllocError>
-    requires tabless { has_tab text.now ≡ false }
     requires fits { (tree : List SimpleTree) × SpellsRequirement tree text.now
         × IsTrue (requirement_fits tree) }
     requires ranges { (tree : List SimpleTree) → SpellsRequirement tree text.now

@@ -9,7 +9,7 @@ use Rattle.tool_ranges.proofs.RequirementSteps.{at_start, at_none, at_next, at_l
 use Rattle.tool_ranges.proofs.cargo.build_counting.Goals as goal
 
 pub loop-init : goal.loop-init
-loop-init c = ([], at_start c.args.text.now c.requires.tabless, refl, ap (map _) c.new-ranges.ensures.items)
+loop-init c = ([], at_start c.args.text.now, refl, ap (map _) c.new-ranges.ensures.items)
 
 pub returns-in_default : goal.returns-in_default
 returns-in_default c = let so_far = c.loop.invariant in
@@ -22,7 +22,7 @@ pub returns-in_default-behind : goal.returns-in_default-behind
 returns-in_default-behind c =
     let so_far = c.loop.invariant in
     let found = c.in-Some.ensures in
-    let fits = c.requires.fits in
+    let fits = c.requires in
     λ tree h.
     c.in_ok-push_counting.ensures found.0.partial found.2.1
     (fit_numbers Cargo (as_read found.0) c.in-Some.simple found.2
@@ -35,7 +35,7 @@ pub loop-preserved : goal.loop-preserved
 loop-preserved c =
     let so_far = c.loop.invariant in
     let found = c.in-Some.ensures in
-    let fits = c.requires.fits in (
+    let fits = c.requires in (
       so_far.0 ++ found.0 ∷ [],
       at_next c.args.text.now so_far.0 c.loop.rest.now found.0 c.in-Some-behind.behind.now so_far.1
           (found.1 ∙ ap (λ b. Some (found.0, behind_comma b)) c.in-Some-behind.is),

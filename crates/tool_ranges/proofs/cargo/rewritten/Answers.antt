@@ -1,15 +1,12 @@
-use Rattle.std.proofs.Common.{Some, sym, ap, ◌∙◌}
+use Rattle.std.proofs.Common.{Some, ap, ◌∙◌}
 use Rattle.tool_ranges.specs.CargoMeaning.{as_read}
 use Rattle.tool_ranges.specs.Steps.CargoReading.{behind_comma}
-use Rattle.tool_ranges.proofs.RequirementLaws.{tab_refused, one_rewritten}
+use Rattle.tool_ranges.proofs.RequirementLaws.{one_rewritten}
 use Rattle.tool_ranges.proofs.cargo.rewritten.Goals as goal
-
-pub returns-then-contains : goal.returns-then-contains
-returns-then-contains c = tab_refused c.args.text.now (sym c.contains.ensures.value ∙ c.if-contains.true)
 
 pub returns-in-Some-default-None : goal.returns-in-Some-default-None
 returns-in-Some-default-None c =
     let found = c.in-Some-default-None.ensures in
-    one_rewritten c.args.text.now found.0 c.rewritten_one.result (sym c.contains.ensures.value ∙ c.if-contains.false)
+    one_rewritten c.args.text.now found.0 c.rewritten_one.result
     (found.1 ∙ ap (λ b. Some (found.0, behind_comma b)) c.in-Some-default-None.field-0-1-is)
     (c.rewritten_one.ensures (as_read found.0) found.2)

@@ -17,7 +17,7 @@ loop-at-preserved c =
       surveyed_next c.args.text.now seen.0 c.loop-at.rest.now c.loop-at.at c.loop-at.states_all c.loop-at.fit (not c.states_nothing.result)
           c.fits-fit.result s c.in-Some-behind.behind.now seen.1 (found.1 ∙ ap (λ b. Some (s, behind_comma b)) c.in-Some-behind.is)
           (ap not (c.states_nothing.ensures ∙ sym (states_kind s.partial c.in-Some.simple.partial found.2.1)))
-          (c.fits-fit.ensures (as_read s) found.2),
+          (c.fits-fit.ensures ∙ (c.cell_of-cell.ensures (as_read s) found.2).1),
     )
 
 pub returns-in-loop-at : goal.returns-in-loop-at
@@ -28,4 +28,7 @@ returns-in-loop-at c =
     surveyed_end c.args.text.now seen.0 c.loop-at.rest.now c.loop-at.at c.loop-at.states_all c.loop-at.fit (not c.states_nothing.result)
     c.fits-fit.result s seen.1 (found.1 ∙ ap (λ b. Some (s, behind_comma b)) c.in_default-behind.is) c.loop-at-test.true
     (ap not (c.states_nothing.ensures ∙ sym (states_kind s.partial c.in-Some.simple.partial found.2.1)))
-    (c.fits-fit.ensures (as_read s) found.2) c.ended.result c.ended.ensures
+    (c.fits-fit.ensures ∙ (c.cell_of-cell.ensures (as_read s) found.2).1) c.ended.result c.ended.ensures
+
+pub fits-fit-requires : goal.fits-fit-requires
+fits-fit-requires c = let found = c.in-Some.ensures in (c.cell_of-cell.ensures (as_read found.0) found.2).0

@@ -1,4 +1,4 @@
-use Rattle.std.proofs.Common.{subst, ap, ◌∙◌, ◌&&◌, Result, Ok, IfOk}
+use Rattle.std.proofs.Common.{subst, ap, ◌∙◌, ◌&&◌, Result, IfOk}
 use Rattle.semver_ranges.specs.declared.range_set.RangeError.{RangeError}
 use Rattle.semver_texts.specs.Texts.{is_empty}
 use Rattle.version_sets.specs.declared.version_set.VersionSet.{VersionSet}

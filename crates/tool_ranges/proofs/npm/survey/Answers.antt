@@ -16,7 +16,7 @@ taken c =
     (c.in-Some.ensures.gives.0 so_far.0 so_far.1))
 
 pub fits-fit-requires : goal.fits-fit-requires
-fits-fit-requires c = let first = taken (goal.at.fits-fit-requires c).In-Simple in (first.s, first.is)
+fits-fit-requires c = let first = taken (goal.at.fits-fit-requires c).In-Simple in (c.cell_of.ensures first.s first.is).0
 
 pub loop-event-preserved-in-Simple : goal.loop-event-preserved-in-Simple
 loop-event-preserved-in-Simple c =
@@ -25,7 +25,7 @@ loop-event-preserved-in-Simple c =
       first.left,
       first.has,
       sum_more (fits_in Npm) _ c.loop-event.fit c.fits-fit.result c.loop-event.ended so_far.0 first.left first.s so_far.2 first.whole
-          (c.fits-fit.ensures first.s first.is),
+          (c.fits-fit.ensures ∙ (c.cell_of.ensures first.s first.is).1),
       omega (arith, so_far.3, c.in-Some.ensures.gives.1),
     )
 

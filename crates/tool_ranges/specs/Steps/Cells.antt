@@ -1,0 +1,45 @@
+-- A means of proof, which no public clause cites: what private contracts see of the cells of the
+-- tools' tables.
+use Rattle.std.specs.Prelude.{◌≡◌, ◌≤◌, ◌++◌, Bool, true, ◌&&◌, Some, List, [], ◌∷◌, length}
+use Rattle.semver_ranges.specs.declared.partial.Partial.{Partial}
+use Rattle.semver_ranges.specs.declared.partial.RaisedBounds.TheVariants.{Exact}
+use Rattle.semver_ranges.specs.declared.range.Compat.{Compat}
+use Rattle.semver_ranges.specs.declared.range.Op.TheVariants.{Lt, Gte}
+use Rattle.semver_ranges.specs.RangeTree.{Simple}
+use Rattle.semver_ranges.specs.ExactBounds.{lowest_pre_release}
+use Rattle.semver_ranges.specs.RewritingTable.{PlainComparator, comparator, up, up_with, bound_fits}
+use Rattle.semver_ranges.specs.RewritingTable.{with_pre_release}
+use Rattle.semver_ranges.specs.Steps.PartialViews.{stated_of, version_of, place_number, PartsPass}
+use Rattle.semver_ranges.specs.Steps.BoundsViews.{bounds_fit, comparators_of, IsPlaced}
+use Rattle.tool_ranges.specs.declared.rows.Cell.{Cell}
+use Rattle.tool_ranges.specs.declared.rows.Cell.TheVariants.{Above, BelowAll, Shared}
+use Rattle.tool_ranges.specs.ToolTable.{fits_in, written_in}
+
+-- the place of a raised bound is one of those that are stated
+abbrev pub IsPlacedAt : Cell → Partial → Type 0
+IsPlacedAt (Above place) p = place_number place ≤ length (stated_of p)
+IsPlacedAt BelowAll p = Unit {0}
+IsPlacedAt (Shared bounds) p = IsPlaced bounds p
+
+-- what building needs to know
+abbrev pub IsBuildableAt : Cell → Partial → Type 0
+IsBuildableAt c p = PartsPass p × IsPlacedAt c p
+
+-- whether the numbers and the raised bound fit
+abbrev pub cell_fits : Cell → Partial → Bool
+cell_fits (Above place) p = p.fits && bound_fits (Some (up (place_number place) (stated_of p)))
+cell_fits BelowAll p = p.fits
+cell_fits (Shared bounds) p = bounds_fit bounds p
+
+-- the comparators
+abbrev pub cell_written : Cell → Partial → List PlainComparator
+cell_written (Above place) p =
+    comparator Gte (up_with [] (place_number place) (stated_of p)) ∷ []
+cell_written BelowAll p = comparator Lt
+    (with_pre_release ((version_of p).pre ++ lowest_pre_release) (version_of p)) ∷ []
+cell_written (Shared bounds) p = comparators_of Exact bounds p
+
+-- the cell of a simple, and its comparators where it fits
+abbrev pub IsCellOf : Compat → Simple → Partial → Cell → Type 0
+IsCellOf mode s p c = IsBuildableAt c p × (cell_fits c p ≡ fits_in mode s)
+    × (cell_fits c p ≡ true → cell_written c p ≡ written_in mode s)
