@@ -198,12 +198,18 @@ impl<'input> Partial<'input> {
         requires { PartsPass self.now }
         ensures { IfOk result (λ c. comparator_of c ≡ comparator op (version_of self.now)) }
     {
+        // For speed: most have no pre-release, and then there is nothing to hand on.
+        let pre = if self.pre.is_empty() {
+            Vec::new(alloc)
+        } else {
+            of_parts(alloc, self.pre, |part| read_identifier(alloc, part))?
+        };
         Ok(Comparator {
             op,
             major: self.major,
             minor: self.minor,
             patch: self.patch,
-            pre: of_parts(alloc, self.pre, |part| read_identifier(alloc, part))?,
+            pre,
         })
     }
 
@@ -246,7 +252,7 @@ fn raised_pre(alloc: Global, raised: RaisedBounds) -> Result<Vec<Identifier>, Al
         RaisedBounds::Plain => Ok(Vec::new(alloc)),
         RaisedBounds::Exact => {
             let mut pre = Vec::with_capacity(alloc, 1)?;
-            pre.push(Identifier::Numeric(0))?;
+            pre.push_reserved(Identifier::Numeric(0));
             Ok(pre)
         }
     }

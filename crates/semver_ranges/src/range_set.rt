@@ -235,13 +235,12 @@ fn build_only_simple(
       compat = compat;
     }) }
 {
+    let comparator_set = bounds.made(alloc, partial, raised)?;
     let mut ranges = Vec::with_capacity(alloc, 1)?;
-    let mut comparator_set = Vec::with_capacity(alloc, bounds.count())?;
-    bounds.push(alloc, partial, &mut comparator_set, raised)?;
-    ranges.push(Range {
+    ranges.push_reserved(Range {
         comparator_set,
         compat,
-    })?;
+    });
     Ok(RangeSet { ranges, compat })
 }
 

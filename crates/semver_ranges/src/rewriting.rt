@@ -4,7 +4,7 @@
 //! The rewriting takes no memory and raises nothing: only building does both, once all is known to
 //! fit.
 
-ghost use Rattle.std.specs.Prelude.{◌≡◌, ◌≤◌, ◌++◌, length, map, true, IfOk};
+ghost use Rattle.std.specs.Prelude.{◌≡◌, ◌≤◌, ◌++◌, ◌∷◌, [], length, map, true, IfOk};
 ghost use Rattle.semver_ranges.specs.declared.partial.Partial.{Partial as PartialView};
 ghost use Rattle.semver_ranges.specs.declared.partial.RaisedBounds.{RaisedBounds as RaisedView};
 ghost use Rattle.semver_ranges.specs.RangeTree.{Simple as SimpleTree};
@@ -73,6 +73,31 @@ impl Bounds {
         }
     }
 
+    /// The comparators alone. For speed none of them is pushed where there might be no room.
+    #[inline(always)]
+    pub fn made(
+        self,
+        alloc: Global,
+        partial: &Partial<'_>,
+        raised: RaisedBounds,
+    ) -> Result<Vec<Comparator>, AllocError>
+        requires buildable { IsBuildable self partial.now }
+        requires fits { bounds_fit self partial.now ≡ true }
+        ensures { IfOk result (λ comparators. map comparator_of comparators.items
+            ≡ comparators_of raised self partial.now) }
+    {
+        match self {
+            Bounds::Against(op) => alone(alloc, partial.as_comparator(alloc, op)?),
+            Bounds::Below(place) => alone(alloc, partial.raised(alloc, place, raised)?),
+            Bounds::Between(place) => {
+                let mut comparators = Vec::with_capacity(alloc, 2)?;
+                comparators.push_reserved(partial.as_comparator(alloc, Op::Gte)?);
+                comparators.push_reserved(partial.raised(alloc, place, raised)?);
+                Ok(comparators)
+            }
+        }
+    }
+
     /// Adds the comparators.
     #[inline(always)]
     pub fn push(
@@ -96,6 +121,16 @@ impl Bounds {
         }
         Ok(())
     }
+}
+
+/// A vector of one comparator.
+#[inline(always)]
+pub fn alone(alloc: Global, comparator: Comparator) -> Result<Vec<Comparator>, AllocError>
+    ensures { IfOk result (λ comparators. comparators.items ≡ comparator ∷ []) }
+{
+    let mut comparators = Vec::with_capacity(alloc, 1)?;
+    comparators.push_reserved(comparator);
+    Ok(comparators)
 }
 
 /// The comparators of a simple, by the table: its form, how many numbers it states, and the mode.

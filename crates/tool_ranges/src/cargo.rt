@@ -124,9 +124,7 @@ fn build_one(alloc: Global, partial: &Partial<'_>, cell: Cell) -> Result<RangeSe
     requires fits { cell_fits cell partial.now ≡ true }
     ensures { IfOk result (λ set. set_of set ≡ in_one_range (cell_written cell partial.now)) }
 {
-    let mut comparators = Vec::with_capacity(alloc, cell.count())?;
-    cell.push(alloc, partial, &mut comparators)?;
-    in_one_range(alloc, comparators)
+    in_one_range(alloc, cell.made(alloc, partial)?)
 }
 
 /// The set of one range that has the comparators.
@@ -135,10 +133,10 @@ fn in_one_range(alloc: Global, comparator_set: Vec<Comparator>) -> Result<RangeS
         ≡ in_one_range (map comparator_of comparator_set.items)) }
 {
     let mut ranges = Vec::with_capacity(alloc, 1)?;
-    ranges.push(Range {
+    ranges.push_reserved(Range {
         comparator_set,
         compat: Compat::Cargo,
-    })?;
+    });
     Ok(RangeSet {
         ranges,
         compat: Compat::Cargo,

@@ -1,12 +1,14 @@
 //! The cells of the tables of Cargo and npm that have the comparators of a simple. Nothing here
 //! takes memory but `push`, which comes once all is known to fit.
 
-ghost use Rattle.std.specs.Prelude.{◌≡◌, ◌++◌, ◌&&◌, true, false, length, map, IfOk, MatchOption};
+ghost use Rattle.std.specs.Prelude.{◌≡◌, ◌≤◌, ◌++◌, ◌&&◌, true, false, length, map, IfOk, MatchOption};
+ghost use Rattle.std.specs.Prelude.{Some, []};
 ghost use Rattle.semver_ranges.specs.RangeTree.{Simple as SimpleTree};
 ghost use Rattle.semver_ranges.specs.RangeViews.{comparator_of};
 ghost use Rattle.semver_ranges.specs.Steps.PartialViews.{stated_of, place_number};
 ghost use Rattle.semver_ranges.specs.Steps.CursorViews.{form_of, IsSimpleOf};
 ghost use Rattle.semver_ranges.specs.RewritingTable.{comparator, with_pre_release};
+ghost use Rattle.semver_ranges.specs.RewritingTable.{bound_fits, up, up_with};
 ghost use Rattle.semver_ranges.specs.ExactBounds.{lowest_pre_release};
 ghost use Rattle.semver_ranges.specs.Steps.PartialViews.{version_of, PartsPass};
 ghost use Rattle.tool_ranges.specs.ToolTable.{fits_in, is_greater, states_some, ends_at};
@@ -15,7 +17,7 @@ ghost use Rattle.tool_ranges.specs.Steps.Cells.{cell_fits, cell_written, IsBuild
 
 use semver_ranges::grammar::{Form, Simple};
 use semver_ranges::partial::{Partial, PartialKind, Place, RaisedBounds};
-use semver_ranges::rewriting::{Bounds, rewritten};
+use semver_ranges::rewriting::{Bounds, alone, rewritten};
 use semver_ranges::{Comparator, Compat, Identifier, Op};
 use std::alloc::{AllocError, Global};
 
@@ -53,6 +55,25 @@ impl Cell {
         }
     }
 
+    /// The comparators alone. For speed none of them is pushed where there might be no room.
+    #[inline(always)]
+    pub(crate) fn made(
+        self,
+        alloc: Global,
+        partial: &Partial<'_>,
+    ) -> Result<Vec<Comparator>, AllocError>
+        requires buildable { IsBuildableAt self partial.now }
+        requires fits { cell_fits self partial.now ≡ true }
+        ensures { IfOk result (λ comparators. map comparator_of comparators.items
+            ≡ cell_written self partial.now) }
+    {
+        match self {
+            Cell::Above(place) => alone(alloc, from_raised(alloc, partial, place)?),
+            Cell::BelowAll => alone(alloc, lowest_below(alloc, partial)?),
+            Cell::Shared(bounds) => bounds.made(alloc, partial, RaisedBounds::Exact),
+        }
+    }
+
     /// Adds the comparators.
     #[inline(always)]
     pub(crate) fn push(
@@ -68,11 +89,7 @@ impl Cell {
     {
         match self {
             Cell::Above(place) => {
-                let bound = partial.raised(alloc, place, RaisedBounds::Plain)?;
-                comparators.push(Comparator {
-                    op: Op::Gte,
-                    ..bound
-                })?;
+                comparators.push(from_raised(alloc, partial, place)?)?;
                 Ok(())
             }
             Cell::BelowAll => {
@@ -126,6 +143,25 @@ fn ends_below(simple: &Simple<'_>, compat: Compat) -> bool
         (Compat::Npm, Form::Greater, PartialKind::XRangeOnly) => true,
         _ => false,
     }
+}
+
+/// From the bound that is raised at a place on.
+#[inline(always)]
+fn from_raised(
+    alloc: Global,
+    partial: &Partial<'_>,
+    place: Place,
+) -> Result<Comparator, AllocError>
+    requires stated { place_number place ≤ length (stated_of partial.now) }
+    requires fits { bound_fits (Some (up (place_number place) (stated_of partial.now))) ≡ true }
+    ensures { IfOk result (λ c. comparator_of c ≡ comparator Op.Gte
+        (up_with [] (place_number place) (stated_of partial.now))) }
+{
+    let bound = partial.raised(alloc, place, RaisedBounds::Plain)?;
+    Ok(Comparator {
+        op: Op::Gte,
+        ..bound
+    })
 }
 
 /// Below every pre-release of a partial, which has none.
