@@ -198,11 +198,10 @@ impl<'input> Partial<'input> {
         requires { PartsPass self.now }
         ensures { IfOk result (λ c. comparator_of c ≡ comparator op (version_of self.now)) }
     {
-        // For speed: most have no pre-release, and then there is nothing to hand on.
         let pre = if self.pre.is_empty() {
             Vec::new(alloc)
         } else {
-            of_parts(alloc, self.pre, |part| read_identifier(alloc, part))?
+            kept_parts(alloc, self.pre)?
         };
         Ok(Comparator {
             op,
@@ -256,6 +255,17 @@ fn raised_pre(alloc: Global, raised: RaisedBounds) -> Result<Vec<Identifier>, Al
             Ok(pre)
         }
     }
+}
+
+/// The parts of a pre-release as they are kept. For speed it is a function of its own: most partials
+/// have none, and then nothing is called.
+#[inline(never)]
+fn kept_parts(alloc: Global, pre: &[u8]) -> Result<Vec<Identifier>, AllocError>
+    requires { list_all is_part (cut_at_dots pre.now) ≡ true }
+    ensures { IfOk result (λ parts. map identifier_of parts.items
+        ≡ map kept (cut_at_dots pre.now)) }
+{
+    of_parts(alloc, pre, |part| read_identifier(alloc, part))
 }
 
 /// A part as it is kept.

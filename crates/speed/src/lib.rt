@@ -68,7 +68,10 @@ pub extern "C" fn speed_requirement(alloc: Global, text: &[u8]) -> u64
     requires { IsUtf8 text.now }
 {
     let text = unsafe { std::str::from_utf8_unchecked(text) };
-    u64::from(cargo::rewrite(alloc, text).is_ok())
+    match cargo::rewrite(alloc, text) {
+        Ok(_) => 1,
+        Err(_) => 0,
+    }
 }
 
 /// 1 where the text has a set of versions in Cargo mode, as stated, and else 0. The set is made.

@@ -17,7 +17,7 @@ ghost use Rattle.tool_ranges.specs.CargoTable.{requirement_fits, rewritten_requi
 ghost use Rattle.tool_ranges.specs.CargoTexts.{RefusesRequirement};
 ghost use Rattle.tool_ranges.specs.Steps.Cells.{cell_fits, cell_written, IsBuildableAt};
 ghost use Rattle.tool_ranges.specs.Steps.CargoReading.{EndsAs, IsRefusal};
-ghost use Rattle.tool_ranges.specs.Steps.CargoReading.{in_one_range, IsRewritten};
+ghost use Rattle.tool_ranges.specs.Steps.CargoReading.{in_one_range, set_with, IsRewritten};
 ghost use Rattle.tool_ranges.specs.Steps.CargoReading.{IsRewrittenOne};
 ghost use Rattle.tool_ranges.specs.Steps.CargoPreReleases.{counting_one, judging, judging_one};
 
@@ -74,11 +74,17 @@ pub fn rewrite(alloc: Global, requirement: &str) -> Result<RangeSet, RangeError>
         × Spells tree (set_text (set_of set)) × IsTrue (fits Cargo tree)
         × (rewritten Cargo tree ≡ set_of set)) }
 {
-    rewritten(alloc, requirement.as_bytes())
+    match rewritten(alloc, requirement.as_bytes()) {
+        Ok(ranges) => Ok(RangeSet {
+            ranges,
+            compat: Compat::Cargo,
+        }),
+        Err(refusal) => Err(refusal),
+    }
 }
 
-/// The comparators of a requirement. For speed, one comparator is read once.
-fn rewritten(alloc: Global, text: &[u8]) -> Result<RangeSet, RangeError>
+/// The range of a requirement. For speed, one comparator is read once.
+fn rewritten(alloc: Global, text: &[u8]) -> Result<Vec<Range>, RangeError>
     ensures { IsRewritten text.now result }
 {
     if let Some((simple, None)) = read_comparator(text) {
@@ -87,10 +93,10 @@ fn rewritten(alloc: Global, text: &[u8]) -> Result<RangeSet, RangeError>
     rewritten_all(alloc, text)
 }
 
-/// The comparators of a requirement in two runs: the first surveys all of it, and the second
-/// builds. For speed it is a function of its own: that of one comparator stays small.
+/// The range of a requirement in two runs: the first surveys all of it, and the second builds. For
+/// speed it is a function of its own: that of one comparator stays small.
 #[inline(never)]
-fn rewritten_all(alloc: Global, text: &[u8]) -> Result<RangeSet, RangeError>
+fn rewritten_all(alloc: Global, text: &[u8]) -> Result<Vec<Range>, RangeError>
     ensures { IsRewritten text.now result }
 {
     let count = match survey(text) {
@@ -98,13 +104,13 @@ fn rewritten_all(alloc: Global, text: &[u8]) -> Result<RangeSet, RangeError>
         Err(refusal) => return Err(refusal),
     };
     match build(alloc, text, count, Judged::Releases) {
-        Ok(set) => Ok(set),
+        Ok(ranges) => Ok(ranges),
         Err(_) => Err(RangeError::OutOfMemory),
     }
 }
 
-/// The comparators of one, as it is read.
-fn rewritten_one(alloc: Global, simple: &Simple<'_>) -> Result<RangeSet, RangeError>
+/// The range of one comparator, as it is read.
+fn rewritten_one(alloc: Global, simple: &Simple<'_>) -> Result<Vec<Range>, RangeError>
     requires { (s : SimpleTree) × IsSimpleOf s simple.now }
     ensures { (s : SimpleTree) → IsSimpleOf s simple.now → IsRewrittenOne s result }
 {
@@ -113,23 +119,25 @@ fn rewritten_one(alloc: Global, simple: &Simple<'_>) -> Result<RangeSet, RangeEr
         return Err(RangeError::NumberTooLarge);
     }
     match build_one(alloc, &simple.partial, cell) {
-        Ok(set) => Ok(set),
+        Ok(ranges) => Ok(ranges),
         Err(_) => Err(RangeError::OutOfMemory),
     }
 }
 
-/// The set of one cell that fits.
-fn build_one(alloc: Global, partial: &Partial<'_>, cell: Cell) -> Result<RangeSet, AllocError>
+/// The range of one cell that fits.
+fn build_one(alloc: Global, partial: &Partial<'_>, cell: Cell) -> Result<Vec<Range>, AllocError>
     requires buildable { IsBuildableAt cell partial.now }
     requires fits { cell_fits cell partial.now ≡ true }
-    ensures { IfOk result (λ set. set_of set ≡ in_one_range (cell_written cell partial.now)) }
+    ensures { IfOk result (λ ranges. set_with ranges.items
+        ≡ in_one_range (cell_written cell partial.now)) }
 {
     in_one_range(alloc, cell.made(alloc, partial)?)
 }
 
-/// The set of one range that has the comparators.
-fn in_one_range(alloc: Global, comparator_set: Vec<Comparator>) -> Result<RangeSet, AllocError>
-    ensures { IfOk result (λ set. set_of set
+/// The one range that has the comparators.
+#[inline(always)]
+fn in_one_range(alloc: Global, comparator_set: Vec<Comparator>) -> Result<Vec<Range>, AllocError>
+    ensures { IfOk result (λ ranges. set_with ranges.items
         ≡ in_one_range (map comparator_of comparator_set.items)) }
 {
     let mut ranges = Vec::with_capacity(alloc, 1)?;
@@ -137,10 +145,7 @@ fn in_one_range(alloc: Global, comparator_set: Vec<Comparator>) -> Result<RangeS
         comparator_set,
         compat: Compat::Cargo,
     });
-    Ok(RangeSet {
-        ranges,
-        compat: Compat::Cargo,
-    })
+    Ok(ranges)
 }
 
 /// How many comparators stand for a requirement, or why there is no set of it.
@@ -184,12 +189,12 @@ fn ended(stands_alone: bool, fit: bool, count: usize) -> Result<usize, RangeErro
     Ok(count)
 }
 
-/// The set of a requirement that was surveyed, by which releases or pre-releases are judged.
-fn build(alloc: Global, text: &[u8], count: usize, judged: Judged) -> Result<RangeSet, AllocError>
+/// The range of a requirement that was surveyed, by which releases or pre-releases are judged.
+fn build(alloc: Global, text: &[u8], count: usize, judged: Judged) -> Result<Vec<Range>, AllocError>
     requires { (tree : List SimpleTree) × SpellsRequirement tree text.now
         × IsTrue (requirement_fits tree) }
-    ensures { IfOk result (λ set. (tree : List SimpleTree) → SpellsRequirement tree text.now
-        → set_of set ≡ judging judged tree) }
+    ensures { IfOk result (λ ranges. (tree : List SimpleTree) → SpellsRequirement tree text.now
+        → set_with ranges.items ≡ judging judged tree) }
 {
     in_one_range(alloc, build_comparators(alloc, text, count, judged)?)
 }

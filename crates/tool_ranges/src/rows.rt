@@ -147,11 +147,7 @@ fn ends_below(simple: &Simple<'_>, compat: Compat) -> bool
 
 /// From the bound that is raised at a place on.
 #[inline(always)]
-fn from_raised(
-    alloc: Global,
-    partial: &Partial<'_>,
-    place: Place,
-) -> Result<Comparator, AllocError>
+fn from_raised(alloc: Global, partial: &Partial<'_>, place: Place) -> Result<Comparator, AllocError>
     requires stated { place_number place ≤ length (stated_of partial.now) }
     requires fits { bound_fits (Some (up (place_number place) (stated_of partial.now))) ≡ true }
     ensures { IfOk result (λ c. comparator_of c ≡ comparator Op.Gte

@@ -2,11 +2,11 @@
 -- requirements follows, and what private contracts see of what it finds.
 use Prim.Native.Char.{code}
 use Rattle.std.specs.Prelude.{◌≡◌, ℕ, Bool, true, false, ◌&&◌, ◌==◌, if◌then◌else◌, Option, Some}
-use Rattle.std.specs.Prelude.{None, List, [], ◌∷◌, IsTrue, Result, Ok, Err}
+use Rattle.std.specs.Prelude.{None, List, [], ◌∷◌, map, IsTrue, Result, Ok, Err, Vec}
 use Rattle.std.specs.Borrow.{Bor}
 use Rattle.semver_ranges.specs.declared.grammar.Dialect.TheVariants as dialect
 use Rattle.semver_ranges.specs.declared.range.Compat.TheVariants.{Cargo}
-use Rattle.semver_ranges.specs.declared.range_set.RangeSet.{RangeSet}
+use Rattle.semver_ranges.specs.declared.range.Range.{Range}
 use Rattle.semver_ranges.specs.declared.range_set.RangeError.{RangeError}
 use Rattle.semver_ranges.specs.declared.range_set.RangeError.TheVariants.{NotARange, NumberTooLarge}
 use Rattle.semver_ranges.specs.declared.range_set.RangeError.TheVariants.{OutOfMemory}
@@ -15,7 +15,7 @@ use Rattle.semver_texts.specs.Texts.{Text}
 use Rattle.semver_ranges.specs.RangeTree.{Form, PartialTree, Simple}
 use Rattle.semver_ranges.specs.Steps.Reading.{behind_blanks, operator, with_first, component}
 use Rattle.semver_ranges.specs.RewritingTable.{PlainComparator, PlainSet}
-use Rattle.semver_ranges.specs.RangeViews.{set_of}
+use Rattle.semver_ranges.specs.RangeViews.{range_of}
 use Rattle.semver_ranges.specs.Steps.CursorViews.{IsSimpleOf}
 use Rattle.tool_ranges.specs.CargoGrammar.{is_of_cargo, SpellsRequirement}
 use Rattle.tool_ranges.specs.CargoMeaning.{as_read}
@@ -72,16 +72,24 @@ abbrev pub in_one_range : List PlainComparator → PlainSet
 in_one_range cs =
     record { ranges = record { comparators = cs; compat = Cargo } ∷ []; compat = Cargo }
 
--- what a text is rewritten to, or why it isn't
-abbrev pub IsRewritten : Text → Result RangeSet RangeError → Type 0
-IsRewritten t (Ok set) = (tree : List Simple) × SpellsRequirement tree t
-    × IsTrue (requirement_fits tree) × (set_of set ≡ rewritten_requirement tree)
+-- the set of ranges that are built, in Cargo mode
+abbrev pub set_with : List Range → PlainSet
+set_with ranges = record { ranges = map range_of ranges; compat = Cargo }
+
+-- the set that a text is rewritten to
+abbrev pub IsSetOf : Text → PlainSet → Type 0
+IsSetOf t set = (tree : List Simple) × SpellsRequirement tree t
+    × IsTrue (requirement_fits tree) × (set ≡ rewritten_requirement tree)
+
+-- the ranges of that set, or why there is none
+abbrev pub IsRewritten : {Z : Type 0} → Text → Result (Vec Range Z) RangeError → Type 0
+IsRewritten t (Ok ranges) = IsSetOf t (set_with ranges.items)
 IsRewritten t (Err e) = IsRefusal t e
 
 -- the same of one, as it is read
-abbrev pub IsRewrittenOne : Simple → Result RangeSet RangeError → Type 0
-IsRewrittenOne s (Ok set) =
-    (fits_in Cargo s ≡ true) × (set_of set ≡ in_one_range (written_in Cargo s))
+abbrev pub IsRewrittenOne : {Z : Type 0} → Simple → Result (Vec Range Z) RangeError → Type 0
+IsRewrittenOne s (Ok ranges) =
+    (fits_in Cargo s ≡ true) × (set_with ranges.items ≡ in_one_range (written_in Cargo s))
 IsRewrittenOne s (Err NotARange) = ⊥
 IsRewrittenOne s (Err NumberTooLarge) = fits_in Cargo s ≡ false
 IsRewrittenOne s (Err OutOfMemory) = fits_in Cargo s ≡ true

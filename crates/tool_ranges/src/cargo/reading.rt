@@ -97,8 +97,11 @@ fn counted(
         ranges,
         compat: Compat::Cargo,
     };
-    let comparators = build(alloc, text, count, Judged::PreReleases)?;
-    let judged = VersionSet::of_set(alloc, &comparators, PreReleases::Included)?;
+    let judging = RangeSet {
+        ranges: build(alloc, text, count, Judged::PreReleases)?,
+        compat: Compat::Cargo,
+    };
+    let judged = VersionSet::of_set(alloc, &judging, PreReleases::Included)?;
     judged.intersection(
         alloc,
         &VersionSet::of_set(alloc, &counting, PreReleases::Included)?,

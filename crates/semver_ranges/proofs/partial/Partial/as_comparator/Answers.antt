@@ -1,14 +1,10 @@
-use Rattle.std.proofs.Common.{rules, ◌≡◌, ◌==◌, true, map, refl, ap, ◌∙◌, sym, length, [], ◌∷◌, arith}
+use Rattle.std.proofs.Common.{◌≡◌, ◌==◌, true, map, refl, ap, ◌∙◌, sym, length, [], ◌∷◌, arith}
 use Rattle.std.proofs.lemmas.Bool.{eqb-true}
 use Rattle.semver_texts.specs.Texts.{Text, cut_at_dots}
 use Rattle.semver_ranges.specs.Partials.{kept}
 use Rattle.semver_ranges.specs.RangeViews.{identifier_of}
-use Rattle.semver_ranges.proofs.KeptParts.{all_kept, cut_dotted}
 use Rattle.semver_ranges.proofs.partial.Partial.as_comparator.Goals as goal
 use Rattle.semver_ranges.proofs.partial.Partial.as_comparator.Goals.{then-is_empty, else-is_empty+in_ok-pre}
-
-pub of_parts-requires-clause-bytes : goal.of_parts-requires-clause-bytes
-of_parts-requires-clause-bytes c = cut_dotted c.args.self.now.pre.now c.requires
 
 nothing_kept : (t : Text) → true ≡ (length t == 0) → map kept (cut_at_dots t) ≡ []
 nothing_kept [] e = refl
@@ -20,7 +16,5 @@ returns c = rw pre refl where
   pre = elim c.if-is_empty.branch [
     | then-is_empty w ↦ ap (λ v. map identifier_of v.items) w.pre-is ∙ ap (map identifier_of) w.new-pre.ensures.items
         ∙ sym (nothing_kept c.args.self.now.pre.now (sym w.if-is_empty.true ∙ c.is_empty.ensures))
-    | else-is_empty+in_ok-pre w ↦ ap (λ v. map identifier_of v.items) w.pre-is
-        ∙ all_kept identifier_of (λ id part made is. search rules) w.in_ok-pre.pre.items (cut_at_dots c.args.self.now.pre.now)
-        w.in_ok-pre.ensures.made c.requires
+    | else-is_empty+in_ok-pre w ↦ ap (λ v. map identifier_of v.items) w.pre-is ∙ w.in_ok-pre.ensures
   ]

@@ -13,7 +13,7 @@ returns c =
     if_ok c.intersection-2.result
     (λ set is tree v h small. is v
     ∙ (λ i. (c.in_ok-judged.ensures.meaning (record { plain = v; build = [] }) small
-    ∙ ap (meets_set v) (c.in_ok-comparators.ensures tree h)) i
+    ∙ ap (meets_set v) (c.in_ok-build.ensures tree h)) i
     && (c.in_ok-of_set.ensures.meaning (record { plain = v; build = [] }) small
     ∙ ap (λ ranges. meets_set v (set_with ranges)) (c.requires.ranges tree h)) i))
     c.intersection-2.ensures.has
