@@ -1,0 +1,2 @@
+pub mod RangeFaults
+pub mod MeantSets
