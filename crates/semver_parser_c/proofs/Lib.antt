@@ -1,7 +1,5 @@
-mod EachPlace
 mod ToldComparators
 mod Steps
 mod RangeFaults
 mod LeastVersions
 mod ComparedVersions
-mod NewRanges

@@ -3,8 +3,7 @@ use Rattle.std.specs.Prelude.{◌≡◌, ◌↔◌, ℕ, ◌++◌, Option, Some,
 use Rattle.semver_parser.specs.Texts.{Text}
 use Rattle.semver_parser.specs.Versions.{PlainVersion}
 use Rattle.semver_parser.specs.declared.version.Version.{Version}
-use Rattle.version_sets.specs.VersionSets.{SetValue}
-use Rattle.version_sets.specs.Comparisons.{TellsLeast, IsInFirstAlone, IsInBoth}
+use Rattle.version_sets.specs.Comparisons.{TellsLeast}
 use Rattle.version_sets.specs.declared.comparison.Comparison.{Comparison}
 use Rattle.tool_ranges.specs.declared.meaning.Meaning.{Meaning}
 use Rattle.tool_ranges.specs.Readings.{TreeOf}
@@ -22,13 +21,6 @@ IsMeantAlone m first second v = IsMeant m first v × (¬ IsMeant m second v)
 abbrev pub IsMeantByBoth : (m : Meaning) → (first second : TreeOf (reading_of m)) → PlainVersion
     → Type 0
 IsMeantByBoth m first second v = IsMeant m first v × IsMeant m second v
-
--- lost is the least of the versions that the old set has alone, gained of those that the new one
--- has alone, and shared of those that both have
-pub record ComparesSets (old new : SetValue) (told : Comparison) : Type 0 where
-  pub lost : TellsLeast (IsInFirstAlone old new) told.lost
-  pub gained : TellsLeast (IsInFirstAlone new old) told.gained
-  pub shared : TellsLeast (IsInBoth old new) told.shared
 
 -- lost is the least version that the old tree means alone, gained the least that the new one means
 -- alone, and shared the least that both mean; each is none exactly where there is none

@@ -41,11 +41,6 @@ abbrev pub outcome_number : Result VersionValue Fault → ℤ
 outcome_number (Ok v) = number.ok
 outcome_number (Err e) = fault_number e
 
--- the number of what was read, or of why nothing was
-abbrev pub number_of : {T : Type 0} → Result T ℤ → ℤ
-number_of (Ok x) = number.ok
-number_of (Err n) = n
-
 -- the number is one of these
 abbrev pub IsOneOf : List ℤ → ℤ → Type 0
 IsOneOf [] n = ⊥
@@ -140,13 +135,6 @@ pub record RefusesRange (reading rule : ℤ) (text : Text) (n : ℤ) : Type 0 wh
 abbrev pub RefusesNewRange : Type 0 → ℤ → ℤ → Text → ℤ → Type 0
 RefusesNewRange Asked reading rule text n = (m : Meaning) → IsNamed m reading rule
     → RefusesBy new_range_numbers Asked (reading_of m) text n
-
--- a number of the new range that stands for one of a range, at the same place of their lists
-abbrev pub IsNumberOfNew : ℤ → ℤ → Type 0
-IsNumberOfNew m n = ((m ≡ number.range_not_utf8) × (n ≡ number.new_range_not_utf8))
-    ⊎ (((m ≡ number.not_a_range) × (n ≡ number.new_not_a_range))
-    ⊎ (((m ≡ number.number_too_large) × (n ≡ number.new_number_too_large))
-    ⊎ ((m ≡ number.range_out_of_memory) × (n ≡ number.new_range_out_of_memory))))
 
 -- what a call refuses of a version text by the number that it answers: bytes that are no UTF-8,
 -- exactly; of a text that spells no version the fault that is its outcome; and a version for want

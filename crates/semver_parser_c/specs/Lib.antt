@@ -8,3 +8,4 @@ pub mod Meetings
 pub mod Sets
 pub mod Compared
 pub mod Orders
+pub mod Steps

@@ -2,9 +2,13 @@
 
 ghost use Rattle.std.specs.Prelude.{◌≡◌, ◌++◌, IfOk, OnOk, length, string_bytes};
 ghost use Rattle.version_sets.specs.declared.comparison.Comparison.{Comparison as SomeComparison};
+ghost use Rattle.tool_ranges.specs.declared.meaning.Meaning.{Meaning};
+ghost use Rattle.tool_ranges.specs.Readings.{TreeOf};
+ghost use Rattle.tool_ranges.specs.Meanings.{reading_of};
 ghost use Rattle.semver_parser_c.specs.Sets.{text_of};
-ghost use Rattle.semver_parser_c.specs.Compared.{ComparesSets, joined_texts, place_behind};
+ghost use Rattle.semver_parser_c.specs.Compared.{Compares, joined_texts, place_behind};
 ghost use Rattle.semver_parser_c.specs.Compared.{places_of};
+ghost use Rattle.semver_parser_c.specs.Steps.MeantSets.{IsSetOf};
 
 use crate::{ComparedRanges, Part};
 use semver_parser::version::Version;
@@ -27,8 +31,9 @@ pub fn compare(
     old_set: &VersionSet,
     new_set: &VersionSet,
 ) -> Result<Printed, AllocError>
-    ensures { IfOk result (λ printed. (told : SomeComparison)
-        × ComparesSets old_set.now new_set.now told
+    ensures { IfOk result (λ printed. (m : Meaning) (old new : TreeOf (reading_of m))
+        → IsSetOf m old old_set.now → IsSetOf m new new_set.now
+        → (told : SomeComparison) × Compares m old new told
         × (string_bytes printed.text ≡ joined_texts told)
         × (printed.places ≡ places_of told)) }
 {
@@ -38,9 +43,9 @@ pub fn compare(
 
 /// Prints what was compared.
 fn print(alloc: Global, comparison: &Comparison) -> Result<Printed, AllocError>
-    ensures text { IfOk result (λ printed.
-        string_bytes printed.text ≡ joined_texts comparison.now) }
-    ensures places { IfOk result (λ printed. printed.places ≡ places_of comparison.now) }
+    ensures { IfOk result (λ printed.
+        (string_bytes printed.text ≡ joined_texts comparison.now)
+        × (printed.places ≡ places_of comparison.now)) }
 {
     let mut text = String::new(alloc);
     let lost = append(&mut text, &comparison.lost)?;

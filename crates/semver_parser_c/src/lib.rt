@@ -434,8 +434,8 @@ pub extern "C" fn semver_parser_proved_least(
     ensures room_unchanged { result ≢ number.ok → out.new ≡ out.old }
     ensures length_unchanged { IsOneOf named_faults result → length.new ≡ length.old }
 {
-    let meant = match sets::set_of(alloc, range, reading, pre_releases) {
-        Ok(set) => set,
+    let meant = match sets::read(alloc, range, reading, pre_releases) {
+        Ok((_, set)) => set,
         Err(number) => return number,
     };
     match sets::print_least(alloc, &meant) {

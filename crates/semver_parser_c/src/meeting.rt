@@ -8,10 +8,10 @@ ghost use Rattle.semver_parser.specs.VersionGrammar.{IsVersionText, SpellsVersio
 ghost use Rattle.tool_ranges.specs.declared.meaning.Meaning.{Meaning};
 ghost use Rattle.release_filter.specs.Filters.{passes};
 ghost use Rattle.semver_parser_c.specs.Readings.{IsNamed};
-ghost use Rattle.semver_parser_c.specs.Faults.{IsAccepted, IsOneOf, number_of};
-ghost use Rattle.semver_parser_c.specs.Faults.{RefusesRange, RefusesVersion};
-ghost use Rattle.semver_parser_c.specs.Faults.{named_faults, version_faults};
+ghost use Rattle.semver_parser_c.specs.Faults.{IsAccepted, IsOneOf};
+ghost use Rattle.semver_parser_c.specs.Faults.{RefusesRange, RefusesVersion, version_faults};
 ghost use Rattle.semver_parser_c.specs.Meetings.{IsAnswer, IsFilterOf};
+ghost use Rattle.semver_parser_c.specs.Steps.RangeFaults.{IsRefused, Stands};
 
 use crate::{numbers, sets, version_text};
 use release_filter::{Filter, Judged};
@@ -27,11 +27,12 @@ pub fn filter_of(
     ensures accepted { IfOk result (λ filter. IsAccepted reading pre_releases range.now) }
     ensures meaning { IfOk result (λ filter. (m : Meaning) → IsNamed m reading pre_releases
         → IsFilterOf filter m range.now) }
-    ensures numbers { IfErr result (λ n. IsOneOf named_faults n) }
-    ensures refusals { RefusesRange reading pre_releases range.now (number_of result) }
+    ensures stands { IfOk result (λ filter. Stands
+        (RefusesRange reading pre_releases range.now)) }
+    ensures refused { IfErr result (λ n. IsRefused reading pre_releases range.now n) }
 {
-    match sets::set_of(alloc, range, reading, pre_releases) {
-        Ok(set) => Ok(Filter::of_versions(set)),
+    match sets::read(alloc, range, reading, pre_releases) {
+        Ok((_, set)) => Ok(Filter::of_versions(set)),
         Err(number) => Err(number),
     }
 }

@@ -1,15 +1,17 @@
 //! Range texts: the set of one, or the number of its fault, and its printed text in the room of a
 //! caller.
 
-ghost use Rattle.std.specs.Prelude.{◌≡◌, ◌∷◌, IsUtf8, IfOk, IfErr};
+ghost use Rattle.std.specs.Prelude.{◌≡◌, ⊤, IsUtf8, IfOk, IfErr};
+ghost use Rattle.semver_parser.specs.Texts.{Text};
 ghost use Rattle.semver_parser.specs.RangeViews.{set_of};
-ghost use Rattle.tool_ranges.specs.declared.reading.Reading.{Reading};
+ghost use Rattle.tool_ranges.specs.declared.reading.Reading.{Reading as SomeReading};
 ghost use Rattle.tool_ranges.specs.Readings.{HasSetAs, RefusesAs};
-ghost use Rattle.semver_parser_c.specs.Numbers as number;
 ghost use Rattle.semver_parser_c.specs.Readings.{reading_number};
-ghost use Rattle.semver_parser_c.specs.Faults.{IsOneOf, IsSetFor, RefusesText, number_of};
-ghost use Rattle.semver_parser_c.specs.Faults.{range_fault_number, range_faults};
+ghost use Rattle.semver_parser_c.specs.Faults.{IsOneOf, IsSetFor, RefusesBy, RefusesText};
+ghost use Rattle.semver_parser_c.specs.Faults.{new_range_faults, new_range_numbers};
 ghost use Rattle.semver_parser_c.specs.Printing.{Puts};
+ghost use Rattle.semver_parser_c.specs.Steps.RangeFaults.{HasFault, IsReadable, IsTextRefused};
+ghost use Rattle.semver_parser_c.specs.Steps.RangeFaults.{IsTold, Stands};
 
 use crate::{numbers, readings};
 use semver_parser::{RangeError, RangeSet};
@@ -17,29 +19,61 @@ use std::alloc::Global;
 use tool_ranges::reading::{self, Reading};
 use tool_ranges::{cargo, npm};
 
+/// Why a range text isn't read.
+#[derive(Clone, Copy)]
+pub enum RangeFault {
+    /// Its bytes aren't UTF-8.
+    NotUtf8,
+    /// It isn't in the range grammar.
+    NotARange,
+    /// A number that it states, or a raised bound, is above 2^64 - 1.
+    TooLarge,
+    /// Memory ran out.
+    OutOfMemory,
+}
+
 /// The set of a range text by the reading of a number, or the number of the fault.
 pub fn read(alloc: Global, text: &[u8], reading: i32, exact: bool) -> Result<RangeSet, i32>
-    ensures accepted { IfOk result (λ set. (r : Reading) × (reading ≡ reading_number r)
+    ensures accepted { IfOk result (λ set. (r : SomeReading) × (reading ≡ reading_number r)
         × IsUtf8 text.now × HasSetAs r text.now) }
-    ensures as_rewritten { IfOk result (λ set. (r : Reading) → reading ≡ reading_number r
+    ensures as_rewritten { IfOk result (λ set. (r : SomeReading) → reading ≡ reading_number r
         → IsSetFor exact r text.now (set_of set)) }
-    ensures numbers { IfErr result (λ n. IsOneOf (number.no_such_reading ∷ range_faults) n) }
-    ensures refusals { RefusesText reading text.now (number_of result) }
+    ensures stands { IfOk result (λ set. Stands (RefusesText reading text.now)) }
+    ensures refused { IfErr result (λ n. IsTextRefused reading text.now n) }
 {
     let Some(reading) = readings::reading_of(reading) else {
         return Err(numbers::NO_SUCH_READING);
     };
-    let Ok(text) = std::str::from_utf8(text) else {
-        return Err(numbers::RANGE_NOT_UTF8);
-    };
     match rewritten(alloc, text, reading, exact) {
         Ok(set) => Ok(set),
-        Err(error) => Err(fault_number(&error)),
+        Err(fault) => Err(number_of(fault)),
     }
 }
 
 /// The set of a range text, with exact bounds or, by the crate's reading, those of the crate.
 fn rewritten(
+    alloc: Global,
+    text: &[u8],
+    reading: Reading,
+    exact: bool,
+) -> Result<RangeSet, RangeFault>
+    ensures accepted { IfOk result (λ set. IsReadable reading text.now) }
+    ensures as_rewritten { IfOk result (λ set. IsSetFor exact reading text.now (set_of set)) }
+    ensures fault { IfErr result (λ fault. HasFault reading text.now fault) }
+{
+    let Ok(text) = std::str::from_utf8(text) else {
+        return Err(RangeFault::NotUtf8);
+    };
+    match rewritten_text(alloc, text, reading, exact) {
+        Ok(set) => Ok(set),
+        Err(RangeError::NotARange) => Err(RangeFault::NotARange),
+        Err(RangeError::NumberTooLarge) => Err(RangeFault::TooLarge),
+        Err(RangeError::OutOfMemory) => Err(RangeFault::OutOfMemory),
+    }
+}
+
+/// The set of a range text whose bytes are UTF-8.
+fn rewritten_text(
     alloc: Global,
     text: &str,
     reading: Reading,
@@ -59,13 +93,29 @@ fn rewritten(
 }
 
 /// The number of a fault.
-pub fn fault_number(error: &RangeError) -> i32
-    ensures { result ≡ range_fault_number error.now }
+pub fn number_of(fault: RangeFault) -> i32
+    ensures { (reading : SomeReading) (text : Text) → HasFault reading text fault
+        → IsTold reading text result }
 {
-    match error {
-        RangeError::NotARange => numbers::NOT_A_RANGE,
-        RangeError::NumberTooLarge => numbers::NUMBER_TOO_LARGE,
-        RangeError::OutOfMemory => numbers::RANGE_OUT_OF_MEMORY,
+    match fault {
+        RangeFault::NotUtf8 => numbers::RANGE_NOT_UTF8,
+        RangeFault::NotARange => numbers::NOT_A_RANGE,
+        RangeFault::TooLarge => numbers::NUMBER_TOO_LARGE,
+        RangeFault::OutOfMemory => numbers::RANGE_OUT_OF_MEMORY,
+    }
+}
+
+/// The number of a fault of the new range, where two are compared.
+pub fn new_number_of(fault: RangeFault) -> i32
+    ensures one { IsOneOf new_range_faults result }
+    ensures told { (reading : SomeReading) (text : Text) → HasFault reading text fault
+        → RefusesBy new_range_numbers ⊤ reading text result }
+{
+    match fault {
+        RangeFault::NotUtf8 => numbers::NEW_RANGE_NOT_UTF8,
+        RangeFault::NotARange => numbers::NEW_NOT_A_RANGE,
+        RangeFault::TooLarge => numbers::NEW_NUMBER_TOO_LARGE,
+        RangeFault::OutOfMemory => numbers::NEW_RANGE_OUT_OF_MEMORY,
     }
 }
 

@@ -1,12 +1,12 @@
 //! Readings of range texts, and what is meant by them, by the numbers that C has for them.
 
-ghost use Rattle.std.specs.Prelude.{◌≡◌, ◌⊎◌, IfOk, IfErr, MatchOption};
+ghost use Rattle.std.specs.Prelude.{◌≡◌, IfOk, IfErr, MatchOption};
+ghost use Rattle.semver_parser.specs.Texts.{Text};
 ghost use Rattle.tool_ranges.specs.declared.meaning.Meaning.{Meaning};
 ghost use Rattle.version_sets.specs.declared.PreReleases.{PreReleases as Rule};
 ghost use Rattle.tool_ranges.specs.Meanings.{reading_of};
-ghost use Rattle.semver_parser_c.specs.Numbers as number;
-ghost use Rattle.semver_parser_c.specs.Readings.{IsMeaning, IsNamed, IsReading};
-ghost use Rattle.semver_parser_c.specs.Readings.{crate_rule_number, reading_number, rule_number};
+ghost use Rattle.semver_parser_c.specs.Readings.{IsReading, crate_rule_number, rule_number};
+ghost use Rattle.semver_parser_c.specs.Steps.RangeFaults.{IsMeaningOf, IsReadingOf, IsRefused};
 
 use crate::numbers;
 use semver_parser::Compat;
@@ -16,11 +16,9 @@ use version_sets::PreReleases;
 
 /// What is meant by a reading and a rule for pre-releases, or the number of why there is none.
 pub fn meaning_of(reading: i32, pre_releases: i32) -> Result<Meaning, i32>
-    ensures named { IfOk result (λ m. IsNamed m reading pre_releases) }
-    ensures unnamed { IfErr result (λ n.
-        ((n ≡ number.no_such_reading) × (¬ (IsReading reading)))
-        ⊎ ((n ≡ number.no_such_rule) × IsReading reading
-        × (¬ (IsMeaning reading pre_releases)))) }
+    ensures named { IfOk result (λ m. IsMeaningOf m reading pre_releases) }
+    ensures refused { IfErr result (λ n. (text : Text)
+        → IsRefused reading pre_releases text n) }
 {
     let Some(reading) = reading_of(reading) else {
         return Err(numbers::NO_SUCH_READING);
@@ -34,7 +32,7 @@ pub fn meaning_of(reading: i32, pre_releases: i32) -> Result<Meaning, i32>
 /// The reading of a number.
 pub fn reading_of(number: i32) -> Option<Reading>
     ensures { MatchOption result (¬ (IsReading number)) (λ reading.
-        number ≡ reading_number reading) }
+        IsReadingOf reading number) }
 {
     match number {
         numbers::CARGO => Some(Reading::Cargo),
@@ -49,7 +47,9 @@ pub fn reading_of(number: i32) -> Option<Reading>
 fn meaning_by(reading: Reading, rule: i32) -> Option<Meaning>
     ensures { MatchOption result
         (¬ ((m : Meaning) × (reading_of m ≡ reading) × (rule ≡ rule_number m)))
-        (λ m. (reading_of m ≡ reading) × (rule ≡ rule_number m)) }
+        (λ m. (reading_of m ≡ reading) × (rule ≡ rule_number m)
+        × ((other : Meaning) → reading_of other ≡ reading → rule ≡ rule_number other
+        → m ≡ other)) }
 {
     match reading {
         Reading::Cargo => match rule {
@@ -72,7 +72,8 @@ fn meaning_by(reading: Reading, rule: i32) -> Option<Meaning>
 /// The rule of a number, of those that the crate's reading has.
 fn rule_of(number: i32) -> Option<PreReleases>
     ensures { MatchOption result (¬ ((rule : Rule) × (number ≡ crate_rule_number rule)))
-        (λ rule. number ≡ crate_rule_number rule) }
+        (λ rule. (number ≡ crate_rule_number rule)
+        × ((other : Rule) → number ≡ crate_rule_number other → rule ≡ other)) }
 {
     match number {
         numbers::RELEASES_ALONE => Some(PreReleases::Excluded),

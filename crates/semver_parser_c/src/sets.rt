@@ -1,47 +1,67 @@
 //! Sets of the versions that range texts mean, and the texts of their least versions.
 
-ghost use Rattle.std.specs.Prelude.{◌≡◌, ◌++◌, IfOk, IfErr, Option, string_bytes};
+ghost use Rattle.std.specs.Prelude.{◌≡◌, ◌∷◌, [], ℤ, IfOk, IfErr, Option, string_bytes};
 ghost use Rattle.semver_parser.specs.declared.version.Version.{Version as SomeVersion};
 ghost use Rattle.version_sets.specs.VersionSets.{IsIn};
 ghost use Rattle.version_sets.specs.Comparisons.{TellsLeast};
-ghost use Rattle.tool_ranges.specs.declared.meaning.Meaning.{Meaning};
-ghost use Rattle.tool_ranges.specs.Meanings.{MeansAs};
+ghost use Rattle.tool_ranges.specs.declared.meaning.Meaning.{Meaning as SomeMeaning};
+ghost use Rattle.tool_ranges.specs.Meanings.{MeansAs, reading_of};
+ghost use Rattle.semver_parser_c.specs.Numbers as number;
 ghost use Rattle.semver_parser_c.specs.Readings.{IsNamed};
-ghost use Rattle.semver_parser_c.specs.Faults.{IsAccepted, IsNumberOfNew, IsOneOf, number_of};
-ghost use Rattle.semver_parser_c.specs.Faults.{RangeIsRead, RefusesNewRange, RefusesRange};
-ghost use Rattle.semver_parser_c.specs.Faults.{named_faults, new_range_faults, range_faults};
+ghost use Rattle.semver_parser_c.specs.Faults.{IsAccepted, IsOneOf, RefusesRange};
 ghost use Rattle.semver_parser_c.specs.Sets.{text_of};
+ghost use Rattle.semver_parser_c.specs.Steps.RangeFaults.{HasFault, IsEitherRefused, IsMeaningOf};
+ghost use Rattle.semver_parser_c.specs.Steps.RangeFaults.{IsReadable, IsRefused, Stands};
+ghost use Rattle.semver_parser_c.specs.Steps.RangeFaults.{TellsBoth};
 
-use crate::{numbers, range_text, readings};
+use crate::range_text::{self, RangeFault};
+use crate::readings;
+use semver_parser::RangeError;
 use semver_parser::version::Version;
 use std::alloc::{AllocError, Global};
-use tool_ranges::meaning;
+use tool_ranges::meaning::{self, Meaning};
 use version_sets::VersionSet;
 
-/// The set of the versions that a range text means, by the numbers of a reading and a rule, or the
-/// number of the fault.
-pub fn set_of(
+/// The set of the versions that a range text means, and by which meaning, by the numbers of a
+/// reading and a rule, or the number of the fault.
+pub fn read(
     alloc: Global,
     range: &[u8],
     reading: i32,
     pre_releases: i32,
-) -> Result<VersionSet, i32>
-    ensures accepted { IfOk result (λ set. IsAccepted reading pre_releases range.now) }
-    ensures meaning { IfOk result (λ set. (m : Meaning) → IsNamed m reading pre_releases
-        → MeansAs m range.now set) }
-    ensures numbers { IfErr result (λ n. IsOneOf named_faults n) }
-    ensures refusals { RefusesRange reading pre_releases range.now (number_of result) }
+) -> Result<(Meaning, VersionSet), i32>
+    ensures named { IfOk result (λ read. IsMeaningOf read.0 reading pre_releases) }
+    ensures accepted { IfOk result (λ read. IsAccepted reading pre_releases range.now) }
+    ensures meaning { IfOk result (λ read. (m : SomeMeaning) → IsNamed m reading pre_releases
+        → MeansAs m range.now read.1) }
+    ensures stands { IfOk result (λ read. Stands
+        (RefusesRange reading pre_releases range.now)) }
+    ensures refused { IfErr result (λ n. IsRefused reading pre_releases range.now n) }
 {
     let meaning = match readings::meaning_of(reading, pre_releases) {
         Ok(meaning) => meaning,
         Err(number) => return Err(number),
     };
+    match read_as(alloc, meaning, range) {
+        Ok(set) => Ok((meaning, set)),
+        Err(fault) => Err(range_text::number_of(fault)),
+    }
+}
+
+/// The set of the versions that a range text means, or its fault.
+fn read_as(alloc: Global, meaning: Meaning, range: &[u8]) -> Result<VersionSet, RangeFault>
+    ensures accepted { IfOk result (λ set. IsReadable (reading_of meaning) range.now) }
+    ensures meaning { IfOk result (λ set. MeansAs meaning range.now set) }
+    ensures fault { IfErr result (λ fault. HasFault (reading_of meaning) range.now fault) }
+{
     let Ok(text) = std::str::from_utf8(range) else {
-        return Err(numbers::RANGE_NOT_UTF8);
+        return Err(RangeFault::NotUtf8);
     };
     match meaning::read(alloc, meaning, text) {
         Ok(set) => Ok(set),
-        Err(error) => Err(range_text::fault_number(&error)),
+        Err(RangeError::NotARange) => Err(RangeFault::NotARange),
+        Err(RangeError::NumberTooLarge) => Err(RangeFault::TooLarge),
+        Err(RangeError::OutOfMemory) => Err(RangeFault::OutOfMemory),
     }
 }
 
@@ -53,36 +73,21 @@ pub fn sets_of(
     reading: i32,
     pre_releases: i32,
 ) -> Result<(VersionSet, VersionSet), i32>
-    ensures accepted { IfOk result (λ sets. IsAccepted reading pre_releases old_range.now
-        × IsAccepted reading pre_releases new_range.now) }
-    ensures meaning { IfOk result (λ sets. (m : Meaning) → IsNamed m reading pre_releases
+    ensures meaning { IfOk result (λ sets. (m : SomeMeaning) → IsNamed m reading pre_releases
         → MeansAs m old_range.now sets.0 × MeansAs m new_range.now sets.1) }
-    ensures numbers { IfErr result (λ n. IsOneOf (named_faults ++ new_range_faults) n) }
-    ensures refusals { RefusesRange reading pre_releases old_range.now (number_of result) }
-    ensures new_refusals { RefusesNewRange
-        (RangeIsRead reading pre_releases old_range.now (number_of result))
-        reading pre_releases new_range.now (number_of result) }
+    ensures stands { IfOk result (λ sets. (n : ℤ)
+        → IsOneOf (number.ok ∷ number.no_room ∷ number.new_range_out_of_memory ∷ []) n
+        → TellsBoth reading pre_releases old_range.now new_range.now n) }
+    ensures refused { IfErr result (λ n.
+        IsEitherRefused reading pre_releases old_range.now new_range.now n) }
 {
-    let old_set = match set_of(alloc, old_range, reading, pre_releases) {
-        Ok(set) => set,
+    let (meaning, old_set) = match read(alloc, old_range, reading, pre_releases) {
+        Ok(read) => read,
         Err(number) => return Err(number),
     };
-    match set_of(alloc, new_range, reading, pre_releases) {
+    match read_as(alloc, meaning, new_range) {
         Ok(new_set) => Ok((old_set, new_set)),
-        Err(number) => Err(number_of_new(number)),
-    }
-}
-
-/// The number of the new range's fault for that of a range.
-fn number_of_new(number: i32) -> i32
-    requires { IsOneOf range_faults number }
-    ensures { IsNumberOfNew number result }
-{
-    match number {
-        numbers::RANGE_NOT_UTF8 => numbers::NEW_RANGE_NOT_UTF8,
-        numbers::NOT_A_RANGE => numbers::NEW_NOT_A_RANGE,
-        numbers::NUMBER_TOO_LARGE => numbers::NEW_NUMBER_TOO_LARGE,
-        _ => numbers::NEW_RANGE_OUT_OF_MEMORY,
+        Err(fault) => Err(range_text::new_number_of(fault)),
     }
 }
 

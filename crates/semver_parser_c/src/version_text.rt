@@ -1,12 +1,13 @@
 //! Version texts: the outline of one or the version, or the number of its fault.
 
-ghost use Rattle.std.specs.Prelude.{◌≡◌, ◌<◌, ◌⊎◌, IfOk, IfErr, IsUtf8, length};
+ghost use Rattle.std.specs.Prelude.{◌<◌, ◌⊎◌, IfOk, IfErr, IsUtf8, length};
+ghost use Rattle.semver_parser.specs.Texts.{Text};
 ghost use Rattle.semver_parser.specs.Versions.{VersionValue};
 ghost use Rattle.semver_parser.specs.VersionViews.{version_value};
 ghost use Rattle.semver_parser.specs.Outlines.{IsOutlineOf, StandsAt};
 ghost use Rattle.semver_parser.specs.VersionGrammar.{IsVersionText, SpellsVersion};
-ghost use Rattle.semver_parser.specs.ParserViews.{fault_of};
-ghost use Rattle.semver_parser_c.specs.Faults.{RefusesVersion, fault_number};
+ghost use Rattle.semver_parser_c.specs.Faults.{RefusesVersion};
+ghost use Rattle.semver_parser_c.specs.Steps.VersionFaults.{IsErrorOf};
 
 use crate::numbers;
 use semver_parser::parser::Error;
@@ -62,7 +63,8 @@ pub fn fault(alloc: Global, text: &str) -> i32
 
 /// The number of a fault.
 fn fault_number(error: &Error<'_>) -> i32
-    ensures { result ≡ fault_number (fault_of error.now) }
+    ensures { (text : Text) → IsUtf8 text → ¬ (IsVersionText text) → IsErrorOf text error.now
+        → RefusesVersion text result }
 {
     match error {
         Error::UnexpectedEnd => numbers::UNEXPECTED_END,

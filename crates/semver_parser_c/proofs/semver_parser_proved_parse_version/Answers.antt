@@ -1,9 +1,9 @@
-use Rattle.std.proofs.Common.{ap, refl, ◌∙◌, length, take, drop, Ok}
+use Rattle.std.proofs.Common.{ap, refl, ◌∙◌, length, take, drop, Ok, Err, rules, w32, to_z, of_z}
 use Rattle.semver_parser.specs.Outlines.{OutlineValue, dotted_text}
 use Rattle.semver_parser.specs.Versions.{VersionValue}
 use Rattle.semver_parser.proofs.OneVersion.{one_version}
 use Rattle.semver_parser.proofs.WholeText.{spelled_outcome}
-use Rattle.semver_parser_c.proofs.Steps.{told_version, refused_outcome}
+use Rattle.semver_parser_c.specs.Faults.{RefusesVersion}
 use Rattle.semver_parser_c.proofs.semver_parser_proved_parse_version.Goals as goal
 
 pub returns-in-Ok-clause-parts : goal.returns-in-Ok-clause-parts
@@ -23,5 +23,7 @@ returns-in-Ok-clause-outcome c = λ utf8 other.
     (Ok v, spelled_outcome v c.args.text.now spells, refl)
 
 pub returns-in-Err-clause-outcome : goal.returns-in-Err-clause-outcome
-returns-in-Err-clause-outcome c =
-    refused_outcome c.args.text.now _ _ (told_version c.args.text.now c.in-Err.number c.in-Err.ensures.refused) c.in-Err.ensures.refused
+returns-in-Err-clause-outcome c = λ utf8 other.
+    let refused : RefusesVersion c.args.text.now (to_z w32 (of_z w32 c.in-Err.number)) = search rules in
+    let (e, outcome, is) = refused.refused utf8 other in
+    (Err e, outcome, is)

@@ -1,9 +1,8 @@
-use Rattle.std.proofs.Common.{rules, ◌≡◌, ◌∙◌, ap, arith, inl, inr, length, ⊎_elim, w32, to_z, of_z}
+use Rattle.std.proofs.Common.{rules, ◌≡◌, ◌∙◌, ap, arith, length, ⊎_elim, w32, to_z, of_z}
 use Rattle.semver_parser.specs.Precedence.{precedence}
 use Rattle.semver_parser.specs.Versions.{VersionValue}
 use Rattle.semver_parser.proofs.OneVersion.{one_version}
 use Rattle.semver_parser_c.specs.Orders.{order_number}
-use Rattle.semver_parser_c.proofs.Steps.{told_version}
 use Rattle.semver_parser_c.proofs.semver_parser_proved_precedence.Goals as goal
 
 pub returns-in-Ok-version-clause-precedence : goal.returns-in-Ok-version-clause-precedence
@@ -16,8 +15,8 @@ returns-in-Ok-version-clause-precedence c = λ _ v w spells other_spells.
 
 pub returns-in-Err-version-clause-accepted : goal.returns-in-Err-version-clause-accepted
 returns-in-Err-version-clause-accepted c = λ v w _ _ utf8 spells.
-    let refused = c.in-Err-version.ensures.refused in
-    inr (inl (told_version c.args.other.now c.in-Err-version.number refused ∙ refused.accepted w utf8 spells))
+    let full = c.in-Err-version.ensures.refused.accepted w utf8 spells in
+    search rules
 
 pub returns-in-Err-version-clause-plain : goal.returns-in-Err-version-clause-plain
 returns-in-Err-version-clause-plain c = λ v w _ _ utf8 spells pre build.

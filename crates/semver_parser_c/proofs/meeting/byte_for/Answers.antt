@@ -1,11 +1,21 @@
-use Rattle.std.proofs.Common.{sym, ◌∙◌, subst}
-use Rattle.semver_parser_c.specs.Faults.{RefusesVersion}
-use Rattle.semver_parser_c.proofs.Steps.{told_version}
-use Rattle.semver_parser_c.proofs.RangeFaults.{fault_answer}
+use Rattle.std.proofs.Common.{rules, arith, pos, ℕ, inr}
+use Rattle.semver_parser_c.specs.Faults.{IsOneOf, RefusesVersion, version_faults}
+use Rattle.semver_parser_c.specs.Meetings.{IsMeeting}
 use Rattle.semver_parser_c.proofs.meeting.byte_for.Goals as goal
 
+-- the number of a fault says of no version whether it meets
+no_meeting : (byte : ℕ) → IsOneOf version_faults (pos byte) → IsMeeting byte → ⊥
+no_meeting byte one meeting = grind arith
+
 pub returns-in-Err : goal.returns-in-Err
-returns-in-Err c = λ m range filter.
-    let is = c.byte_of.ensures ∙ told_version c.args.version.now c.in-Err.number c.in-Err.ensures.refused in
-    fault_answer m range c.args.version.now c.byte_of.result
-    (subst (RefusesVersion c.args.version.now) (sym is) c.in-Err.ensures.refused)
+returns-in-Err c = λ m range _.
+    let r : RefusesVersion c.args.version.now (pos c.byte_of.result) = search rules in
+    record {
+      one = inr r.one;
+      meaning = λ meeting. absurd (no_meeting _ r.one meeting);
+      read = λ meeting. absurd (no_meeting _ r.one meeting);
+      accepted = λ v utf8 spelled. inr (r.accepted v utf8 spelled);
+      not_utf8 = r.not_utf8;
+      refused = λ utf8 _. r.refused utf8;
+      out_of_memory = r.out_of_memory;
+    }

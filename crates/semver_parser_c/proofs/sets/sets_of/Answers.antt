@@ -1,54 +1,24 @@
-use Rattle.std.proofs.Common.{rules, ◌≡◌, ℤ, inl, refl, subst, sym, w32, to_z, of_z}
-use Rattle.std.proofs.Math.Facts.{to_z-of_z}
-use Rattle.semver_parser_c.specs.Faults.{IsOneOf, RangeIsRead, RefusesNewRange, RefusesRange, new_range_faults, range_faults}
-use Rattle.semver_parser_c.proofs.NewRanges.{new_stands, not_asked, one_of_new, refused_new, told_new}
-use Rattle.semver_parser_c.proofs.RangeFaults.{accepted_alike, of_range, same_numbers, stands}
+use Rattle.std.proofs.Common.{rules}
+use Rattle.semver_parser_c.specs.Steps.RangeFaults.{IsMeaningOf}
+use Rattle.semver_parser_c.proofs.RangeFaults.{not_asked, both_stand, new_refused}
 use Rattle.semver_parser_c.proofs.sets.sets_of.Goals as goal
 
--- where the numbers or the old range are refused
-pub returns-in-Err-clause-new_refusals : goal.returns-in-Err-clause-new_refusals
-returns-in-Err-clause-new_refusals c =
-    let n = to_z-of_z c.ranges.reading in
-    let rule = to_z-of_z c.ranges.pre_releases in
-    let same : to_z w32 (of_z w32 c.in-Err.number) ≡ c.in-Err.number = search rules in
-    same_numbers (λ (a b d : ℤ). RefusesNewRange (RangeIsRead a b c.args.old_range.now d) a b c.args.new_range.now d) _ _ _ _ _ _
-    n rule same (not_asked _ _ _ _ _ c.in-Err.ensures.numbers c.in-Err.ensures.refusals)
+pub returns-in-Err-clause-refused : goal.returns-in-Err-clause-refused
+returns-in-Err-clause-refused c = search (rules, not_asked _ _ _ c.args.new_range.now _ c.in-Err.ensures.refused)
 
--- where the new one is
-pub number_of_new-requires : goal.number_of_new-requires
-number_of_new-requires c =
-    let same : to_z w32 (of_z w32 c.in-Err-set_of.number) ≡ c.in-Err-set_of.number = search rules in
-    let told = c.in-Err-set_of.ensures in
-    subst (IsOneOf range_faults) (sym same) (of_range _ _ _ _ _ c.in-Ok.ensures.accepted told.numbers told.refusals)
+pub returns-in-Ok-read_as-clause-meaning : goal.returns-in-Ok-read_as-clause-meaning
+returns-in-Ok-read_as-clause-meaning c = λ m named.
+    let own : IsMeaningOf c.in-Ok.read.0 c.args.reading c.args.pre_releases = search rules in
+    (c.in-Ok.ensures.meaning m (search rules), rw (← (own.only m named)) c.in-Ok-read_as.ensures.meaning)
 
-pub returns-in-Err-set_of-clause-refusals : goal.returns-in-Err-set_of-clause-refusals
-returns-in-Err-set_of-clause-refusals c =
-    let n = to_z-of_z c.ranges.reading in
-    let rule = to_z-of_z c.ranges.pre_releases in
-    let one = one_of_new _ _ c.number_of_new.ensures in
-    stands new_range_faults refl _ _ _ _ _ (told_new _ one) one (accepted_alike _ _ _ _ _ n rule c.in-Ok.ensures.accepted)
+pub returns-in-Ok-read_as-clause-stands : goal.returns-in-Ok-read_as-clause-stands
+returns-in-Ok-read_as-clause-stands c =
+    both_stand c.in-Ok.read.0 _ _ _ _ (search rules) (search rules) (search rules) c.in-Ok-read_as.ensures.accepted
 
-pub returns-in-Err-set_of-clause-new_refusals : goal.returns-in-Err-set_of-clause-new_refusals
-returns-in-Err-set_of-clause-new_refusals c =
-    let n = to_z-of_z c.ranges.reading in
-    let rule = to_z-of_z c.ranges.pre_releases in
-    let number : to_z w32 (of_z w32 c.in-Err-set_of.number) ≡ c.in-Err-set_of.number = search rules in
-    let twin = c.number_of_new.ensures in
-    let told = told_new _ (one_of_new _ _ twin) in
-    same_numbers (λ (a b d : ℤ). RefusesNewRange (RangeIsRead a b c.args.old_range.now d) a b c.args.new_range.now d) _ _ _ _ _ _
-    n rule told (refused_new _ _ _ _ _ _ twin (subst (RefusesRange _ _ _) (sym number) c.in-Err-set_of.ensures.refusals))
-
--- where both are read
-pub returns-in-Ok-set_of-clause-accepted : goal.returns-in-Ok-set_of-clause-accepted
-returns-in-Ok-set_of-clause-accepted c =
-    let n = to_z-of_z c.ranges.reading in
-    let rule : to_z w32 (of_z w32 c.args.pre_releases) ≡ c.args.pre_releases = search rules in (
-      accepted_alike _ _ _ _ _ n rule c.in-Ok.ensures.accepted,
-      accepted_alike _ _ _ _ _ n rule c.in-Ok-set_of.ensures.accepted,
+pub returns-in-Err-read_as-clause-refused : goal.returns-in-Err-read_as-clause-refused
+returns-in-Err-read_as-clause-refused c =
+    search (
+      rules,
+      new_refused _ _ _ c.args.old_range.now _ _ c.in-Ok.ensures.named c.in-Ok.ensures.stands c.new_number_of.ensures.one
+          (c.new_number_of.ensures.told _ _ c.in-Err-read_as.ensures.fault),
     )
-
-pub returns-in-Ok-set_of-clause-new_refusals : goal.returns-in-Ok-set_of-clause-new_refusals
-returns-in-Ok-set_of-clause-new_refusals c =
-    let n = to_z-of_z c.ranges.reading in
-    let rule = to_z-of_z c.ranges.pre_releases in
-    new_stands _ _ _ _ _ (inl refl) (accepted_alike _ _ _ _ _ n rule c.in-Ok-set_of.ensures.accepted)

@@ -1,7 +1,5 @@
-use Rattle.std.proofs.Common.{refl, sym, subst, w32, to_z, of_z}
+use Rattle.std.proofs.Common.{rules, refl}
 use Rattle.semver_parser.specs.VersionViews.{version_value}
-use Rattle.semver_parser_c.specs.Faults.{RefusesVersion}
-use Rattle.semver_parser_c.proofs.Steps.{refused_text, told_version}
 use Rattle.semver_parser_c.proofs.version_text.fault.Goals as goal
 
 pub unreachable-requires : goal.unreachable-requires
@@ -12,6 +10,4 @@ unreachable-requires c =
 pub returns : goal.returns
 returns c =
     let told = c.in-Err.ensures in
-    let refused = refused_text c.args.text.now c.in-Err.error c.utf8.text c.requires told.outcome told.out_of_memory in
-    subst (λ n. RefusesVersion c.args.text.now (to_z w32 (of_z w32 n))) (sym c.fault_number.ensures)
-    (subst (RefusesVersion c.args.text.now) (sym (told_version c.args.text.now _ refused)) refused)
+    search (rules, c.fault_number.ensures _ c.utf8.text c.requires (record { outcome = told.outcome; out_of_memory = told.out_of_memory }))

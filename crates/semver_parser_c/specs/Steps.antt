@@ -1,0 +1,3 @@
+pub mod RangeFaults
+pub mod MeantSets
+pub mod VersionFaults

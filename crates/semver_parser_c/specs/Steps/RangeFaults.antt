@@ -1,0 +1,72 @@
+-- What a range text is to a reading, by the fault that is told of it, and which numbers tell which.
+use Rattle.std.specs.Prelude.{ℤ, ◌≡◌, ◌⊎◌, ⊤, IsUtf8, ◌∷◌, ◌++◌}
+use Rattle.semver_parser.specs.Texts.{Text}
+use Rattle.tool_ranges.specs.declared.reading.Reading.{Reading}
+use Rattle.tool_ranges.specs.declared.meaning.Meaning.{Meaning}
+use Rattle.tool_ranges.specs.Readings.{IsTextAs, HasSetAs, IsTooLargeAs}
+use Rattle.semver_parser_c.specs.declared.range_text.RangeFault.{RangeFault}
+use Rattle.semver_parser_c.specs.declared.range_text.RangeFault.TheVariants as range_fault
+use Rattle.semver_parser_c.specs.Numbers as number
+use Rattle.semver_parser_c.specs.Readings.{IsNamed, reading_number}
+use Rattle.semver_parser_c.specs.Faults.{IsOneOf, IsReadBy, NewRangeIsRead, RangeIsRead}
+use Rattle.semver_parser_c.specs.Faults.{RefusesBy, RefusesNewRange, RefusesRange, RefusesText}
+use Rattle.semver_parser_c.specs.Faults.{named_faults, new_range_faults, range_faults}
+use Rattle.semver_parser_c.specs.Faults.{range_numbers, version_faults}
+
+-- the reading, and no other, has the number
+pub record IsReadingOf (reading : Reading) (n : ℤ) : Type 0 where
+  pub named : n ≡ reading_number reading
+  pub only : (other : Reading) → n ≡ reading_number other → reading ≡ other
+
+-- the meaning, and no other, is named by the numbers
+pub record IsMeaningOf (meaning : Meaning) (n rule : ℤ) : Type 0 where
+  pub named : IsNamed meaning n rule
+  pub only : (other : Meaning) → IsNamed other n rule → meaning ≡ other
+
+-- the text is read
+abbrev pub IsReadable : Reading → Text → Type 0
+IsReadable reading text = IsUtf8 text × HasSetAs reading text × (¬ (IsTooLargeAs reading text))
+
+-- the text has the fault, or is read where memory may be wanting
+abbrev pub HasFault : Reading → Text → RangeFault → Type 0
+HasFault reading text range_fault.NotUtf8 = ¬ (IsUtf8 text)
+HasFault reading text range_fault.NotARange = IsUtf8 text × (¬ (IsTextAs reading text))
+HasFault reading text range_fault.TooLarge = IsUtf8 text × IsTooLargeAs reading text
+HasFault reading text range_fault.OutOfMemory = IsReadable reading text
+
+-- the number is that of a fault that the text has, and nothing is read
+pub record IsTold (reading : Reading) (text : Text) (n : ℤ) : Type 0 where
+  pub number : IsOneOf range_faults n
+  pub refusals : RefusesBy range_numbers ⊤ reading text n
+  pub unread : ¬ (IsReadBy range_numbers reading text n)
+
+-- the numbers or the range are refused by the number, and nothing is read
+pub record IsRefused (reading rule : ℤ) (text : Text) (n : ℤ) : Type 0 where
+  pub number : IsOneOf named_faults n
+  pub refusals : RefusesRange reading rule text n
+  pub unread : ¬ (RangeIsRead reading rule text n)
+
+-- so of a call that rewrites
+pub record IsTextRefused (reading : ℤ) (text : Text) (n : ℤ) : Type 0 where
+  pub number : IsOneOf (number.no_such_reading ∷ range_faults) n
+  pub refusals : RefusesText reading text n
+
+-- it is so of each number that is answered where the range is read
+pub record Stands (IsSo : ℤ → Type 0) : Type 0 where
+  pub ok : IsSo number.ok
+  pub no_room : IsSo number.no_room
+  pub out_of_memory : IsSo number.range_out_of_memory
+  pub version : (n : ℤ) → IsOneOf version_faults n → IsSo n
+  pub new_range : (n : ℤ) → IsOneOf new_range_faults n → IsSo n
+
+-- what is read and refused of an old range and of a new one by the number
+pub record TellsBoth (reading rule : ℤ) (old new : Text) (n : ℤ) : Type 0 where
+  pub read : (n ≡ number.ok) ⊎ (n ≡ number.no_room) → RangeIsRead reading rule old n
+      × NewRangeIsRead reading rule new n
+  pub old_range : RefusesRange reading rule old n
+  pub new_range : RefusesNewRange (RangeIsRead reading rule old n) reading rule new n
+
+-- the numbers or one of the ranges are refused by the number
+pub record IsEitherRefused (reading rule : ℤ) (old new : Text) (n : ℤ) : Type 0 where
+  pub number : IsOneOf (named_faults ++ new_range_faults) n
+  pub both : TellsBoth reading rule old new n
