@@ -2,7 +2,6 @@
 use Rattle.std.proofs.Common.{◌≡◌, true, false, [], refl, sym, ap, ◌∙◌, IsTrue, Option, Some, None}
 use Rattle.std.proofs.Math.Bool.{or-false}
 use Rattle.std.proofs.lemmas.Bool.{or_left}
-use Rattle.std.specs.List.{list_all}
 use Rattle.semver_ranges.specs.declared.range.Compat.{Compat}
 use Rattle.semver_ranges.specs.RangeTree.{SetTree}
 use Rattle.semver_texts.specs.Texts.{is_empty}
@@ -35,11 +34,9 @@ no_pre_release v (Some bound) e = rw e refl
 on_releases : (mode : Compat) (tree : SetTree) (v : PlainVersion) → is_empty v.pre ≡ true
     → meets_tree_or_bounds mode tree v ≡ meets_tree mode tree v
 on_releases mode tree v e =
-    let either = λ (term : Term). meets_term_or_bound mode term v in
-    let own = λ (term : Term). meets_term mode term v in
-    let alike : (term : Term) → either term ≡ own term = λ term. rw (no_pre_release v (raised_bound mode term) e)
-    (or-false _) in
-    list_any-same (λ r. list_all either (terms r)) (λ r. list_all own (terms r)) (λ r. list_all-same either own alike (terms r)) tree
+    let alike : (term : Term) → meets_term_or_bound mode term v ≡ meets_term mode term v = λ term.
+    rw (no_pre_release v (raised_bound mode term) e) (or-false _) in
+    list_any-same _ _ (λ r. list_all-same _ _ alike (terms r)) tree
 
 pub agree_on_releases : (mode : Compat) (tree : SetTree) (v : PlainVersion) → v.pre ≡ []
     → meets_set v (rewritten mode tree) ≡ meets_tree mode tree v

@@ -74,7 +74,7 @@ floor (numeric zero ∷ x ∷ xs) = past
 floor (numeric (suc n) ∷ xs) = rw (le-ltb (suc n) 0 (omega arith), ne_eqb (suc n) 0 (λ e. omega arith)) past
 floor (alphanumeric t ∷ xs) = past
 
-lower_tail : {o : Ordering} {i : Bool} → Tail o i → is_lt o ≡ i
+pub lower_tail : {o : Ordering} {i : Bool} → Tail o i → is_lt o ≡ i
 lower_tail same = refl
 lower_tail pre = refl
 lower_tail past = refl
