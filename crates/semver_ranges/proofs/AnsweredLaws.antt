@@ -81,7 +81,7 @@ pub port_prints : (bound_pre : List IdentifierValue) → list_all is_kept bound_
     → Prints (simple_fits mode) (written_simple bound_pre mode)
 port_prints bound_pre keeps mode = record {
   each = simple_printable bound_pre keeps mode;
-  some = λ s. cell_some bound_pre keeps mode (cell mode s.form (stated s.partial)) (stated s.partial) (zero_filled s.partial);
+  some = λ s. cell_some bound_pre keeps mode _ (stated s.partial) (zero_filled s.partial);
 }
 
 -- simples whose partials have parts
@@ -146,7 +146,7 @@ module _ (d : Dialect) {fit : Simple → Bool} {written : Simple → List PlainC
       → All (IsPrintableRange mode) (set_by written mode tree).ranges
   ranges_printable [] t h e = absurd h
   ranges_printable (r ∷ []) t h e =
-      All-cons (IsPrintableRange mode) (record { comparators = range_by written r; compat = mode }) []
+      All-cons (IsPrintableRange mode) _ []
       (padded_printable r t h (and_parts _ _ e).0) (All-nil (IsPrintableRange mode))
   ranges_printable (r ∷ next ∷ others) t (head, tail, h, more, eq) e =
       let parts = and_parts _ _ e in

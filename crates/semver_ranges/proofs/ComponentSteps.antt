@@ -1,7 +1,7 @@
 -- Components, as they are read byte by byte.
 use Rattle.std.proofs.Common.{add-one}
 use Rattle.std.proofs.Common.{◌≡◌, ℕ, ◌+◌, ◌-◌, ◌*◌, ◌<◌, ◌≤◌, true, false, ◌==◌, [], ◌∷◌, length, get_or, take, drop}
-use Rattle.std.proofs.Common.{Option, Some, refl, sym, ap, ◌∙◌, subst, arith}
+use Rattle.std.proofs.Common.{Option, Some, refl, ap, ◌∙◌, arith}
 use Rattle.std.specs.Char.{is_ascii_digit, digit_value}
 use Rattle.std.specs.Str.Parse.{digits_value}
 use Rattle.std.proofs.Math.Seq.{take-length, take-suc}
@@ -49,11 +49,10 @@ pub digits_front : (t rest : Text) (n : ℕ) (value : Option ℕ) → 1 ≤ leng
 digits_front t rest n value some e other first v is =
     let b : ℕ = get_or t 0 0 in
     let u : Text = take (length t - 1) (drop 1 t) in
-    let range = digit_bounds b e in
-    let same : 48 + n ≡ b = omega (arith, first, range.0) in (
+    let same : 48 + n ≡ b = omega (arith, first, (digit_bounds b e).0) in (
       b ∷ front is_ascii_digit u,
-      ap component (first_apart t some) ∙ digit_component b u e other ∙ ap (λ x. Some (b ∷ front is_ascii_digit u, x)) (sym is),
-      (no_wildcard b (front is_ascii_digit u) e, subst (λ c. IsValue (digits_value 10 (c ∷ front is_ascii_digit u)) value) same v),
+      ap component (first_apart t some) ∙ digit_component b u e other ∙ rw is,
+      (no_wildcard b (front is_ascii_digit u) e, rw same at v),
     )
 
 -- one digit more
@@ -62,4 +61,4 @@ pub value_more : (c : ℕ) (t : Text) (i : ℕ) (value : Option ℕ) → i < len
     → IsValue (digits_value 10 (c ∷ take (i + 1) t)) value
 value_more c t i value within e v =
     let digit : digit_value (get_or t i 0) ≡ get_or t i 0 - 48 = omega (arith, digit_value_digit (get_or t i 0) (digit_bounds _ e)) in
-    rw (add-one, take-suc t i 0 within, digits_value_push 10 (c ∷ take i t) (get_or t i 0), digit) v
+    rw (add-one, take-suc t i 0 within, digits_value_push 10 (c ∷ take i t) _, digit) v

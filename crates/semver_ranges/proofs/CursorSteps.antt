@@ -37,11 +37,11 @@ module _ (a b c : Text) where
 -- what follows a component that no dot follows
 pub minor_end : (a b t : Text) → begins_with 46 t ≡ false → behind_two a b t ≡ Some (two a b, t)
 minor_end a b [] e = refl
-minor_end a b (m ∷ t) e = rw e refl
+minor_end a b (m ∷ t) e = rw e
 
 pub major_end : (a t : Text) → begins_with 46 t ≡ false → behind_one a t ≡ Some (one a, t)
 major_end a [] e = refl
-major_end a (m ∷ t) e = rw e refl
+major_end a (m ∷ t) e = rw e
 
 -- a simple of its operator and its partial
 pub simple_found : (d : Dialect) (t u v w : Text) (form : Form) (p : PartialTree) → (form, u) ≡ operator d t → partial d u ≡ Some (p, v)

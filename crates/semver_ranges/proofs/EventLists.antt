@@ -1,5 +1,5 @@
 -- The events of a range set: they fit as it does, and tell its ranges.
-use Rattle.std.proofs.Common.{◌≡◌, Bool, ◌&&◌, List, [], ◌∷◌, length, refl, sym, ap, arith}
+use Rattle.std.proofs.Common.{◌≡◌, Bool, ◌&&◌, List, [], ◌∷◌, length, refl, sym, arith}
 use Rattle.std.specs.List.{list_all, flat_map}
 use Rattle.std.proofs.lemmas.List.Folds.{list_all-map}
 use Rattle.semver_ranges.specs.declared.range.Compat.{Compat}
@@ -7,7 +7,7 @@ use Rattle.semver_ranges.specs.RangeTree.{Simple, RangeTree, empty, hyphen, simp
 use Rattle.semver_ranges.specs.Partials.{stated}
 use Rattle.semver_ranges.specs.Terms.{of_simple, terms}
 use Rattle.semver_ranges.specs.RewritingTable.{PlainComparator, term_fits_by, range_by, fits_by}
-use Rattle.semver_ranges.specs.Steps.RangeEvents.{Event, next_range, yielded, in_front, events_of, range_simples, range_others, bars}
+use Rattle.semver_ranges.specs.Steps.RangeEvents.{Event, yielded, in_front, events_of, range_simples, range_others, bars}
 use Rattle.semver_ranges.specs.Steps.RangeEvents.{event_fits}
 use Rattle.semver_ranges.specs.Steps.BoundsViews.{range_of_simples, range_for}
 use Rattle.semver_ranges.proofs.Tables.{IsTable, nothing_is}
@@ -23,7 +23,7 @@ module _ {fit : Simple → Bool} {written : Simple → List PlainComparator} (ta
   made_of (simples first others) = (sym (list_all-map (term_fits_by fit) of_simple (first ∷ others)), refl)
 
   pub range_made : (mode : Compat) (r : RangeTree) → range_of_simples written mode (yielded r) ≡ range_for written mode r
-  range_made mode r = ap (λ l. record { comparators = l; compat = mode }) (made_of r).1
+  range_made mode r = rw (made_of r).1
 
 -- simples in front of events
 front_fits : (fit : Simple → Bool) (ss : List Simple) (es : List Event)
@@ -45,12 +45,12 @@ front_others (s ∷ ss) es = front_others ss es
 
 -- the first range of a set, and the others
 pub first_simples : (r : RangeTree) (others : SetTree) → range_simples (events_of (r ∷ others)) ≡ yielded r
-first_simples r [] = front_simples (yielded r) [] refl
-first_simples r (next ∷ others) = front_simples (yielded r) _ refl
+first_simples r [] = front_simples _ [] refl
+first_simples r (next ∷ others) = front_simples _ _ refl
 
 pub first_others : (r : RangeTree) (others : SetTree) → range_others (events_of (r ∷ others)) ≡ events_of others
 first_others r [] = front_others (yielded r) []
-first_others r (next ∷ others) = front_others (yielded r) (next_range ∷ events_of (next ∷ others))
+first_others r (next ∷ others) = front_others (yielded r) _
 
 -- a set fits as its events, and has one range more than they have bars
 pub set_fits : {fit : Simple → Bool} {written : Simple → List PlainComparator} (table : IsTable fit written) (tree : SetTree)

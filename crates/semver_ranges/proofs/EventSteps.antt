@@ -15,11 +15,11 @@ use Rattle.semver_ranges.proofs.ReadingSteps.{simples_end, simples_step, read_st
 -- simples in front of what is left
 pub put_some : (ss : List Simple) (es : List Event) → put_simples ss (Some es) ≡ Some (in_front ss es)
 put_some [] es = refl
-put_some (s ∷ ss) es = ap (put (one_simple s)) (put_some ss es)
+put_some (s ∷ ss) es = rw (put_some ss es)
 
 put_none : (ss : List Simple) → put_simples ss None ≡ None
 put_none [] = refl
-put_none (s ∷ ss) = ap (put (one_simple s)) (put_none ss)
+put_none (s ∷ ss) = rw (put_none ss)
 
 module _ (d : Dialect) where
   -- a range that is read, and what is left behind it
@@ -43,12 +43,12 @@ module _ (d : Dialect) where
 
   -- where a range ends: two bars, or an empty range where it only begins
   pub end_left : (t : Text) → ends_range t ≡ true → events_left d false t ≡ others_left d t
-  end_left t e = ap (simples_left d) (simples_end d t e)
+  end_left t e = rw (simples_end d t e)
 
   pub bars_left : (t : Text) (o : Option Text) → 0 < length t → ends_range t ≡ true → behind_bars t ≡ o
       → events_left d false t ≡ at_bars d o
   bars_left [] o some ends e = absurd (omega arith)
-  bars_left (b ∷ t) o some ends e = end_left (b ∷ t) ends ∙ ap (at_bars d) e
+  bars_left (b ∷ t) o some ends e = end_left (b ∷ t) ends ∙ rw e
 
   pub empty_left : (t : Text) → ends_range t ≡ true → events_left d true t ≡ put (one_simple wildcard) (events_left d false t)
   empty_left t e = rw (end_left t e, e) (range_events empty t)

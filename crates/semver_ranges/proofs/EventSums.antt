@@ -1,7 +1,7 @@
 -- What the loops over the events of a text keep.
 use Rattle.semver_texts.proofs.DottedParts.{found_same}
 use Rattle.std.proofs.Math.Bool.{and-true}
-use Rattle.std.proofs.Common.{◌≡◌, ℕ, ◌+◌, ◌<◌, subst, Bool, true, ◌&&◌, List, [], ◌∷◌, ◌++◌, Option, Some, None, length, refl, sym}
+use Rattle.std.proofs.Common.{◌≡◌, ℕ, ◌+◌, ◌<◌, Bool, true, ◌&&◌, List, [], ◌∷◌, ◌++◌, Option, Some, None, length, refl, sym}
 use Rattle.std.proofs.Common.{ap, ◌∙◌, arith, append_assoc}
 use Rattle.std.specs.Prelude.{map}
 use Rattle.std.specs.List.{list_all}
@@ -64,12 +64,10 @@ pub one_range_more : (d : Dialect) {fits : Simple → Bool} {written : Simple �
     × ((before ++ r ∷ []) ++ map (range_for written mode) others ≡ map (range_for written mode) tree)
 one_range_more d table mode tree [] before r cursor at fit count within whole is has =
     absurd (omega (arith, count, within))
-one_range_more d {written = written} table mode tree (x ∷ others) before r cursor at fit count within whole is has =
-    let range : r ≡ range_for written mode x = is ∙ ap (range_of_simples written mode) (first_simples x others)
-    ∙ range_made table mode x in (
-      others,
-      (and_parts _ _ fit).1,
-      omega (arith, count),
-      subst (λ es. HasLeft d cursor (Some es)) (first_others x others) has,
-      rw (append_assoc, range) whole,
-    )
+one_range_more d {written = written} table mode tree (x ∷ others) before r cursor at fit count within whole is has = (
+  others,
+  (and_parts _ _ fit).1,
+  omega (arith, count),
+  rw (first_others x others) at has,
+  rw (append_assoc, is ∙ ap (range_of_simples written mode) (first_simples x others) ∙ range_made table mode x) whole,
+)

@@ -7,7 +7,6 @@ use Rattle.semver_ranges.specs.declared.range.Compat.{Compat}
 use Rattle.semver_ranges.specs.RangeTree.{SetTree}
 use Rattle.semver_texts.specs.Precedence.{precedence}
 use Rattle.semver_texts.specs.Versions.{PlainVersion}
-use Rattle.semver_ranges.specs.Partials.{pre_release}
 use Rattle.semver_ranges.specs.OwnMeaning.{meets_term, meets_tree}
 use Rattle.semver_ranges.specs.ExactBounds.{lowest_pre_release, exact_bound, rewritten_exactly}
 use Rattle.semver_ranges.specs.Meeting.{meets_set, is_pre_release_of}
@@ -17,7 +16,7 @@ use Rattle.semver_ranges.proofs.SetMeanings.{stated_shape, set_meets}
 -- a version meets the comparators of a set with exact bounds exactly if it meets what its tree means
 pub some_means : (mode : Compat) (tree : SetTree) (v : PlainVersion) → meets_set v (rewritten_exactly mode tree) ≡ meets_tree mode tree v
 some_means mode tree v = set_meets lowest_pre_release mode v (λ term. meets_term mode term v)
-    (λ s. exact_row v mode s.form (stated_shape s.partial) (pre_release s.partial)) refl tree
+    (λ s. exact_row v mode s.form (stated_shape s.partial) _) refl tree
 
 -- what is below an exact bound, by how the numbers stand to those of the bound and what the pre-release is
 pub below_bound : (bound v : PlainVersion) → bound.pre ≡ []

@@ -15,7 +15,7 @@ pub sides_first : (xs : List Simple) (lower : read.Simple) (upper : Option read.
     → (x : Event) × (left : Option (List Event)) × IsEventOf x (event.Simple lower) × HasBehind upper o left
     × (put_simples xs o ≡ put x left)
 sides_first (s ∷ []) lower None o is = (one_simple s, o, is, refl, refl)
-sides_first (s ∷ next ∷ []) lower (Some upper) o is = (one_simple s, put (one_simple next) o, is.0, (next, is.1, refl), refl)
+sides_first (s ∷ next ∷ []) lower (Some upper) o is = (one_simple s, put _ o, is.0, (next, is.1, refl), refl)
 sides_first _ lower upper o is = absurd is
 
 pub flag_small : (b : Bool) → flag b ≤ 1

@@ -34,14 +34,13 @@ part_some (b ∷ t) e = omega arith
 pub kept_number : (t : Text) (n : ℕ) → is_part t ≡ true → ParsesUnsigned {E = Unit {0}} 64 10 t (Ok n) → numeric n ≡ kept t
 kept_number t n e h =
     let p = parse_plain own {E = Unit {0}} 64 t (Ok n) h (part_plus t e) in
-    let fit = small_fits (digits_value 10 t) p.0.2 in rw (p.1, p.0.0, fit)
+    rw (p.1, p.0.0, small_fits _ p.0.2)
 
 pub kept_text : (t : Text) → is_part t ≡ true → ParsesUnsigned {E = Unit {0}} 64 10 t (Err tt) → alphanumeric t ≡ kept t
 kept_text t e h =
     let p = parse_plain own {E = Unit {0}} 64 t (Err tt) h (part_plus t e) in
-    let some = part_some t e in
     by_test (all_ascii_digits t && fits_u64 (digits_value 10 t))
-    (λ y. let parts = and_parts _ _ y in absurd (p (parts.0, some, fits_small _ parts.1)))
+    (λ y. let parts = and_parts _ _ y in absurd (p (parts.0, part_some t e, fits_small _ parts.1)))
     (λ n. rw n)
 
 -- ---- all parts of a pre-release
@@ -62,7 +61,7 @@ pub cut_dotted : (t : Text) → list_all is_part (cut_at_dots t) ≡ true → Pa
 cut_dotted [] e = tt
 cut_dotted (b ∷ t) e =
     rw join_with_byte-slice_split at
-    (joined_pass is_dotted_byte 46 refl (slice_split is_dot (b ∷ t)) (parts_dotted (slice_split is_dot (b ∷ t)) e))
+    (joined_pass is_dotted_byte 46 refl _ (parts_dotted (slice_split is_dot (b ∷ t)) e))
 
 -- what is made of each part is the part as it is kept
 pub all_kept : {X : Type 0} {R : X → Text → Type 0} (value : X → IdentifierValue)

@@ -9,7 +9,7 @@ use Rattle.semver_ranges.specs.RewritingTable.{PlainComparator, written_simple, 
 use Rattle.semver_ranges.specs.Steps.Reading.{simple, read}
 use Rattle.semver_ranges.specs.RewritingTable.{simple_fits}
 use Rattle.semver_ranges.proofs.ReadingComplete.{tree_read}
-use Rattle.semver_ranges.proofs.ReadingPieces.{SimpleAt, simple_sound}
+use Rattle.semver_ranges.proofs.ReadingPieces.{simple_sound}
 
 nothing_left : (u : Text) → length u ≡ 0 → u ≡ []
 nothing_left [] e = refl
@@ -17,7 +17,7 @@ nothing_left (b ∷ u) e = absurd (omega arith)
 
 pub only_simple : (t u : Text) (s : Simple) → simple Crate t ≡ Some (s, u) → length u ≡ 0 → read Crate t ≡ Some (simples s [] ∷ [])
 only_simple t u s e end =
-    let here : SimpleAt Crate t (Some (s, u)) = rw e at (simple_sound Crate t) in
+    let here = rw e at (simple_sound Crate t) in
     tree_read Crate (simples s [] ∷ []) t
     ([], here.0, here.1, refl, here.2, here.3.0, rw (nothing_left u end, append-nil) at here.4)
 

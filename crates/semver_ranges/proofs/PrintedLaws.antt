@@ -175,7 +175,7 @@ module _ (bound_pre : List IdentifierValue) (mode : Compat) where
   range_again : (cs : List PlainComparator) → not (is_empty cs) ≡ true → are_printable cs ≡ true → RangeAgain cs
   range_again [] some e = cc
   range_again (c ∷ cs) some e =
-      record { spelled = simples_spell c cs e; same = comparators_again (c ∷ cs) e; fit = comparators_fit (c ∷ cs) e }
+      record { spelled = simples_spell c cs e; same = comparators_again _ e; fit = comparators_fit (c ∷ cs) e }
 
   set_again : (before : Text) (r : PlainRange) (rs : List PlainRange) → list_all (is_blank Crate) before ≡ true
       → All (IsPrintableRange mode) (r ∷ rs)

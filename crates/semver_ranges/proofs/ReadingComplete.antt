@@ -107,10 +107,10 @@ module _ (d : Dialect) where
   right_read p [] w blanks u (some, g) h b e = cc
   right_read p (c ∷ gap) w blanks u (some, g) h b e =
       let parts = and_parts (is_blank d c) _ g in
-      let begins = no_blank d (w ++ (blanks ++ u)) (starts-append is_word_byte w _ (word_starts d p w h)) in
       rw (
         parts.0,
-        blanks_behind d gap (w ++ (blanks ++ u)) parts.1 begins,
+        blanks_behind d gap (w ++ (blanks ++ u)) parts.1
+            (no_blank d (w ++ (blanks ++ u)) (starts-append is_word_byte w _ (word_starts d p w h))),
         partial_read d p w (blanks ++ u) h (blanks_end blanks u b e),
         blanks_behind d blanks u b (end_stops u e),
         e,

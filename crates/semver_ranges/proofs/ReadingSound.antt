@@ -143,7 +143,7 @@ module _ (d : Dialect) where
   padded_sound t None h = tt
   padded_sound t (Some (r, u)) (inner, after, spelled, ends, text) = (
     _,
-    (front (is_blank d) t, inner, after, front_all (is_blank d) t, spelled, ends, refl),
+    (front _ t, inner, after, front_all (is_blank d) t, spelled, ends, refl),
     front-back (is_blank d) t ∙ rw text (simp append_assoc),
   )
 

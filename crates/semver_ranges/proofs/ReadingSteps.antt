@@ -1,5 +1,5 @@
 -- How the reader's counted loops go on, without the count; and that what is left of a text is shorter.
-use Rattle.std.proofs.Common.{◌≡◌, ℕ, zero, suc, ◌<◌, ◌≤◌, Bool, true, false, if◌then◌else◌, List, [], ◌∷◌, length, refl}
+use Rattle.std.proofs.Common.{◌≡◌, ℕ, zero, suc, ◌<◌, ◌≤◌, Bool, true, false, List, [], ◌∷◌, length, refl}
 use Rattle.std.proofs.Common.{ap, Option, Some, None, arith, length-append}
 use Rattle.semver_ranges.specs.declared.grammar.Dialect.{Dialect}
 use Rattle.semver_ranges.specs.declared.grammar.Dialect.TheVariants.{Crate, Npm}
@@ -63,7 +63,7 @@ module _ (d : Dialect) where
   pub shorter_simple : (t u : Text) (s : Simple) → simple d t ≡ Some (s, u) → length u < length t
   shorter_simple [] u s e = cc (no_simple d)
   shorter_simple (b ∷ t) u s e =
-      let h : Leaves (length t) (Some (s, u)) = rw e at (simple_leaves (length t) (b ∷ t) (omega arith)) in omega arith
+      let h = rw e at (simple_leaves (length t) (b ∷ t) (omega arith)) in omega arith
 
   put_stops : (n : ℕ) (s : Simple) (o : Option (List Simple × Text)) → Stops n o → Stops n (put_before s o)
   put_stops n s None h = tt
@@ -96,7 +96,7 @@ module _ (d : Dialect) where
   right_stops n s (Some found) h = grind arith
 
   right_stopped : (s : Simple) (t u : Text) (r : RangeTree) → with_right s (right_side d t) ≡ Some (r, u) → Stopped (length t) u
-  right_stopped s t u r e = rw e at (right_stops (length t) s (right_side d t) (right_side_stops (length t) t (omega arith)))
+  right_stopped s t u r e = rw e at (right_stops _ s _ (right_side_stops (length t) t (omega arith)))
 
   pub shorter_right : (s : Simple) (t u : Text) (r : RangeTree) → with_right s (right_side d t) ≡ Some (r, u) → length u ≤ length t
   shorter_right s t u r e = (right_stopped s t u r e).short
@@ -117,7 +117,8 @@ module _ (d : Dialect) where
   range_leaves : (t : Text) → Leaves (length t) (range d t)
   range_leaves t = let k = back_shorter (is_blank d) t in by_test (ends_range (behind_blanks d t))
       (λ e. rw e k)
-      (λ e. rw e (leaves (behind_first d (simple d (behind_blanks d t))) (first_stops _ _ (simple_leaves (length t) (behind_blanks d t) (omega arith)))))
+      (λ e. rw e (leaves (behind_first d (simple d (behind_blanks d t)))
+      (first_stops _ _ (simple_leaves (length t) (behind_blanks d t) (omega arith)))))
     where
       leaves : (o : Option (RangeTree × Text)) → Stops (length t) o → Leaves (length t) o
       leaves None h = tt
@@ -134,8 +135,7 @@ module _ (d : Dialect) where
   enough_simples zero m t h k = absurd (omega arith)
   enough_simples (suc n) zero t h k = absurd (omega arith)
   enough_simples (suc n) (suc m) t h k =
-      ap (λ o. if ends_range t then Some ([], t) else o)
-      (agree_simples _ _ t (λ u l. enough_simples n m u (omega arith) (omega arith)) (simple d t) refl)
+      rw (agree_simples _ _ t (λ u l. enough_simples n m u (omega arith) (omega arith)) (simple d t) refl)
 
   pub simples_end : (t : Text) → ends_range t ≡ true → all_simples d t ≡ Some ([], t)
   simples_end t e = rw e
@@ -148,7 +148,7 @@ module _ (d : Dialect) where
       → Leaves n o → behind_range f o ≡ behind_range g o
   agree_behind f g n h None l = refl
   agree_behind f g n h (Some (r, [])) l = refl
-  agree_behind f g n h (Some (r, b ∷ t)) l = same (behind_bars (b ∷ t)) refl where
+  agree_behind f g n h (Some (r, b ∷ t)) l = same _ refl where
     same : (o : Option Text) → behind_bars (b ∷ t) ≡ o → more_ranges f r o ≡ more_ranges g r o
     same None e = refl
     same (Some u) e = let k = shorter_bars (b ∷ t) u e in ap (onto r) (h u (omega arith))

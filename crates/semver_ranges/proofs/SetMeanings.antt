@@ -56,7 +56,7 @@ pub set_meets_by : {fit : Simple → Bool} {written : Simple → List PlainCompa
     → is_ge (precedence v zero_version) ≡ meets of_nothing
     → (tree : SetTree) → meets_set v (set_by written mode tree) ≡ list_any (λ r. list_all meets (terms r)) tree
 set_meets_by table mode v meets simple_meets nothing_meets =
-    list_any-mapped _ _ _ (range_holds table (meets_comparator v) meets simple_meets nothing_meets)
+    list_any-mapped _ _ _ (range_holds table _ meets simple_meets nothing_meets)
 
 pub set_meets : (bound_pre : List IdentifierValue) (mode : Compat) (v : PlainVersion) (meets : Term → Bool)
     → ((s : Simple) → list_all (meets_comparator v) (written_simple bound_pre mode s) ≡ meets (of_simple s))

@@ -1,7 +1,7 @@
 -- With exact bounds, comparators tell the rule that npm and Cargo's semver have for pre-releases.
 use Rattle.std.proofs.Common.{arith}
 use Rattle.std.proofs.lemmas.Bool.Decides.{nat_tests}
-use Rattle.std.proofs.Common.{◌≡◌, ℕ, Bool, true, false, not, ◌&&◌, ◌||◌, ◌==◌, nat_eq, if◌then◌else◌, List, [], ◌∷◌, length, map}
+use Rattle.std.proofs.Common.{◌≡◌, ℕ, Bool, true, false, not, ◌&&◌, ◌||◌, ◌==◌, nat_eq, if◌then◌else◌, List, [], length, map}
 use Rattle.std.proofs.Common.{refl, sym, ◌∙◌, IsTrue}
 use Rattle.std.proofs.Math.Bool.{and-false, and-true}
 use Rattle.std.proofs.lemmas.Bool.{and_parts}
@@ -71,7 +71,7 @@ module _ (v : PlainVersion) where
   told mode form none parts = and-false _
   told mode form (one x) parts = and-false _
   told mode form (two x y) parts = and-false _
-  told mode form (three x y w) parts = rw (three_with_z mode form (x ∷ y ∷ w ∷ [])) refl
+  told mode form (three x y w) parts = rw (three_with_z mode form _) refl
 
   module _ (mode : Compat) where
     abbrev meets : Term → Bool
@@ -85,7 +85,7 @@ module _ (v : PlainVersion) where
 
     silent_simple : (s : Simple)
         → list_all silent (written_simple lowest_pre_release mode s) ≡ (meets (of_simple s) && not (states (of_simple s)))
-    silent_simple s = silent_cell (cell mode s.form (stated s.partial)) (stated s.partial) (zero_filled s.partial)
+    silent_simple s = silent_cell _ (stated s.partial) (zero_filled s.partial)
         ∙ rw (met_simple s, told mode s.form (stated_shape s.partial) (map kept (pre_parts s.partial))) refl
 
     range_stated : (r : RangeTree) → let cs : List PlainComparator = written_range lowest_pre_release mode r in

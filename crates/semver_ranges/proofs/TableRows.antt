@@ -1,6 +1,6 @@
 -- The comparators of a simple that was read, by the columns of the table.
 use Rattle.std.proofs.Common.{arith}
-use Rattle.std.proofs.Common.{◌≡◌, true, false, List, [], refl, sym, ap, ◌∙◌}
+use Rattle.std.proofs.Common.{◌≡◌, true, false, List, [], refl, sym, ◌∙◌}
 use Rattle.std.proofs.lemmas.Bool.{and_parts, and_left}
 use Rattle.semver_ranges.specs.declared.partial.Partial.{Partial}
 use Rattle.semver_ranges.specs.declared.partial.PartialKind.TheVariants.{XRangeOnly}
@@ -13,7 +13,7 @@ use Rattle.semver_ranges.specs.RangeTree.{Form, bare, Simple}
 use Rattle.semver_texts.specs.Versions.{IdentifierValue}
 use Rattle.semver_ranges.specs.Partials.{stated, zero_filled, zero_version}
 use Rattle.semver_ranges.specs.RewritingTable.{cell, nothing_stated, cell_raised, written_cell, bound_fits, written_simple}
-use Rattle.semver_ranges.specs.Steps.PartialViews.{stated_at, stated_of, version_of, states_none, pre_of}
+use Rattle.semver_ranges.specs.Steps.PartialViews.{stated_of, version_of, states_none, pre_of}
 use Rattle.semver_ranges.specs.Steps.CursorViews.{form_of, IsSimpleOf}
 use Rattle.semver_ranges.specs.RewritingTable.{simple_fits}
 use Rattle.semver_ranges.specs.Steps.BoundsViews.{cell_of, with_version, comparators_of, bounds_fit, IsPlaced, IsRow}
@@ -53,7 +53,7 @@ row_of : (mode : Compat) (s : Simple) (simple : read.Simple) (b : Bounds) → Is
 row_of mode s simple b placed is raised comparators = (
   (is.1.3, placed),
   by_test p.fits fits (λ n. and_left _ _ n ∙ sym (and_left _ _ (is.1.0 ∙ n))),
-  λ all bounds. let f = (and_parts p.fits (bound_fits (cell_raised (cell_of b) (stated_of p))) all).0 in
+  λ all bounds. let f = (and_parts p.fits _ all).0 in
       cell_comparators bounds b p ∙ rw ((is.1.1 f).0, (is.1.1 f).1) (comparators f (pre_of bounds)),
 )
   where
@@ -68,10 +68,9 @@ pub row_of_nothing : (mode : Compat) (s : Simple) (simple : read.Simple) (b : Bo
     → cell_of b ≡ with_version (nothing_stated (form_of simple.form)) → IsPlaced b simple.partial
     → IsSimpleOf s simple → IsRow mode s simple.partial b
 row_of_nothing mode s simple b kind column placed is =
-    let p : Partial = simple.partial in
-    let none : stated s.partial ≡ [] = sym (is.1.1 (none_fits p is.1.2 kind)).0
-    ∙ ap (λ k. stated_at k p.major p.minor p.patch) kind in
-    let same : cell_of b ≡ with_version (nothing_stated s.form) = column ∙ ap (λ f. with_version (nothing_stated f)) is.0 in
+    let none : stated s.partial ≡ [] = sym (is.1.1 (none_fits simple.partial is.1.2 kind)).0
+    ∙ rw kind in
+    let same = column ∙ rw is.0 in
     row_of mode s simple b placed is (λ _. rw (none, same) (nothing_raised s.form))
     (λ _ bound_pre. rw (none, same) (nothing_written bound_pre s.form))
 
@@ -80,7 +79,7 @@ pub row_of_cell : (mode : Compat) (s : Simple) (simple : read.Simple) (b : Bound
     → cell_of b ≡ cell mode (form_of simple.form) (stated_of simple.partial) → IsPlaced b simple.partial
     → IsSimpleOf s simple → IsRow mode s simple.partial b
 row_of_cell mode s simple b column placed is =
-    let p : Partial = simple.partial in
+    let p = simple.partial in
     row_of mode s simple b placed is
     (λ f. rw (same f)) (λ f bound_pre. rw (same f))
   where

@@ -94,7 +94,7 @@ slice_split-join : (x : Text) (xs : List Text) → list_all is_part (x ∷ xs) �
 slice_split-join x [] e = slice_split_none is_dot x (no_dot x (grind arith))
 slice_split-join x (y ∷ ys) e =
     slice_split_at is_dot x 46 (join_with_byte 46 (y ∷ ys)) (no_dot x (grind arith)) refl
-    ∙ ap (λ l. x ∷ l) (slice_split-join y ys (grind arith))
+    ∙ rw (slice_split-join y ys (grind arith))
 
 in_part : (t : Text) → list_all is_part_byte t ≡ true → list_all is_dotted_byte t ≡ true
 in_part = list_all-weaker _ _ (λ b. or_left _ _)
@@ -166,7 +166,7 @@ partial_read d p w u h e =
 -- an operator, before a word
 module _ (d : Dialect) where
   pub blanks_behind : (blanks t : Text) → AreBlanks d blanks → stops (is_blank d) t ≡ true → behind_blanks d (blanks ++ t) ≡ t
-  blanks_behind = back-append (is_blank d)
+  blanks_behind = back-append _
 
   -- blanks before a word begin with no such byte
   pub no_sign : (sign : ℕ) → is_blank d sign ≡ false → is_word_byte sign ≡ false → (blanks t : Text) → AreBlanks d blanks
@@ -216,6 +216,10 @@ module _ (d : Dialect) where
   pub simple_read : (s : Simple) (w gap u : Text) → SpellsSimple d s w → AreBlanks d gap → ends_word d (gap ++ u) ≡ true
       → stops (is_blank d) u ≡ true → simple d (w ++ (gap ++ u)) ≡ Some (s, u)
   simple_read s w gap u (sign, text, form, spelled, whole) blanks ends first =
-      let begins = starts-append is_word_byte text (gap ++ u) (word_starts d s.partial text spelled) in
-      rw (whole, append_assoc, operator_read s.form sign (text ++ (gap ++ u)) form begins)
+      rw (
+        whole,
+        append_assoc,
+        operator_read s.form sign (text ++ (gap ++ u)) form
+            (starts-append is_word_byte text (gap ++ u) (word_starts d s.partial text spelled)),
+      )
       (rw (partial_read d s.partial text (gap ++ u) spelled ends, blanks_behind gap u blanks first))

@@ -1,13 +1,9 @@
 use Rattle.std.proofs.Common.{◌∷◌, [], List, ◌++◌, ◌∙◌, ap, sym}
-use Rattle.std.specs.Prelude.{map}
 use Rattle.semver_ranges.specs.declared.range.Identifier.{Identifier}
 use Rattle.semver_ranges.specs.declared.range.Identifier.TheVariants.{Numeric}
-use Rattle.semver_ranges.specs.RangeViews.{identifier_of}
-use Rattle.semver_ranges.specs.Steps.PartialViews.{pre_of}
 use Rattle.semver_ranges.proofs.partial.raised_pre.Goals as goal
 
 pub returns-in_ok-push-in-Exact : goal.returns-in_ok-push-in-Exact
 returns-in_ok-push-in-Exact c =
-    ap (map identifier_of) (c.in_ok-push-in-Exact.ensures.items
-    ∙ ap (λ (front : List Identifier). front ++ Numeric 0 ∷ []) c.in_ok-pre-in-Exact.ensures.items)
-    ∙ sym (ap pre_of c.in-Exact.is)
+    rw (c.in_ok-push-in-Exact.ensures.items
+    ∙ ap (λ (front : List Identifier). front ++ Numeric 0 ∷ []) c.in_ok-pre-in-Exact.ensures.items) (sym (rw c.in-Exact.is))

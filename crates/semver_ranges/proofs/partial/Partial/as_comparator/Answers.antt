@@ -1,6 +1,4 @@
-use Rattle.std.proofs.Common.{rules, ◌≡◌, map, refl}
-use Rattle.semver_texts.specs.Texts.{cut_at_dots}
-use Rattle.semver_ranges.specs.Partials.{kept}
+use Rattle.std.proofs.Common.{rules}
 use Rattle.semver_ranges.specs.RangeViews.{identifier_of}
 use Rattle.semver_ranges.proofs.KeptParts.{all_kept, cut_dotted}
 use Rattle.semver_ranges.proofs.partial.Partial.as_comparator.Goals as goal
@@ -10,7 +8,7 @@ of_parts-requires-clause-bytes c = cut_dotted c.args.self.now.pre.now c.requires
 
 pub returns : goal.returns
 returns c =
-    let pre : map identifier_of c.in_ok-of_parts.field-0.items ≡ map kept (cut_at_dots c.args.self.now.pre.now) =
-    all_kept identifier_of (λ id part made is. search rules) c.in_ok-of_parts.field-0.items (cut_at_dots c.args.self.now.pre.now)
+    let pre =
+    all_kept identifier_of (λ id part made is. search rules) c.in_ok-of_parts.field-0.items _
     c.in_ok-of_parts.ensures.made c.requires in
-    rw pre refl
+    rw pre
