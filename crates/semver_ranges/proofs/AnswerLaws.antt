@@ -1,5 +1,5 @@
 -- What an answer by the reader says in the words of trees and texts.
-use Rattle.std.proofs.Common.{List, ◌≡◌, ◌↔◌, ◌⊎◌, true, [], refl, sym, ap, ◌∙◌, subst, inl, inr, IsTrue, Result, Ok, Err, Some, None}
+use Rattle.std.proofs.Common.{List, ◌≡◌, ◌⊎◌, true, [], refl, sym, ap, ◌∙◌, subst, inl, inr, IsTrue, Result, Ok, Err, Some, None}
 use Rattle.std.proofs.lemmas.Bool.{both_ways}
 use Rattle.std.specs.Prelude.{IfOk}
 use Rattle.std.specs.List.{list_all}
@@ -10,7 +10,7 @@ use Rattle.semver_ranges.specs.declared.range_set.RangeSet.{RangeSet}
 use Rattle.semver_ranges.specs.declared.range_set.RangeError.{RangeError}
 use Rattle.semver_ranges.specs.declared.range_set.RangeError.TheVariants.{NotARange, NumberTooLarge, OutOfMemory}
 use Rattle.semver_ranges.specs.RangeTree.{SetTree, Spells}
-use Rattle.semver_ranges.specs.RangeTexts.{IsRangeText, HasSet, IsTooLarge, RefusesExactly}
+use Rattle.semver_ranges.specs.RangeTexts.{IsTooLarge, RefusesExactly}
 use Rattle.semver_texts.specs.Texts.{Text}
 use Rattle.semver_texts.specs.Versions.{IdentifierValue, PlainVersion}
 use Rattle.semver_ranges.specs.OwnMeaning.{meets_tree}
@@ -30,13 +30,13 @@ use Rattle.semver_ranges.proofs.ExactLaws.{some_means}
 
 -- what is read is the one tree
 read_one : (t : Text) (tree tree' : SetTree) → read Crate t ≡ Some tree → Spells tree' t → tree ≡ tree'
-read_one t tree tree' e h = let same : Some tree ≡ Some tree' = sym e ∙ tree_read Crate tree' t h in cc
+read_one t tree tree' e h = cc (tree_read Crate tree' t h)
 
 none_read : (t : Text) (tree : SetTree) → read Crate t ≡ None → Spells tree t → ⊥
-none_read t tree e h = let same : None ≡ Some tree = sym e ∙ tree_read Crate tree t h in cc
+none_read t tree e h = cc (tree_read Crate tree t h)
 
 unfit : (t : Text) (mode : Compat) (tree : SetTree) → read Crate t ≡ Some tree → fits mode tree ≡ true → IsTooLarge mode t → ⊥
-unfit t mode tree e f (tree', s, large) = both_ways _ large (sym (ap (fits mode) (read_one t tree tree' e s)) ∙ f)
+unfit t mode tree e f (tree', s, large) = cc (read_one t tree tree' e s)
 
 -- what each answer says of its set, where it has one
 abbrev EachSet : List IdentifierValue → Text → Compat → (RangeSet → Type 0) → Type 0
@@ -44,49 +44,51 @@ EachSet bound_pre t mode Says = (r : Result RangeSet RangeError) → IsAnswer bo
 
 -- what an answer says, however raised bounds are written
 module _ (bound_pre : List IdentifierValue) (t : Text) (mode : Compat) where
-  accepted : EachSet bound_pre t mode (λ set. HasSet mode t)
-  accepted (Ok set) h = (h.0, read_sound Crate t h.0 h.1, h.2)
-  accepted (Err e) h = tt
-
   pub as_rewritten : EachSet bound_pre t mode (λ set. (tree : SetTree) → Spells tree t → set_of set ≡ written_set bound_pre mode tree)
-  as_rewritten (Ok set) h = λ tree s. h.3 ∙ ap (written_set bound_pre mode) (read_one t h.0 tree h.1 s)
+  as_rewritten (Ok set) h = λ tree s. rw (← read_one t h.0 tree h.1 s) h.3
   as_rewritten (Err e) h = tt
 
-  not_a_range : (r : Result RangeSet RangeError) → IsAnswer bound_pre t mode r
-      → (r ≡ Err NotARange) ↔ ¬ (IsRangeText t)
-  not_a_range (Ok set) h = (λ e. cc, λ no. absurd (no (h.0, read_sound Crate t h.0 h.1)))
-  not_a_range (Err NotARange) h = (λ e (tree, s). none_read t tree h s, λ no. refl)
-  not_a_range (Err NumberTooLarge) h = (λ e. cc, λ no. absurd (no (h.0, read_sound Crate t h.0 h.1)))
-  not_a_range (Err OutOfMemory) h = (λ e. cc, λ no. absurd (no (h.0, read_sound Crate t h.0 h.1)))
-
-  too_large : (r : Result RangeSet RangeError) → IsAnswer bound_pre t mode r → (r ≡ Err NumberTooLarge) ↔ IsTooLarge mode t
-  too_large (Ok set) h = (λ e. cc, λ s. absurd (unfit t mode h.0 h.1 h.2 s))
-  too_large (Err NotARange) h = (λ e. cc, λ (tree, s, large). absurd (none_read t tree h s))
-  too_large (Err NumberTooLarge) h = (λ e. (h.0, read_sound Crate t h.0 h.1, h.2), λ s. refl)
-  too_large (Err OutOfMemory) h = (λ e. cc, λ s. absurd (unfit t mode h.0 h.1 h.2 s))
-
-  out_of_memory : (r : Result RangeSet RangeError) → IsAnswer bound_pre t mode r → r ≡ Err OutOfMemory → HasSet mode t
-  out_of_memory r h e = let found = subst (IsAnswer bound_pre t mode) e h in (found.0, read_sound Crate t found.0 found.1, found.2)
-
   pub refusals : (r : Result RangeSet RangeError) → IsAnswer bound_pre t mode r → RefusesExactly mode t r
-  refusals r h =
-      record { accepted = accepted r h; not_a_range = not_a_range r h; too_large = too_large r h; out_of_memory = out_of_memory r h }
+  refusals (Ok set) h =
+      let spelled = read_sound Crate t h.0 h.1 in record {
+        accepted = (h.0, spelled, h.2);
+        not_a_range = (λ e. cc, λ no. absurd (no (h.0, spelled)));
+        too_large = (λ e. cc, λ s. absurd (unfit t mode h.0 h.1 h.2 s));
+        out_of_memory = λ e. cc;
+      }
+  refusals (Err NotARange) h = record {
+    accepted = tt;
+    not_a_range = (λ e (tree, s). none_read t tree h s, λ no. refl);
+    too_large = (λ e. cc, λ (tree, s, large). absurd (none_read t tree h s));
+    out_of_memory = λ e. cc;
+  }
+  refusals (Err NumberTooLarge) h =
+      let spelled = read_sound Crate t h.0 h.1 in record {
+        accepted = tt;
+        not_a_range = (λ e. cc, λ no. absurd (no (h.0, spelled)));
+        too_large = (λ e. (h.0, spelled, h.2), λ s. refl);
+        out_of_memory = λ e. cc;
+      }
+  refusals (Err OutOfMemory) h =
+      let spelled = read_sound Crate t h.0 h.1 in record {
+        accepted = tt;
+        not_a_range = (λ e. cc, λ no. absurd (no (h.0, spelled)));
+        too_large = (λ e. cc, λ s. absurd (unfit t mode h.0 h.1 h.2 s));
+        out_of_memory = λ e. (h.0, spelled, h.2);
+      }
+
+  -- the tree of a printable set
+  again : (s : PlainSet) → IsPrintableSet s → s.compat ≡ mode → t ≡ set_text s
+      → (tree : SetTree) × Spells tree t × (fits mode tree ≡ true) × (written_set bound_pre mode tree ≡ s)
+  again s p m e = rw (e, ← m) (printed_again bound_pre s p)
 
   pub reads_back : (r : Result RangeSet RangeError) → IsAnswer bound_pre t mode r
       → (s : PlainSet) → IsPrintableSet s → s.compat ≡ mode → t ≡ set_text s → (r ≡ Err OutOfMemory) ⊎ IsOkAnd r (λ set. set_of set ≡ s)
-  reads_back r h s p m e =
-      let found = printed_again bound_pre s p in
-      let spelled : Spells found.0 t = subst (λ x. Spells found.0 x) (sym e) found.1 in
-      let fit : fits mode found.0 ≡ true = subst (λ x. fits x found.0 ≡ true) m found.2 in
-      let again : written_set bound_pre mode found.0 ≡ s = subst (λ x. written_set bound_pre x found.0 ≡ s) m found.3 in
-      go r h found.0 spelled fit again where
-        go : (r : Result RangeSet RangeError) → IsAnswer bound_pre t mode r → (tree : SetTree) → Spells tree t → fits mode tree ≡ true
-            → written_set bound_pre mode tree ≡ s → (r ≡ Err OutOfMemory) ⊎ IsOkAnd r (λ set. set_of set ≡ s)
-        go (Ok set) h tree spelled fit again = inr (as_rewritten (Ok set) h tree spelled ∙ again)
-        go (Err NotARange) h tree spelled fit again = absurd (none_read t tree h spelled)
-        go (Err NumberTooLarge) h tree spelled fit again =
-            absurd (both_ways _ (sym (ap (fits mode) (read_one t h.0 tree h.1 spelled)) ∙ h.2) fit)
-        go (Err OutOfMemory) h tree spelled fit again = inl refl
+  reads_back (Ok set) h s p m e = let found = again s p m e in inr (as_rewritten (Ok set) h found.0 found.1 ∙ found.3)
+  reads_back (Err NotARange) h s p m e = let found = again s p m e in absurd (none_read t found.0 h found.1)
+  reads_back (Err NumberTooLarge) h s p m e = let found = again s p m e in
+      absurd (both_ways _ (rw (read_one t h.0 found.0 h.1 found.1) at h.2) found.2)
+  reads_back (Err OutOfMemory) h s p m e = inl refl
 
   pub printable : list_all is_kept bound_pre ≡ true → EachSet bound_pre t mode (λ set. IsPrintableSet (set_of set))
   printable keeps (Ok set) h =

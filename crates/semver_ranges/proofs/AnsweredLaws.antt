@@ -1,12 +1,11 @@
 -- What a tree that fits is rewritten to is printable.
-use Rattle.std.proofs.Common.{◌≡◌, ℕ, Bool, true, false, not, ◌&&◌, ◌==◌, if◌then◌else◌, List, [], ◌∷◌, ◌++◌, length, map, refl, ◌∙◌}
-use Rattle.std.proofs.Common.{inl, inr, IsTrue, All}
-use Rattle.std.proofs.lemmas.Bool.{cases_Bool, and_parts, and_from, not_from_false}
+use Rattle.std.proofs.Common.{arith}
+use Rattle.std.proofs.Common.{◌≡◌, ℕ, Bool, true, false, not, List, [], ◌∷◌, ◌++◌, map, refl}
+use Rattle.std.proofs.Common.{IsTrue, All}
+use Rattle.std.proofs.lemmas.Bool.{and_parts, and_from, not_from_false}
 use Rattle.std.proofs.lemmas.List.Elements.{All-nil, All-cons}
 use Rattle.std.proofs.lemmas.List.Folds.{list_all-append}
 use Rattle.std.specs.List.{list_all, flat_map}
-use Rattle.std.specs.Str.{all_ascii_digits}
-use Rattle.std.specs.Str.Parse.{digits_value}
 use Rattle.semver_ranges.specs.declared.grammar.Dialect.{Dialect}
 use Rattle.semver_ranges.specs.declared.grammar.Dialect.TheVariants.{Crate}
 use Rattle.semver_ranges.specs.declared.range.Compat.{Compat}
@@ -28,14 +27,11 @@ use Rattle.semver_texts.proofs.Lists.{by_test}
 
 -- a part is kept as an identifier that is kept
 part_kept : (part : Text) → is_part part ≡ true → is_kept (kept part) ≡ true
-part_kept part e = by_test (all_ascii_digits part && fits_u64 (digits_value 10 part))
-    (λ number. rw number (and_parts _ _ number).1)
-    (λ text. rw text (and_from _ _ e (not_from_false _ text)))
+part_kept part e = grind arith
 
 parts_kept : (parts : List Text) → list_all is_part parts ≡ true → list_all is_kept (map kept parts) ≡ true
 parts_kept [] e = refl
-parts_kept (part ∷ parts) e =
-    let h = and_parts _ _ e in and_from _ _ (part_kept part h.0) (parts_kept parts h.1)
+parts_kept (part ∷ parts) e = grind (arith, part_kept part, parts_kept parts)
 
 pre_parts_kept : (p : PartialTree) → HasParts p → list_all is_kept (map kept (pre_parts p)) ≡ true
 pre_parts_kept (PartialTree.one a) h = refl
@@ -43,18 +39,14 @@ pre_parts_kept (PartialTree.two a b) h = refl
 pre_parts_kept (PartialTree.three a b c pre build) h = parts_kept pre h.0
 
 pre_kept : (p : PartialTree) → HasParts p → list_all is_kept (pre_release p) ≡ true
-pre_kept p h = go (length (stated p) == 3) where
-  go : (b : Bool) → list_all is_kept (if b then map kept (pre_parts p) else []) ≡ true
-  go true = pre_parts_kept p h
-  go false = refl
+pre_kept p h = grind (arith, pre_parts_kept p h)
 
 -- stated numbers that fit, filled with zeros
 pub filled_fits : {s : List ℕ} → Shape s → (pre : List IdentifierValue) → list_all fits_u64 s ≡ true
     → list_all fits_u64 (numbers (filled s pre)) ≡ true
 filled_fits Shape.none pre e = refl
-filled_fits (Shape.one x) pre e = and_from _ _ (and_parts _ _ e).0 refl
-filled_fits (Shape.two x y) pre e =
-    let h = and_parts _ _ e in and_from _ _ h.0 (and_from _ _ (and_parts _ _ h.1).0 refl)
+filled_fits (Shape.one x) pre e = grind arith
+filled_fits (Shape.two x y) pre e = grind arith
 filled_fits (Shape.three x y w) pre e = e
 
 module _ (bound_pre : List IdentifierValue) (keeps : list_all is_kept bound_pre ≡ true) (mode : Compat) where
@@ -89,7 +81,7 @@ pub port_prints : (bound_pre : List IdentifierValue) → list_all is_kept bound_
     → Prints (simple_fits mode) (written_simple bound_pre mode)
 port_prints bound_pre keeps mode = record {
   each = simple_printable bound_pre keeps mode;
-  some = λ s. cell_some bound_pre keeps mode (cell mode s.form (stated s.partial)) (stated s.partial) (zero_filled s.partial);
+  some = λ s. cell_some bound_pre keeps mode _ (stated s.partial) (zero_filled s.partial);
 }
 
 -- simples whose partials have parts
@@ -104,8 +96,7 @@ module _ (d : Dialect) {fit : Simple → Bool} {written : Simple → List PlainC
   simples_printable [] h e = refl
   simples_printable (s ∷ ss) h e =
       let fit = and_parts _ _ e in
-      list_all-append (λ c. is_printable_version c.version) (written s) (flat_map written ss)
-      ∙ and_from _ _ (prints.each s h.0 fit.0) (simples_printable ss h.1 fit.1)
+      rw list_all-append (and_from _ _ (prints.each s h.0 fit.0) (simples_printable ss h.1 fit.1))
 
   simples_some : (s : Simple) (ss : List Simple) → is_empty (flat_map written (s ∷ ss)) ≡ false
   simples_some s ss =
@@ -127,31 +118,25 @@ module _ (d : Dialect) {fit : Simple → Bool} {written : Simple → List PlainC
   abbrev ArePrintable : List PlainComparator → Type 0
   ArePrintable cs = IsTrue (not (is_empty cs)) × IsTrue (are_printable cs)
 
+  made : (s : Simple) (ss : List Simple) → HaveParts (s ∷ ss) → list_all (term_fits_by fit) (map of_simple (s ∷ ss)) ≡ true
+      → ArePrintable (flat_map written (s ∷ ss))
+  made s ss h e = (not_from_false _ (simples_some s ss), simples_printable (s ∷ ss) h e)
+
   range_printable : (r : RangeTree) (t : Text) → SpellsRange d r t → list_all (term_fits_by fit) (terms r) ≡ true
       → ArePrintable (range_by written r)
   unfolding HaveParts
   range_printable empty t h e = (refl, refl)
-  range_printable (simples first others) t h e = (
-    not_from_false _ (simples_some first others),
-    simples_printable (first ∷ others) (simples_parts first others t h) e,
-  )
-  range_printable (hyphen left right) t (l, gap, gap', r, h, g, g', h', eq) e = elim (cases_Bool (states_nothing left)) [
-    | inl a ↦ by_test (states_nothing right)
-        (λ b. rw (a, b) (refl, refl))
-        (λ b. rw (a, b) (made (right_side right) [] (right_parts, tt) (rw (a, b) at e)))
-    | inr a ↦ by_test (states_nothing right)
-        (λ b. rw (a, b) (made (left_side left) [] (left_parts, tt) (rw (a, b) at e)))
-        (λ b. rw (a, b) (made (left_side left) (right_side right ∷ []) (left_parts, (right_parts, tt)) (rw (a, b) at e)))
-  ] where
-    left_parts : HasParts left
-    left_parts = word_has_parts left l h
-
-    right_parts : HasParts right
-    right_parts = word_has_parts right r h'
-
-    made : (s : Simple) (ss : List Simple) → HaveParts (s ∷ ss) → list_all (term_fits_by fit) (map of_simple (s ∷ ss)) ≡ true
-        → ArePrintable (flat_map written (s ∷ ss))
-    made s ss h e = (not_from_false _ (simples_some s ss), simples_printable (s ∷ ss) h e)
+  range_printable (simples first others) t h e = made first others (simples_parts first others t h) e
+  range_printable (hyphen left right) t (l, gap, gap', r, h, g, g', h', eq) e =
+      let here = word_has_parts left l h in
+      let there = word_has_parts right r h' in
+      by_test (states_nothing left)
+      (λ a. by_test (states_nothing right)
+      (λ b. rw (a, b) (refl, refl))
+      (λ b. rw (a, b) (made (right_side right) [] (there, tt) (rw (a, b) at e))))
+      (λ a. by_test (states_nothing right)
+      (λ b. rw (a, b) (made (left_side left) [] (here, tt) (rw (a, b) at e)))
+      (λ b. rw (a, b) (made (left_side left) (right_side right ∷ []) (here, (there, tt)) (rw (a, b) at e))))
 
   padded_printable : (r : RangeTree) (t : Text) → SpellsPadded d r t → list_all (term_fits_by fit) (terms r) ≡ true
       → IsPrintableRange mode (record { comparators = range_by written r; compat = mode })
@@ -161,7 +146,7 @@ module _ (d : Dialect) {fit : Simple → Bool} {written : Simple → List PlainC
       → All (IsPrintableRange mode) (set_by written mode tree).ranges
   ranges_printable [] t h e = absurd h
   ranges_printable (r ∷ []) t h e =
-      All-cons (IsPrintableRange mode) (record { comparators = range_by written r; compat = mode }) []
+      All-cons (IsPrintableRange mode) _ []
       (padded_printable r t h (and_parts _ _ e).0) (All-nil (IsPrintableRange mode))
   ranges_printable (r ∷ next ∷ others) t (head, tail, h, more, eq) e =
       let parts = and_parts _ _ e in

@@ -1,10 +1,10 @@
 -- Components, as they are read byte by byte.
-use Rattle.std.proofs.Common.{◌≡◌, ℕ, suc, ◌+◌, ◌-◌, ◌*◌, ◌<◌, ◌≤◌, true, false, ◌||◌, ◌==◌, [], ◌∷◌, ◌++◌, length, get_or, take, drop}
-use Rattle.std.proofs.Common.{Option, Some, refl, sym, ap, ◌∙◌, subst, arith}
+use Rattle.std.proofs.Common.{add-one}
+use Rattle.std.proofs.Common.{◌≡◌, ℕ, ◌+◌, ◌-◌, ◌*◌, ◌<◌, ◌≤◌, true, false, ◌==◌, [], ◌∷◌, length, get_or, take, drop}
+use Rattle.std.proofs.Common.{Option, Some, refl, ap, ◌∙◌, arith}
 use Rattle.std.specs.Char.{is_ascii_digit, digit_value}
 use Rattle.std.specs.Str.Parse.{digits_value}
 use Rattle.std.proofs.Math.Seq.{take-length, take-suc}
-use Rattle.std.proofs.lemmas.Bool.{or_left}
 use Rattle.std.proofs.lemmas.Bool.Decides.{nat_tests}
 use Rattle.std.proofs.lemmas.Str.{digit_value_digit}
 use Rattle.std.proofs.lemmas.Int.Digits.{digits_value_push}
@@ -17,34 +17,17 @@ use Rattle.semver_ranges.specs.Steps.PartialViews.{IsValue}
 -- a first byte and what follows it
 pub first_apart : (t : Text) → 1 ≤ length t → t ≡ get_or t 0 0 ∷ take (length t - 1) (drop 1 t)
 first_apart [] some = absurd (omega (arith, some))
-first_apart (x ∷ xs) some =
-    let same : length xs ≡ length (x ∷ xs) - 1 = omega arith in
-    ap (λ t. x ∷ t) (sym (take-length xs)) ∙ ap (λ k. x ∷ take k xs) same
+first_apart (x ∷ xs) some = grind (arith, take-length xs)
 
 -- a wildcard, and a zero
-one_byte : (b : ℕ) (t : Text) → (is_wildcard (b ∷ []) || (b == 48)) ≡ true → component (b ∷ t) ≡ Some (b ∷ [], t)
-one_byte b t e = rw e refl
-
 pub wildcard_front : (t : Text) → 1 ≤ length t → is_wildcard (get_or t 0 0 ∷ []) ≡ true → (x : Text)
     × (component t ≡ Some (x, take (length t - 1) (drop 1 t))) × (is_wildcard x ≡ true)
-wildcard_front t some e = (
-  get_or t 0 0 ∷ [],
-  ap component (first_apart t some)
-      ∙ one_byte (get_or t 0 0) _ (or_left _ _ e),
-  e,
-)
+wildcard_front t some e = (get_or t 0 0 ∷ [], ap component (first_apart t some) ∙ grind arith, e)
 
 pub zero_front : (t : Text) → 1 ≤ length t → get_or t 0 0 ≡ 48
     → (x : Text) × (component t ≡ Some (x, take (length t - 1) (drop 1 t))) × (is_wildcard x ≡ false)
     × (fits_u64 (digits_value 10 x) ≡ true) × (0 ≡ digits_value 10 x)
-zero_front t some e = (
-  48 ∷ [],
-  ap component (first_apart t some ∙ ap (λ b. b ∷ take (length t - 1) (drop 1 t)) e)
-      ∙ one_byte 48 _ refl,
-  refl,
-  refl,
-  refl,
-)
+zero_front t some e = (48 ∷ [], ap component (first_apart t some) ∙ rw e, refl, refl, refl)
 
 -- digits
 digit_bounds : (b : ℕ) → is_ascii_digit b ≡ true → (48 ≤ b) × (b ≤ 57)
@@ -56,7 +39,7 @@ no_wildcard b (c ∷ t) e = refl
 
 digit_component : (b : ℕ) (t : Text) → is_ascii_digit b ≡ true → (b == 48) ≡ false
     → component (b ∷ t) ≡ Some (b ∷ front is_ascii_digit t, back is_ascii_digit t)
-digit_component b t e other = rw (no_wildcard b [] e, other, e) refl
+digit_component b t e other = grind (arith, nat_tests)
 
 pub digits_front : (t rest : Text) (n : ℕ) (value : Option ℕ) → 1 ≤ length t → is_ascii_digit (get_or t 0 0) ≡ true
     → (get_or t 0 0 == 48) ≡ false → n ≡ get_or t 0 0 - 48
@@ -66,11 +49,10 @@ pub digits_front : (t rest : Text) (n : ℕ) (value : Option ℕ) → 1 ≤ leng
 digits_front t rest n value some e other first v is =
     let b : ℕ = get_or t 0 0 in
     let u : Text = take (length t - 1) (drop 1 t) in
-    let range = digit_bounds b e in
-    let same : 48 + n ≡ b = omega (arith, first, range.0) in (
+    let same : 48 + n ≡ b = omega (arith, first, (digit_bounds b e).0) in (
       b ∷ front is_ascii_digit u,
-      ap component (first_apart t some) ∙ digit_component b u e other ∙ ap (λ x. Some (b ∷ front is_ascii_digit u, x)) (sym is),
-      (no_wildcard b (front is_ascii_digit u) e, subst (λ c. IsValue (digits_value 10 (c ∷ front is_ascii_digit u)) value) same v),
+      ap component (first_apart t some) ∙ digit_component b u e other ∙ rw is,
+      (no_wildcard b (front is_ascii_digit u) e, rw same at v),
     )
 
 -- one digit more
@@ -78,11 +60,5 @@ pub value_more : (c : ℕ) (t : Text) (i : ℕ) (value : Option ℕ) → i < len
     → IsValue (digits_value 10 (c ∷ take i t) * 10 + (get_or t i 0 - 48)) value
     → IsValue (digits_value 10 (c ∷ take (i + 1) t)) value
 value_more c t i value within e v =
-    let range = digit_bounds (get_or t i 0) e in
-    let digit : digit_value (get_or t i 0) ≡ get_or t i 0 - 48 = omega (arith, digit_value_digit (get_or t i 0) range) in
-    let next : i + 1 ≡ suc i = omega arith in
-    let more : take (i + 1) t ≡ take i t ++ get_or t i 0 ∷ [] = ap (λ k. take k t) next ∙ take-suc t i 0 within in
-    let whole : digits_value 10 (c ∷ take (i + 1) t) ≡ digits_value 10 (c ∷ take i t) * 10 + (get_or t i 0 - 48) =
-    ap (λ u. digits_value 10 (c ∷ u)) more ∙ digits_value_push 10 (c ∷ take i t) (get_or t i 0)
-    ∙ ap (λ d. digits_value 10 (c ∷ take i t) * 10 + d) digit in
-    subst (λ n. IsValue n value) (sym whole) v
+    let digit : digit_value (get_or t i 0) ≡ get_or t i 0 - 48 = omega (arith, digit_value_digit (get_or t i 0) (digit_bounds _ e)) in
+    rw (add-one, take-suc t i 0 within, digits_value_push 10 (c ∷ take i t) _, digit) v

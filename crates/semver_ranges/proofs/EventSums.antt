@@ -1,5 +1,7 @@
 -- What the loops over the events of a text keep.
-use Rattle.std.proofs.Common.{◌≡◌, ℕ, ◌+◌, ◌<◌, subst, Bool, true, false, ◌&&◌, List, [], ◌∷◌, ◌++◌, Option, Some, None, length, refl, sym}
+use Rattle.semver_texts.proofs.DottedParts.{found_same}
+use Rattle.std.proofs.Math.Bool.{and-true}
+use Rattle.std.proofs.Common.{◌≡◌, ℕ, ◌+◌, ◌<◌, Bool, true, ◌&&◌, List, [], ◌∷◌, ◌++◌, Option, Some, None, length, refl, sym}
 use Rattle.std.proofs.Common.{ap, ◌∙◌, arith, append_assoc}
 use Rattle.std.specs.Prelude.{map}
 use Rattle.std.specs.List.{list_all}
@@ -28,15 +30,13 @@ summed fits fit ended (Some es) = Some (fit && list_all (event_fits fits) es, en
 sum_simple : (fits : Simple → Bool) (fit : Bool) (ended : ℕ) (s : Simple) (o : Option (List Event))
     → summed fits fit ended (put (one_simple s) o) ≡ summed fits (fit && fits s) ended o
 sum_simple fits fit ended s None = refl
-sum_simple fits true ended s (Some es) = refl
-sum_simple fits false ended s (Some es) = refl
+sum_simple fits fit ended s (Some es) = grind arith
 
 pub sum_more : (fits : Simple → Bool) (whole : Option (Bool × ℕ)) (fit here : Bool) (ended : ℕ) (o left : Option (List Event)) (s : Simple)
     → whole ≡ summed fits fit ended o → o ≡ put (one_simple s) left → here ≡ fits s
     → whole ≡ summed fits (fit && here) ended left
 sum_more fits whole fit here ended o left s so_far first is =
-    so_far ∙ ap (summed fits fit ended) first ∙ sum_simple fits fit ended s left
-    ∙ ap (λ b. summed fits (fit && b) ended left) (sym is)
+    rw (so_far, first, is) (sum_simple fits fit ended s left)
 
 -- at the end of a text
 abbrev IsSummed : Dialect → (Simple → Bool) → Text → Bool → ℕ → Type 0
@@ -45,23 +45,13 @@ IsSummed d fits t fit ended = (tree : SetTree) × (read d t ≡ Some tree) × (f
 pub sum_end : (d : Dialect) {fits : Simple → Bool} {written : Simple → List PlainComparator} (table : IsTable fits written) (t : Text)
     (fit : Bool) (ended : ℕ) → summed fits true 0 (events d t) ≡ summed fits fit ended (Some []) → IsSummed d fits t fit ended
 sum_end d {fits = fits} table t fit ended e = at (read d t) refl e where
-  fit_end : (b : Bool) → (b && true) ≡ b
-  fit_end true = refl
-  fit_end false = refl
-
   at : (o : Option SetTree) → read d t ≡ o → summed fits true 0 (set_events o) ≡ summed fits fit ended (Some [])
       → IsSummed d fits t fit ended
   at None is e = cc
   at (Some []) is e = absurd (read_sound d t [] is)
   at (Some (r ∷ others)) is e =
-      let sums : (list_all (event_fits fits) (events_of (r ∷ others)), 0 + bars (events_of (r ∷ others))) ≡ (fit && true, ended + 0) = cc in
-      let fit_is : list_all (event_fits fits) (events_of (r ∷ others)) ≡ (fit && true) = ap (λ (p : Bool × ℕ). p.0) sums in
-      let ended_is : 0 + bars (events_of (r ∷ others)) ≡ ended + 0 = ap (λ (p : Bool × ℕ). p.1) sums in (
-        r ∷ others,
-        is,
-        sym (set_fits table (r ∷ others)) ∙ fit_is ∙ fit_end fit,
-        omega (arith, ended_is, set_bars r others),
-      )
+      let sums = found_same e in
+      (r ∷ others, is, sym (set_fits table (r ∷ others)) ∙ sums.0 ∙ and-true fit, omega (arith, sums.1, set_bars r others))
 
 -- one range more of a set, and what is left behind it
 pub one_range_more : (d : Dialect) {fits : Simple → Bool} {written : Simple → List PlainComparator} (table : IsTable fits written)
@@ -74,13 +64,10 @@ pub one_range_more : (d : Dialect) {fits : Simple → Bool} {written : Simple �
     × ((before ++ r ∷ []) ++ map (range_for written mode) others ≡ map (range_for written mode) tree)
 one_range_more d table mode tree [] before r cursor at fit count within whole is has =
     absurd (omega (arith, count, within))
-one_range_more d {written = written} table mode tree (x ∷ others) before r cursor at fit count within whole is has =
-    let range : r ≡ range_for written mode x = is ∙ ap (range_of_simples written mode) (first_simples x others)
-    ∙ range_made table mode x in (
-      others,
-      (and_parts _ _ fit).1,
-      omega (arith, count),
-      subst (λ es. HasLeft d cursor (Some es)) (first_others x others) has,
-      append_assoc before (r ∷ []) (map (range_for written mode) others)
-          ∙ ap (λ y. before ++ y ∷ map (range_for written mode) others) range ∙ whole,
-    )
+one_range_more d {written = written} table mode tree (x ∷ others) before r cursor at fit count within whole is has = (
+  others,
+  (and_parts _ _ fit).1,
+  omega (arith, count),
+  rw (first_others x others) at has,
+  rw (append_assoc, is ∙ ap (range_of_simples written mode) (first_simples x others) ∙ range_made table mode x) whole,
+)

@@ -1,5 +1,5 @@
 -- What is found first is the first of the events that are left.
-use Rattle.std.proofs.Common.{◌≡◌, ◌≤◌, Bool, true, false, arith, List, [], ◌∷◌, Option, Some, None, Result, Ok, Err, refl, subst, sym}
+use Rattle.std.proofs.Common.{◌≡◌, ◌≤◌, Bool, true, false, arith, List, [], ◌∷◌, Option, Some, None, Result, Ok, Err, refl}
 use Rattle.semver_ranges.specs.declared.grammar.Dialect.{Dialect}
 use Rattle.semver_ranges.specs.declared.events.Events.{Events}
 use Rattle.semver_ranges.specs.declared.grammar.Simple as read
@@ -15,55 +15,55 @@ pub sides_first : (xs : List Simple) (lower : read.Simple) (upper : Option read.
     → (x : Event) × (left : Option (List Event)) × IsEventOf x (event.Simple lower) × HasBehind upper o left
     × (put_simples xs o ≡ put x left)
 sides_first (s ∷ []) lower None o is = (one_simple s, o, is, refl, refl)
-sides_first (s ∷ next ∷ []) lower (Some upper) o is = (one_simple s, put (one_simple next) o, is.0, (next, is.1, refl), refl)
+sides_first (s ∷ next ∷ []) lower (Some upper) o is = (one_simple s, put _ o, is.0, (next, is.1, refl), refl)
 sides_first _ lower upper o is = absurd is
 
 pub flag_small : (b : Bool) → flag b ≤ 1
 flag_small true = omega arith
 flag_small false = omega arith
 
--- a simple that comes first, and what is left behind it
-pub record FirstSimple (d : Dialect) (o : Option (List Event)) (simple : read.Simple) (cursor : Events) : Type 0 where
-  pub s : Simple
-  pub left : Option (List Event)
-  pub is : IsSimpleOf s simple
-  pub has : HasLeft d cursor left
-  pub whole : o ≡ put (one_simple s) left
+module _ (d : Dialect) where
+  -- a simple that comes first, and what is left behind it
+  pub record FirstSimple (o : Option (List Event)) (simple : read.Simple) (cursor : Events) : Type 0 where
+    pub s : Simple
+    pub left : Option (List Event)
+    pub is : IsSimpleOf s simple
+    pub has : HasLeft d cursor left
+    pub whole : o ≡ put (one_simple s) left
 
-pub first_simple : (d : Dialect) (o : Option (List Event)) (simple : read.Simple) (cursor : Events)
-    → IsFirst d o (event.Simple simple) cursor
-    → FirstSimple d o simple cursor
-first_simple d o simple cursor (one_simple s, left, is, has, e) = record { s = s; left = left; is = is; has = has; whole = e }
-first_simple d o simple cursor (next_range, left, is, has, e) = absurd is
+  pub first_simple : (o : Option (List Event)) (simple : read.Simple) (cursor : Events)
+      → IsFirst d o (event.Simple simple) cursor
+      → FirstSimple o simple cursor
+  first_simple o simple cursor (one_simple s, left, is, has, e) = record { s = s; left = left; is = is; has = has; whole = e }
+  first_simple o simple cursor (next_range, left, is, has, e) = absurd is
 
--- the same where it is known what is left
-pub record NextSimple (d : Dialect) (es : List Event) (simple : read.Simple) (cursor : Events) : Type 0 where
-  pub s : Simple
-  pub behind : List Event
-  pub is : IsSimpleOf s simple
-  pub has : HasLeft d cursor (Some behind)
-  pub whole : es ≡ one_simple s ∷ behind
+  -- the same where it is known what is left
+  pub record NextSimple (es : List Event) (simple : read.Simple) (cursor : Events) : Type 0 where
+    pub s : Simple
+    pub behind : List Event
+    pub is : IsSimpleOf s simple
+    pub has : HasLeft d cursor (Some behind)
+    pub whole : es ≡ one_simple s ∷ behind
 
-pub next_simple : (d : Dialect) (es : List Event) (simple : read.Simple) (cursor : Events)
-    → IsFirst d (Some es) (event.Simple simple) cursor
-    → NextSimple d es simple cursor
-next_simple d es simple cursor (one_simple s, None, is, has, e) = cc
-next_simple d es simple cursor (one_simple s, Some behind, is, has, e) = record { s = s; behind = behind; is = is; has = has; whole = cc }
-next_simple d es simple cursor (next_range, left, is, has, e) = absurd is
+  pub next_simple : (es : List Event) (simple : read.Simple) (cursor : Events)
+      → IsFirst d (Some es) (event.Simple simple) cursor
+      → NextSimple es simple cursor
+  next_simple es simple cursor (one_simple s, None, is, has, e) = cc
+  next_simple es simple cursor (one_simple s, Some behind, is, has, e) = record { s = s; behind = behind; is = is; has = has; whole = cc }
+  next_simple es simple cursor (next_range, left, is, has, e) = absurd is
 
--- no simple comes first: the range is at its end, and behind it are the others
-pub record RangeEnd (d : Dialect) (es : List Event) (cursor : Events) : Type 0 where
-  pub simples : range_simples es ≡ []
-  pub has : HasLeft d cursor (Some (range_others es))
+  -- no simple comes first: the range is at its end, and behind it are the others
+  pub record RangeEnd (es : List Event) (cursor : Events) : Type 0 where
+    pub simples : range_simples es ≡ []
+    pub has : HasLeft d cursor (Some (range_others es))
 
-pub range_end : (d : Dialect) (es : List Event) (given : Option (Result Given RangeError)) (cursor : Events)
-    → ((simple : read.Simple) → given ≡ Some (Ok (event.Simple simple)) → ⊥) → Gives d (Some es) given cursor → RangeEnd d es cursor
-range_end d [] None cursor other gives = record { simples = refl; has = gives.1 }
-range_end d (x ∷ es) None cursor other gives = let wrong = gives.0 in cc
-range_end d es (Some (Err e)) cursor other gives = let wrong = gives.0 in cc
-range_end d es (Some (Ok (event.Simple simple))) cursor other gives = absurd (other simple refl)
-range_end d es (Some (Ok event.NextRange)) cursor other (one_simple s, left, is, has, e) = absurd is
-range_end d es (Some (Ok event.NextRange)) cursor other (next_range, None, is, has, e) = cc
-range_end d es (Some (Ok event.NextRange)) cursor other (next_range, Some behind, is, has, e) =
-    let whole : es ≡ next_range ∷ behind = cc in
-    subst (λ (l : List Event). RangeEnd d l cursor) (sym whole) (record { simples = refl; has = has })
+  pub range_end : (es : List Event) (given : Option (Result Given RangeError)) (cursor : Events)
+      → ((simple : read.Simple) → given ≡ Some (Ok (event.Simple simple)) → ⊥) → Gives d (Some es) given cursor → RangeEnd es cursor
+  range_end [] None cursor other gives = record { simples = refl; has = gives.1 }
+  range_end (x ∷ es) None cursor other gives = let wrong = gives.0 in cc
+  range_end es (Some (Err e)) cursor other gives = let wrong = gives.0 in cc
+  range_end es (Some (Ok (event.Simple simple))) cursor other gives = absurd (other simple refl)
+  range_end es (Some (Ok event.NextRange)) cursor other (one_simple s, left, is, has, e) = absurd is
+  range_end es (Some (Ok event.NextRange)) cursor other (next_range, None, is, has, e) = cc
+  range_end es (Some (Ok event.NextRange)) cursor other (next_range, Some behind, is, has, e) =
+      let whole : es ≡ next_range ∷ behind = cc in record { simples = rw whole; has = rw whole has }

@@ -2,15 +2,14 @@
 use Rattle.std.proofs.Common.{◌≡◌, true, false, [], refl, sym, ap, ◌∙◌, IsTrue, Option, Some, None}
 use Rattle.std.proofs.Math.Bool.{or-false}
 use Rattle.std.proofs.lemmas.Bool.{or_left}
-use Rattle.std.specs.List.{list_all}
 use Rattle.semver_ranges.specs.declared.range.Compat.{Compat}
 use Rattle.semver_ranges.specs.RangeTree.{SetTree}
 use Rattle.semver_texts.specs.Texts.{is_empty}
 use Rattle.semver_texts.specs.Versions.{PlainVersion}
 use Rattle.semver_ranges.specs.Partials.{pre_release}
-use Rattle.semver_ranges.specs.Terms.{Term, terms}
-use Rattle.semver_ranges.specs.OwnMeaning.{meets_term, meets_tree}
-use Rattle.semver_ranges.specs.RewritingTable.{raised_bound, rewritten}
+use Rattle.semver_ranges.specs.Terms.{terms}
+use Rattle.semver_ranges.specs.OwnMeaning.{meets_tree}
+use Rattle.semver_ranges.specs.RewritingTable.{rewritten}
 use Rattle.semver_ranges.specs.Meeting.{meets_set, is_pre_release_of, meets_term_or_bound, meets_tree_or_bounds}
 use Rattle.semver_ranges.proofs.Rows.{row}
 use Rattle.semver_ranges.proofs.SetMeanings.{stated_shape, set_meets}
@@ -30,16 +29,13 @@ own_meaning_weaker mode tree v = list_any-weaker _ _
 -- a release is a pre-release of nothing
 no_pre_release : (v : PlainVersion) (bound : Option PlainVersion) → is_empty v.pre ≡ true → is_pre_release_of v bound ≡ false
 no_pre_release v None e = refl
-no_pre_release v (Some bound) e = rw e refl
+no_pre_release v (Some bound) e = rw e
 
 on_releases : (mode : Compat) (tree : SetTree) (v : PlainVersion) → is_empty v.pre ≡ true
     → meets_tree_or_bounds mode tree v ≡ meets_tree mode tree v
 on_releases mode tree v e =
-    let either = λ (term : Term). meets_term_or_bound mode term v in
-    let own = λ (term : Term). meets_term mode term v in
-    let alike : (term : Term) → either term ≡ own term = λ term. rw (no_pre_release v (raised_bound mode term) e)
-    (or-false _) in
-    list_any-same (λ r. list_all either (terms r)) (λ r. list_all own (terms r)) (λ r. list_all-same either own alike (terms r)) tree
+    list_any-same _ _ (λ r. list_all-same _ _ (λ term.
+    rw (no_pre_release v _ e) (or-false _)) (terms r)) tree
 
 pub agree_on_releases : (mode : Compat) (tree : SetTree) (v : PlainVersion) → v.pre ≡ []
     → meets_set v (rewritten mode tree) ≡ meets_tree mode tree v

@@ -1,12 +1,12 @@
 -- With exact bounds, comparators tell the rule that npm and Cargo's semver have for pre-releases.
-use Rattle.std.proofs.Common.{◌≡◌, ℕ, Bool, true, false, not, ◌&&◌, ◌||◌, ◌==◌, nat_eq, if◌then◌else◌, List, [], ◌∷◌, length, map}
+use Rattle.std.proofs.Common.{arith}
+use Rattle.std.proofs.lemmas.Bool.Decides.{nat_tests}
+use Rattle.std.proofs.Common.{◌≡◌, ℕ, Bool, true, false, not, ◌&&◌, ◌||◌, ◌==◌, nat_eq, if◌then◌else◌, List, [], length, map}
 use Rattle.std.proofs.Common.{refl, sym, ◌∙◌, IsTrue}
 use Rattle.std.proofs.Math.Bool.{and-false, and-true}
 use Rattle.std.proofs.lemmas.Bool.{and_parts}
 use Rattle.std.specs.List.{list_all, list_any}
-use Rattle.std.specs.Ordering.{is_lt}
 use Rattle.std.specs.Cmp.Lexicographic.{pointwise}
-use Rattle.std.specs.declared.cmp.Ordering.{Ordering}
 use Rattle.semver_ranges.specs.declared.range.Compat.{Compat}
 use Rattle.semver_ranges.specs.declared.range.Compat.TheVariants.{Cargo, Npm}
 use Rattle.semver_ranges.specs.declared.range.Op.TheVariants.{Lt}
@@ -22,26 +22,14 @@ use Rattle.semver_ranges.specs.ExactBounds.{lowest_pre_release, rewritten_exactl
 use Rattle.semver_ranges.specs.Meeting.{has_pre_release, meets_comparator}
 use Rattle.semver_ranges.specs.StatedPreReleases.{states_pre_release_at, counts_in, meets_tree_as_stated, has_pre_release_at}
 use Rattle.semver_ranges.specs.StatedPreReleases.{meets_set_as_stated}
-use Rattle.semver_ranges.proofs.Rows.{Step, numbers_step, Tail, same, past, floor, Shape, none, one, two, three, exact_row}
+use Rattle.semver_ranges.proofs.Rows.{lower_tail, floor, Shape, none, one, two, three, exact_row}
 use Rattle.semver_ranges.proofs.Tables.{port_table}
 use Rattle.semver_ranges.proofs.SetMeanings.{stated_shape, range_holds}
 use Rattle.semver_ranges.proofs.Tests.{list_any-weaker, list_any-same, list_any-mapped, some_of_all}
 
--- what is below an exact bound hasn't the numbers of the bound
-below_exact : {g : Ordering → Ordering} {e m : Bool} → Step g e m → {r : Ordering} → Tail r false
-    → (is_lt (g r) && not m) ≡ is_lt (g r)
-below_exact Step.lower t = refl
-below_exact Step.level same = refl
-below_exact Step.level past = refl
-below_exact Step.higher t = refl
-
 -- two tests and what follows, in the other order
 reorder : (x y w : Bool) → ((x && not y) && w) ≡ ((x && w) && not y)
-reorder false y w = refl
-reorder true true true = refl
-reorder true true false = refl
-reorder true false true = refl
-reorder true false false = refl
+reorder x y w = grind arith
 
 -- whether a cell compares with the zero-filled version
 abbrev with_z : Cell → Bool
@@ -62,7 +50,7 @@ module _ (v : PlainVersion) where
 
   silent_bound : (k : ℕ) (s : List ℕ) → let c : PlainComparator = comparator Lt (up_with lowest_pre_release k s) in
       silent c ≡ meets_comparator v c
-  silent_bound k s = below_exact (numbers_step v (up_with lowest_pre_release k s)) (floor v.pre)
+  silent_bound k s = grind (arith, nat_tests, lower_tail (floor v.pre))
 
   -- of a cell's comparators only z tells of one
   silent_cell : (c : Cell) (s : List ℕ) (z : PlainVersion)
@@ -71,8 +59,8 @@ module _ (v : PlainVersion) where
       && not (with_z c && (has_pre_release z && pointwise nat_eq (numbers v) (numbers z))))
   silent_cell from_zero s z = refl
   silent_cell below_zero s z = refl
-  silent_cell (against op) s z = reorder _ _ true
-  silent_cell (below k) s z = rw (silent_bound k s) (sym (and-true _))
+  silent_cell (against op) s z = grind arith
+  silent_cell (below k) s z = rw silent_bound (sym (and-true _))
   silent_cell (between k) s z = rw (silent_bound k s) (search reorder)
 
   -- z tells of one exactly if the partial states it
@@ -83,7 +71,7 @@ module _ (v : PlainVersion) where
   told mode form none parts = and-false _
   told mode form (one x) parts = and-false _
   told mode form (two x y) parts = and-false _
-  told mode form (three x y w) parts = rw (three_with_z mode form (x ∷ y ∷ w ∷ [])) refl
+  told mode form (three x y w) parts = rw (three_with_z mode form _) refl
 
   module _ (mode : Compat) where
     abbrev meets : Term → Bool
@@ -97,7 +85,7 @@ module _ (v : PlainVersion) where
 
     silent_simple : (s : Simple)
         → list_all silent (written_simple lowest_pre_release mode s) ≡ (meets (of_simple s) && not (states (of_simple s)))
-    silent_simple s = silent_cell (cell mode s.form (stated s.partial)) (stated s.partial) (zero_filled s.partial)
+    silent_simple s = silent_cell _ (stated s.partial) (zero_filled s.partial)
         ∙ rw (met_simple s, told mode s.form (stated_shape s.partial) (map kept (pre_parts s.partial))) refl
 
     range_stated : (r : RangeTree) → let cs : List PlainComparator = written_range lowest_pre_release mode r in

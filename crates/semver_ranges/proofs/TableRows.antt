@@ -1,7 +1,7 @@
 -- The comparators of a simple that was read, by the columns of the table.
-use Rattle.std.proofs.Common.{◌≡◌, true, false, ◌&&◌, List, [], refl, sym, ap, ◌∙◌}
-use Rattle.std.specs.List.{list_all}
-use Rattle.std.proofs.lemmas.Bool.{and_parts, and_left, true≢false}
+use Rattle.std.proofs.Common.{arith}
+use Rattle.std.proofs.Common.{◌≡◌, true, false, List, [], refl, sym, ◌∙◌}
+use Rattle.std.proofs.lemmas.Bool.{and_parts, and_left}
 use Rattle.semver_ranges.specs.declared.partial.Partial.{Partial}
 use Rattle.semver_ranges.specs.declared.partial.PartialKind.TheVariants.{XRangeOnly}
 use Rattle.semver_ranges.specs.declared.partial.RaisedBounds.{RaisedBounds}
@@ -11,9 +11,9 @@ use Rattle.semver_ranges.specs.declared.rewriting.Bounds.{Bounds}
 use Rattle.semver_ranges.specs.declared.rewriting.Bounds.TheVariants.{Against, Below, Between}
 use Rattle.semver_ranges.specs.RangeTree.{Form, bare, Simple}
 use Rattle.semver_texts.specs.Versions.{IdentifierValue}
-use Rattle.semver_ranges.specs.Partials.{stated, zero_filled, zero_version, fits_u64}
+use Rattle.semver_ranges.specs.Partials.{stated, zero_filled, zero_version}
 use Rattle.semver_ranges.specs.RewritingTable.{cell, nothing_stated, cell_raised, written_cell, bound_fits, written_simple}
-use Rattle.semver_ranges.specs.Steps.PartialViews.{stated_at, stated_of, version_of, states_none, pre_of}
+use Rattle.semver_ranges.specs.Steps.PartialViews.{stated_of, version_of, states_none, pre_of}
 use Rattle.semver_ranges.specs.Steps.CursorViews.{form_of, IsSimpleOf}
 use Rattle.semver_ranges.specs.RewritingTable.{simple_fits}
 use Rattle.semver_ranges.specs.Steps.BoundsViews.{cell_of, with_version, comparators_of, bounds_fit, IsPlaced, IsRow}
@@ -33,7 +33,7 @@ nothing_written bound_pre _ = refl
 
 -- what states no number fits
 none_fits : (p : Partial) → (p.fits ≡ false → states_none p.kind ≡ false) → p.kind ≡ XRangeOnly → p.fits ≡ true
-none_fits p some kind = by_test p.fits (λ y. y) (λ n. absurd (true≢false (sym (ap states_none kind) ∙ some n)))
+none_fits p some kind = grind arith
 
 -- the comparators are those of the cell
 cell_comparators : (raised : RaisedBounds) (b : Bounds) (p : Partial)
@@ -53,29 +53,24 @@ row_of : (mode : Compat) (s : Simple) (simple : read.Simple) (b : Bounds) → Is
 row_of mode s simple b placed is raised comparators = (
   (is.1.3, placed),
   by_test p.fits fits (λ n. and_left _ _ n ∙ sym (and_left _ _ (is.1.0 ∙ n))),
-  λ all bounds. let f = (and_parts p.fits (bound_fits (cell_raised (cell_of b) (stated_of p))) all).0 in
-      cell_comparators bounds b p ∙ ap (λ l. written_cell (pre_of bounds) (cell_of b) l (version_of p)) (is.1.1 f).0
-      ∙ ap (written_cell (pre_of bounds) (cell_of b) (stated s.partial)) (is.1.1 f).1 ∙ comparators f (pre_of bounds),
+  λ all bounds. let f = (and_parts p.fits _ all).0 in
+      cell_comparators bounds b p ∙ rw ((is.1.1 f).0, (is.1.1 f).1) (comparators f (pre_of bounds)),
 )
   where
     p : Partial
     p = simple.partial
 
     fits : p.fits ≡ true → bounds_fit b p ≡ simple_fits mode s
-    fits f =
-        ap (λ q. q && bound_fits (cell_raised (cell_of b) (stated_of p))) (sym is.1.0)
-        ∙ ap (λ l. list_all fits_u64 (stated s.partial) && bound_fits (cell_raised (cell_of b) l)) (is.1.1 f).0
-        ∙ ap (λ q. list_all fits_u64 (stated s.partial) && q) (raised f)
+    fits f = rw (← is.1.0, (is.1.1 f).0, raised f)
 
 -- the column where nothing is stated
 pub row_of_nothing : (mode : Compat) (s : Simple) (simple : read.Simple) (b : Bounds) → simple.partial.kind ≡ XRangeOnly
     → cell_of b ≡ with_version (nothing_stated (form_of simple.form)) → IsPlaced b simple.partial
     → IsSimpleOf s simple → IsRow mode s simple.partial b
 row_of_nothing mode s simple b kind column placed is =
-    let p : Partial = simple.partial in
-    let none : stated s.partial ≡ [] = sym (is.1.1 (none_fits p is.1.2 kind)).0
-    ∙ ap (λ k. stated_at k p.major p.minor p.patch) kind in
-    let same : cell_of b ≡ with_version (nothing_stated s.form) = column ∙ ap (λ f. with_version (nothing_stated f)) is.0 in
+    let none : stated s.partial ≡ [] = sym (is.1.1 (none_fits simple.partial is.1.2 kind)).0
+    ∙ rw kind in
+    let same = column ∙ rw is.0 in
     row_of mode s simple b placed is (λ _. rw (none, same) (nothing_raised s.form))
     (λ _ bound_pre. rw (none, same) (nothing_written bound_pre s.form))
 
@@ -84,10 +79,9 @@ pub row_of_cell : (mode : Compat) (s : Simple) (simple : read.Simple) (b : Bound
     → cell_of b ≡ cell mode (form_of simple.form) (stated_of simple.partial) → IsPlaced b simple.partial
     → IsSimpleOf s simple → IsRow mode s simple.partial b
 row_of_cell mode s simple b column placed is =
-    let p : Partial = simple.partial in
+    let p = simple.partial in
     row_of mode s simple b placed is
-    (λ f. ap (λ c. bound_fits (cell_raised c (stated s.partial))) (same f))
-    (λ f bound_pre. ap (λ c. written_cell bound_pre c (stated s.partial) (zero_filled s.partial)) (same f))
+    (λ f. rw (same f)) (λ f bound_pre. rw (same f))
   where
     same : simple.partial.fits ≡ true → cell_of b ≡ cell mode s.form (stated s.partial)
-    same f = column ∙ ap (λ form. cell mode form (stated_of simple.partial)) is.0 ∙ ap (cell mode s.form) (is.1.1 f).0
+    same f = rw (column, is.0, (is.1.1 f).0)

@@ -25,9 +25,9 @@ nothing_is (n ∷ s) e = cc
 -- the port's is one, however raised bounds are written
 pub port_table : (bound_pre : List IdentifierValue) (mode : Compat) → IsTable (simple_fits mode) (written_simple bound_pre mode)
 port_table bound_pre mode = record {
-  left = λ p e. rw e refl;
-  right = λ p e. rw e refl;
-  fits = λ p e. rw e refl;
+  left = λ p e. rw e;
+  right = λ p e. rw e;
+  fits = λ p e. rw e;
   empty = refl;
   empty_fits = refl;
 }

@@ -1,5 +1,3 @@
-use Rattle.std.proofs.Common.{ap, ◌∙◌}
-use Rattle.semver_texts.specs.Versions.{alphanumeric}
 use Rattle.semver_ranges.proofs.KeptParts.{kept_number, kept_text}
 use Rattle.semver_ranges.proofs.partial.read_identifier.Goals as goal
 
@@ -8,4 +6,4 @@ returns-in-Ok c = λ is. kept_number c.args.part.now c.in-Ok.number is c.in-Ok.e
 
 pub returns-in_ok-from_str-in-Err : goal.returns-in_ok-from_str-in-Err
 returns-in_ok-from_str-in-Err c =
-    λ is. ap alphanumeric c.in_ok-from_str-in-Err.ensures.ok ∙ kept_text c.args.part.now is c.in-Err.ensures.value.0
+    λ is. rw c.in_ok-from_str-in-Err.ensures.ok (kept_text c.args.part.now is c.in-Err.ensures.value.0)

@@ -1,12 +1,10 @@
-use Rattle.std.proofs.Common.{◌≡◌, ◌++◌, ◌∷◌, [], ◌∙◌, ◌<◌, length, ap, arith}
+use Rattle.std.proofs.Common.{[], ◌∙◌, ◌<◌, length, ap, arith}
 use Rattle.std.specs.Prelude.{map}
 use Rattle.semver_ranges.specs.RangeViews.{range_of}
 use Rattle.semver_ranges.specs.Steps.PartialViews.{pre_of}
-use Rattle.semver_ranges.specs.Steps.BoundsViews.{range_for}
 use Rattle.semver_ranges.specs.Steps.RangeEvents.{events_of}
 use Rattle.std.proofs.lemmas.List.{map_push}
 use Rattle.semver_ranges.specs.declared.grammar.Dialect.TheVariants.{Crate}
-use Rattle.semver_ranges.specs.RewritingTable.{written_simple}
 use Rattle.semver_ranges.proofs.Tables.{port_table}
 use Rattle.semver_ranges.proofs.EventLists.{set_fits}
 use Rattle.semver_ranges.proofs.EventSums.{one_range_more}
@@ -25,7 +23,7 @@ loop-at-preserved c =
     let more = one_range_more Crate (port_table (pre_of c.args.raised) c.args.compat) c.args.compat so_far.0 so_far.1
     (map range_of c.loop-at.ranges.items)
     (range_of c.in_ok-build_range.field-0) c.build_range.new.events c.loop-at.at so_far.3 so_far.4 within so_far.7 built.0 built.1 in
-    let pushed : map range_of c.push.new.self.items ≡ map range_of c.loop-at.ranges.items ++ range_of c.in_ok-build_range.field-0 ∷ [] =
+    let pushed =
     ap (map range_of) c.in_ok-push.ensures.items ∙ map_push range_of c.loop-at.ranges.items c.in_ok-build_range.field-0 in (
       so_far.0,
       more.0,
@@ -34,5 +32,5 @@ loop-at-preserved c =
       more.2,
       so_far.5,
       more.3,
-      ap (λ l. l ++ map (range_for (written_simple (pre_of c.args.raised) c.args.compat) c.args.compat) more.0) pushed ∙ more.4,
+      rw pushed more.4,
     )

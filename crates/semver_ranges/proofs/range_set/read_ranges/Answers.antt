@@ -1,5 +1,3 @@
-use Rattle.std.proofs.Common.{List, ap}
-use Rattle.semver_ranges.specs.RewritingTable.{PlainRange}
 use Rattle.semver_ranges.proofs.range_set.read_ranges.Goals as goal
 
 pub returns-in-Ok : goal.returns-in-Ok
@@ -8,5 +6,5 @@ returns-in-Ok c =
       found.0,
       found.1,
       found.2,
-      ap (λ (l : List PlainRange). record { ranges = l; compat = c.args.compat }) (c.in-Ok.ensures found.0 found.1),
+      rw (c.in-Ok.ensures found.0 found.1),
     )

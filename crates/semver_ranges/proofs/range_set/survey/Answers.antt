@@ -1,8 +1,7 @@
-use Rattle.std.proofs.Common.{[], sym, ap, ◌∙◌, arith}
+use Rattle.std.proofs.Common.{[], sym, ◌∙◌, arith}
 use Rattle.semver_ranges.specs.declared.grammar.Dialect.TheVariants.{Crate}
-use Rattle.semver_ranges.specs.RewritingTable.{simple_fits}
 use Rattle.semver_ranges.proofs.Tables.{port_table}
-use Rattle.semver_ranges.proofs.EventSums.{summed, sum_more, sum_end}
+use Rattle.semver_ranges.proofs.EventSums.{sum_more, sum_end}
 use Rattle.semver_ranges.proofs.FoundEvents.{FirstSimple, first_simple}
 use Rattle.semver_ranges.proofs.range_set.survey.Goals as goal
 use Rattle.semver_ranges.proofs.range_set.survey.Goals.{In-Simple}
@@ -21,27 +20,23 @@ fits-fit-requires c =
 
 pub loop-event-preserved-in-Some-get_mut : goal.loop-event-preserved-in-Some-get_mut
 loop-event-preserved-in-Some-get_mut c =
-    let mode = c.args.compat in
     let so_far = c.loop-event.invariant in
-    let first = taken (goal.at.loop-event-preserved-in-Some-get_mut c).In-Simple in
-    let fits = c.fits-fit.ensures ∙ (c.rewritten-bounds.ensures first.s first.is).1 in (
+    let first = taken (goal.at.loop-event-preserved-in-Some-get_mut c).In-Simple in (
       first.left,
       first.has,
-      sum_more (simple_fits mode) _ c.loop-event.fit c.fits-fit.result c.loop-event.ended so_far.0 first.left first.s so_far.2
-          first.whole fits,
+      sum_more _ _ c.loop-event.fit c.fits-fit.result c.loop-event.ended so_far.0 first.left first.s so_far.2
+          first.whole (c.fits-fit.ensures ∙ (c.rewritten-bounds.ensures first.s first.is).1),
       omega (arith, so_far.3, c.in-Some.ensures.steps.1),
     )
 
 pub loop-event-preserved-in_default : goal.loop-event-preserved-in_default
 loop-event-preserved-in_default c =
-    let mode = c.args.compat in
     let so_far = c.loop-event.invariant in
-    let first = taken (goal.at.loop-event-preserved-in_default c).In-Simple in
-    let fits = c.fits-fit.ensures ∙ (c.rewritten-bounds.ensures first.s first.is).1 in (
+    let first = taken (goal.at.loop-event-preserved-in_default c).In-Simple in (
       first.left,
       first.has,
-      sum_more (simple_fits mode) _ c.loop-event.fit c.fits-fit.result c.loop-event.ended so_far.0 first.left first.s so_far.2
-          first.whole fits,
+      sum_more _ _ c.loop-event.fit c.fits-fit.result c.loop-event.ended so_far.0 first.left first.s so_far.2
+          first.whole (c.fits-fit.ensures ∙ (c.rewritten-bounds.ensures first.s first.is).1),
       omega (arith, so_far.3, c.in-Some.ensures.steps.1),
     )
 
@@ -51,7 +46,7 @@ returns-then-not-fit c =
     let end = c.in-None.ensures.steps.0 so_far.0 so_far.1 in
     let found = sum_end Crate (port_table [] c.args.compat) c.args.text.now c.loop-event.fit c.loop-event.ended
     (so_far.2
-    ∙ ap (summed (simple_fits c.args.compat) c.loop-event.fit c.loop-event.ended) end.0) in
+    ∙ rw end.0) in
     (found.0, found.1, found.2 ∙ c.if-not-fit.true)
 
 pub returns : goal.returns
@@ -60,5 +55,5 @@ returns c =
     let end = c.in-None.ensures.steps.0 so_far.0 so_far.1 in
     let found = sum_end Crate (port_table [] c.args.compat) c.args.text.now c.loop-event.fit c.loop-event.ended
     (so_far.2
-    ∙ ap (summed (simple_fits c.args.compat) c.loop-event.fit c.loop-event.ended) end.0) in
+    ∙ rw end.0) in
     (found.0, found.1, found.2 ∙ c.if-not-fit.false, sym found.3)

@@ -1,4 +1,4 @@
-use Rattle.std.proofs.Common.{sym, ◌∙◌, refl}
+use Rattle.std.proofs.Common.{sym, ◌∙◌}
 use Rattle.semver_ranges.proofs.TableRows.{row_of_nothing, row_of_cell}
 use Rattle.semver_ranges.proofs.rewriting.rewritten.Goals as goal
 
@@ -11,16 +11,16 @@ pub returns-in-MajorOnly : goal.returns-in-MajorOnly
 returns-in-MajorOnly c = λ s is.
     let e = c.with_some_stated.ensures in
     row_of_cell c.args.compat s c.args.simple.now c.with_some_stated.result (e.cell
-    ∙ rw (sym c.kind.ensures ∙ c.in-MajorOnly.is) refl) e.placed is
+    ∙ rw (sym c.kind.ensures ∙ c.in-MajorOnly.is)) e.placed is
 
 pub returns-in-MajorMinor : goal.returns-in-MajorMinor
 returns-in-MajorMinor c = λ s is.
     let e = c.with_some_stated-in-MajorMinor.ensures in
     row_of_cell c.args.compat s c.args.simple.now c.with_some_stated-in-MajorMinor.result (e.cell
-    ∙ rw (sym c.kind.ensures ∙ c.in-MajorMinor.is) refl) e.placed is
+    ∙ rw (sym c.kind.ensures ∙ c.in-MajorMinor.is)) e.placed is
 
 pub returns-in-MajorMinorPatch : goal.returns-in-MajorMinorPatch
 returns-in-MajorMinorPatch c = λ s is.
     let e = c.with_three_stated.ensures in
     row_of_cell c.args.compat s c.args.simple.now c.with_three_stated.result (e.cell
-    ∙ rw (sym c.kind.ensures ∙ c.in-MajorMinorPatch.is) refl) e.placed is
+    ∙ rw (sym c.kind.ensures ∙ c.in-MajorMinorPatch.is)) e.placed is

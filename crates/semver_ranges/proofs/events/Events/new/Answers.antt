@@ -1,4 +1,3 @@
-use Rattle.semver_ranges.specs.RangeTree.{is_blank}
 use Rattle.semver_ranges.proofs.ReadingSteps.{back_shorter}
 use Rattle.semver_ranges.proofs.EventSteps.{begin_left}
 use Rattle.semver_ranges.proofs.events.Events.new.Goals as goal
@@ -7,4 +6,4 @@ pub returns-clause-all : goal.returns-clause-all
 returns-clause-all c = begin_left c.args.dialect c.args.text.now c.behind_blanks.result.now c.behind_blanks.ensures
 
 pub returns-clause-short : goal.returns-clause-short
-returns-clause-short c = rw c.behind_blanks.ensures (back_shorter (is_blank c.args.dialect) c.args.text.now)
+returns-clause-short c = rw c.behind_blanks.ensures (back_shorter _ c.args.text.now)

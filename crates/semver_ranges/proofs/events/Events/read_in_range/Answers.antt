@@ -1,7 +1,6 @@
-use Rattle.std.proofs.Common.{◌≡◌, ◌<◌, length, true, false, refl, sym, ◌∙◌, arith}
+use Rattle.std.proofs.Common.{◌<◌, length, false, refl, sym, ◌∙◌, arith}
 use Rattle.std.proofs.lemmas.Bool.{true≢false}
 use Rattle.semver_texts.specs.Texts.{Text}
-use Rattle.semver_texts.specs.Texts.{begins_with}
 use Rattle.semver_ranges.specs.Steps.RangeEvents.{one_simple, events_left}
 use Rattle.semver_ranges.proofs.ReadingSteps.{shorter_simple}
 use Rattle.semver_ranges.proofs.EventSteps.{simple_left}
@@ -13,10 +12,6 @@ returns-in_default c =
     let found = c.in_ok-simple.ensures in
     let t : Text = c.args.self.now.rest.now in
     let u : Text = c.in_ok-simple.rest.now in
-    let other : c.args.begins_range ≡ true → begins_with 45 u ≡ false = elim c.in_default.branch [
-      | in_default-via-in-Some+else-begins_range w ↦ λ begins. absurd (true≢false (sym begins ∙ w.if-begins_range.false))
-      | in_default-via-in_default w ↦ λ begins. w.in_default.ensures
-    ] in
     let less : length u < length t = shorter_simple c.args.dialect t u found.0 found.1 in
     rw (c.requires.begun, c.requires.alone) (
       (
@@ -25,7 +20,10 @@ returns-in_default c =
         found.2,
         refl,
         simple_left c.args.dialect c.args.begins_range t u found.0 c.requires.goes_on found.1
-            other,
+            (elim c.in_default.branch [
+              | in_default-via-in-Some+else-begins_range w ↦ λ begins. absurd (true≢false (sym begins ∙ w.if-begins_range.false))
+              | in_default-via-in_default w ↦ λ begins. w.in_default.ensures
+            ]),
       ),
       omega (arith, less),
       omega (arith, less),
