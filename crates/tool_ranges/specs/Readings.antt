@@ -2,6 +2,10 @@
 use Rattle.std.specs.Prelude.{◌≡◌, Bool, false, List, IsTrue, Result}
 use Rattle.semver_ranges.specs.declared.range_set.RangeError.{RangeError}
 use Rattle.semver_texts.specs.Texts.{Text}
+use Rattle.semver_texts.specs.Versions.{PlainVersion}
+use Rattle.semver_ranges.specs.declared.range.Compat.{Compat}
+use Rattle.semver_ranges.specs.declared.range.Compat.TheVariants as compat
+use Rattle.semver_ranges.specs.OwnMeaning.{meets_tree}
 use Rattle.semver_ranges.specs.RangeTree.{SetTree, Simple, Spells}
 use Rattle.semver_ranges.specs.RangeTexts.{Refuses}
 use Rattle.semver_ranges.specs.RewritingTable.{PlainSet, fits}
@@ -9,8 +13,10 @@ use Rattle.semver_ranges.specs.ExactBounds.{rewritten_exactly}
 use Rattle.tool_ranges.specs.declared.reading.Reading.{Reading}
 use Rattle.tool_ranges.specs.declared.reading.Reading.TheVariants.{Cargo, Npm, Crate}
 use Rattle.tool_ranges.specs.CargoGrammar.{SpellsRequirement}
+use Rattle.tool_ranges.specs.CargoMeaning.{meets_requirement}
 use Rattle.tool_ranges.specs.CargoTable.{requirement_fits, rewritten_requirement}
 use Rattle.tool_ranges.specs.NpmGrammar.{SpellsNpm}
+use Rattle.tool_ranges.specs.NpmMeaning.{meets_npm}
 use Rattle.tool_ranges.specs.NpmTable.{npm_fits, rewritten_npm}
 
 -- the trees of a reading
@@ -41,6 +47,18 @@ rewritten_as (Crate mode) tree = rewritten_exactly mode tree
 abbrev pub IsRewrittenAs : Reading → Text → PlainSet → Type 0
 IsRewrittenAs reading t set =
     (tree : TreeOf reading) → SpellsAs reading tree t → set ≡ rewritten_as reading tree
+
+-- whether a tree means a release
+abbrev pub means_release : (reading : Reading) → TreeOf reading → PlainVersion → Bool
+means_release Cargo tree v = meets_requirement tree v
+means_release Npm tree v = meets_npm tree v
+means_release (Crate mode) tree v = meets_tree mode tree v
+
+-- the mode that a set of a reading has
+abbrev pub mode_of : Reading → Compat
+mode_of Cargo = compat.Cargo
+mode_of Npm = compat.Npm
+mode_of (Crate mode) = mode
 
 -- what a text is to a reading: a range text or none, one that has a set, and one with a number that
 -- is too large

@@ -1,8 +1,14 @@
 //! Whose reading of a range text: a tool's own, or the port's in one of its modes.
 
-ghost use Rattle.std.specs.Prelude.{IfOk};
+ghost use Rattle.std.specs.Prelude.{◌≡◌, [], IfOk, IsTrue};
+ghost use Rattle.semver_texts.specs.Versions.{PlainVersion};
+ghost use Rattle.semver_ranges.specs.Meeting.{meets_set};
+ghost use Rattle.semver_ranges.specs.PrintedRanges.{IsPrintableSet, set_text};
+ghost use Rattle.semver_ranges.specs.RangeTree.{SetTree, Spells};
 ghost use Rattle.semver_ranges.specs.RangeViews.{set_of};
-ghost use Rattle.tool_ranges.specs.Readings.{IsRewrittenAs, RefusesAs};
+ghost use Rattle.semver_ranges.specs.RewritingTable.{fits, rewritten};
+ghost use Rattle.tool_ranges.specs.Readings.{IsRewrittenAs, RefusesAs, SpellsAs, TreeOf};
+ghost use Rattle.tool_ranges.specs.Readings.{means_release, mode_of};
 
 use crate::{cargo, npm};
 use semver_ranges::{Compat, RangeError, RangeSet};
@@ -35,6 +41,16 @@ pub fn rewrite(alloc: Global, reading: Reading, range: &str) -> Result<RangeSet,
     // is what each tree of the text is rewritten to.
     ensures refusals { RefusesAs reading range.now result }
     ensures as_rewritten { IfOk result (λ set. IsRewrittenAs reading range.now (set_of set)) }
+    // A release meets the answer exactly if the text means it.
+    ensures releases { IfOk result (λ set. (tree : TreeOf reading) (v : PlainVersion)
+        → SpellsAs reading tree range.now → v.pre ≡ [] →
+        meets_set v (set_of set) ≡ means_release reading tree v) }
+    // What is answered is printable, and its text is a range text that `RangeSet::parse` rewrites
+    // to that set again, in the set's mode.
+    ensures printable { IfOk result (λ set. IsPrintableSet (set_of set)) }
+    ensures reads_back { IfOk result (λ set. (tree : SetTree)
+        × Spells tree (set_text (set_of set)) × IsTrue (fits (mode_of reading) tree)
+        × (rewritten (mode_of reading) tree ≡ set_of set)) }
 {
     match reading {
         Reading::Cargo => cargo::rewrite(alloc, range),
