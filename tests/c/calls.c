@@ -51,8 +51,10 @@ static int32_t read_version_at(const uint8_t *bytes, const text *of, semver_pars
     int32_t answer = semver_parser_parse_version(bytes, of->length, out);
     if (answer == SEMVER_PARSER_OK) {
         require(is_part(out->pre, of) && is_part(out->build, of), "a part outside of the text", of);
-        require(out->pre.length == 0 || of->bytes[out->pre.offset - 1] == '-', "a pre-release without its hyphen", of);
-        require(out->build.length == 0 || of->bytes[out->build.offset - 1] == '+', "a build without its plus", of);
+        require(out->pre.length == 0 || of->bytes[out->pre.offset - 1] == '-',
+            "a pre-release without its hyphen", of);
+        require(out->build.length == 0 || of->bytes[out->build.offset - 1] == '+',
+            "a build without its plus", of);
     } else {
         require(is_filled(out, FILL, sizeof *out), "a version at a fault", of);
     }
@@ -69,17 +71,20 @@ int32_t read_version(const text *of, semver_parser_version *out) {
     return answer;
 }
 
-static int32_t precedence_at(const text *version, const text *other, int32_t *order, bool *in_other, bool before, bool at_null) {
+static int32_t precedence_at(const text *version, const text *other, int32_t *order, bool *in_other,
+    bool before, bool at_null) {
     uint8_t *bytes = alone(version);
     uint8_t *other_bytes = alone(other);
     *order = UNTOLD;
     *in_other = before;
-    int32_t answer = semver_parser_precedence(at_null && version->length == 0 ? NULL : bytes, version->length,
-                                              at_null && other->length == 0 ? NULL : other_bytes, other->length, order, in_other);
+    int32_t answer =
+        semver_parser_precedence(at_null && version->length == 0 ? NULL : bytes, version->length,
+            at_null && other->length == 0 ? NULL : other_bytes, other->length, order, in_other);
     free(bytes);
     free(other_bytes);
     bool is_ok = answer == SEMVER_PARSER_OK;
-    require(is_ok ? *order >= -1 && *order <= 1 : *order == UNTOLD, "an order at a fault, or none", version);
+    require(is_ok ? *order >= -1 && *order <= 1 : *order == UNTOLD, "an order at a fault, or none",
+        version);
     require(!is_ok || *in_other == before, "a text at fault where none is", version);
     return answer;
 }
@@ -88,14 +93,17 @@ int32_t precedence(const text *version, const text *other, int32_t *order, bool 
     int32_t answer = precedence_at(version, other, order, in_other, false, false);
     int32_t again_order;
     bool again_in_other;
-    require(precedence_at(version, other, &again_order, &again_in_other, true, true) == answer, "another answer at null", version);
-    require(again_order == *order && (answer == SEMVER_PARSER_OK || again_in_other == *in_other), "another order at null", version);
+    require(precedence_at(version, other, &again_order, &again_in_other, true, true) == answer,
+        "another answer at null", version);
+    require(again_order == *order && (answer == SEMVER_PARSER_OK || again_in_other == *in_other),
+        "another order at null", version);
     return answer;
 }
 
 /* ---- rewriting */
 
-/* A room for bytes and one for comparators, each with a guard behind it; at null where it is empty and that is asked for. */
+/* A room for bytes and one for comparators, each with a guard behind it; at null where it is empty
+ * and that is asked for. */
 typedef struct {
     uint8_t *out;
     size_t room;
@@ -106,8 +114,9 @@ typedef struct {
 } rooms;
 
 static rooms rooms_of(size_t room, size_t comparator_room) {
-    rooms made = {(uint8_t *)block(room + 1), room, UNTOLD, (semver_parser_comparator *)block((comparator_room + 1) * sizeof(semver_parser_comparator)),
-                  comparator_room, UNTOLD};
+    rooms made = {(uint8_t *)block(room + 1), room, UNTOLD,
+        (semver_parser_comparator *)block((comparator_room + 1) * sizeof(semver_parser_comparator)),
+        comparator_room, UNTOLD};
     memset(made.out, FILL, room);
     made.out[room] = GUARD;
     memset(made.comparators, FILL, comparator_room * sizeof *made.comparators);
@@ -128,7 +137,8 @@ static int32_t call(int which, const text *of, int32_t reading, bool exact, room
     uint8_t *bytes = alone(of);
     const uint8_t *from = at_null && of->length == 0 ? NULL : bytes;
     uint8_t *out = at_null && to->room == 0 ? NULL : to->out;
-    semver_parser_comparator *comparators = at_null && to->comparator_room == 0 ? NULL : to->comparators;
+    semver_parser_comparator *comparators =
+        at_null && to->comparator_room == 0 ? NULL : to->comparators;
     int32_t answer;
     if (which == PRINTED) {
         answer =
@@ -146,23 +156,30 @@ static int32_t call(int which, const text *of, int32_t reading, bool exact, room
 static void require_kept(int which, int32_t answer, const rooms *to, const text *of) {
     size_t comparator_size = sizeof *to->comparators;
     require(to->out[to->room] == GUARD, "a byte behind the room", of);
-    require(is_filled(to->comparators + to->comparator_room, GUARD, comparator_size), "a comparator behind the room", of);
+    require(is_filled(to->comparators + to->comparator_room, GUARD, comparator_size),
+        "a comparator behind the room", of);
     bool told = answer == SEMVER_PARSER_OK || answer == SEMVER_PARSER_NO_ROOM;
     require(told == (to->length != UNTOLD), "another length at a fault", of);
-    require((told && which == COMPARATORS) == (to->count != UNTOLD), "another count at a fault", of);
+    require(
+        (told && which == COMPARATORS) == (to->count != UNTOLD), "another count at a fault", of);
     size_t written = answer == SEMVER_PARSER_OK ? to->length : 0;
     size_t put = answer == SEMVER_PARSER_OK && which == COMPARATORS ? to->count : 0;
     require(written <= to->room && put <= to->comparator_room, "more than there is room for", of);
-    require(is_filled(to->out + written, FILL, to->room - written), "a byte behind what was put, or at a fault", of);
-    require(is_filled(to->comparators + put, FILL, (to->comparator_room - put) * comparator_size), "a comparator behind the set, or at a fault", of);
+    require(is_filled(to->out + written, FILL, to->room - written),
+        "a byte behind what was put, or at a fault", of);
+    require(is_filled(to->comparators + put, FILL, (to->comparator_room - put) * comparator_size),
+        "a comparator behind the set, or at a fault", of);
 }
 
-static bool is_same_comparator(const semver_parser_comparator *one, const semver_parser_comparator *other) {
-    return one->range == other->range && one->op == other->op && one->major == other->major && one->minor == other->minor && one->patch == other->patch
-        && one->pre.offset == other->pre.offset && one->pre.length == other->pre.length;
+static bool is_same_comparator(
+    const semver_parser_comparator *one, const semver_parser_comparator *other) {
+    return one->range == other->range && one->op == other->op && one->major == other->major &&
+           one->minor == other->minor && one->patch == other->patch &&
+           one->pre.offset == other->pre.offset && one->pre.length == other->pre.length;
 }
 
-/* One call in some rooms, which has to answer and to write what is wanted: the bytes, and the comparators where it tells them. */
+/* One call in some rooms, which has to answer and to write what is wanted: the bytes, and the
+ * comparators where it tells them. */
 static void try_rooms(int which, const text *of, int32_t reading, bool exact, size_t room,
                       size_t comparator_room, const text *bytes, const comparator_list *list) {
     bool is_empty = of->length == 0 || room == 0 || (which == COMPARATORS && comparator_room == 0);
@@ -170,13 +187,16 @@ static void try_rooms(int which, const text *of, int32_t reading, bool exact, si
         rooms to = rooms_of(room, comparator_room);
         int32_t answer = call(which, of, reading, exact, &to, at_null != 0);
         bool fits = room >= bytes->length && (which == PRINTED || comparator_room >= list->count);
-        require(answer == (fits ? (int32_t)SEMVER_PARSER_OK : (int32_t)SEMVER_PARSER_NO_ROOM), "another answer in another room", of);
+        require(answer == (fits ? (int32_t)SEMVER_PARSER_OK : (int32_t)SEMVER_PARSER_NO_ROOM),
+            "another answer in another room", of);
         require_kept(which, answer, &to, of);
         require(to.length == bytes->length, "another length in another room", of);
         require(which == PRINTED || to.count == list->count, "another count in another room", of);
-        require(!fits || memcmp(to.out, bytes->bytes, bytes->length) == 0, "other bytes in another room", of);
+        require(!fits || memcmp(to.out, bytes->bytes, bytes->length) == 0,
+            "other bytes in another room", of);
         for (size_t at = 0; fits && which == COMPARATORS && at < list->count; at++) {
-            require(is_same_comparator(&to.comparators[at], &list->items[at]), "another comparator in another room", of);
+            require(is_same_comparator(&to.comparators[at], &list->items[at]),
+                "another comparator in another room", of);
         }
         free_rooms(&to);
     }
@@ -186,8 +206,8 @@ static bool is_tried(size_t room, size_t needed, size_t all) {
     return needed <= all || room <= 1 || room == needed / 2 || room + 1 >= needed;
 }
 
-/* Each room of comparators goes with each room of bytes that decides: none, one that is a byte too small, and one that fits; and each of bytes with a room of
- * comparators that fits. */
+/* Each room of comparators goes with each room of bytes that decides: none, one that is a byte too
+ * small, and one that fits; and each of bytes with a room of comparators that fits. */
 static void try_all_rooms(const text *of, int32_t reading, bool exact, const text *set,
                           const comparator_list *list) {
     const text *pre_releases = &list->pre_releases;
@@ -225,18 +245,25 @@ const char *operator_text(int32_t op) {
     }
 }
 
-/* The comparators, printed, are the set. Their pre-releases lie one behind the other, and there is nothing else beside them. */
+/* The comparators, printed, are the set. Their pre-releases lie one behind the other, and there is
+ * nothing else beside them. */
 static void require_printed(const text *of, const text *set, const comparator_list *list) {
     text printed = {NULL, 0, 0};
     size_t range = 0;
     size_t offset = 0;
     for (size_t at = 0; at < list->count; at++) {
         const semver_parser_comparator *one = &list->items[at];
-        require(one->range == range || (at > 0 && one->range == range + 1), "a range out of turn", of);
-        text_say(&printed, "%s%s%llu.%llu.%llu", at == 0 ? "" : one->range == range ? " " : " || ", operator_text(one->op), (unsigned long long)one->major,
-                 (unsigned long long)one->minor, (unsigned long long)one->patch);
+        require(
+            one->range == range || (at > 0 && one->range == range + 1), "a range out of turn", of);
+        text_say(&printed, "%s%s%llu.%llu.%llu",
+            at == 0               ? ""
+            : one->range == range ? " "
+                                  : " || ",
+            operator_text(one->op), (unsigned long long)one->major, (unsigned long long)one->minor,
+            (unsigned long long)one->patch);
         range = one->range;
-        require(one->pre.offset == offset && one->pre.length <= list->pre_releases.length - offset, "a pre-release in another place", of);
+        require(one->pre.offset == offset && one->pre.length <= list->pre_releases.length - offset,
+            "a pre-release in another place", of);
         if (one->pre.length > 0) {
             text_say(&printed, "-");
             text_add(&printed, list->pre_releases.bytes + one->pre.offset, one->pre.length);
@@ -244,7 +271,8 @@ static void require_printed(const text *of, const text *set, const comparator_li
         offset += one->pre.length;
     }
     require(offset == list->pre_releases.length, "bytes behind the pre-releases", of);
-    require(printed.length == set->length && memcmp(printed.bytes, set->bytes, set->length) == 0, "comparators of another set", of);
+    require(printed.length == set->length && memcmp(printed.bytes, set->bytes, set->length) == 0,
+        "comparators of another set", of);
     text_free(&printed);
 }
 
@@ -323,19 +351,24 @@ static int32_t meets_one(const text *range, int32_t reading, int32_t pre_release
     free(range_bytes);
     free(version_bytes);
     require(answer == SEMVER_PARSER_OK || met == before, "an answer at a fault", range);
-    return answer != SEMVER_PARSER_OK ? answer : met ? (int32_t)SEMVER_PARSER_MEETS : (int32_t)SEMVER_PARSER_DOES_NOT_MEET;
+    return answer != SEMVER_PARSER_OK ? answer
+           : met                      ? (int32_t)SEMVER_PARSER_MEETS
+                                      : (int32_t)SEMVER_PARSER_DOES_NOT_MEET;
 }
 
-/* Asks for many: the version, an empty text at null and one elsewhere, 1.2.3 without its dots, and the version again, of which the first `count` are passed. */
+/* Asks for many: the version, an empty text at null and one elsewhere, 1.2.3 without its dots, and
+ * the version again, of which the first `count` are passed. */
 static void require_each(const text *range, int32_t reading, int32_t pre_releases,
                          const text *version, int32_t wanted, size_t count) {
     uint8_t *range_bytes = alone(range);
     uint8_t *version_bytes = alone(version);
     uint8_t *versions_block = (uint8_t *)block(count * sizeof(semver_parser_text));
     semver_parser_text *versions = (semver_parser_text *)(void *)versions_block;
-    const semver_parser_text all[5] = {{version->length != 0 ? version_bytes : NULL, version->length}, {NULL, 0}, {range_bytes, 0},
-                                       {(const uint8_t *)"123", 3}, {version_bytes, version->length}};
-    const int32_t bytes[5] = {wanted, SEMVER_PARSER_UNEXPECTED_END, SEMVER_PARSER_UNEXPECTED_END, SEMVER_PARSER_UNEXPECTED_END, wanted};
+    const semver_parser_text all[5] = {
+        {version->length != 0 ? version_bytes : NULL, version->length}, {NULL, 0}, {range_bytes, 0},
+        {(const uint8_t *)"123", 3}, {version_bytes, version->length}};
+    const int32_t bytes[5] = {wanted, SEMVER_PARSER_UNEXPECTED_END, SEMVER_PARSER_UNEXPECTED_END,
+        SEMVER_PARSER_UNEXPECTED_END, wanted};
     memcpy(versions, all, count * sizeof *versions);
     uint8_t answers[6];
     memset(answers, FILL, sizeof answers);
@@ -343,12 +376,14 @@ static void require_each(const text *range, int32_t reading, int32_t pre_release
         semver_parser_meets_each(range_bytes, range->length, reading, pre_releases,
                                  count != 0 ? versions : NULL, count, count != 0 ? answers : NULL);
     bool read = wanted < 10;
-    require(answer == (read ? (int32_t)SEMVER_PARSER_OK : wanted), "another answer for many", range);
+    require(
+        answer == (read ? (int32_t)SEMVER_PARSER_OK : wanted), "another answer for many", range);
     for (size_t at = 0; read && at < count; at++) {
         require(answers[at] == bytes[at], "another byte", version);
     }
     size_t written = read ? count : 0;
-    require(is_filled(answers + written, FILL, sizeof answers - written), "a byte behind the answers, or at a fault", range);
+    require(is_filled(answers + written, FILL, sizeof answers - written),
+        "a byte behind the answers, or at a fault", range);
     free(range_bytes);
     free(version_bytes);
     free(versions_block);
@@ -372,7 +407,8 @@ int32_t meets(const text *range, int32_t reading, int32_t pre_releases, const te
 
 /* ---- the least version */
 
-/* Asks for it in a room of some length. What is behind what was written has to be as it was, and all of it at a fault. */
+/* Asks for it in a room of some length. What is behind what was written has to be as it was, and
+ * all of it at a fault. */
 static int32_t least_in(const text *range, int32_t reading, int32_t pre_releases, uint8_t *out,
                         size_t room, size_t *length, bool at_null) {
     uint8_t *range_bytes = alone(range);
@@ -383,8 +419,10 @@ static int32_t least_in(const text *range, int32_t reading, int32_t pre_releases
                             reading, pre_releases, at_null && room == 0 ? NULL : out, room, length);
     free(range_bytes);
     size_t written = answer == SEMVER_PARSER_OK ? *length : 0;
-    require(written <= room && is_filled(out + written, FILL, room + 1 - written), "a byte behind the version, or at a fault", range);
-    require(answer == SEMVER_PARSER_OK || answer == SEMVER_PARSER_NO_ROOM || *length == 777, "a length at a fault", range);
+    require(written <= room && is_filled(out + written, FILL, room + 1 - written),
+        "a byte behind the version, or at a fault", range);
+    require(answer == SEMVER_PARSER_OK || answer == SEMVER_PARSER_NO_ROOM || *length == 777,
+        "a length at a fault", range);
     return answer;
 }
 
@@ -403,8 +441,11 @@ int32_t least(const text *range, int32_t reading, int32_t pre_releases, text *pr
         int32_t answered =
             least_in(range, reading, pre_releases, out, room, &length, room % 2 == 0);
         bool fits = room >= bytes;
-        require(answered == (answer == SEMVER_PARSER_NO_ROOM && fits ? (int32_t)SEMVER_PARSER_OK : answer), "another answer in another room", range);
-        require(length == (bytes > 0 || answer == SEMVER_PARSER_OK ? bytes : 777), "another length in another room", range);
+        require(answered ==
+                    (answer == SEMVER_PARSER_NO_ROOM && fits ? (int32_t)SEMVER_PARSER_OK : answer),
+            "another answer in another room", range);
+        require(length == (bytes > 0 || answer == SEMVER_PARSER_OK ? bytes : 777),
+            "another length in another room", range);
         if (answered == SEMVER_PARSER_OK && room == bytes) {
             text_add(printed, (const char *)out, length);
         }
@@ -415,7 +456,8 @@ int32_t least(const text *range, int32_t reading, int32_t pre_releases, text *pr
 
 /* ---- two ranges */
 
-/* Compares in a room of some length. What is behind what was written has to be as it was, and all of it at a fault. */
+/* Compares in a room of some length. What is behind what was written has to be as it was, and all
+ * of it at a fault. */
 static int32_t compare_in(const text *old_range, const text *new_range, int32_t reading,
                           int32_t pre_releases, uint8_t *out, size_t room, size_t *length,
                           semver_parser_comparison *told, bool at_null) {
@@ -431,20 +473,24 @@ static int32_t compare_in(const text *old_range, const text *new_range, int32_t 
     free(old_bytes);
     free(new_bytes);
     size_t written = answer == SEMVER_PARSER_OK ? *length : 0;
-    require(written <= room && is_filled(out + written, FILL, room + 1 - written), "a byte behind the versions, or at a fault", old_range);
+    require(written <= room && is_filled(out + written, FILL, room + 1 - written),
+        "a byte behind the versions, or at a fault", old_range);
     bool is_told = answer == SEMVER_PARSER_OK || answer == SEMVER_PARSER_NO_ROOM;
-    require(is_told || (*length == 777 && is_filled(told, FILL, sizeof *told)), "a comparison at a fault", old_range);
+    require(is_told || (*length == 777 && is_filled(told, FILL, sizeof *told)),
+        "a comparison at a fault", old_range);
     return answer;
 }
 
-/* A part has to lie at the place, or nowhere where it is empty. What is behind it is the next place. */
+/* A part has to lie at the place, or nowhere where it is empty. What is behind it is the next
+ * place. */
 static size_t place_behind(semver_parser_part part, size_t place, const text *of) {
     require(part.offset == (part.length == 0 ? 0 : place), "a version in another place", of);
     return place + part.length;
 }
 
 static void require_places(const semver_parser_comparison *told, size_t length, const text *of) {
-    size_t end = place_behind(told->shared, place_behind(told->gained, place_behind(told->lost, 0, of), of), of);
+    size_t end = place_behind(
+        told->shared, place_behind(told->gained, place_behind(told->lost, 0, of), of), of);
     require(end == length, "another length than that of the three versions", of);
 }
 
@@ -457,8 +503,10 @@ static bool is_same_part(semver_parser_part one, semver_parser_part other) {
     return one.offset == other.offset && one.length == other.length;
 }
 
-static bool is_same_comparison(const semver_parser_comparison *one, const semver_parser_comparison *other) {
-    return is_same_part(one->lost, other->lost) && is_same_part(one->gained, other->gained) && is_same_part(one->shared, other->shared);
+static bool is_same_comparison(
+    const semver_parser_comparison *one, const semver_parser_comparison *other) {
+    return is_same_part(one->lost, other->lost) && is_same_part(one->gained, other->gained) &&
+           is_same_part(one->shared, other->shared);
 }
 
 /* A fault, which has to come in each room. */
@@ -496,8 +544,11 @@ int32_t compare(const text *old_range, const text *new_range, int32_t reading, i
         semver_parser_comparison here;
         int32_t answered = compare_in(old_range, new_range, reading, pre_releases, out, room,
                                       &length, &here, room % 2 == 0);
-        require(answered == (room >= bytes ? (int32_t)SEMVER_PARSER_OK : (int32_t)SEMVER_PARSER_NO_ROOM), "another answer in another room", old_range);
-        require(length == bytes && is_same_comparison(&here, &wanted), "another comparison in another room", old_range);
+        require(answered ==
+                    (room >= bytes ? (int32_t)SEMVER_PARSER_OK : (int32_t)SEMVER_PARSER_NO_ROOM),
+            "another answer in another room", old_range);
+        require(length == bytes && is_same_comparison(&here, &wanted),
+            "another comparison in another room", old_range);
         if (room == bytes) {
             add_part(&told->lost, out, here.lost);
             add_part(&told->gained, out, here.gained);

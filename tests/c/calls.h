@@ -1,5 +1,6 @@
-/* The calls of the library, made with care: each text and each room is a block of its own with nothing behind it that may be read, each room has a guard
- * byte behind it, and what a call has to leave as it was is looked at. What isn't as the header says ends the program. */
+/* The calls of the library, made with care: each text and each room is a block of its own with
+ * nothing behind it that may be read, each room has a guard byte behind it, and what a call has to
+ * leave as it was is looked at. What isn't as the header says ends the program. */
 #ifndef CALLS_H
 #define CALLS_H
 
@@ -9,8 +10,8 @@
 /* Reads a version. An empty text is read at null too. */
 int32_t read_version(const text *of, semver_parser_version *out);
 
-/* How a version text compares with another: OK with -1, 0 or 1 in `order`, or the fault with whether it is the other's in `in_other`. An empty text is passed at
- * null too. */
+/* How a version text compares with another: OK with -1, 0 or 1 in `order`, or the fault with
+ * whether it is the other's in `in_other`. An empty text is passed at null too. */
 int32_t precedence(const text *version, const text *other, int32_t *order, bool *in_other);
 
 /* Comparators in order, and the bytes that have their pre-releases. */
@@ -20,8 +21,10 @@ typedef struct {
     text pre_releases;
 } comparator_list;
 
-/* Rewrites a range, appends the printed set, and gives its comparators unless `comparators` is null. It tries a room of each length up to one past what is
- * needed (of a set above 300 bytes or 12 comparators, of some lengths), by both calls, and at null where a room or the text is empty. */
+/* Rewrites a range, appends the printed set, and gives its comparators unless `comparators` is
+ * null. It tries a room of each length up to one past what is needed (of a set above 300 bytes or
+ * 12 comparators, of some lengths), by both calls, and at null where a room or the text is empty.
+ */
 int32_t rewrite(const text *of, int32_t reading, bool exact, text *printed,
                 comparator_list *comparators);
 void free_comparators(comparator_list *comparators);
@@ -29,22 +32,26 @@ void free_comparators(comparator_list *comparators);
 /* The operator of a comparator, as it is printed. */
 const char *operator_text(int32_t op);
 
-/* Whether a version text meets a range text: SEMVER_PARSER_MEETS or _DOES_NOT_MEET, or the fault. It asks for one and for many, which have to agree. */
+/* Whether a version text meets a range text: SEMVER_PARSER_MEETS or _DOES_NOT_MEET, or the fault.
+ * It asks for one and for many, which have to agree. */
 int32_t meets(const text *range, int32_t reading, int32_t pre_releases, const text *version);
 
-/* The least version that a range text means: it is appended to `printed`, or the fault is answered. It tries a room of each length up to one past what is
- * needed (of a version above 300 bytes, of some lengths), and at null where the room or the text is empty. */
+/* The least version that a range text means: it is appended to `printed`, or the fault is answered.
+ * It tries a room of each length up to one past what is needed (of a version above 300 bytes, of
+ * some lengths), and at null where the room or the text is empty. */
 int32_t least(const text *range, int32_t reading, int32_t pre_releases, text *printed);
 
-/* What an old range text and a new one mean alone and together: the text of each of the three versions, empty where there is none. */
+/* What an old range text and a new one mean alone and together: the text of each of the three
+ * versions, empty where there is none. */
 typedef struct {
     text lost;
     text gained;
     text shared;
 } compared;
 
-/* Compares two range texts, or answers the fault and leaves `told` alone. It tries a room of each length up to one past what is needed (of more than 300
- * bytes, of some lengths), and at null where the room or a text is empty. The parts have to lie one behind the other. */
+/* Compares two range texts, or answers the fault and leaves `told` alone. It tries a room of each
+ * length up to one past what is needed (of more than 300 bytes, of some lengths), and at null where
+ * the room or a text is empty. The parts have to lie one behind the other. */
 int32_t compare(const text *old_range, const text *new_range, int32_t reading, int32_t pre_releases,
                 compared *told);
 void free_compared(compared *told);

@@ -1,4 +1,5 @@
-/* Rewrites a range by the installed library, and prints it: for tests/installed-programs and tests/packages. */
+/* Rewrites a range by the installed library, and prints it: for tests/installed-programs and
+ * tests/packages. */
 #include <semver_parser.h>
 #include <stdio.h>
 

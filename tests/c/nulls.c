@@ -1,6 +1,7 @@
-/* A null pointer with a length above 0, in each place where an empty text or an empty room may be at null: it is passed on as it is, so the call ends by a
- * fault at null, and no variable of the program changes. Each call is made in a child. And an array of texts that is larger than any block, the first text of
- * which is at null: that is want of memory. */
+/* A null pointer with a length above 0, in each place where an empty text or an empty room may be
+ * at null: it is passed on as it is, so the call ends by a fault at null, and no variable of the
+ * program changes. Each call is made in a child. And an array of texts that is larger than any
+ * block, the first text of which is at null: that is want of memory. */
 #define _POSIX_C_SOURCE 200809L
 #include "../../crates/semver_parser_c/include/semver_parser.h"
 
@@ -128,7 +129,8 @@ static int32_t compare_out(void) {
     return compare_texts(bytes_of("^1.2"), bytes_of("^1.3"), false);
 }
 
-static int32_t each_of(const uint8_t *range, const semver_parser_text *versions, size_t count, uint8_t *answers) {
+static int32_t each_of(
+    const uint8_t *range, const semver_parser_text *versions, size_t count, uint8_t *answers) {
     return semver_parser_meets_each(range, 4, reading, SEMVER_PARSER_RELEASES_ALONE, versions,
                                     count, answers);
 }
@@ -217,7 +219,8 @@ static void ends_at_null(int32_t (*call)(void), const char *what) {
     if (child == 0) {
         call_as_child(call);
     }
-    check(child > 0 && waitpid(child, &status, 0) == child && WIFEXITED(status), "no child that ends", what);
+    check(child > 0 && waitpid(child, &status, 0) == child && WIFEXITED(status),
+        "no child that ends", what);
     int code = WEXITSTATUS(status);
     check(code != RETURNED, "null with a length is taken for an empty one", what);
     check(code != FAULT_ELSEWHERE, "a fault elsewhere than at null", what);

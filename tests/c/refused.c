@@ -1,5 +1,6 @@
-/* Refuses each request of a call for memory in turn, by a heap of its own in place of c/heap.c. The call has to answer that memory ran out, to leave what it
- * was given to write to as it was, and to give back all that it took. With no request refused it has to give back all as well. */
+/* Refuses each request of a call for memory in turn, by a heap of its own in place of c/heap.c. The
+ * call has to answer that memory ran out, to leave what it was given to write to as it was, and to
+ * give back all that it took. With no request refused it has to give back all as well. */
 #include "calls.h"
 
 #include "../../crates/semver_parser_c/c/heap.h"
@@ -71,23 +72,28 @@ static void version_takes(const char *bytes, int requests, int32_t wanted) {
         grant(request);
         int32_t answered = read_version(&of, &read);
         check(refused == (request < requests), "another number of requests", bytes, request);
-        check(answered == (refused ? SEMVER_PARSER_VERSION_OUT_OF_MEMORY : wanted), "another answer", bytes, request);
+        check(answered == (refused ? SEMVER_PARSER_VERSION_OUT_OF_MEMORY : wanted),
+            "another answer", bytes, request);
         check(taken == 0, "memory is kept", bytes, request);
     }
     text_free(&of);
 }
 
 /* Two versions whose order takes this many requests, all for the other one. */
-static void order_takes(const char *bytes, const char *other, int requests, int32_t wanted, bool is_other) {
+static void order_takes(
+    const char *bytes, const char *other, int requests, int32_t wanted, bool is_other) {
     for (int request = 0; request <= requests; request++) {
         int32_t order = 777;
         bool in_other = !is_other;
         grant(request);
-        int32_t answered = semver_parser_precedence((const uint8_t *)bytes, strlen(bytes), (const uint8_t *)other, strlen(other), &order, &in_other);
+        int32_t answered = semver_parser_precedence((const uint8_t *)bytes, strlen(bytes),
+            (const uint8_t *)other, strlen(other), &order, &in_other);
         check(refused == (request < requests), "another number of requests", other, request);
-        check(answered == (refused ? (int32_t)SEMVER_PARSER_VERSION_OUT_OF_MEMORY : wanted), "another answer of an order", other, request);
+        check(answered == (refused ? (int32_t)SEMVER_PARSER_VERSION_OUT_OF_MEMORY : wanted),
+            "another answer of an order", other, request);
         check((order == 777) == (answered != SEMVER_PARSER_OK), "another order", other, request);
-        check(in_other == (answered == SEMVER_PARSER_OK ? !is_other : is_other), "another text at fault", other, request);
+        check(in_other == (answered == SEMVER_PARSER_OK ? !is_other : is_other),
+            "another text at fault", other, request);
         check(taken == 0, "memory is kept", other, request);
     }
 }
@@ -100,7 +106,8 @@ static int32_t widest_rule(void) {
     return is_of_tool ? SEMVER_PARSER_PRE_RELEASES_OF_TOOL : SEMVER_PARSER_ALL_PRE_RELEASES;
 }
 
-/* A range whose rewriting takes requests, or takes none, by the call that prints, or by that of comparators. */
+/* A range whose rewriting takes requests, or takes none, by the call that prints, or by that of
+ * comparators. */
 static void range_takes(const char *bytes, bool exact, bool tells, bool some, int32_t wanted) {
     int request = 0;
     do {
@@ -118,18 +125,23 @@ static void range_takes(const char *bytes, bool exact, bool tells, bool some, in
                                               &count, out, sizeof out, &length)
                   : semver_parser_rewrite(from, strlen(bytes), reading, exact, out, sizeof out,
                                           &length);
-        check(answered == (refused ? (int32_t)SEMVER_PARSER_RANGE_OUT_OF_MEMORY : wanted), "another answer", bytes, request);
-        bool is_kept = length == 777 && count == 777 && out[0] == 'x' && memcmp(out, out + 1, sizeof out - 1) == 0 && put[0] == 'x'
-            && memcmp(put, put + 1, sizeof comparators - 1) == 0;
-        check(answered == SEMVER_PARSER_OK || answered == SEMVER_PARSER_NO_ROOM || is_kept, "something changed", bytes, request);
+        check(answered == (refused ? (int32_t)SEMVER_PARSER_RANGE_OUT_OF_MEMORY : wanted),
+            "another answer", bytes, request);
+        bool is_kept = length == 777 && count == 777 && out[0] == 'x' &&
+                       memcmp(out, out + 1, sizeof out - 1) == 0 && put[0] == 'x' &&
+                       memcmp(put, put + 1, sizeof comparators - 1) == 0;
+        check(answered == SEMVER_PARSER_OK || answered == SEMVER_PARSER_NO_ROOM || is_kept,
+            "something changed", bytes, request);
         check(taken == 0, "memory is kept", bytes, request);
         request++;
     } while (refused && request < 100);
     check(!refused && (request > 1) == some, "another number of requests", bytes, request);
 }
 
-/* A range that takes requests or takes none, and a version that takes so many: those of the range come first. */
-static void both_take(const char *range, bool some, const char *version, int version_requests, int32_t wanted, bool meets) {
+/* A range that takes requests or takes none, and a version that takes so many: those of the range
+ * come first. */
+static void both_take(const char *range, bool some, const char *version, int version_requests,
+    int32_t wanted, bool meets) {
     int request = 0;
     int of_range = 0;
     int of_version = 0;
@@ -141,14 +153,17 @@ static void both_take(const char *range, bool some, const char *version, int ver
                                 (const uint8_t *)version, strlen(version), &met);
         bool is_range = answered == SEMVER_PARSER_RANGE_OUT_OF_MEMORY;
         bool is_version = answered == SEMVER_PARSER_VERSION_OUT_OF_MEMORY;
-        check(refused ? (is_range && of_version == 0) || is_version : answered == wanted, "another answer", range, request);
-        check(met == (answered == SEMVER_PARSER_OK ? meets : !meets), "another meeting", range, request);
+        check(refused ? (is_range && of_version == 0) || is_version : answered == wanted,
+            "another answer", range, request);
+        check(met == (answered == SEMVER_PARSER_OK ? meets : !meets), "another meeting", range,
+            request);
         check(taken == 0, "memory is kept", range, request);
         of_range += is_range;
         of_version += is_version;
         request++;
     } while (refused && request < 100);
-    check(!refused && (of_range > 0) == some && of_version == version_requests, "another number of requests", range, request);
+    check(!refused && (of_range > 0) == some && of_version == version_requests,
+        "another number of requests", range, request);
 }
 
 /* A range whose least version takes requests, or takes none. */
@@ -161,17 +176,23 @@ static void least_takes(const char *range, bool some, int32_t wanted, size_t byt
         grant(request);
         int32_t answered = semver_parser_least((const uint8_t *)range, strlen(range), reading,
                                                widest_rule(), out, sizeof out, &length);
-        check(answered == (refused ? (int32_t)SEMVER_PARSER_RANGE_OUT_OF_MEMORY : wanted), "another answer of the least", range, request);
-        check(length == (answered == SEMVER_PARSER_OK ? bytes : 777), "another length of the least", range, request);
-        check(answered == SEMVER_PARSER_OK || (out[0] == 'x' && memcmp(out, out + 1, sizeof out - 1) == 0), "a byte at a fault", range, request);
+        check(answered == (refused ? (int32_t)SEMVER_PARSER_RANGE_OUT_OF_MEMORY : wanted),
+            "another answer of the least", range, request);
+        check(length == (answered == SEMVER_PARSER_OK ? bytes : 777), "another length of the least",
+            range, request);
+        check(answered == SEMVER_PARSER_OK ||
+                  (out[0] == 'x' && memcmp(out, out + 1, sizeof out - 1) == 0),
+            "a byte at a fault", range, request);
         check(taken == 0, "memory is kept", range, request);
         request++;
     } while (refused && request < 100);
     check(!refused && (request > 1) == some, "another number of requests", range, request);
 }
 
-/* Two ranges whose comparison takes requests, or takes none: those of the old range come first, and what is asked for later is told of the new one. */
-static void comparison_takes(const char *old_range, const char *new_range, bool of_old, bool of_new, int32_t wanted, size_t bytes) {
+/* Two ranges whose comparison takes requests, or takes none: those of the old range come first, and
+ * what is asked for later is told of the new one. */
+static void comparison_takes(const char *old_range, const char *new_range, bool of_old, bool of_new,
+    int32_t wanted, size_t bytes) {
     int request = 0;
     int by_old = 0;
     int by_new = 0;
@@ -188,33 +209,45 @@ static void comparison_takes(const char *old_range, const char *new_range, bool 
             strlen(new_range), reading, widest_rule(), out, sizeof out, &length, &told);
         bool is_old = answered == SEMVER_PARSER_RANGE_OUT_OF_MEMORY;
         bool is_new = answered == SEMVER_PARSER_NEW_RANGE_OUT_OF_MEMORY;
-        check(refused ? (is_old && by_new == 0) || is_new : answered == wanted, "another answer of a comparison", old_range, request);
-        check(length == (answered == SEMVER_PARSER_OK ? bytes : 777), "another length of a comparison", old_range, request);
-        bool is_kept = out[0] == 'x' && memcmp(out, out + 1, sizeof out - 1) == 0 && put[0] == 'x' && memcmp(put, put + 1, sizeof told - 1) == 0;
-        check(answered == SEMVER_PARSER_OK || is_kept, "something changed at a fault", old_range, request);
+        check(refused ? (is_old && by_new == 0) || is_new : answered == wanted,
+            "another answer of a comparison", old_range, request);
+        check(length == (answered == SEMVER_PARSER_OK ? bytes : 777),
+            "another length of a comparison", old_range, request);
+        bool is_kept = out[0] == 'x' && memcmp(out, out + 1, sizeof out - 1) == 0 &&
+                       put[0] == 'x' && memcmp(put, put + 1, sizeof told - 1) == 0;
+        check(answered == SEMVER_PARSER_OK || is_kept, "something changed at a fault", old_range,
+            request);
         check(taken == 0, "memory is kept", old_range, request);
         by_old += is_old;
         by_new += is_new;
         request++;
     } while (refused && request < 200);
-    check(!refused && (by_old > 0) == of_old && (by_new > 0) == of_new, "another number of requests", old_range, request);
+    check(!refused && (by_old > 0) == of_old && (by_new > 0) == of_new,
+        "another number of requests", old_range, request);
 }
 
-/* Many texts, of which the second takes requests to tell its fault, and one is at null where that is asked for: the texts are copied then, before the range is read. */
+/* Many texts, of which the second takes requests to tell its fault, and one is at null where that
+ * is asked for: the texts are copied then, before the range is read. */
 static void many_take(const char *range, bool at_null, int32_t wanted) {
-    const semver_parser_text versions[] = {{(const uint8_t *)"1.2.3", 5}, {(const uint8_t *)"1.2.3-rc.1/", 11}, {at_null ? NULL : (const uint8_t *)"", 0},
-                                           {(const uint8_t *)"1.2.4", 5}};
+    const semver_parser_text versions[] = {{(const uint8_t *)"1.2.3", 5},
+        {(const uint8_t *)"1.2.3-rc.1/", 11}, {at_null ? NULL : (const uint8_t *)"", 0},
+        {(const uint8_t *)"1.2.4", 5}};
     int request = 0;
     do {
         uint8_t answers[4] = {'x', 'x', 'x', 'x'};
         grant(request);
         int32_t answered = semver_parser_meets_each((const uint8_t *)range, strlen(range), reading,
                                                     widest_rule(), versions, 4, answers);
-        check(answered == wanted || (refused && answered == SEMVER_PARSER_RANGE_OUT_OF_MEMORY), "another answer of many", range, request);
+        check(answered == wanted || (refused && answered == SEMVER_PARSER_RANGE_OUT_OF_MEMORY),
+            "another answer of many", range, request);
         if (answered == SEMVER_PARSER_OK) {
-            check(answers[0] == SEMVER_PARSER_MEETS && answers[2] == SEMVER_PARSER_UNEXPECTED_END, "another version's answer", range, request);
-            check(answers[1] == (refused ? (int)SEMVER_PARSER_VERSION_OUT_OF_MEMORY : (int)SEMVER_PARSER_UNEXPECTED_CHAR), "the answer of a refusal", range, request);
-            check(answers[3] == SEMVER_PARSER_DOES_NOT_MEET, "the answer behind a refusal", range, request);
+            check(answers[0] == SEMVER_PARSER_MEETS && answers[2] == SEMVER_PARSER_UNEXPECTED_END,
+                "another version's answer", range, request);
+            check(answers[1] == (refused ? (int)SEMVER_PARSER_VERSION_OUT_OF_MEMORY
+                                         : (int)SEMVER_PARSER_UNEXPECTED_CHAR),
+                "the answer of a refusal", range, request);
+            check(answers[3] == SEMVER_PARSER_DOES_NOT_MEET, "the answer behind a refusal", range,
+                request);
         } else {
             check(memcmp(answers, "xxxx", 4) == 0, "an answer at a fault", range, request);
         }
@@ -265,7 +298,8 @@ static void takes_by_reading(void) {
     comparison_takes("^1", "^", true, false, SEMVER_PARSER_NEW_NOT_A_RANGE, 0);
     comparison_takes("<=18446744073709551615", "*", false, false, SEMVER_PARSER_NUMBER_TOO_LARGE,
                      0);
-    comparison_takes("^1", "<=18446744073709551615", true, false, SEMVER_PARSER_NEW_NUMBER_TOO_LARGE, 0);
+    comparison_takes(
+        "^1", "<=18446744073709551615", true, false, SEMVER_PARSER_NEW_NUMBER_TOO_LARGE, 0);
     for (int at_null = 0; at_null < 2; at_null++) {
         many_take("=1.2.3", at_null != 0, SEMVER_PARSER_OK);
         many_take("^", at_null != 0, SEMVER_PARSER_NOT_A_RANGE);

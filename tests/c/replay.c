@@ -3,8 +3,9 @@
  * of a call that C has is answered by the library's calls, written as the table writes it, and
  * compared with what the table expects. Ends with status 1 where a row differs.
  *
- * Rows of other calls (tokens, steps of a parser, joined identifiers, sentences of errors) are passed over, and so are the tokens that the table has behind
- * a fault's name, which C isn't told. */
+ * Rows of other calls (tokens, steps of a parser, joined identifiers, sentences of errors) are
+ * passed over, and so are the tokens that the table has behind a fault's name, which C isn't told.
+ */
 #include "calls.h"
 
 #include <inttypes.h>
@@ -39,7 +40,8 @@ enum { BY_NAME, BY_SENTENCE, BY_WORD };
 
 static const char *range_fault(int32_t answer, int how) {
     static const char *const not_a_range[] = {"NotARange", "not a range", "not-a-range"};
-    static const char *const number_too_large[] = {"NumberTooLarge", "number too large", "number-too-large"};
+    static const char *const number_too_large[] = {
+        "NumberTooLarge", "number too large", "number-too-large"};
     switch (answer) {
     case SEMVER_PARSER_NOT_A_RANGE: return not_a_range[how];
     case SEMVER_PARSER_NUMBER_TOO_LARGE: return number_too_large[how];
@@ -84,7 +86,8 @@ static void say_version(text *to, const text *of) {
         text_say(to, "%s", version_fault(answer));
         return;
     }
-    text_say(to, "%" PRIu64 " %" PRIu64 " %" PRIu64 " pre[", version.major, version.minor, version.patch);
+    text_say(to, "%" PRIu64 " %" PRIu64 " %" PRIu64 " pre[", version.major, version.minor,
+        version.patch);
     say_identifiers(to, of->bytes + version.pre.offset, version.pre.length);
     text_say(to, "] build[");
     say_identifiers(to, of->bytes + version.build.offset, version.build.length);
@@ -122,8 +125,9 @@ static void say_set(text *to, const text *of, int32_t reading) {
     text_say(to, reading == SEMVER_PARSER_CRATE_NPM ? "Npm" : "Cargo");
     for (size_t at = 0; at < list.count; at++) {
         const semver_parser_comparator *one = &list.items[at];
-        text_say(to, "%s %s%" PRIu64 ".%" PRIu64 ".%" PRIu64 "[", at > 0 && one->range != list.items[at - 1].range ? " ||" : "", operator_text(one->op),
-                 one->major, one->minor, one->patch);
+        text_say(to, "%s %s%" PRIu64 ".%" PRIu64 ".%" PRIu64 "[",
+            at > 0 && one->range != list.items[at - 1].range ? " ||" : "", operator_text(one->op),
+            one->major, one->minor, one->patch);
         say_identifiers(to, list.pre_releases.bytes + one->pre.offset, one->pre.length);
         text_say(to, "]");
     }
@@ -232,16 +236,19 @@ static bool say_answer(text *to, const char *call, const text *of, const text *s
     return true;
 }
 
-/* Whether an answer is what the table expects. Of a fault whose name has tokens or a character behind it, the name decides. */
+/* Whether an answer is what the table expects. Of a fault whose name has tokens or a character
+ * behind it, the name decides. */
 static bool is_expected(const text *answer, const char *expected, size_t length) {
     bool is_front = answer->length > 0 && answer->bytes[answer->length - 1] == '(';
-    return (is_front ? answer->length <= length : answer->length == length) && memcmp(answer->bytes, expected, answer->length) == 0;
+    return (is_front ? answer->length <= length : answer->length == length) &&
+           memcmp(answer->bytes, expected, answer->length) == 0;
 }
 
 enum outcome { PASSED, FAILED, PASSED_OVER };
 
 /* Replays the row of a call, a text and steps. */
-static enum outcome replay(const char *call, const text *of, const text *steps, const char *expected, size_t length) {
+static enum outcome replay(
+    const char *call, const text *of, const text *steps, const char *expected, size_t length) {
     static const char sum[] = "sum-of-";
     bool is_sum = strncmp(call, sum, strlen(sum)) == 0;
     text answer = {NULL, 0, 0};
@@ -257,7 +264,8 @@ static enum outcome replay(const char *call, const text *of, const text *steps, 
         }
         outcome = is_expected(is_sum ? &shown : &answer, expected, length) ? PASSED : FAILED;
         if (outcome == FAILED) {
-            printf("%s %.200s\n  expected %.*s\n  answered %.400s\n", call, of->bytes, (int)(length < 400 ? length : 400), expected, is_sum ? shown.bytes : answer.bytes);
+            printf("%s %.200s\n  expected %.*s\n  answered %.400s\n", call, of->bytes,
+                (int)(length < 400 ? length : 400), expected, is_sum ? shown.bytes : answer.bytes);
         }
         text_free(&shown);
     }
@@ -281,7 +289,9 @@ static enum outcome replay_line(char *line, const char *expected) {
     text steps = {NULL, 0, 0};
     enum outcome outcome = FAILED;
     const char *answer = expected + strlen(line) + 2;
-    if (strncmp(expected, line, strlen(line)) != 0 || !text_expand(&of, fields[2], strlen(fields[2])) || !text_expand(&steps, fields[3], strlen(fields[3]))) {
+    if (strncmp(expected, line, strlen(line)) != 0 ||
+        !text_expand(&of, fields[2], strlen(fields[2])) ||
+        !text_expand(&steps, fields[3], strlen(fields[3]))) {
         printf("not a row: %s\n", line);
     } else {
         outcome = replay(fields[1], &of, &steps, answer, strlen(answer));
@@ -319,7 +329,8 @@ int main(int count, char **arguments) {
         totals[replay_line(line, next_line(&answer))]++;
     }
     bool is_whole = *row == 0 && *answer == 0;
-    printf("rows: %d passed, %d failed, %d passed over\n", totals[PASSED], totals[FAILED], totals[PASSED_OVER]);
+    printf("rows: %d passed, %d failed, %d passed over\n", totals[PASSED], totals[FAILED],
+        totals[PASSED_OVER]);
     text_free(&rows);
     text_free(&answers);
     return is_whole && totals[FAILED] == 0 && totals[PASSED] > 4500 ? 0 : 1;

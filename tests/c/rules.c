@@ -1,5 +1,6 @@
-/* What the calls for C say beyond the table: places of the parts, bytes that are no UTF-8, exact bounds, the own meaning of a range, which fault goes first,
- * and all of that of long texts too. What is wanted follows from docs/GRAMMAR.md and docs/MEANING.md. */
+/* What the calls for C say beyond the table: places of the parts, bytes that are no UTF-8, exact
+ * bounds, the own meaning of a range, which fault goes first, and all of that of long texts too.
+ * What is wanted follows from docs/GRAMMAR.md and docs/MEANING.md. */
 #include "calls.h"
 
 #include <stdio.h>
@@ -59,13 +60,16 @@ static semver_parser_part part(size_t offset, size_t length) {
     return made;
 }
 
-static void version_is(const char *bytes, uint64_t major, uint64_t minor, uint64_t patch, semver_parser_part pre, semver_parser_part build) {
+static void version_is(const char *bytes, uint64_t major, uint64_t minor, uint64_t patch,
+    semver_parser_part pre, semver_parser_part build) {
     text of = string(bytes);
     semver_parser_version read;
     check(read_version(&of, &read) == SEMVER_PARSER_OK, "not read", &of);
     check(read.major == major && read.minor == minor && read.patch == patch, "other numbers", &of);
-    check(read.pre.offset == pre.offset && read.pre.length == pre.length, "another pre-release", &of);
-    check(read.build.offset == build.offset && read.build.length == build.length, "another build", &of);
+    check(
+        read.pre.offset == pre.offset && read.pre.length == pre.length, "another pre-release", &of);
+    check(read.build.offset == build.offset && read.build.length == build.length, "another build",
+        &of);
     text_free(&of);
 }
 
@@ -76,7 +80,8 @@ static void version_fault_is(const char *bytes, size_t length, int32_t fault) {
     text_free(&of);
 }
 
-/* Versions with a long identifier, many identifiers, and long white space, and faults behind a long pre-release. */
+/* Versions with a long identifier, many identifiers, and long white space, and faults behind a long
+ * pre-release. */
 static void long_versions(void) {
     const semver_parser_part none = {0, 0};
     text identifier = long_text("1.2.3-", "a", "");
@@ -93,8 +98,9 @@ static void long_versions(void) {
     static const struct {
         const char *end;
         int32_t fault;
-    } faults[] = {{".", SEMVER_PARSER_UNEXPECTED_END}, {"--1", SEMVER_PARSER_UNEXPECTED_TOKEN}, {"/", SEMVER_PARSER_UNEXPECTED_CHAR},
-                  {" b", SEMVER_PARSER_MORE_INPUT}, {"\xFF", SEMVER_PARSER_VERSION_NOT_UTF8}};
+    } faults[] = {{".", SEMVER_PARSER_UNEXPECTED_END}, {"--1", SEMVER_PARSER_UNEXPECTED_TOKEN},
+        {"/", SEMVER_PARSER_UNEXPECTED_CHAR}, {" b", SEMVER_PARSER_MORE_INPUT},
+        {"\xFF", SEMVER_PARSER_VERSION_NOT_UTF8}};
     for (size_t at = 0; at < sizeof faults / sizeof *faults; at++) {
         text faulty = long_text("1.2.3-", "a", faults[at].end);
         version_fault_is(faulty.bytes, faulty.length, faults[at].fault);
@@ -110,7 +116,8 @@ static void versions(void) {
     const semver_parser_part none = {0, 0};
     version_is("1.2.3", 1, 2, 3, none, none);
     version_is("0.0.0", 0, 0, 0, none, none);
-    version_is("18446744073709551615.0.18446744073709551614", UINT64_MAX, 0, UINT64_MAX - 1, none, none);
+    version_is(
+        "18446744073709551615.0.18446744073709551614", UINT64_MAX, 0, UINT64_MAX - 1, none, none);
     version_is("1.2.3-rc.1+b5", 1, 2, 3, part(6, 4), part(11, 2));
     version_is("1.2.3-rc", 1, 2, 3, part(6, 2), none);
     version_is("1.2.3+b", 1, 2, 3, none, part(6, 1));
@@ -144,19 +151,23 @@ static void order_is(const char *bytes, const char *other_bytes, int32_t wanted)
     text other = string(other_bytes);
     int32_t order;
     bool in_other;
-    check(precedence(&version, &other, &order, &in_other) == SEMVER_PARSER_OK && order == wanted, "another order", &version);
-    check(precedence(&other, &version, &order, &in_other) == SEMVER_PARSER_OK && order == -wanted, "another order the other way round", &version);
+    check(precedence(&version, &other, &order, &in_other) == SEMVER_PARSER_OK && order == wanted,
+        "another order", &version);
+    check(precedence(&other, &version, &order, &in_other) == SEMVER_PARSER_OK && order == -wanted,
+        "another order the other way round", &version);
     text_free(&version);
     text_free(&other);
 }
 
-/* Each is above those in front of it, by the examples of the standard's section 11, and as its rules go on: numbers as numbers, texts by ASCII, a number below
- * any text, and more identifiers above fewer. */
+/* Each is above those in front of it, by the examples of the standard's section 11, and as its
+ * rules go on: numbers as numbers, texts by ASCII, a number below any text, and more identifiers
+ * above fewer. */
 static void versions_in_order(void) {
-    static const char *const ordered[] = {"0.0.0-0", "0.0.0", "0.0.1", "1.0.0-0", "1.0.0-2", "1.0.0-10", "1.0.0-18446744073709551615",
-                                          "1.0.0-01", "1.0.0-18446744073709551616", "1.0.0-A", "1.0.0-alpha", "1.0.0-alpha.1", "1.0.0-alpha.beta", "1.0.0-beta",
-                                          "1.0.0-beta.2", "1.0.0-beta.11", "1.0.0-rc.1", "1.0.0", "1.0.10", "1.2.0", "1.10.0", "2.0.0", "2.1.0", "2.1.1",
-                                          "18446744073709551615.0.0"};
+    static const char *const ordered[] = {"0.0.0-0", "0.0.0", "0.0.1", "1.0.0-0", "1.0.0-2",
+        "1.0.0-10", "1.0.0-18446744073709551615", "1.0.0-01", "1.0.0-18446744073709551616",
+        "1.0.0-A", "1.0.0-alpha", "1.0.0-alpha.1", "1.0.0-alpha.beta", "1.0.0-beta", "1.0.0-beta.2",
+        "1.0.0-beta.11", "1.0.0-rc.1", "1.0.0", "1.0.10", "1.2.0", "1.10.0", "2.0.0", "2.1.0",
+        "2.1.1", "18446744073709551615.0.0"};
     enum { COUNT = sizeof ordered / sizeof *ordered };
     for (int at = 0; at < COUNT; at++) {
         for (int behind = at; behind < COUNT; behind++) {
@@ -174,17 +185,23 @@ static void versions_in_order(void) {
     text_free(&with_b);
 }
 
-/* A fault of one of two texts, where the other is a version; and of both, where the first one's is told. */
+/* A fault of one of two texts, where the other is a version; and of both, where the first one's is
+ * told. */
 static void order_fault_is(const char *bytes, size_t length, int32_t fault) {
     text faulty = bytes_of(bytes, length);
     text version = string("1.2.3-rc.1+b");
     text empty = string("");
     int32_t order;
     bool in_other;
-    check(precedence(&faulty, &version, &order, &in_other) == fault && !in_other, "another fault of a version", &faulty);
-    check(precedence(&version, &faulty, &order, &in_other) == fault && in_other, "another fault of the other version", &faulty);
-    check(precedence(&faulty, &empty, &order, &in_other) == fault && !in_other, "another fault of both", &faulty);
-    check(precedence(&empty, &faulty, &order, &in_other) == SEMVER_PARSER_UNEXPECTED_END && !in_other, "another fault of an empty text", &faulty);
+    check(precedence(&faulty, &version, &order, &in_other) == fault && !in_other,
+        "another fault of a version", &faulty);
+    check(precedence(&version, &faulty, &order, &in_other) == fault && in_other,
+        "another fault of the other version", &faulty);
+    check(precedence(&faulty, &empty, &order, &in_other) == fault && !in_other,
+        "another fault of both", &faulty);
+    check(
+        precedence(&empty, &faulty, &order, &in_other) == SEMVER_PARSER_UNEXPECTED_END && !in_other,
+        "another fault of an empty text", &faulty);
     text_free(&faulty);
     text_free(&version);
     text_free(&empty);
@@ -257,7 +274,9 @@ static void long_ranges(void) {
     static const struct {
         const char *end;
         int32_t fault;
-    } faults[] = {{"v1.2.3", SEMVER_PARSER_NOT_A_RANGE}, {"<=18446744073709551615", SEMVER_PARSER_NUMBER_TOO_LARGE}, {"\xFF", SEMVER_PARSER_RANGE_NOT_UTF8}};
+    } faults[] = {{"v1.2.3", SEMVER_PARSER_NOT_A_RANGE},
+        {"<=18446744073709551615", SEMVER_PARSER_NUMBER_TOO_LARGE},
+        {"\xFF", SEMVER_PARSER_RANGE_NOT_UTF8}};
     for (size_t at = 0; at < sizeof faults / sizeof *faults; at++) {
         text faulty = long_text("", "=0.0.7 || ", faults[at].end);
         range_fault_is(faulty.bytes, faulty.length, faults[at].fault);
@@ -296,7 +315,8 @@ static void ranges(void) {
 
 /* ---- comparators */
 
-static semver_parser_comparator comparator(size_t range, int32_t op, uint64_t major, uint64_t minor, uint64_t patch, semver_parser_part pre) {
+static semver_parser_comparator comparator(size_t range, int32_t op, uint64_t major, uint64_t minor,
+    uint64_t patch, semver_parser_part pre) {
     semver_parser_comparator made = {range, op, major, minor, patch, pre};
     return made;
 }
@@ -314,10 +334,15 @@ static void comparators_are(int32_t reading, bool exact, const char *bytes,
         const semver_parser_comparator *one = &list.items[at];
         check(one->range == wanted[at].range, "another range", &of);
         check(one->op == wanted[at].op, "another operator", &of);
-        check(one->major == wanted[at].major && one->minor == wanted[at].minor && one->patch == wanted[at].patch, "other numbers", &of);
-        check(one->pre.offset == wanted[at].pre.offset && one->pre.length == wanted[at].pre.length, "another pre-release", &of);
+        check(one->major == wanted[at].major && one->minor == wanted[at].minor &&
+                  one->patch == wanted[at].patch,
+            "other numbers", &of);
+        check(one->pre.offset == wanted[at].pre.offset && one->pre.length == wanted[at].pre.length,
+            "another pre-release", &of);
     }
-    check(list.pre_releases.length == strlen(pre_releases) && strcmp(list.pre_releases.bytes, pre_releases) == 0, "other pre-releases", &of);
+    check(list.pre_releases.length == strlen(pre_releases) &&
+              strcmp(list.pre_releases.bytes, pre_releases) == 0,
+        "other pre-releases", &of);
     free_comparators(&list);
     text_free(&printed);
     text_free(&of);
@@ -326,12 +351,16 @@ static void comparators_are(int32_t reading, bool exact, const char *bytes,
 static void comparators(void) {
     /* >=1.2.0 <2.0.0-0 || >=3.0.0 <4.0.0-0 */
     const semver_parser_comparator two_ranges[] = {
-        comparator(0, SEMVER_PARSER_GREATER_EQUAL, 1, 2, 0, part(0, 0)), comparator(0, SEMVER_PARSER_LESS, 2, 0, 0, part(0, 1)),
-        comparator(1, SEMVER_PARSER_GREATER_EQUAL, 3, 0, 0, part(1, 0)), comparator(1, SEMVER_PARSER_LESS, 4, 0, 0, part(1, 1))};
+        comparator(0, SEMVER_PARSER_GREATER_EQUAL, 1, 2, 0, part(0, 0)),
+        comparator(0, SEMVER_PARSER_LESS, 2, 0, 0, part(0, 1)),
+        comparator(1, SEMVER_PARSER_GREATER_EQUAL, 3, 0, 0, part(1, 0)),
+        comparator(1, SEMVER_PARSER_LESS, 4, 0, 0, part(1, 1))};
     comparators_are(CRATE_NPM, true, "^1.2 || 3.x", two_ranges, 4, "00");
     /* >=1.2.3-rc.1 <2.0.0-0 || <2.0.0-a */
-    const semver_parser_comparator three[] = {comparator(0, SEMVER_PARSER_GREATER_EQUAL, 1, 2, 3, part(0, 4)),
-                                              comparator(0, SEMVER_PARSER_LESS, 2, 0, 0, part(4, 1)), comparator(1, SEMVER_PARSER_LESS, 2, 0, 0, part(5, 1))};
+    const semver_parser_comparator three[] = {
+        comparator(0, SEMVER_PARSER_GREATER_EQUAL, 1, 2, 3, part(0, 4)),
+        comparator(0, SEMVER_PARSER_LESS, 2, 0, 0, part(4, 1)),
+        comparator(1, SEMVER_PARSER_LESS, 2, 0, 0, part(5, 1))};
     comparators_are(CRATE_CARGO, true, "^1.2.3-rc.1 || <2.0.0-a", three, 3, "rc.10a");
     comparators_are(NPM, false, "^1.2.3-rc.1 || <2.0.0-a", three, 3, "rc.10a");
     /* >=1.2.3-rc.1 <2.0.0-0 <2.0.0-a */
@@ -340,15 +369,19 @@ static void comparators(void) {
     comparators_are(CARGO, false, "^1.2.3-rc.1, <2.0.0-a", one_range, 3, "rc.10a");
     /* <1.0.0-a <=1.0.0 >1.0.0 || =1.0.0-b.10.c-d */
     const semver_parser_comparator stated[] = {
-        comparator(0, SEMVER_PARSER_LESS, 1, 0, 0, part(0, 1)), comparator(0, SEMVER_PARSER_LESS_EQUAL, 1, 0, 0, part(1, 0)),
-        comparator(0, SEMVER_PARSER_GREATER, 1, 0, 0, part(1, 0)), comparator(1, SEMVER_PARSER_EQUAL, 1, 0, 0, part(1, 8))};
+        comparator(0, SEMVER_PARSER_LESS, 1, 0, 0, part(0, 1)),
+        comparator(0, SEMVER_PARSER_LESS_EQUAL, 1, 0, 0, part(1, 0)),
+        comparator(0, SEMVER_PARSER_GREATER, 1, 0, 0, part(1, 0)),
+        comparator(1, SEMVER_PARSER_EQUAL, 1, 0, 0, part(1, 8))};
     comparators_are(CRATE_NPM, false, "<1.0.0-a <=1.0.0 >1.0.0||1.0.0-b.10.c-d+build", stated, 4,
                     "ab.10.c-d");
     /* =18446744073709551615.10.100-x || >=0.0.0 */
-    const semver_parser_comparator long_numbers[] = {comparator(0, SEMVER_PARSER_EQUAL, UINT64_MAX, 10, 100, part(0, 1)),
-                                                     comparator(1, SEMVER_PARSER_GREATER_EQUAL, 0, 0, 0, part(1, 0))};
+    const semver_parser_comparator long_numbers[] = {
+        comparator(0, SEMVER_PARSER_EQUAL, UINT64_MAX, 10, 100, part(0, 1)),
+        comparator(1, SEMVER_PARSER_GREATER_EQUAL, 0, 0, 0, part(1, 0))};
     comparators_are(CRATE_NPM, true, "18446744073709551615.10.100-x ||", long_numbers, 2, "x");
-    const semver_parser_comparator all = comparator(0, SEMVER_PARSER_GREATER_EQUAL, 0, 0, 0, part(0, 0));
+    const semver_parser_comparator all =
+        comparator(0, SEMVER_PARSER_GREATER_EQUAL, 0, 0, 0, part(0, 0));
     comparators_are(CRATE_NPM, true, "", &all, 1, "");
     comparators_are(CRATE_CARGO, true, "*", &all, 1, "");
 }
@@ -359,7 +392,8 @@ enum { NO = SEMVER_PARSER_DOES_NOT_MEET, YES = SEMVER_PARSER_MEETS };
 
 /* Both readings of the crate answer the same: of releases alone, of stated pre-releases, and of
  * all. */
-static void texts_meet(const text *range, const text *version, int32_t releases, int32_t stated, int32_t all) {
+static void texts_meet(
+    const text *range, const text *version, int32_t releases, int32_t stated, int32_t all) {
     for (int32_t reading = CRATE_CARGO; reading <= CRATE_NPM; reading++) {
         check(meets(range, reading, SEMVER_PARSER_RELEASES_ALONE, version) == releases,
               "another answer among releases", range);
@@ -370,8 +404,10 @@ static void texts_meet(const text *range, const text *version, int32_t releases,
     }
 }
 
-/* So they do where the range stands behind many that mean 0.0.7 alone, and the version behind many spaces. No version here is 0.0.7. */
-static void meets_are(const char *range, const char *version, int32_t releases, int32_t stated, int32_t all) {
+/* So they do where the range stands behind many that mean 0.0.7 alone, and the version behind many
+ * spaces. No version here is 0.0.7. */
+static void meets_are(
+    const char *range, const char *version, int32_t releases, int32_t stated, int32_t all) {
     text short_range = string(range);
     text short_version = string(version);
     texts_meet(&short_range, &short_version, releases, stated, all);
@@ -468,7 +504,8 @@ static void faults_in_order(void) {
 /* ---- many versions, each with an answer of its own */
 
 static void many(void) {
-    static const char *const versions[] = {"1.2.3", "2.0.0", "1.2.3-rc", "1.3.0-rc", "v1", "", "1.2.3/", "1.2.3--1", "1.2.3 4", "\xFF", "1.9.9+b"};
+    static const char *const versions[] = {"1.2.3", "2.0.0", "1.2.3-rc", "1.3.0-rc", "v1", "",
+        "1.2.3/", "1.2.3--1", "1.2.3 4", "\xFF", "1.9.9+b"};
     static const uint8_t wanted[] = {1, 0, 1, 0, 4, 3, 5, 4, 6, 2, 1};
     enum { COUNT = sizeof wanted };
     const char *range = "^1.2.3-beta";
@@ -484,13 +521,15 @@ static void many(void) {
         int32_t answer =
             semver_parser_meets_each((const uint8_t *)range, strlen(range), CRATE_NPM,
                                      SEMVER_PARSER_STATED_PRE_RELEASES, texts, count, answers);
-        check(answer == SEMVER_PARSER_OK && memcmp(answers, wanted, count) == 0, "other answers of many", &of);
+        check(answer == SEMVER_PARSER_OK && memcmp(answers, wanted, count) == 0,
+            "other answers of many", &of);
         check(answers[count] == 0xA5, "a byte behind the answers", &of);
         text_free(&of);
     }
 }
 
-/* More versions than stand in the table, of which each has the number of its place. The first may be an empty one at null, so that all are copied. */
+/* More versions than stand in the table, of which each has the number of its place. The first may
+ * be an empty one at null, so that all are copied. */
 static void very_many(int32_t reading, bool at_null) {
     enum { MANY = 3000 };
     static char versions[MANY][16];
@@ -509,7 +548,9 @@ static void very_many(int32_t reading, bool at_null) {
                                               SEMVER_PARSER_RELEASES_ALONE, texts, MANY, answers);
     check(answer == SEMVER_PARSER_OK, "another answer of very many", &range);
     for (int at = 0; at < MANY; at++) {
-        int wanted = at == 0 && at_null ? (int)SEMVER_PARSER_UNEXPECTED_END : at >= 1000 ? (int)YES : (int)NO;
+        int wanted = at == 0 && at_null ? (int)SEMVER_PARSER_UNEXPECTED_END
+                     : at >= 1000       ? (int)YES
+                                        : (int)NO;
         check(answers[at] == wanted, "another answer of one of very many", &range);
     }
     text_free(&range);
@@ -517,7 +558,8 @@ static void very_many(int32_t reading, bool at_null) {
 
 /* ---- the least version */
 
-/* What the range means least by each rule: releases alone, as stated, and all. An empty text is none. */
+/* What the range means least by each rule: releases alone, as stated, and all. An empty text is
+ * none. */
 static void least_are(int32_t reading, const char *bytes, const char *releases, const char *stated,
                       const char *all) {
     const char *wanted[3] = {releases, stated, all};
@@ -576,7 +618,8 @@ static void least_versions(void) {
 
 /* ---- two ranges */
 
-/* What is lost, gained and shared by each rule: releases alone, as stated, and all. An empty text is none. */
+/* What is lost, gained and shared by each rule: releases alone, as stated, and all. An empty text
+ * is none. */
 typedef struct {
     const char *lost;
     const char *gained;
@@ -628,7 +671,8 @@ static void compare_fault_is(int32_t reading, const char *old_bytes, const char 
     compared told = {{NULL, 0, 0}, {NULL, 0, 0}, {NULL, 0, 0}};
     check(compare(&old_range, &new_range, reading, rule, &told) == fault,
           "another fault of two ranges", &old_range);
-    check(told.lost.length + told.gained.length + told.shared.length == 0, "a version at a fault", &old_range);
+    check(told.lost.length + told.gained.length + told.shared.length == 0, "a version at a fault",
+        &old_range);
     free_compared(&told);
     text_free(&old_range);
     text_free(&new_range);
@@ -711,14 +755,17 @@ static void faults_of_two_ranges(void) {
 
 static void sentences(void) {
     text none = string("");
-    check(strcmp(semver_parser_library_version(), SEMVER_PARSER_VERSION) == 0, "another version of the library", &none);
+    check(strcmp(semver_parser_library_version(), SEMVER_PARSER_VERSION) == 0,
+        "another version of the library", &none);
     for (int32_t answer = -1; answer <= 21; answer++) {
         const char *sentence = semver_parser_fault_text(answer);
         check(sentence != NULL && sentence[0] != 0, "no sentence", &none);
         bool is_named = answer == 0 || (answer >= 2 && answer <= 20);
-        check(is_named == (strcmp(sentence, semver_parser_fault_text(1)) != 0), "the sentence of no answer", &none);
+        check(is_named == (strcmp(sentence, semver_parser_fault_text(1)) != 0),
+            "the sentence of no answer", &none);
         for (int32_t other = 0; other < answer && is_named; other++) {
-            check(strcmp(sentence, semver_parser_fault_text(other)) != 0, "a sentence of two answers", &none);
+            check(strcmp(sentence, semver_parser_fault_text(other)) != 0,
+                "a sentence of two answers", &none);
         }
     }
     text_free(&none);

@@ -21,7 +21,8 @@ void text_free(text *it);
 /* The whole of a file. A file that can't be read ends the program. */
 text text_of_file(const char *path);
 
-/* Appends what a text of the table stands for: `\n`, `\r`, `\t` and `\\` are characters, `\(3,a\#,.)` is `a0.a1.a2`. False where it isn't well written. */
+/* Appends what a text of the table stands for: `\n`, `\r`, `\t` and `\\` are characters,
+ * `\(3,a\#,.)` is `a0.a1.a2`. False where it isn't well written. */
 bool text_expand(text *to, const char *escaped, size_t length);
 
 /* The answer that stands in the table for a long one: its length and its Adler-32 checksum. */

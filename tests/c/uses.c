@@ -1,4 +1,5 @@
-/* Uses all that the header has, as a program in C or in C++ does: it is compiled by each standard of both, with all warnings as faults. */
+/* Uses all that the header has, as a program in C or in C++ does: it is compiled by each standard
+ * of both, with all warnings as faults. */
 #include "../../crates/semver_parser_c/include/semver_parser.h"
 
 #include <stdio.h>
@@ -22,7 +23,8 @@ static int use_rewriting(void) {
     int32_t answer =
         semver_parser_comparators(bytes_of(range), strlen(range), SEMVER_PARSER_NPM, false,
                                   comparators, 4, &count, out, sizeof out, &length);
-    if (answer != SEMVER_PARSER_OK || comparators[1].op != SEMVER_PARSER_LESS || comparators[1].pre.length != 1 || out[comparators[1].pre.offset] != '0') {
+    if (answer != SEMVER_PARSER_OK || comparators[1].op != SEMVER_PARSER_LESS ||
+        comparators[1].pre.length != 1 || out[comparators[1].pre.offset] != '0') {
         return 1;
     }
     if (semver_parser_rewrite(NULL, 0, SEMVER_PARSER_CRATE_CARGO, false, NULL, 0, &length)
@@ -70,10 +72,16 @@ static int use_least(void) {
 static int use_precedence(void) {
     int32_t order = 0;
     bool in_other = false;
-    if (semver_parser_precedence(bytes_of("1.2.3-rc.4"), 10, bytes_of("1.2.3-rc.11"), 11, &order, &in_other) != SEMVER_PARSER_OK || order != -1) {
+    if (semver_parser_precedence(bytes_of("1.2.3-rc.4"), 10, bytes_of("1.2.3-rc.11"), 11, &order,
+            &in_other) != SEMVER_PARSER_OK ||
+        order != -1) {
         return 1;
     }
-    return semver_parser_precedence(bytes_of("1.2.3"), 5, NULL, 0, &order, &in_other) == SEMVER_PARSER_UNEXPECTED_END && in_other ? 0 : 1;
+    return semver_parser_precedence(bytes_of("1.2.3"), 5, NULL, 0, &order, &in_other) ==
+                       SEMVER_PARSER_UNEXPECTED_END &&
+                   in_other
+               ? 0
+               : 1;
 }
 
 static int use_compare(void) {
@@ -86,7 +94,8 @@ static int use_compare(void) {
     if (answer != SEMVER_PARSER_OK || length != 15 || memcmp(out, "1.2.02.0.01.4.0", 15) != 0) {
         return 1;
     }
-    if (comparison.lost.offset != 0 || comparison.gained.offset != 5 || comparison.shared.offset != 10 || comparison.shared.length != 5) {
+    if (comparison.lost.offset != 0 || comparison.gained.offset != 5 ||
+        comparison.shared.offset != 10 || comparison.shared.length != 5) {
         return 1;
     }
     return semver_parser_compare(NULL, 0, bytes_of("v1"), 2, SEMVER_PARSER_CRATE_NPM,
@@ -99,7 +108,8 @@ static int use_compare(void) {
 int main(void) {
     semver_parser_version version;
     int32_t answer = semver_parser_parse_version(bytes_of("1.2"), 3, &version);
-    int failed = strcmp(semver_parser_library_version(), SEMVER_PARSER_VERSION) != 0 || answer != SEMVER_PARSER_UNEXPECTED_END;
+    int failed = strcmp(semver_parser_library_version(), SEMVER_PARSER_VERSION) != 0 ||
+                 answer != SEMVER_PARSER_UNEXPECTED_END;
     failed |= use_rewriting() | use_meeting() | use_least() | use_precedence() | use_compare();
     printf("uses: %s\n", failed ? "failed" : "passed");
     return failed;

@@ -1,6 +1,7 @@
-/* The calls of include/semver_parser.h over those that are proved: each puts a pointer to an object in place of a null pointer with a length of 0, which is an
- * empty text or an empty room, and calls the proved one. Any other pointer is passed on as it is, so a null with a length above 0 crashes where it is used.
- * Link this file with the library, once. It is trusted: no proof reads it. */
+/* The calls of include/semver_parser.h over those that are proved: each puts a pointer to an object
+ * in place of a null pointer with a length of 0, which is an empty text or an empty room, and calls
+ * the proved one. Any other pointer is passed on as it is, so a null with a length above 0 crashes
+ * where it is used. Link this file with the library, once. It is trusted: no proof reads it. */
 #include "../include/semver_parser.h"
 #include "heap.h"
 #include "proved.h"
@@ -18,7 +19,8 @@ static uint8_t *room_at(uint8_t *out, size_t room) {
     return out == NULL && room == 0 ? &no_byte : out;
 }
 
-static semver_parser_comparator *comparators_at(semver_parser_comparator *comparators, size_t room) {
+static semver_parser_comparator *comparators_at(
+    semver_parser_comparator *comparators, size_t room) {
     return comparators == NULL && room == 0 ? &no_comparator : comparators;
 }
 
@@ -26,12 +28,15 @@ static const semver_parser_text *texts_at(const semver_parser_text *texts, size_
     return texts == NULL && count == 0 ? &no_text : texts;
 }
 
-int32_t semver_parser_parse_version(const uint8_t *text, size_t text_length, semver_parser_version *out) {
+int32_t semver_parser_parse_version(
+    const uint8_t *text, size_t text_length, semver_parser_version *out) {
     return semver_parser_proved_parse_version(text_at(text, text_length), text_length, out);
 }
 
-int32_t semver_parser_precedence(const uint8_t *version, size_t version_length, const uint8_t *other, size_t other_length, int32_t *order, bool *in_other) {
-    return semver_parser_proved_precedence(text_at(version, version_length), version_length, text_at(other, other_length), other_length, order, in_other);
+int32_t semver_parser_precedence(const uint8_t *version, size_t version_length,
+    const uint8_t *other, size_t other_length, int32_t *order, bool *in_other) {
+    return semver_parser_proved_precedence(text_at(version, version_length), version_length,
+        text_at(other, other_length), other_length, order, in_other);
 }
 
 int32_t semver_parser_rewrite(const uint8_t *text, size_t text_length, int32_t reading, bool exact,
@@ -96,7 +101,9 @@ static void copy_texts(semver_parser_text *copies, const semver_parser_text *tex
 /* A block for so many texts. Of more than any block has room for it is refused. */
 static rattle_answer block_of_texts(size_t count) {
     rattle_answer refused = {false, NULL};
-    return count <= SIZE_MAX / sizeof(semver_parser_text) ? rattle_alloc(count * sizeof(semver_parser_text), 16) : refused;
+    return count <= SIZE_MAX / sizeof(semver_parser_text)
+               ? rattle_alloc(count * sizeof(semver_parser_text), 16)
+               : refused;
 }
 
 /* The texts are copied only where an empty one is at null. Where that copy is refused, a fault of
