@@ -11,16 +11,20 @@ use Rattle.semver_parser_c.specs.Faults.{named_faults, new_range_faults}
 use Rattle.semver_parser_c.specs.Steps.RangeFaults.{IsMeaningOf, IsReadingOf, IsReadable, IsTold, IsRefused, IsTextRefused, Stands}
 use Rattle.semver_parser_c.specs.Steps.RangeFaults.{IsEitherRefused, TellsBoth, other_numbers}
 
+-- where a range is read, it isn't refused by a number that is answered then
 stands_by : (r : Reading) (text : Text) → IsReadable r text → (n : ℤ) → IsOneOf other_numbers n → RefusesBy range_numbers ⊤ r text n
 stands_by r text read n one = grind arith
 
+-- and such a number says nothing of the reading and the rule
 not_named : (n : ℤ) → IsOneOf other_numbers n → IsOneOf (no_such_reading ∷ no_such_rule ∷ []) n → ⊥
 not_named n one other = grind arith
 
+-- so of a new range, where both are read
 stands_new : (Asked : Type 0) (r : Reading) (text : Text) → IsReadable r text → (n : ℤ)
     → IsOneOf (ok ∷ no_room ∷ new_range_out_of_memory ∷ []) n → RefusesBy new_range_numbers Asked r text n
 stands_new Asked r text read n one = grind arith
 
+-- what is so of each such number
 all_stand : (IsSo : ℤ → Type 0) → ((n : ℤ) → IsOneOf other_numbers n → IsSo n) → Stands IsSo
 all_stand IsSo each = record {
   ok = each _ (inl refl);
@@ -29,12 +33,12 @@ all_stand IsSo each = record {
   each = each;
 }
 
+-- what the reading of the only meaning refuses is what a call refuses that asks for a meaning
 lifted : (m : Meaning) (reading rule : ℤ) (text : Text) (n : ℤ) → IsMeaningOf m reading rule
     → (IsOneOf (no_such_reading ∷ no_such_rule ∷ []) n → ⊥) → RefusesBy range_numbers ⊤ (reading_of m) text n
     → RefusesRange reading rule text n
 lifted m reading rule text n only other by = search rules
 
--- where a range is read, it isn't refused by what is answered then
 pub stands : (m : Meaning) (reading rule : ℤ) (text : Text) → IsMeaningOf m reading rule → IsReadable (reading_of m) text
     → Stands (RefusesRange reading rule text)
 stands m reading rule text only read =
@@ -48,6 +52,7 @@ stands_text r reading text only read =
     let by = stands_by r text read n one in
     search rules)
 
+-- a fault that the text has, by its number
 pub refused : (m : Meaning) (reading rule : ℤ) (text : Text) (n : ℤ) → IsMeaningOf m reading rule → IsTold (reading_of m) text n
     → IsRefused reading rule text n
 refused m reading rule text n only told = search rules
@@ -58,9 +63,11 @@ refused_text r reading text n only told = search rules
 
 -- ---- where two ranges are compared
 
+-- no fault is answered where something is put into the room, or it is too small
 not_put : (n : ℤ) → IsOneOf (named_faults ++ new_range_faults) n → (n ≡ ok) ⊎ (n ≡ no_room) → ⊥
 not_put n one put = grind arith
 
+-- nothing is refused of a new range that isn't asked for, and what is refused of one is so where it is
 unasked : (Asked : Type 0) (r : Reading) (text : Text) (n : ℤ) → (Asked → ⊥) → IsOneOf named_faults n
     → RefusesBy new_range_numbers Asked r text n
 unasked Asked r text n never one = grind arith
@@ -69,6 +76,7 @@ asked : (Asked : Type 0) (r : Reading) (text : Text) (n : ℤ) → RefusesBy new
     → RefusesBy new_range_numbers Asked r text n
 asked Asked r text n told = search rules
 
+-- where the numbers or the old range are refused
 pub not_asked : (reading rule : ℤ) (old new : Text) (n : ℤ) → IsRefused reading rule old n → IsEitherRefused reading rule old new n
 not_asked reading rule old new n refusal =
     let number : IsOneOf (named_faults ++ new_range_faults) n = grind arith in
@@ -81,6 +89,7 @@ not_asked reading rule old new n refusal =
       };
     }
 
+-- where the new one is
 pub new_refused : (m : Meaning) (reading rule : ℤ) (old new : Text) (n : ℤ) → IsMeaningOf m reading rule
     → Stands (RefusesRange reading rule old) → IsOneOf new_range_faults n → RefusesBy new_range_numbers ⊤ (reading_of m) new n
     → IsEitherRefused reading rule old new n
@@ -95,6 +104,7 @@ new_refused m reading rule old new n only old_stands one told =
       };
     }
 
+-- where both are read
 pub both_stand : (m : Meaning) (reading rule : ℤ) (old new : Text) → IsMeaningOf m reading rule → IsAccepted reading rule old
     → Stands (RefusesRange reading rule old) → IsReadable (reading_of m) new → (n : ℤ)
     → IsOneOf (ok ∷ no_room ∷ new_range_out_of_memory ∷ []) n → TellsBoth reading rule old new n

@@ -44,11 +44,12 @@ places_have text before behind at (c ∷ cs) is at_is = (
   places_have text (before ++ pre_release c) behind _ cs (simp (is, append_assoc)) (simp (at_is, length-append)),
 )
 
+-- where both are put, both stand at the front
 fronts : (a : Putting RewrittenComparator) (b : Putting ℕ) (r : ℤ) → PutsBoth a b r → r ≡ ok
     → IsAtFront a.items a.old a.new × IsAtFront b.items b.old b.new
 fronts a b r puts is = grind arith
 
--- so it is in the rooms, where both were put there
+-- and at the places in the rooms the pre-releases
 pub rooms_have : (a : Putting RewrittenComparator) (b : Putting ℕ) (r : ℤ) (cs : List Numbered) → PutsBoth a b r → r ≡ ok
     → a.items ≡ told_comparators cs → b.items ≡ pre_releases cs → HasPreReleases b.new (take a.told a.new) cs
 rooms_have a b r cs puts is told_is text_is =
