@@ -1,5 +1,5 @@
 -- What is compared of two sets is compared of what the texts themselves mean.
-use Rattle.std.proofs.Common.{◌≡◌, ◌↔◌, ℕ, List, Option, Some, None, subst, sym, arith, refl, length, decimal, ◌++◌, ◌∷◌, ◌<◌}
+use Rattle.std.proofs.Common.{◌≡◌, ◌↔◌, ℕ, Option, Some, None, arith, refl, length, ◌<◌}
 use Rattle.std.proofs.Common.{length-append}
 use Rattle.semver_parser.specs.Texts.{Text}
 use Rattle.semver_parser.specs.Versions.{PlainVersion, VersionValue}
@@ -18,12 +18,7 @@ use Rattle.semver_parser_c.specs.Compared.{Compares, IsEmptyWithout, TellsWhich,
 
 -- the least of some versions is the least of those that are the same
 pub told_alike : (P Q : PlainVersion → Type 0) → ((v : PlainVersion) → P v ↔ Q v) → (o : Option Version) → TellsLeast P o → TellsLeast Q o
-told_alike P Q same None none = λ v q. none v ((same v).1 q)
-told_alike P Q same (Some x) least = record {
-  is_one = (same _).0 least.is_one;
-  no_build = least.no_build;
-  lowest = λ w q. least.lowest w ((same w).1 q);
-}
+told_alike P Q same o least = grind arith
 
 -- what is in the set of a text is what its tree means
 pub meant : (set : SetValue) (m : Meaning) (text : Text) (tree : TreeOf (reading_of m)) → MeansAs m text set
@@ -32,17 +27,9 @@ meant set m text tree is spells v = grind arith
 
 -- ---- which of the three there are
 
-in_the_midst : (a r m n : List ℕ) (x : ℕ) → 0 < length (((a ++ (x ∷ r)) ++ m) ++ n)
-in_the_midst a r m n x = omega (
-  arith,
-  length-append ((a ++ (x ∷ r)) ++ m) n,
-  length-append (a ++ (x ∷ r)) m,
-  length-append a (x ∷ r),
-)
-
 -- the text of a version has a dot
 some_text : (v : VersionValue) → 0 < length (version_text v)
-some_text v = in_the_midst (decimal v.plain.major) _ _ _ 46
+some_text v = grind (arith, length-append)
 
 empty_without : (IsOne : PlainVersion → Type 0) (o : Option Version) (at : ℕ) → TellsLeast IsOne o
     → IsEmptyWithout IsOne (place_behind at o)
@@ -52,9 +39,8 @@ empty_without IsOne (Some x) at least =
 
 pub tells_which : (m : Meaning) (old new : TreeOf (reading_of m)) (told : Comparison) (places : ComparedRanges)
     → Compares m old new told → places ≡ places_of told → TellsWhich m old new places
-tells_which m old new told places c is =
-    subst (TellsWhich m old new) (sym is) (record {
-      lost = empty_without _ told.lost _ c.lost;
-      gained = empty_without _ told.gained _ c.gained;
-      shared = empty_without _ told.shared _ c.shared;
-    })
+tells_which m old new told places c is = rw is (record {
+  lost = empty_without _ told.lost _ c.lost;
+  gained = empty_without _ told.gained _ c.gained;
+  shared = empty_without _ told.shared _ c.shared;
+})

@@ -1,5 +1,5 @@
 -- The least version of a set, as it is answered.
-use Rattle.std.proofs.Common.{◌≡◌, ◌↔◌, [], Option, Some, None, refl, IfOk, Result, Ok, Err}
+use Rattle.std.proofs.Common.{arith, ◌≡◌, ◌↔◌, [], Option, None, IfOk, Result, Ok, Err}
 use Rattle.std.specs.Prelude.{IfSome}
 use Rattle.semver_parser.specs.VersionViews.{version_value}
 use Rattle.semver_parser.specs.declared.version.Version.{Version}
@@ -8,8 +8,7 @@ use Rattle.version_sets.specs.Comparisons.{TellsLeast}
 
 pub told_least : (set : SetValue) (o : Option Version) → IfSome o (λ x. IsLeast Fits set (version_value x).plain)
     → IfSome o (λ x. (version_value x).build ≡ []) → ((o ≡ None) ↔ HasNone Fits set) → TellsLeast (λ v. IsIn v set) o
-told_least set None l b n = λ v h. n.0 refl v h.0 h
-told_least set (Some x) l b n = record { is_one = l.is_in; no_build = b; lowest = λ w h. l.lowest w h.0 h }
+told_least set o least no_build none = grind arith
 
 -- what follows of an answer, if there is one
 pub answered_with : {T E : Type 0} {P Q : T → Type 0} (r : Result T E) → IfOk r P → ((x : T) → P x → Q x) → IfOk r Q

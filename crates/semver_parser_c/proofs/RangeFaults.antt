@@ -5,72 +5,69 @@ use Rattle.semver_parser.specs.Texts.{Text}
 use Rattle.tool_ranges.specs.declared.reading.Reading.{Reading}
 use Rattle.tool_ranges.specs.declared.meaning.Meaning.{Meaning}
 use Rattle.tool_ranges.specs.Meanings.{reading_of}
-use Rattle.semver_parser_c.specs.Numbers.{no_such_reading, no_such_rule, ok, no_room, range_out_of_memory, new_range_out_of_memory}
+use Rattle.semver_parser_c.specs.Numbers.{no_such_reading, no_such_rule, ok, no_room, new_range_out_of_memory}
 use Rattle.semver_parser_c.specs.Faults.{IsAccepted, IsOneOf, RefusesBy, RefusesRange, RefusesText, range_numbers, new_range_numbers}
-use Rattle.semver_parser_c.specs.Faults.{named_faults, version_faults, new_range_faults}
+use Rattle.semver_parser_c.specs.Faults.{named_faults, new_range_faults}
 use Rattle.semver_parser_c.specs.Steps.RangeFaults.{IsMeaningOf, IsReadingOf, IsReadable, IsTold, IsRefused, IsTextRefused, Stands}
-use Rattle.semver_parser_c.specs.Steps.RangeFaults.{IsEitherRefused, TellsBoth}
+use Rattle.semver_parser_c.specs.Steps.RangeFaults.{IsEitherRefused, TellsBoth, other_numbers}
 
--- where a range is read, it isn't refused by what is answered then
-stands_by : (r : Reading) (text : Text) → IsReadable r text → (n : ℤ)
-    → IsOneOf (ok ∷ no_room ∷ range_out_of_memory ∷ version_faults ++ new_range_faults) n → RefusesBy range_numbers ⊤ r text n
+-- where a range is read, it isn't refused by a number that is answered then
+stands_by : (r : Reading) (text : Text) → IsReadable r text → (n : ℤ) → IsOneOf other_numbers n → RefusesBy range_numbers ⊤ r text n
 stands_by r text read n one = grind arith
 
-pub stands_new : (Asked : Type 0) (r : Reading) (text : Text) → IsReadable r text → (n : ℤ)
+-- and such a number says nothing of the reading and the rule
+not_named : (n : ℤ) → IsOneOf other_numbers n → IsOneOf (no_such_reading ∷ no_such_rule ∷ []) n → ⊥
+not_named n one other = grind arith
+
+-- so of a new range, where both are read
+stands_new : (Asked : Type 0) (r : Reading) (text : Text) → IsReadable r text → (n : ℤ)
     → IsOneOf (ok ∷ no_room ∷ new_range_out_of_memory ∷ []) n → RefusesBy new_range_numbers Asked r text n
 stands_new Asked r text read n one = grind arith
 
+-- what is so of each such number
+all_stand : (IsSo : ℤ → Type 0) → ((n : ℤ) → IsOneOf other_numbers n → IsSo n) → Stands IsSo
+all_stand IsSo each = record {
+  ok = each _ (inl refl);
+  no_room = each _ (inr (inl refl));
+  out_of_memory = each _ (inr (inr (inl refl)));
+  each = each;
+}
+
+-- what the reading of the only meaning refuses is what a call refuses that asks for a meaning
 lifted : (m : Meaning) (reading rule : ℤ) (text : Text) (n : ℤ) → IsMeaningOf m reading rule
     → (IsOneOf (no_such_reading ∷ no_such_rule ∷ []) n → ⊥) → RefusesBy range_numbers ⊤ (reading_of m) text n
     → RefusesRange reading rule text n
-lifted m reading rule text n only other refused = search rules
-
-lifted_text : (r : Reading) (reading : ℤ) (text : Text) (n : ℤ) → IsReadingOf r reading
-    → (n ≡ no_such_reading → ⊥) → RefusesBy range_numbers ⊤ r text n → RefusesText reading text n
-lifted_text r reading text n only other refused = search rules
+lifted m reading rule text n only other by = search rules
 
 pub stands : (m : Meaning) (reading rule : ℤ) (text : Text) → IsMeaningOf m reading rule → IsReadable (reading_of m) text
     → Stands (RefusesRange reading rule text)
 stands m reading rule text only read =
-    let at = λ (n : ℤ) (one : IsOneOf (ok ∷ no_room ∷ range_out_of_memory ∷ version_faults ++ new_range_faults) n).
-    lifted m reading rule text n only (λ bad. grind arith) (stands_by (reading_of m) text read n one) in
-    record {
-      ok = at _ (inl refl);
-      no_room = at _ (inr (inl refl));
-      out_of_memory = at _ (inr (inr (inl refl)));
-      version = λ n one. at n (grind arith);
-      new_range = λ n one. at n (grind arith);
-    }
+    all_stand _ (λ n one. lifted m reading rule text n only (not_named n one) (stands_by (reading_of m) text read n one))
 
 pub stands_text : (r : Reading) (reading : ℤ) (text : Text) → IsReadingOf r reading → IsReadable r text
     → Stands (RefusesText reading text)
 stands_text r reading text only read =
-    let at = λ (n : ℤ) (one : IsOneOf (ok ∷ no_room ∷ range_out_of_memory ∷ version_faults ++ new_range_faults) n).
-    lifted_text r reading text n only (λ bad. grind arith) (stands_by r text read n one) in
-    record {
-      ok = at _ (inl refl);
-      no_room = at _ (inr (inl refl));
-      out_of_memory = at _ (inr (inr (inl refl)));
-      version = λ n one. at n (grind arith);
-      new_range = λ n one. at n (grind arith);
-    }
+    all_stand _ (λ n one.
+    let other = not_named n one in
+    let by = stands_by r text read n one in
+    search rules)
 
+-- a fault that the text has, by its number
 pub refused : (m : Meaning) (reading rule : ℤ) (text : Text) (n : ℤ) → IsMeaningOf m reading rule → IsTold (reading_of m) text n
     → IsRefused reading rule text n
-refused m reading rule text n only told = search (rules, lifted)
+refused m reading rule text n only told = search rules
 
 pub refused_text : (r : Reading) (reading : ℤ) (text : Text) (n : ℤ) → IsReadingOf r reading → IsTold r text n
     → IsTextRefused reading text n
-refused_text r reading text n only told = search (rules, lifted_text)
+refused_text r reading text n only told = search rules
 
 -- ---- where two ranges are compared
 
-not_put : (n : ℤ) → IsOneOf named_faults n → (n ≡ ok) ⊎ (n ≡ no_room) → ⊥
+-- no fault is answered where something is put into the room, or it is too small
+not_put : (n : ℤ) → IsOneOf (named_faults ++ new_range_faults) n → (n ≡ ok) ⊎ (n ≡ no_room) → ⊥
 not_put n one put = grind arith
 
-new_not_put : (n : ℤ) → IsOneOf new_range_faults n → (n ≡ ok) ⊎ (n ≡ no_room) → ⊥
-new_not_put n one put = grind arith
-
+-- nothing is refused of a new range that isn't asked for, and what is refused of one is so where it is
 unasked : (Asked : Type 0) (r : Reading) (text : Text) (n : ℤ) → (Asked → ⊥) → IsOneOf named_faults n
     → RefusesBy new_range_numbers Asked r text n
 unasked Asked r text n never one = grind arith
@@ -79,36 +76,40 @@ asked : (Asked : Type 0) (r : Reading) (text : Text) (n : ℤ) → RefusesBy new
     → RefusesBy new_range_numbers Asked r text n
 asked Asked r text n told = search rules
 
+-- where the numbers or the old range are refused
 pub not_asked : (reading rule : ℤ) (old new : Text) (n : ℤ) → IsRefused reading rule old n → IsEitherRefused reading rule old new n
-not_asked reading rule old new n refusal = record {
-  number = grind arith;
-  both = record {
-    read = λ put. absurd (not_put n refusal.number put);
-    old_range = refusal.refusals;
-    new_range = λ m named. unasked _ _ new n refusal.unread refusal.number;
-  };
-}
+not_asked reading rule old new n refusal =
+    let number : IsOneOf (named_faults ++ new_range_faults) n = grind arith in
+    record {
+      number = number;
+      both = record {
+        read = λ put. absurd (not_put n number put);
+        old_range = refusal.refusals;
+        new_range = λ m named. unasked _ _ new n refusal.unread refusal.number;
+      };
+    }
 
+-- where the new one is
 pub new_refused : (m : Meaning) (reading rule : ℤ) (old new : Text) (n : ℤ) → IsMeaningOf m reading rule
     → Stands (RefusesRange reading rule old) → IsOneOf new_range_faults n → RefusesBy new_range_numbers ⊤ (reading_of m) new n
     → IsEitherRefused reading rule old new n
-new_refused m reading rule old new n only old_stands one told = record {
-  number = grind arith;
-  both = record {
-    read = λ put. absurd (new_not_put n one put);
-    old_range = old_stands.new_range n one;
-    new_range = λ k named. rw (← (only.only k named)) (asked _ _ new n told);
-  };
-}
+new_refused m reading rule old new n only old_stands one told =
+    let number : IsOneOf (named_faults ++ new_range_faults) n = grind arith in
+    record {
+      number = number;
+      both = record {
+        read = λ put. absurd (not_put n number put);
+        old_range = old_stands.each n (grind arith);
+        new_range = λ k named. rw (← (only.only k named)) (asked _ _ new n told);
+      };
+    }
 
-stands_at : (IsSo : ℤ → Type 0) → Stands IsSo → (n : ℤ) → IsOneOf (ok ∷ no_room ∷ new_range_out_of_memory ∷ []) n → IsSo n
-stands_at IsSo all n one = grind arith
-
+-- where both are read
 pub both_stand : (m : Meaning) (reading rule : ℤ) (old new : Text) → IsMeaningOf m reading rule → IsAccepted reading rule old
     → Stands (RefusesRange reading rule old) → IsReadable (reading_of m) new → (n : ℤ)
     → IsOneOf (ok ∷ no_room ∷ new_range_out_of_memory ∷ []) n → TellsBoth reading rule old new n
 both_stand m reading rule old new only accepted old_stands read n one = record {
   read = λ put. (search rules, (m, only.named, search rules));
-  old_range = stands_at _ old_stands n one;
+  old_range = old_stands.each n (grind arith);
   new_range = λ k named. rw (← (only.only k named)) (stands_new _ (reading_of m) new read n one);
 }

@@ -20,7 +20,7 @@ returns-in-Ok-judge-clause-meaning c = λ _ m named tree v spells version_spells
     c.in-Ok-judge.ensures.met v version_spells ∙ c.in-Ok.ensures.meaning m (search rules) tree v c.args.version.now spells version_spells
 
 pub returns-clause-refusals : goal.returns-clause-refusals
-returns-clause-refusals c = search (rules, c.in-Ok.ensures.stands.version _ c.in-Err-judge.ensures.refused.one)
+returns-clause-refusals c = search (rules, c.in-Ok.ensures.stands.each c.in-Err-judge.fault (search rules))
 
 pub returns-clause-accepted : goal.returns-clause-accepted
 returns-clause-accepted c = λ read v utf8 spelled.

@@ -1,6 +1,5 @@
-use Rattle.std.proofs.Common.{ap, refl, ◌∙◌, length, take, drop, Ok, Err, rules, w32, to_z, of_z}
-use Rattle.semver_parser.specs.Outlines.{OutlineValue, dotted_text}
-use Rattle.semver_parser.specs.Versions.{VersionValue}
+use Rattle.std.proofs.Common.{ap, refl, Ok, Err, rules, w32, to_z, of_z}
+use Rattle.semver_parser.specs.Outlines.{OutlineValue}
 use Rattle.semver_parser.proofs.OneVersion.{one_version}
 use Rattle.semver_parser.proofs.WholeText.{spelled_outcome}
 use Rattle.semver_parser_c.specs.Faults.{RefusesVersion}
@@ -8,13 +7,11 @@ use Rattle.semver_parser_c.proofs.semver_parser_proved_parse_version.Goals as go
 
 pub returns-in-Ok-clause-parts : goal.returns-in-Ok-clause-parts
 returns-in-Ok-clause-parts c = λ _ v spells.
-    let text = c.args.text.now in
     let (u, spelled, is) = c.in-Ok.ensures.outlined in
-    let same = one_version u v text spelled spells in (
-      (λ i. take (length (c.pre.ensures i)) (drop (c.pre_offset.ensures i) text)) ∙ c.in-Ok.ensures.places.0
-          ∙ ap (λ (o : OutlineValue). o.pre) is ∙ ap (λ (x : VersionValue). dotted_text x.plain.pre) same,
-      (λ i. take (length (c.build.ensures i)) (drop (c.build_offset.ensures i) text)) ∙ c.in-Ok.ensures.places.1
-          ∙ ap (λ (o : OutlineValue). o.build) is ∙ ap (λ (x : VersionValue). dotted_text x.build) same,
+    let same = one_version u v c.args.text.now spelled spells in
+    rw (← same) (
+      simp (c.pre.ensures, c.pre_offset.ensures, c.in-Ok.ensures.places.0) (ap (λ (o : OutlineValue). o.pre) is),
+      simp (c.build.ensures, c.build_offset.ensures, c.in-Ok.ensures.places.1) (ap (λ (o : OutlineValue). o.build) is),
     )
 
 pub returns-in-Ok-clause-outcome : goal.returns-in-Ok-clause-outcome

@@ -1,5 +1,5 @@
 -- What a range text is to a reading, by the fault that is told of it, and which numbers tell which.
-use Rattle.std.specs.Prelude.{ℤ, ◌≡◌, ◌⊎◌, ⊤, IsUtf8, ◌∷◌, ◌++◌}
+use Rattle.std.specs.Prelude.{ℤ, ◌≡◌, ◌⊎◌, ⊤, IsUtf8, List, ◌∷◌, ◌++◌}
 use Rattle.semver_parser.specs.Texts.{Text}
 use Rattle.tool_ranges.specs.declared.reading.Reading.{Reading}
 use Rattle.tool_ranges.specs.declared.meaning.Meaning.{Meaning}
@@ -51,13 +51,17 @@ pub record IsTextRefused (reading : ℤ) (text : Text) (n : ℤ) : Type 0 where
   pub number : IsOneOf (number.no_such_reading ∷ range_faults) n
   pub refusals : RefusesText reading text n
 
--- it is so of each number that is answered where the range is read
+-- what is answered where a range is read
+abbrev pub other_numbers : List ℤ
+other_numbers =
+    number.ok ∷ number.no_room ∷ number.range_out_of_memory ∷ version_faults ++ new_range_faults
+
+-- it is so of each of these
 pub record Stands (IsSo : ℤ → Type 0) : Type 0 where
   pub ok : IsSo number.ok
   pub no_room : IsSo number.no_room
   pub out_of_memory : IsSo number.range_out_of_memory
-  pub version : (n : ℤ) → IsOneOf version_faults n → IsSo n
-  pub new_range : (n : ℤ) → IsOneOf new_range_faults n → IsSo n
+  pub each : (n : ℤ) → IsOneOf other_numbers n → IsSo n
 
 -- what is read and refused of an old range and of a new one by the number
 pub record TellsBoth (reading rule : ℤ) (old new : Text) (n : ℤ) : Type 0 where
