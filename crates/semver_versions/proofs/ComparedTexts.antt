@@ -1,5 +1,6 @@
 -- Identifiers that still stand in a text, compared with others one by one.
-use Rattle.std.proofs.Common.{◌≡◌, ℕ, ◌+◌, ◌<◌, ◌≤◌, List, [], ◌∷◌, length, drop, get_or, map, refl, sym, ap, ◌∙◌, subst, arith}
+use Rattle.std.proofs.lemmas.Bool.Decides.{nat_tests}
+use Rattle.std.proofs.Common.{◌≡◌, ℕ, ◌+◌, ◌<◌, ◌≤◌, List, [], ◌∷◌, length, drop, get_or, map, sym, ap, ◌∙◌, subst, arith}
 use Rattle.std.specs.Prelude.{Option, Some, None}
 use Rattle.std.specs.Borrow.{Bor}
 use Rattle.std.specs.Cmp.Lexicographic.{slice_cmp}
@@ -8,7 +9,7 @@ use Rattle.std.proofs.lemmas.List.{drop_all, drop_more}
 use Rattle.std.proofs.lemmas.List.Splits.{length-slice_split}
 use Rattle.std.specs.Ordering.{nat_cmp, ordering_then}
 use Rattle.std.specs.declared.cmp.Ordering.{Ordering}
-use Rattle.std.specs.declared.cmp.Ordering.TheVariants.{Less, Equal, Greater}
+use Rattle.std.specs.declared.cmp.Ordering.TheVariants.{Equal, Greater}
 use Rattle.semver_texts.specs.Precedence.{identifier_cmp, pre_cmp, precedence}
 use Rattle.semver_texts.specs.Texts.{Text, is_dot}
 use Rattle.semver_texts.specs.VersionGrammar.{IsIdentifierText, SpellsIdentifier}
@@ -16,12 +17,6 @@ use Rattle.semver_texts.specs.VersionViews.{identifier_value}
 use Rattle.semver_texts.specs.Versions.{IdentifierValue, PlainVersion}
 use Rattle.semver_texts.specs.declared.version.Identifier.{Identifier}
 use Rattle.semver_texts.proofs.DottedParts.{parts_behind, IsSplit}
-
--- the first of two comparisons decides where it finds a difference
-first_decides : (o p : Ordering) → (o ≡ Equal → ⊥) → o ≡ ordering_then o p
-first_decides Less p n = refl
-first_decides Equal p n = absurd (n refl)
-first_decides Greater p n = refl
 
 -- what identifiers compare as with some others
 abbrev pub compared : List IdentifierValue → List Identifier → Ordering
@@ -36,7 +31,7 @@ pub record IsLeft (text : Text) (others : List Identifier) (rest : Option (Bor T
 -- one of them and those behind it
 pub at_item : (others : List Identifier) (i : ℕ) (x : Identifier) → i < length others → x ≡ get_or others i x
     → drop i others ≡ x ∷ drop (i + 1) others
-at_item others i x inside is = drop_more others i x inside ∙ ap (λ y. y ∷ drop (i + 1) others) (sym is)
+at_item others i x inside is = drop_more others i x inside ∙ rw (← is)
 
 -- a text in parts is its first part, and those behind it
 pub split_parts : (bytes part : Text) (behind : Option (Bor Text)) → IsSplit bytes part behind
@@ -47,7 +42,7 @@ split_parts bytes part (Some behind) h = h.0
 -- behind all of them there is none
 pub all_compared : {text : Text} (others : List Identifier) (rest : Option (Bor Text)) (i : ℕ) → length others ≤ i
     → IsLeft text others rest (drop i others) → IsLeft text others rest []
-all_compared others rest i past w = subst (IsLeft _ others rest) (drop_all i others past) w
+all_compared others rest i past w = rw (drop_all i others past) at w
 
 module _ {text : Text} {others : List Identifier} where
   -- the text has ended
@@ -79,7 +74,7 @@ module _ {text : Text} {others : List Identifier} where
     cut = split_parts bytes.now part behind split
 
     parts : AllByRecursion IsIdentifierText (part ∷ parts_behind behind)
-    parts = subst (AllByRecursion IsIdentifierText) cut w.each
+    parts = rw cut at w.each
 
     pub first_part : IsIdentifierText part
     first_part = parts.0
@@ -95,15 +90,14 @@ module _ {text : Text} {others : List Identifier} where
           at : (ids' : List IdentifierValue) → AllZip SpellsIdentifier ids' (part ∷ parts_behind behind)
               → compared ids others ≡ compared ids' (first ∷ left) → ordering ≡ compared ids others
           at [] none e = absurd none
-          at (id ∷ more) both e =
-              first_decides ordering (compared more left) unequal ∙ ap (λ o. ordering_then o (compared more left)) (is id both.0) ∙ sym e
+          at (id ∷ more) both e = let first_is = is id both.0 in grind arith
 
       -- it doesn't
       pub goes_on : ordering ≡ Equal → IsLeft text others behind left
       goes_on equal = record {
         each = parts.1;
         decides = λ ids all. at ids (w.decides ids all).0
-            (subst (AllZip SpellsIdentifier (w.decides ids all).0) cut (w.decides ids all).1) (w.decides ids all).2;
+            (rw cut at (w.decides ids all).1) (w.decides ids all).2;
       }
         where
           at : (ids ids' : List IdentifierValue) → AllZip SpellsIdentifier ids' (part ∷ parts_behind behind)
@@ -116,26 +110,11 @@ module _ {text : Text} {others : List Identifier} where
 
 -- ---- by the three numbers, and then by the pre-release
 
-then_same : (a b c p : Ordering)
-    → ordering_then (ordering_then (ordering_then a b) c) p ≡ ordering_then a (ordering_then b (ordering_then c p))
-then_same Less b c p = refl
-then_same Equal Less c p = refl
-then_same Equal Equal c p = refl
-then_same Equal Greater c p = refl
-then_same Greater b c p = refl
-
 module _ (major minor patch : ℕ) (v w : PlainVersion) (at_major : major ≡ v.major) (at_minor : minor ≡ v.minor) (at_patch : patch ≡ v.patch)
     (by_numbers : Ordering)
     (is : by_numbers ≡ ordering_then (ordering_then (nat_cmp major w.major) (nat_cmp minor w.minor)) (nat_cmp patch w.patch)) where
-  whole : ordering_then by_numbers (pre_cmp v.pre w.pre) ≡ precedence v w
-  whole =
-      ap (λ o. ordering_then o (pre_cmp v.pre w.pre)) is
-      ∙ then_same (nat_cmp major w.major) (nat_cmp minor w.minor) (nat_cmp patch w.patch) (pre_cmp v.pre w.pre)
-      ∙ (λ i. ordering_then (nat_cmp (at_major i) w.major)
-      (ordering_then (nat_cmp (at_minor i) w.minor) (ordering_then (nat_cmp (at_patch i) w.patch) (pre_cmp v.pre w.pre))))
-
   pub numbers_decide : (by_numbers ≡ Equal → ⊥) → by_numbers ≡ precedence v w
-  numbers_decide unequal = first_decides by_numbers (pre_cmp v.pre w.pre) unequal ∙ whole
+  numbers_decide unequal = grind (arith, nat_tests)
 
   pub pre_release_decides : by_numbers ≡ Equal → pre_cmp v.pre w.pre ≡ precedence v w
-  pre_release_decides equal = ap (λ o. ordering_then o (pre_cmp v.pre w.pre)) (sym equal) ∙ whole
+  pre_release_decides equal = grind (arith, nat_tests)

@@ -1,7 +1,7 @@
 -- Identifiers as they are found byte by byte, and as they are cut at dots.
-use Rattle.std.proofs.Common.{◌≡◌, ℕ, ◌<◌, ◌+◌, Bool, true, false, cond, List, [], ◌∷◌, ◌++◌, length, take, drop}
+use Rattle.std.proofs.Common.{◌≡◌, ℕ, ◌<◌, Bool, true, false, List, [], ◌∷◌, ◌++◌, length, take, drop}
 use Rattle.std.proofs.Common.{sym, refl, ap, ◌∙◌, subst, arith, append_assoc, append-nil, length-append, one-add}
-use Rattle.std.specs.Prelude.{◌==◌, ◌||◌, ◌&&◌, slice_index, Some, None}
+use Rattle.std.specs.Prelude.{◌==◌, ◌||◌, slice_index, Some, None}
 use Rattle.std.specs.List.{AllByRecursion, slice_split, join_with_byte, prefix_len}
 use Rattle.std.specs.Char.{is_ascii_alphanumeric}
 use Rattle.std.proofs.lemmas.Bool.{eqb-true, eq-eqb}
@@ -24,7 +24,7 @@ use Rattle.semver_tokens.proofs.TokenLists.{prefix_is}
 
 run_more : (run : Text) (b : ℕ) → IsRun run → is_ascii_alphanumeric b ≡ true → IsRun (run ++ b ∷ [])
 run_more run b is_run letter =
-    (omega (arith, length-append run (b ∷ [])), passes_append is_ascii_alphanumeric run (b ∷ []) is_run.1 (letter, tt))
+    (omega (arith, length-append run (b ∷ [])), passes_append is_ascii_alphanumeric run _ is_run.1 (letter, tt))
 
 one_run : (b : ℕ) → is_ascii_alphanumeric b ≡ true → IsRun (b ∷ [])
 one_run b letter = (omega arith, (letter, tt))
@@ -37,11 +37,11 @@ run_in_front run text is w = record {
   runs = run ∷ w.runs;
   some = omega arith;
   each = (is, w.each);
-  joined = ap (λ t. run ++ (45 ∷ t)) w.joined ∙ onto_runs w.runs w.some;
+  joined = rw w.joined (onto_runs w.runs w.some);
 }
   where
     onto_runs : (runs : List Text) → 0 < length runs → run ++ (45 ∷ join_with_byte 45 runs) ≡ join_with_byte 45 (run ∷ runs)
-    onto_runs [] some = absurd (omega (arith, some))
+    onto_runs [] some = absurd (omega arith)
     onto_runs (next ∷ runs) some = refl
 
 -- one or more identifiers joined by dots
@@ -59,7 +59,7 @@ before_dot run text is w = record {
   first = run;
   others = w.first ∷ w.others;
   each = (run_identifier run is, w.each);
-  joined = ap (λ t. run ++ (46 ∷ t)) w.joined;
+  joined = rw w.joined;
 }
 
 before_hyphen : (run text : Text) → IsRun run → AreJoined text → AreJoined (run ++ (45 ∷ text))
@@ -67,13 +67,13 @@ before_hyphen run text is w = record {
   first = run ++ (45 ∷ w.first);
   others = w.others;
   each = (run_in_front run w.first is w.each.0, w.each.1);
-  joined = ap (λ t. run ++ (45 ∷ t)) w.joined ∙ onto_first w.others;
+  joined = rw w.joined (onto_first w.others);
 }
   where
     onto_first : (others : List Text)
         → run ++ (45 ∷ join_with_byte 46 (w.first ∷ others)) ≡ join_with_byte 46 ((run ++ (45 ∷ w.first)) ∷ others)
     onto_first [] = refl
-    onto_first (next ∷ others) = sym (append_assoc run (45 ∷ w.first) (46 ∷ join_with_byte 46 (next ∷ others)))
+    onto_first (next ∷ others) = sym (append_assoc run (45 ∷ w.first) _)
 
 -- ---- byte by byte
 
@@ -86,35 +86,17 @@ front bytes = take (prefix_len is_dotted_byte bytes) bytes
 -- then they are identifiers
 begun : (bytes : Text) → (stands false bytes ≡ true → AreJoined (front bytes))
     × ((run : Text) → IsRun run → stands true bytes ≡ true → AreJoined (run ++ front bytes))
-begun [] = (λ e. cc, λ run is e. subst AreJoined (sym (append-nil run)) (alone run is))
-begun (b ∷ bytes) = by (is_ascii_alphanumeric b) (b == 45) (b == 46) refl refl refl (begun bytes)
-  where
-    one_taken : (n : ℕ) → take (1 + n) (b ∷ bytes) ≡ b ∷ take n bytes
-    one_taken n = rw one-add refl
-
-    by : (letter hyphen dot : Bool) → is_ascii_alphanumeric b ≡ letter → (b == 45) ≡ hyphen → (b == 46) ≡ dot
-        → (stands false bytes ≡ true → AreJoined (front bytes))
-        × ((run : Text) → IsRun run → stands true bytes ≡ true → AreJoined (run ++ front bytes))
-        → (cond letter (stands true bytes) (cond (hyphen || dot) (false && stands false bytes) false) ≡ true
-        → AreJoined (take (cond ((letter || hyphen) || dot) (1 + prefix_len is_dotted_byte bytes) 0) (b ∷ bytes)))
-        × ((run : Text) → IsRun run → cond letter (stands true bytes) (cond (hyphen || dot) (true && stands false bytes) true) ≡ true
-        → AreJoined (run ++ take (cond ((letter || hyphen) || dot) (1 + prefix_len is_dotted_byte bytes) 0) (b ∷ bytes)))
-    by true hyphen dot is h d more = (
-      λ e. subst AreJoined (sym (one_taken _)) (more.1 (b ∷ []) (one_run b is) e),
-      λ run r e. subst AreJoined (append_assoc run (b ∷ []) (front bytes) ∙ ap (λ t. run ++ t) (sym (one_taken _)))
-          (more.1 (run ++ b ∷ []) (run_more run b r is) e),
-    )
-    by false true dot is h d more = (
-      λ e. cc,
-      λ run r e. subst AreJoined ((λ i. run ++ (sym (eqb-true b 45 h) i ∷ front bytes)) ∙ ap (λ t. run ++ t) (sym (one_taken _)))
-          (before_hyphen run (front bytes) r (more.0 e)),
-    )
-    by false false true is h d more = (
-      λ e. cc,
-      λ run r e. subst AreJoined ((λ i. run ++ (sym (eqb-true b 46 d) i ∷ front bytes)) ∙ ap (λ t. run ++ t) (sym (one_taken _)))
-          (before_dot run (front bytes) r (more.0 e)),
-    )
-    by false false false is h d more = (λ e. cc, λ run r e. subst AreJoined (sym (append-nil run)) (alone run r))
+begun [] = (λ e. cc, λ run is e. rw append-nil (alone run is))
+begun (b ∷ bytes) =
+    let more = begun bytes in
+    by_test (is_ascii_alphanumeric b)
+    (λ y. rw (y, one-add)
+    (λ e. more.1 (b ∷ []) (one_run b y) e, λ run is e. rw append_assoc at (more.1 _ (run_more run b is y) e)))
+    (λ n. by_test (b == 45)
+    (λ h. rw (n, h, one-add) (λ e. cc, λ run is e. rw (eqb-true b 45 h) (before_hyphen run (front bytes) is (more.0 e))))
+    (λ o. by_test (b == 46)
+    (λ h. rw (n, o, h, one-add) (λ e. cc, λ run is e. rw (eqb-true b 46 h) (before_dot run (front bytes) is (more.0 e))))
+    (λ x. rw (n, o, x) (λ e. cc, λ run is e. rw append-nil (alone run is)))))
 
 -- ---- and identifiers stand so
 
@@ -136,12 +118,12 @@ joined_stand mark leads [] some each in_run more = absurd (omega (arith, some))
 joined_stand mark leads (t ∷ []) some each in_run more = each.0 in_run more
 joined_stand mark leads (t ∷ next ∷ texts) some each in_run more =
     let others : Text = join_with_byte mark (next ∷ texts) in
-    ap (stands in_run) (append_assoc t (mark ∷ others) more) ∙ each.0 in_run (mark ∷ (others ++ more)) ∙ leads (others ++ more)
+    ap (stands in_run) (append_assoc t (mark ∷ others) more) ∙ each.0 in_run _ ∙ leads (others ++ more)
     ∙ joined_stand mark leads (next ∷ texts) (omega arith) each.1 false more
 
 identifier_stands : (text : Text) → IsIdentifierText text → Stands text
 identifier_stands text w =
-    subst Stands (sym w.joined)
+    rw w.joined
     (joined_stand 45 (λ more. refl) w.runs w.some (all_more (λ run is in_run more. run_stands in_run run more is) w.runs w.each))
 
 identifiers_stand : (in_run : Bool) (texts : List Text) (more : Text) → 0 < length texts → AllByRecursion IsIdentifierText texts
@@ -166,7 +148,7 @@ cut_texts (t ∷ texts) each =
 
 -- one of them alone
 pub is_identifiers : (text : Text) → IsIdentifierText text → AreIdentifiers text
-is_identifiers text is = subst (AllByRecursion IsIdentifierText) (sym (cut_texts (text ∷ []) (is, tt))) (is, tt)
+is_identifiers text is = rw (cut_texts (text ∷ []) (is, tt)) (is, tt)
 
 pub stand_found : (bytes : Text) → stands false bytes ≡ true → BeginsWithIdentifiers bytes
 stand_found bytes e =
@@ -186,7 +168,7 @@ ends_front p past text = prefix_stops p text past
 
 other_stands : (more : Text) → is_dotted_byte (slice_index more 0) ≡ false → stands true more ≡ true
 other_stands [] e = refl
-other_stands (b ∷ more) e = let n = not_inner b e in rw (n.0, n.1) refl
+other_stands (b ∷ more) e = let n = not_inner b e in rw (n.0, n.1)
   where
     not_inner : (b : ℕ) → is_dotted_byte b ≡ false → (is_ascii_alphanumeric b ≡ false) × ((b == 45 || b == 46) ≡ false)
     not_inner b e = (grind (arith, nat_tests), grind (arith, nat_tests))
@@ -195,7 +177,7 @@ pub found_stand : (bytes : Text) → BeginsWithIdentifiers bytes → stands fals
 found_stand bytes w =
     let n : ℕ = prefix_len is_dotted_byte bytes in
     let some : 0 < length (take n bytes) = omega (arith, w.0, length-prefix_len is_dotted_byte bytes) in
-    let is : join_with_byte 46 (cut_at_dots (take n bytes)) ≡ take n bytes =
+    let is =
     ap (join_with_byte 46) (some_cut (take n bytes) some) ∙ join_with_byte-slice_split 46 (take n bytes) in
     let count : 0 < length (cut_at_dots (take n bytes)) =
     omega (arith, ap length (some_cut (take n bytes) some), length-slice_split is_dot (take n bytes)) in
@@ -211,9 +193,8 @@ marked_some mark (t ∷ texts) some = refl
 
 pub marked_cut : (mark : ℕ) (text : Text) → 0 < length text → marked (mark ∷ []) (cut_at_dots text) ≡ mark ∷ text
 marked_cut mark text some =
-    ap (marked (mark ∷ [])) (some_cut text some)
-    ∙ marked_some (mark ∷ []) (slice_split is_dot text) (omega (arith, length-slice_split is_dot text))
-    ∙ ap (λ t. mark ∷ t) (join_with_byte-slice_split 46 text)
+    rw (some_cut text some) (marked_some (mark ∷ []) _ (omega (arith, length-slice_split is_dot text))
+    ∙ rw (join_with_byte-slice_split 46 text))
 
 pub inner_passes : (inner : Text) → AreIdentifiers inner → Passes is_dotted_byte inner
 inner_passes [] each = tt
@@ -235,16 +216,14 @@ part_found mark [] inner rest e =
 part_found mark (b ∷ behind) inner rest e = by_test (b == mark)
     (λ y. by_test (stands false behind)
     (λ are. let n : ℕ = prefix_len is_dotted_byte behind in
-    let there : Some (front behind, drop n behind) ≡ Some (inner, rest) = rw (y, are) at e in
-    let same = found_same there in
-    let found = stand_found behind are in
-    let some : 0 < length inner = omega (arith, found.0, ap length same.0, length-prefix_len is_dotted_byte behind) in (
+    let same = found_same (rw (y, are) at e) in
+    let found = stand_found behind are in (
       subst AreIdentifiers same.0 found.1,
       (λ i. eqb-true b mark y i ∷ (sym (take-append-drop n behind) ∙ (λ j. same.0 j ++ same.1 j)) i)
-          ∙ ap (λ t. t ++ rest) (sym (marked_cut mark inner some)),
+          ∙ rw (marked_cut mark inner (omega (arith, found.0, ap length same.0, length-prefix_len is_dotted_byte behind))),
     ))
     (λ other. let none : None ≡ Some (inner, rest) = rw (y, other) at e in cc))
-    (λ n. let found : Some ([], b ∷ behind) ≡ Some (inner, rest) = rw n at e in
+    (λ n. let found = rw n at e in
     let same = found_same found in (subst AreIdentifiers same.0 tt, λ i. marked (mark ∷ []) (cut_at_dots (same.0 i)) ++ same.1 i))
 
 -- where there is a part, it is that
@@ -254,14 +233,16 @@ part_is mark (b ∷ text) [] rest w =
     rw (ap (λ t. slice_index t 0 == mark) w.split ∙ w.no_mark) (ap (λ t. Some ([], t)) w.split)
 part_is mark text (b ∷ inner) rest w =
     let part : Text = b ∷ inner in
-    let n : prefix_len is_dotted_byte (part ++ rest) ≡ length part =
+    let n =
     prefix_is is_dotted_byte part rest (inner_passes part w.each) refl w.ended in
-    let begins : BeginsWithIdentifiers (part ++ rest) = (
-      omega (arith, n),
-      subst AreIdentifiers (sym (take_at part rest (length part) refl) ∙ ap (λ k. take k (part ++ rest)) (sym n)) w.each,
-    ) in
     ap (marked_part BetweenRuns mark) (w.split ∙ ap (λ t. t ++ rest) (marked_cut mark part (omega arith)))
-    ∙ rw (eq-eqb mark mark refl, found_stand (part ++ rest) begins)
+    ∙ rw (
+      eq-eqb mark mark refl,
+      found_stand (part ++ rest) (
+        omega (arith, n),
+        subst AreIdentifiers (sym (take_at part rest (length part) refl) ∙ ap (λ k. take k (part ++ rest)) (sym n)) w.each,
+      ),
+    )
     (ap Some (λ i. (
       (ap (λ k. take k (part ++ rest)) n ∙ take_at part rest (length part) refl) i,
       (ap (λ k. drop k (part ++ rest)) n ∙ drop_at part rest (length part) refl) i,

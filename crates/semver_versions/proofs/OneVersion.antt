@@ -1,5 +1,5 @@
 -- A text spells at most one version.
-use Rattle.std.proofs.Common.{◌≡◌, ℕ, ◌<◌, Bool, true, false, eqb, ◌||◌, List, [], ◌∷◌, ◌++◌, length, take, drop, sym, refl, ap}
+use Rattle.std.proofs.Common.{◌≡◌, ℕ, ◌<◌, Bool, true, false, eqb, ◌||◌, List, [], ◌∷◌, ◌++◌, length, drop, sym, refl, ap}
 use Rattle.std.proofs.Common.{◌∙◌, subst, arith, append_assoc, append-nil, length-append, decimal}
 use Rattle.std.specs.Prelude.{slice_index, ◌==◌}
 use Rattle.std.specs.List.{All, AllByRecursion, AllZip, prefix_len, join_with_byte, slice_split}
@@ -21,8 +21,8 @@ use Rattle.semver_tokens.proofs.TokenLists.{prefix_is, decimal_is_run}
 peel : (p : ℕ → Bool) (xs zs ys ws : List ℕ) → p 0 ≡ false → Passes p xs → Passes p zs → p (slice_index ys 0) ≡ false
     → p (slice_index ws 0) ≡ false → xs ++ ys ≡ zs ++ ws → (xs ≡ zs) × (ys ≡ ws)
 peel p xs zs ys ws past all all_z stop stop_w e =
-    let len : length xs ≡ length zs = sym (prefix_is p xs ys all past stop) ∙ ap (prefix_len p) e ∙ prefix_is p zs ws all_z past stop_w in (
-      sym (take_at xs ys (length xs) refl) ∙ ap (take (length xs)) e ∙ take_at zs ws (length xs) (sym len),
+    let len = sym (prefix_is p xs ys all past stop) ∙ ap (prefix_len p) e ∙ prefix_is p zs ws all_z past stop_w in (
+      sym (take_at xs ys (length xs) refl) ∙ rw e (take_at zs ws (length xs) (sym len)),
       sym (drop_at xs ys (length xs) refl) ∙ ap (drop (length xs)) e ∙ drop_at zs ws (length xs) (sym len),
     )
 
@@ -53,7 +53,7 @@ pub identifiers_bytes : (ids : List IdentifierValue) (texts : List (List ℕ)) �
 identifiers_bytes = all_zipped identifier_bytes
 
 pub same_identifier : (id other : IdentifierValue) (text : List ℕ) → SpellsIdentifier id text → SpellsIdentifier other text → id ≡ other
-same_identifier (numeric n) (numeric m) text a b = ap numeric (decimal_injective n m a.0 b.0 (sym a.1 ∙ b.1))
+same_identifier (numeric n) (numeric m) text a b = rw (decimal_injective n m a.0 b.0 (sym a.1 ∙ b.1))
 same_identifier (numeric n) (alphanumeric kept) text a b = absurd (b.2 (n, a.0, sym b.0 ∙ a.1))
 same_identifier (alphanumeric kept) (numeric m) text a b = absurd (a.2 (m, b.0, sym a.0 ∙ b.1))
 same_identifier (alphanumeric kept) (alphanumeric text') text a b = ap alphanumeric (sym a.0 ∙ b.0)
@@ -82,15 +82,15 @@ pub split_joined : (text : List ℕ) (texts : List (List ℕ)) → AllByRecursio
     → slice_split is_dot (join_with_byte 46 (text ∷ texts)) ≡ text ∷ texts
 split_joined t [] each = slice_split_none is_dot t (no_dots t each.0.1)
 split_joined t (next ∷ texts) each =
-    slice_split_at is_dot t 46 (join_with_byte 46 (next ∷ texts)) (no_dots t each.0.1) refl
-    ∙ ap (λ (ts : List (List ℕ)). t ∷ ts) (split_joined next texts each.1)
+    slice_split_at is_dot t 46 _ (no_dots t each.0.1) refl
+    ∙ rw (split_joined next texts each.1)
 
 same_marked : (mark : ℕ) (xs ys : List (List ℕ)) → AllByRecursion IsPartText xs → AllByRecursion IsPartText ys
     → marked (mark ∷ []) xs ≡ marked (mark ∷ []) ys → xs ≡ ys
 same_marked mark [] [] a b e = refl
 same_marked mark [] (y ∷ ys) a b e = cc
 same_marked mark (x ∷ xs) [] a b e = cc
-same_marked mark (x ∷ xs) (y ∷ ys) a b e = sym (split_joined x xs a) ∙ ap (slice_split is_dot) (tails e) ∙ split_joined y ys b
+same_marked mark (x ∷ xs) (y ∷ ys) a b e = sym (split_joined x xs a) ∙ rw (tails e) (split_joined y ys b)
 
 pub part_passes : (p : ℕ → Bool) → ((b : ℕ) → is_part_byte b ≡ true → p b ≡ true) → p 46 ≡ true → (mark : ℕ) → p mark ≡ true
     → (ids : List IdentifierValue) (text : List ℕ) → SpellsPart (mark ∷ []) ids text → Passes p text
@@ -105,7 +105,7 @@ abbrev is_byte_of : ℕ → ℕ → Bool
 is_byte_of mark b = is_part_byte b || (eqb b 46 || eqb b mark)
 
 part_is_of : (mark b : ℕ) → is_part_byte b ≡ true → is_byte_of mark b ≡ true
-part_is_of mark b h = rw h refl
+part_is_of mark b h = rw h
 
 -- two parts at the front of one text are the same
 same_part : (mark : ℕ) (ids others : List IdentifierValue) (text other more left : List ℕ) → SpellsPart (mark ∷ []) ids text
@@ -131,7 +131,7 @@ begins_marked p mark (x ∷ xs) more here there = here
 part_begins : (p : ℕ → Bool) (mark : ℕ) {ids : List IdentifierValue} {text : List ℕ} (more : List ℕ) → SpellsPart (mark ∷ []) ids text
     → p mark ≡ false → p (slice_index more 0) ≡ false → p (slice_index (text ++ more) 0) ≡ false
 part_begins p mark more w here there =
-    ap (λ l. p (slice_index (l ++ more) 0)) w.joined ∙ begins_marked p mark w.texts more here there
+    rw w.joined (begins_marked p mark w.texts more here there)
 
 pub space_begins : (p : ℕ → Bool) (after : List ℕ) → Passes is_space after → p 0 ≡ false
     → ((b : ℕ) → is_space b ≡ true → p b ≡ false) → p (slice_index after 0) ≡ false
@@ -182,14 +182,14 @@ module _ {v : VersionValue} {text : List ℕ} (w : SpellsVersion v text) where
     pre_ends plus = part_begins p 43 w.after w.spells.build plus build_ends
 
     pub numbers_end : p 43 ≡ false → p 45 ≡ false → p (slice_index behind_numbers 0) ≡ false
-    numbers_end plus hyphen = part_begins p 45 (w.spells.build_text ++ w.after) w.spells.pre hyphen (pre_ends plus)
+    numbers_end plus hyphen = part_begins p 45 _ w.spells.pre hyphen (pre_ends plus)
 
   pub core_begins : BeginsWithNumbers at_numbers v.plain.major v.plain.minor v.plain.patch behind_numbers
   core_begins = record {
     major_fits = w.spells.major;
     minor_fits = w.spells.minor;
     patch_fits = w.spells.patch;
-    split = ap (λ t. t ++ w.after) w.spells.spelled ∙ simp append_assoc;
+    split = rw w.spells.spelled (simp append_assoc);
     ended = numbers_end is_ascii_digit refl space_no_digit refl refl;
   }
 
@@ -197,8 +197,7 @@ pub one_version : (v w : VersionValue) (text : List ℕ) → SpellsVersion v tex
 one_version v w text a b =
     let core = peel is_space a.before b.before (at_numbers a) (at_numbers b) refl a.spaces_before b.spaces_before
     (numbers_first (core_begins a)) (numbers_first (core_begins b)) (sym (behind_spaces a) ∙ behind_spaces b) in
-    let three = same_numbers (at_numbers b) _ _ _ _ _ _ _ _ (subst (λ t.
-    BeginsWithNumbers t v.plain.major v.plain.minor v.plain.patch (behind_numbers a)) core.1 (core_begins a)) (core_begins b) in
+    let three = same_numbers (at_numbers b) _ _ _ _ _ _ _ _ (rw core.1 at (core_begins a)) (core_begins b) in
     let pre = same_part 45 _ _ _ _ _ _ a.spells.pre b.spells.pre refl refl
     (pre_ends a (is_byte_of 45) refl space_no_pre refl) (pre_ends b (is_byte_of 45) refl space_no_pre refl) three.3 in
     let build = same_part 43 _ _ _ _ _ _ a.spells.build b.spells.build refl refl

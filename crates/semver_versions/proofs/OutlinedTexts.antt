@@ -9,7 +9,7 @@ use Rattle.std.proofs.lemmas.List.Sums.{prefix_len-le-length}
 use Rattle.std.proofs.lemmas.List.Splits.{join_with_byte-slice_split}
 use Rattle.semver_texts.specs.Texts.{Text, marked, BeginsWithNumbers, is_empty, is_space}
 use Rattle.semver_texts.specs.Versions.{IdentifierValue, VersionValue, numbers}
-use Rattle.semver_texts.specs.PrintedText.{identifier_text, plain_text}
+use Rattle.semver_texts.specs.PrintedText.{identifier_text}
 use Rattle.semver_texts.specs.VersionGrammar.{SpellsIdentifier, SpellsPart, SpellsVersion, IsVersionText}
 use Rattle.semver_versions.specs.Outlines.{OutlineValue, dotted_text, behind_mark, outline_behind, IsOutlineOf, StandsAt}
 use Rattle.semver_versions.specs.Steps.Cutting.{AreParts, AreSpaces, IsOutlineBehind, IsOutlined}
@@ -23,11 +23,11 @@ use Rattle.semver_versions.proofs.WholeText.{spelled_texts, part_text}
 
 joined_cut : (t : Text) → join_with_byte 46 (cut_at_dots t) ≡ t
 joined_cut [] = refl
-joined_cut (b ∷ t) = join_with_byte-slice_split 46 (b ∷ t)
+joined_cut (b ∷ t) = join_with_byte-slice_split 46 _
 
 -- it is the text that they were cut from
 cut_text : (t : Text) (ids : List IdentifierValue) → AllZip SpellsIdentifier ids (cut_at_dots t) → t ≡ dotted_text ids
-cut_text t ids each = sym (joined_cut t) ∙ ap (join_with_byte 46) (spelled_texts ids (cut_at_dots t) each)
+cut_text t ids each = sym (joined_cut t) ∙ rw (spelled_texts ids _ each)
 
 -- and is empty where there are none
 pub empty_text : (mark : Text) (ids : List IdentifierValue) (part : Text) → SpellsPart mark ids part → (dotted_text ids ≡ []) ↔ (ids ≡ [])
@@ -48,8 +48,7 @@ cut_dotted : (ids : List IdentifierValue) (texts : List Text) → AllZip SpellsI
     → AllZip SpellsIdentifier ids (cut_at_dots (dotted_text ids))
 cut_dotted ids texts each =
     subst (AllZip SpellsIdentifier ids)
-    (sym (ap (λ ts. cut_at_dots (join_with_byte 46 ts)) (sym (spelled_texts ids texts each))
-    ∙ cut_texts texts (spelled_are ids texts each)))
+    (sym (rw (← (spelled_texts ids texts each)) (cut_texts texts (spelled_are ids texts each))))
     each
 
 -- how many bytes a part has with its mark
@@ -83,10 +82,9 @@ pub rest_fits : (text rest : Text) (major minor patch : ℕ)
     → BeginsWithNumbers (drop (prefix_len is_space text) text) major minor patch rest
     → (length rest ≤ length text) × (length text ≡ prefix_len is_space text + length (drop (prefix_len is_space text) text))
 rest_fits text rest major minor patch n =
-    let front : Text = join_with_byte 46 (map decimal (major ∷ minor ∷ patch ∷ [])) in
     let cut : length text ≡ prefix_len is_space text + length (drop (prefix_len is_space text) text) =
     omega (arith, length-drop (prefix_len is_space text) text, prefix_len-le-length is_space text) in
-    (omega (arith, cut, ap length n.split, length-append front rest), cut)
+    (omega (arith, cut, ap length n.split, length-append (join_with_byte 46 (map decimal (major ∷ minor ∷ patch ∷ []))) rest), cut)
 
 pub has_outline : (before : ℕ) (text rest pre build : Text) (major minor patch : ℕ) → BeginsWithNumbers text major minor patch rest
     → AreParts rest pre build → (numbers_end pre_end : ℕ) → numbers_end + length rest ≡ before + length text
@@ -157,8 +155,7 @@ module _ (text : Text) where
   exactly_outlined None none o = (λ e. cc, λ w. absurd (none (w.0, w.1)))
   exactly_outlined (Some found) is o = (
     λ e. subst (IsOutlineOf text) (same e) is,
-    λ w. ap (λ (x : OutlineValue). Some x)
-        (is.2 ∙ ap (outline_behind (prefix_len is_space text)) (one_version is.0 w.0 text is.1 w.1) ∙ sym w.2),
+    λ w. rw (is.2 ∙ ap (outline_behind _) (one_version is.0 w.0 text is.1 w.1) ∙ sym w.2),
   )
     where
       same : {x y : OutlineValue} → Some x ≡ Some y → x ≡ y
@@ -168,7 +165,7 @@ module _ (text : Text) where
 
 no_spaces : (text : Text) → is_space (slice_index text 0) ≡ false → prefix_len is_space text ≡ 0
 no_spaces [] none = refl
-no_spaces (b ∷ text) none = rw none refl
+no_spaces (b ∷ text) none = rw none
 
 pub outlined_at_numbers : (text rest : Text) (major minor patch numbers_end : ℕ) (found : Option OutlineValue)
     → ((t : Text) (before : ℕ) → BeginsWithNumbers t major minor patch rest → numbers_end + length rest ≡ before + length t
@@ -176,7 +173,7 @@ pub outlined_at_numbers : (text rest : Text) (major minor patch numbers_end : �
     → BeginsWithNumbers text major minor patch rest → length text ≡ numbers_end + length rest
     → IsOutlined (prefix_len is_space text) text found
 outlined_at_numbers text rest major minor patch numbers_end found told n at =
-    subst (λ before. IsOutlined before text found) (sym (no_spaces text (numbers_first n))) (told text 0 n (omega (arith, at)))
+    rw (no_spaces text (numbers_first n)) (told text 0 n (omega (arith, at)))
 
 pub exactly_none : (before : ℕ) (text : Text) (found : Option OutlineValue) → IsOutlined before text found
     → (found ≡ None) ↔ ¬ (IsVersionText text)
@@ -190,10 +187,9 @@ stands : (mark place : ℕ) (part lead rest text : Text) → text ≡ lead ++ ((
     → StandsAt (behind_mark place part) part text
 stands mark place [] lead rest text whole at = refl
 stands mark place (b ∷ part) lead rest text whole at =
-    ap (λ t. take (length (b ∷ part)) (drop (suc place) t)) (whole ∙ regroup lead (b ∷ part) rest)
-    ∙ ap (take (length (b ∷ part)))
-    (drop_at (lead ++ (mark ∷ [])) ((b ∷ part) ++ rest) (suc place) (omega (arith, at, length-append lead (mark ∷ []))))
-    ∙ take_at (b ∷ part) rest (length (b ∷ part)) refl
+    rw (whole ∙ regroup lead (b ∷ part) rest) (ap (take (length (b ∷ part)))
+    (drop_at _ ((b ∷ part) ++ rest) (suc place) (omega (arith, at, length-append lead (mark ∷ []))))
+    ∙ take_at (b ∷ part) rest (length (b ∷ part)) refl)
   where
     regroup : (a b c : Text) → a ++ ((mark ∷ b) ++ c) ≡ (a ++ (mark ∷ [])) ++ (b ++ c)
     regroup a b c = simp append_assoc
@@ -202,18 +198,18 @@ part_stands : (mark place : ℕ) (ids : List IdentifierValue) (part lead rest te
     → text ≡ lead ++ (part ++ rest) → place ≡ length lead → StandsAt (behind_mark place (dotted_text ids)) (dotted_text ids) text
 part_stands mark place [] part lead rest text w whole at = refl
 part_stands mark place (id ∷ ids) part lead rest text w whole at =
-    stands mark place (dotted_text (id ∷ ids)) lead rest text
-    (whole ∙ ap (λ t. lead ++ (t ++ rest)) (part_text (mark ∷ []) (id ∷ ids) part w)) at
+    stands mark place _ lead rest text
+    (whole ∙ rw (part_text (mark ∷ []) (id ∷ ids) part w)) at
 
 module _ (text : Text) (v : VersionValue) (w : SpellsVersion v text) where
   pub its_outline : (o : OutlineValue) → IsOutlineOf text o → o ≡ outline_behind (prefix_len is_space text) v
   its_outline o is = is.2 ∙ ap (outline_behind (prefix_len is_space text)) (one_version is.0 v text is.1 w)
 
   its_pre : (o : OutlineValue) → IsOutlineOf text o → o.pre ≡ dotted_text v.plain.pre
-  its_pre o is = ap (λ (x : OutlineValue). x.pre) (its_outline o is)
+  its_pre o is = rw (its_outline o is)
 
   its_build : (o : OutlineValue) → IsOutlineOf text o → o.build ≡ dotted_text v.build
-  its_build o is = ap (λ (x : OutlineValue). x.build) (its_outline o is)
+  its_build o is = rw (its_outline o is)
 
   pub no_pre_release : (found : Option OutlineValue) → IsOutlined (prefix_len is_space text) text found
       → IfSome found (λ o. (o.pre ≡ []) ↔ (v.plain.pre ≡ []))
@@ -242,7 +238,7 @@ module _ (text : Text) (v : VersionValue) (w : SpellsVersion v text) where
   -- what is cut from them are its identifiers
   pub spelled_pre : (o : OutlineValue) → IsOutlineOf text o → AllZip SpellsIdentifier v.plain.pre (cut_at_dots o.pre)
   spelled_pre o is =
-      subst (λ t. AllZip SpellsIdentifier v.plain.pre (cut_at_dots t)) (sym (its_pre o is))
+      rw (its_pre o is)
       (cut_dotted v.plain.pre w.spells.pre.texts w.spells.pre.each)
 
   pub cut_pre : (o : OutlineValue) → IsOutlineOf text o → (ids : List IdentifierValue) → AllZip SpellsIdentifier ids (cut_at_dots o.pre)
@@ -253,17 +249,17 @@ module _ (text : Text) (v : VersionValue) (w : SpellsVersion v text) where
       → ids ≡ v.build
   cut_build o is ids each =
       same_identifiers ids v.build (cut_at_dots o.build) each
-      (subst (λ t. AllZip SpellsIdentifier v.build (cut_at_dots t)) (sym (its_build o is))
+      (rw (its_build o is)
       (cut_dotted v.build w.spells.build.texts w.spells.build.each))
 
   -- and they stand at their offsets
   both_stand : (o : OutlineValue) → IsOutlineOf text o → StandsAt o.pre_offset o.pre text × StandsAt o.build_offset o.build text
   both_stand o is =
       let front : Text = join_with_byte 46 (map decimal (numbers v.plain)) in
-      let plain : length (plain_text v.plain) ≡ length front + length w.spells.pre_text =
+      let plain =
       length-append front (marked (codes "-") (map identifier_text v.plain.pre))
       ∙ ap (λ t. length front + length t) (sym (part_text (codes "-") v.plain.pre w.spells.pre_text w.spells.pre)) in
-      subst (λ (x : OutlineValue). StandsAt x.pre_offset x.pre text × StandsAt x.build_offset x.build text) (sym (its_outline o is)) (
+      rw (its_outline o is) (
         part_stands 45 _ v.plain.pre w.spells.pre_text (w.before ++ front) (w.spells.build_text ++ w.after) text w.spells.pre
             (whole ∙ simp append_assoc) (omega (arith, space_before w, length-append w.before front)),
         part_stands 43 _ v.build w.spells.build_text (w.before ++ (front ++ w.spells.pre_text)) w.after text w.spells.build
@@ -297,8 +293,8 @@ if_err (Err e) p = p
 
 pub exactly : (text : Text) (u : VersionValue) → SpellsVersion u text → (v : VersionValue) → (Some u ≡ Some v) ↔ SpellsVersion v text
 exactly text u spells v = (
-  λ e. subst (λ (w : VersionValue). SpellsVersion w text) (same e) spells,
-  λ s. ap (λ (w : VersionValue). Some w) (one_version u v text spells s),
+  λ e. rw (same e) at spells,
+  λ s. rw (one_version u v text spells s),
 )
   where
     same : {u w : VersionValue} → Some u ≡ Some w → u ≡ w

@@ -80,13 +80,13 @@ pub at_bad_start : (text : List ℕ) (e : Error)
     → IsOutcomeOf text (Err (fault_of e))
 at_bad_start text e w = record {
   start = record { remaining = []; pending = Some w.0 };
-  answer = Err (fault.Lexer w.0);
+  answer = Err _;
   end = record { remaining = []; pending = Some w.0 };
   state = w.2;
   reads =
       reads_stuck version_is_read SpellsCore
       (none_taken version_is_read _) (at_nothing w.0) (inl refl);
-  whole = ap (λ x. Err x) w.1;
+  whole = rw w.1;
 }
 
 pub lexer_has_memory : (P : Type 0) (e : Error) (c : ℕ) → fault_of e ≡ fault.Lexer c → IfOutOfMemory {T = Unit {0}} (Err e) P
@@ -111,14 +111,14 @@ module _ (text : List ℕ) (s t : ParserState) (v : VersionValue) (state : IsSta
         state = state;
         reads = reads;
         whole = sym
-            (ap (λ l. whole_answer (Ok v) l t.pending) none);
+            (rw none);
       }
 
   -- the tail, where some token is left
   pub tail_given : ¬ (t.remaining ≡ []) → (d : Step (List TokenValue)) → d ≡ tail t
       → Gives (λ e u. IsOutcomeOf text (Err e)) (λ ts u. IsOutcomeOf text (Err (fault.MoreInput ts))) d
   tail_given some d e =
-      subst (Gives (λ e u. IsOutcomeOf text (Err e)) (λ ts u. IsOutcomeOf text (Err (fault.MoreInput ts)))) (sym e)
+      rw e
       (at_left t.remaining t.pending some (λ x whole. record {
         start = s;
         answer = Ok v;
@@ -132,8 +132,8 @@ module _ (text : List ℕ) (s t : ParserState) (v : VersionValue) (state : IsSta
           → ((x : Result VersionValue Fault) → x ≡ whole_answer (Ok v) left pending → IsOutcomeOf text x)
           → Gives (λ e u. IsOutcomeOf text (Err e)) (λ ts u. IsOutcomeOf text (Err (fault.MoreInput ts))) (tail_of left pending)
       at_left [] pending some outcome = absurd (some refl)
-      at_left (x ∷ left) None some outcome = outcome (Err (fault.MoreInput (x ∷ left))) refl
-      at_left (x ∷ left) (Some c) some outcome = outcome (Err (fault.Lexer c)) refl
+      at_left (x ∷ left) None some outcome = outcome _ refl
+      at_left (x ∷ left) (Some c) some outcome = outcome _ refl
 
   pub at_tail_refusal : ¬ (t.remaining ≡ []) → t.pending ≡ None → TextMayRunOut text
   at_tail_refusal some none =

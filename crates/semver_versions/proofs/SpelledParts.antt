@@ -45,7 +45,7 @@ module _ (text pre build : Text) (w : AreParts text pre build) where
     split = w.split;
     ended = begins_marked is_dotted_byte 43 (cut_at_dots build) w.after refl
         (space_begins is_dotted_byte w.after w.spaces refl no_inner);
-    no_mark = begins_marked (λ b. b == 45) 43 (cut_at_dots build) w.after refl
+    no_mark = begins_marked (λ b. b == 45) 43 _ w.after refl
         (space_begins (λ b. b == 45) w.after w.spaces refl no_hyphen);
   }
 
@@ -63,7 +63,7 @@ is_none e = cc
 -- so they are found where they are there
 pub no_pre : (text : Text) → marked_part BetweenRuns 45 text ≡ None → (pre build : Text) → ¬ (AreParts text pre build)
 no_pre text none pre build w =
-    let e : None ≡ Some (pre, marked (codes "+") (cut_at_dots build) ++ w.after) =
+    let e =
     sym none ∙ part_is 45 text pre _ (pre_is text pre build w) in
     absurd (is_none e)
 
@@ -73,7 +73,7 @@ module _ (text found rest : Text) (at : marked_part BetweenRuns 45 text ≡ Some
 
   behind_build : (pre build : Text) (w : AreParts text pre build) → marked_part BetweenRuns 43 rest ≡ Some (build, w.after)
   behind_build pre build w =
-      ap (marked_part BetweenRuns 43) (behind_pre pre build w) ∙ part_is 43 _ build w.after (build_is text pre build w)
+      rw (behind_pre pre build w) (part_is 43 _ build w.after (build_is text pre build w))
 
   pub no_build : marked_part BetweenRuns 43 rest ≡ None → (pre build : Text) → ¬ (AreParts text pre build)
   no_build none pre build w = absurd (is_none (sym none ∙ behind_build pre build w))
@@ -92,7 +92,7 @@ module _ (text found rest : Text) (at : marked_part BetweenRuns 45 text ≡ Some
         pre_each = pre.0;
         build_each = build.0;
         spaces = spaces;
-        split = pre.1 ∙ ap (λ t. marked (codes "-") (cut_at_dots found) ++ t) build.1;
+        split = pre.1 ∙ rw build.1;
       }
 
 -- ---- a version, from its numbers and its parts
@@ -102,7 +102,7 @@ pub spells_version : (text rest pre build : Text) (major minor patch : ℕ) → 
     → AllZip SpellsIdentifier others (cut_at_dots build)
     → SpellsVersion (record { plain = record { major = major; minor = minor; patch = patch; pre = ids }; build = others }) text
 spells_version text rest pre build major minor patch n w ids others each every =
-    let three : Text = join_with_byte 46 (map decimal (major ∷ minor ∷ patch ∷ [])) in
+    let three = join_with_byte 46 (map decimal (major ∷ minor ∷ patch ∷ [])) in
     record {
       before = [];
       core = three ++ marked (codes "-") (cut_at_dots pre) ++ marked (codes "+") (cut_at_dots build);
@@ -119,7 +119,7 @@ spells_version text rest pre build major minor patch n w ids others each every =
         build = record { texts = cut_at_dots build; each = every; joined = refl };
         spelled = refl;
       };
-      whole = n.split ∙ ap (λ t. three ++ t) w.split ∙ simp append_assoc;
+      whole = n.split ∙ rw w.split (simp append_assoc);
     }
 
 -- each text of an identifier spells one
@@ -154,15 +154,15 @@ inner_of mark ids text w =
     let each = spelled_are ids w.texts w.each in
     let cut = cut_texts w.texts each in (
       join_with_byte 46 w.texts,
-      subst (AllByRecursion IsIdentifierText) (sym cut) each,
+      rw cut each,
       w.joined ∙ ap (marked mark) (sym cut),
     )
 
 module _ (v : VersionValue) (text : Text) (w : SpellsVersion v text) where
   its_parts : (pre : Text) × (build : Text) × AreParts (behind_numbers w) pre build
   its_parts =
-      let pre = inner_of (codes "-") v.plain.pre w.spells.pre_text w.spells.pre in
-      let build = inner_of (codes "+") v.build w.spells.build_text w.spells.build in (
+      let pre = inner_of _ v.plain.pre w.spells.pre_text w.spells.pre in
+      let build = inner_of _ v.build w.spells.build_text w.spells.build in (
         pre.0,
         build.0,
         record {
@@ -182,9 +182,9 @@ module _ (v : VersionValue) (text : Text) (w : SpellsVersion v text) where
       go : (before : Text) → AreSpaces before → text ≡ before ++ at_numbers w
           → BeginsWithNumbers text v.plain.major v.plain.minor v.plain.patch (behind_numbers w)
       go [] spaces e =
-          subst (λ t. BeginsWithNumbers t v.plain.major v.plain.minor v.plain.patch (behind_numbers w)) (sym e) (core_begins w)
+          rw e (core_begins w)
       go (b ∷ before) spaces e =
-          absurd (never (ap (λ t. is_space (slice_index t 0)) e ∙ spaces.0) first)
+          absurd (never (rw e spaces.0) first)
 
 -- so a text spells none where its numbers aren't there, or its parts
 pub no_numbers : (text : Text) → is_space (slice_index text 0) ≡ false
@@ -196,13 +196,13 @@ pub no_parts : (text rest : Text) (major minor patch : ℕ) → BeginsWithNumber
 no_parts text rest major minor patch n none v =
     let p = its_parts v.0 text v.1 in
     let same = same_numbers text _ _ _ major minor patch _ rest (its_numbers v.0 text v.1 (numbers_first n)) n in
-    none p.0 p.1 (subst (λ t. AreParts t p.0 p.1) same.3 p.2)
+    none p.0 p.1 (rw same.3 at p.2)
 
 -- ---- white space before it
 
 pub spaced : (v : VersionValue) (text : Text) → SpellsVersion v (drop (prefix_len is_space text) text) → SpellsVersion v text
 spaced v text w =
-    let spaces : Text = take (prefix_len is_space text) text in
+    let spaces = take _ text in
     record {
       before = spaces ++ w.before;
       core = w.core;
@@ -210,13 +210,12 @@ spaced v text w =
       spaces_before = passes_append is_space spaces w.before (all_of_prefix is_space text) w.spaces_before;
       spaces_after = w.spaces_after;
       spells = w.spells;
-      whole = sym (take-append-drop (prefix_len is_space text) text) ∙ ap (λ t. spaces ++ t) w.whole ∙ simp append_assoc;
+      whole = sym (take-append-drop (prefix_len is_space text) text) ∙ rw w.whole (simp append_assoc);
     }
 
 -- how many bytes of it there are
 pub space_before : {v : VersionValue} {text : Text} (w : SpellsVersion v text) → prefix_len is_space text ≡ length w.before
-space_before w = ap (prefix_len is_space) (behind_spaces w)
-    ∙ prefix_is is_space w.before (at_numbers w) w.spaces_before refl (numbers_first (core_begins w))
+space_before w = rw (behind_spaces w) (prefix_is is_space w.before _ w.spaces_before refl (numbers_first (core_begins w)))
 
 pub unspaced : (v : VersionValue) (text : Text) → SpellsVersion v text → SpellsVersion v (drop (prefix_len is_space text) text)
 unspaced v text w = record {
@@ -226,5 +225,5 @@ unspaced v text w = record {
   spaces_before = tt;
   spaces_after = w.spaces_after;
   spells = w.spells;
-  whole = (λ i. drop (space_before w i) (behind_spaces w i)) ∙ drop_at w.before (at_numbers w) (length w.before) refl;
+  whole = (λ i. drop (space_before w i) (behind_spaces w i)) ∙ drop_at w.before _ (length w.before) refl;
 }

@@ -1,5 +1,5 @@
 -- Examples that show what the definitions say. The table of cases has what the calls answer.
-use Rattle.std.proofs.Common.{◌≡◌, List, [], ◌∷◌, length, Some, Err, refl, sym, subst, arith, inl}
+use Rattle.std.proofs.Common.{◌≡◌, List, [], ◌∷◌, length, Some, Err, refl, sym, arith, inl}
 use Rattle.std.specs.Prelude.{codes}
 use Rattle.std.specs.Str.{chars}
 use Rattle.std.specs.Fmt.{digits}
@@ -27,7 +27,7 @@ use Rattle.semver_versions.proofs.OneVersion.{bare}
 -- tokens that are found are the tokens
 tokens_found : (text : Text) (ts : List TokenValue) (rest : Text) → scan (length text) text 0 ≡ (ts, rest) → AreTokensOf text ts rest
 tokens_found text ts rest e =
-    subst (λ p. AreTokensOf text p.0 p.1) e (scan_finds text (length text) 0 (omega arith))
+    rw e at (scan_finds text (length text) 0 (omega arith))
 
 word_space_slash : AreTokensOf (codes "foo / *") (token.AlphaNumeric (codes "foo") ∷ token.Whitespace 3 4 ∷ []) (codes "/ *")
 unfolding scan first_token component sign
@@ -58,7 +58,7 @@ zero_one_is_kept : SpellsIdentifier (alphanumeric (codes "01")) (codes "01")
 zero_one_is_kept = (
   refl,
   record { runs = codes "01" ∷ []; some = omega arith; each = ((omega arith, (refl, (refl, tt))), tt); joined = refl },
-  λ number. never (is_number_true (codes "01") (canonical_from_IsNumber (codes "01") number)) refl,
+  λ number. never (is_number_true _ (canonical_from_IsNumber _ number)) refl,
 )
 
 seven_is_a_number : SpellsIdentifier (numeric 7) (codes "7")
@@ -93,10 +93,10 @@ zero_one_prints = refl
 slash_behind_word : IsOutcomeOf (codes "a/") (Err (state.Lexer 47))
 unfolding scan first_token component sign chars
 slash_behind_word = record {
-  start = record { remaining = token.AlphaNumeric (codes "a") ∷ []; pending = Some 47 };
-  answer = Err (state.Lexer 47);
-  end = record { remaining = token.AlphaNumeric (codes "a") ∷ []; pending = Some 47 };
-  state = (codes "/", tokens_found _ (token.AlphaNumeric (codes "a") ∷ []) _ refl, refl);
+  start = record { remaining = token.AlphaNumeric _ ∷ []; pending = Some 47 };
+  answer = Err _;
+  end = record { remaining = token.AlphaNumeric _ ∷ []; pending = Some 47 };
+  state = (codes "/", tokens_found _ _ _ refl, refl);
   reads =
       reads_stuck version_is_read SpellsCore
       (none_taken version_is_read _) (at_last _ 47) (inl refl);

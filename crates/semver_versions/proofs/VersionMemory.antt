@@ -1,6 +1,6 @@
 -- A text that spells a version with identifiers has tokens that hold a run of one, so reading it may run out of memory.
 use Rattle.std.proofs.Common.{◌≡◌, ℕ, ◌<◌, ◌+◌, Bool, true, false, arith, List, [], ◌∷◌, length, map, Some}
-use Rattle.std.proofs.Common.{sym, refl, ap, ◌∙◌, subst, inl, inr, ⊎_elim, ◌⊎◌, decimal}
+use Rattle.std.proofs.Common.{refl, subst, inl, inr, ⊎_elim, ◌⊎◌, decimal}
 use Rattle.std.specs.List.{AllZip, join_with_byte}
 use Rattle.std.proofs.lemmas.Option.{option_and_then_some}
 use Rattle.semver_texts.specs.Texts.{Text, marked}
@@ -29,7 +29,7 @@ mark_leads _ _ q e = cc
 mark_holds : (mark : Part) (p q : Place) → step p (mark_of mark) ≡ Some q → (ts : List TokenValue) (last : Place)
     → run step q ts ≡ Some last → accepts last ≡ true → HoldsIdentifierRun (mark_of mark ∷ ts)
 mark_holds mark p q leads ts last e ok =
-    let to = mark_leads mark p q leads in sign_holds (mark_of mark) (is_sign mark) to.0 ts last (ap (λ r. run step r ts) (sym to.1) ∙ e) ok
+    let to = mark_leads mark p q leads in sign_holds _ (is_sign mark) to.0 ts last (rw (← to.1) e) ok
   where
     is_sign : (mark : Part) → (mark_of mark ≡ Hyphen) ⊎ (mark_of mark ≡ Plus)
     is_sign pre_release = inl refl
@@ -45,7 +45,7 @@ is_mark _ = false
 no_mark_inside : (text : List ℕ) (place : ℕ) (t : TokenValue) → is_mark t ≡ false → IsTokenAt text place t
     → Passes is_no_mark (inner_text t)
 no_mark_inside text place (Numeric n) other w =
-    all_more letter_no_mark (decimal n) (decimal_is_run n w).1
+    all_more letter_no_mark _ (decimal_is_run n w).1
 no_mark_inside text place (AlphaNumeric s) other w = all_more letter_no_mark s w.0.1
 no_mark_inside text place (Whitespace a b) other w = tt
 no_mark_inside text place LtEq other w = (refl, (refl, tt))

@@ -1,5 +1,5 @@
 -- A text that spells a version has the tokens of one, and they spell that version.
-use Rattle.std.proofs.Common.{◌≡◌, ℕ, ◌+◌, ◌-◌, ◌<◌, ◌^◌, true, false, List, [], ◌∷◌, ◌++◌, length, take, drop, Some, sym, refl}
+use Rattle.std.proofs.Common.{◌≡◌, ℕ, ◌+◌, ◌<◌, ◌^◌, true, false, List, [], ◌∷◌, ◌++◌, length, take, drop, Some, sym, refl}
 use Rattle.std.proofs.Common.{ap, ◌∙◌, subst, inl, arith, append_assoc, append-nil, length-append, length-drop, decimal}
 use Rattle.std.specs.Prelude.{option_and_then, slice_index, slice_range}
 use Rattle.std.specs.List.{AllByRecursion, AllZip, join_with_byte}
@@ -15,7 +15,7 @@ use Rattle.semver_steps.specs.VersionReading.{IsVersionShape, inner_text, inner_
 use Rattle.semver_steps.specs.Steps.Taking.{run, major, minor, patch, Part, pre_release, build, Place, start, at_number, behind_number}
 use Rattle.semver_steps.specs.Steps.Taking.{at_run, behind_run, end, step, accepts}
 use Rattle.semver_texts.proofs.Lists.{Passes}
-use Rattle.semver_tokens.proofs.FirstToken.{IsFound, continues_into, continues-component, token_text-component, IsTokenAt-component}
+use Rattle.semver_tokens.proofs.FirstToken.{continues_into, continues-component, token_text-component, IsTokenAt-component}
 use Rattle.semver_tokens.proofs.FirstToken.{space_is_no_run}
 use Rattle.semver_tokens.proofs.TokenLists.{tokens_cons, shows_kind, decimal_is_run}
 use Rattle.semver_tokens.proofs.Components.{component_cases}
@@ -54,20 +54,19 @@ module _ (text : List ℕ) where
       let n : ℕ = length (token_text text t) in
       let behind : drop n (drop at text) ≡ more = ap (drop n) here ∙ drop_at (token_text text t) more n refl in
       let e = rest (at + n) (sym (drop-drop n at text) ∙ behind) in
-      let found : IsFound text at (drop at text) t n = record {
-        front =
-            record {
-              spelled = here ∙ ap (λ l. token_text text t ++ l) (sym behind);
-              is_token = is_token;
-              stops = ap
-                  (continues_into t) behind ∙ stops;
-            };
-        len = refl;
-        positive = (shows_kind text at t is_token).some;
-      } in
       record {
         ts = t ∷ e.ts;
-        tokens = tokens_cons text at t n e.ts [] found e.tokens;
+        tokens = tokens_cons text at t n e.ts [] (record {
+          front =
+              record {
+                spelled = here ∙ ap (λ l. token_text text t ++ l) (sym behind);
+                is_token = is_token;
+                stops = ap
+                    (continues_into t) behind ∙ stops;
+              };
+          len = refl;
+          positive = (shows_kind text at t is_token).some;
+        }) e.tokens;
         last = e.last;
         leads = ap (option_and_then (λ v. run step v e.ts)) leads ∙ e.leads;
         may_end = e.may_end;
@@ -78,8 +77,7 @@ module _ (text : List ℕ) where
 
   slice_here : (at : ℕ) (spaces more : List ℕ) → drop at text ≡ spaces ++ more → slice_range text at (at + length spaces) ≡ spaces
   slice_here at spaces more here =
-      let n : (at + length spaces) - at ≡ length spaces = omega arith in
-      ap (λ m. take m (drop at text)) n ∙ ap (take (length spaces)) here ∙ take_at spaces more (length spaces) refl
+      ap (λ m. take m (drop at text)) (omega arith) ∙ ap (take (length spaces)) here ∙ take_at spaces more (length spaces) refl
 
   space_at : (at : ℕ) (spaces more : List ℕ) → drop at text ≡ spaces ++ more → 0 < length spaces → Passes is_space spaces
       → IsTokenAt text at (Whitespace at (at + length spaces))
@@ -141,8 +139,7 @@ module _ (text : List ℕ) where
       run_more : (bytes spelled : List ℕ) → IsRun bytes → NoRun spelled → Ends (behind_run part) spelled
           → Ends (at_run part) (bytes ++ spelled)
       run_more bytes spelled w stops rest at here =
-          subst (λ l. AreEnding text (at_run part) (l ++ spelled) at) (run_inner bytes w.0)
-          (one_more (component bytes) (at_run part) (behind_run part) (spelled ++ after) spelled at
+          rw (run_inner bytes w.0) at (one_more (component bytes) (at_run part) (behind_run part) (spelled ++ after) spelled at
           (here ∙ append_assoc bytes spelled after
           ∙ ap (λ l. l ++ (spelled ++ after)) (sym (token_text-component text bytes w.0)))
           (IsTokenAt-component text at bytes w) (continues-component bytes (slice_index (spelled ++ after) 0) ∙ stops)
@@ -162,7 +159,7 @@ module _ (text : List ℕ) where
       identifier_more : (id : IdentifierValue) (bytes spelled : List ℕ) → SpellsIdentifier id bytes → NoRun spelled
           → Ends (behind_run part) spelled → Ends (at_run part) (bytes ++ spelled)
       identifier_more (numeric n) bytes spelled w stops rest =
-          subst (λ l. Ends (at_run part) (l ++ spelled)) (sym w.1)
+          rw w.1
           (run_more (decimal n) spelled (decimal_is_run n w.0) stops rest)
       identifier_more (alphanumeric kept) bytes spelled w stops rest =
           subst (λ l. Ends (at_run part) (l ++ spelled)) (sym (w.0 ∙ w.1.joined))
@@ -242,7 +239,7 @@ module _ (v : VersionValue) (text : List ℕ) (w : SpellsVersion v text) where
 
   pub version_tokens : HasTokens v text
   version_tokens =
-      let whole : AreEnding text start w.core 0 = spaces_more text start (at_number major) w.before (at_numbers w) w.core w.spaces_before
+      let whole = spaces_more text start (at_number major) w.before (at_numbers w) w.core w.spaces_before
       (numbers_first (core_begins w)) (λ a b. refl) (at_core start refl) (at_core (at_number major) refl) 0 (behind_spaces w) in
       record {
         ts = whole.ts;

@@ -1,5 +1,5 @@
 -- What reading a whole text answers, by the texts and the grammar.
-use Rattle.std.proofs.Common.{◌≡◌, ℕ, zero, suc, ◌+◌, ◌-◌, ◌<◌, ◌^◌, Bool, true, false, eqb, ◌||◌, List, [], ◌∷◌, ◌++◌, length, map}
+use Rattle.std.proofs.Common.{◌≡◌, ℕ, zero, suc, ◌+◌, ◌<◌, ◌^◌, Bool, true, false, eqb, ◌||◌, List, [], ◌∷◌, ◌++◌, length, map}
 use Rattle.std.proofs.Common.{Some, None, Option, Result, Ok, Err, sym, refl, ap, ◌∙◌, subst, inr, inl, ⊎_elim, arith, append_assoc}
 use Rattle.std.proofs.Common.{append-nil, length-append, codes, decimal, IsUtf8}
 use Rattle.std.specs.Prelude.{slice_index, slice_get, chars, flat_map, encode_utf8_all, not}
@@ -47,26 +47,26 @@ spelled_texts (id ∷ ids) (t ∷ texts) all = (λ i. spelled_text id t all.0 i 
 
 pub part_text : (mark : List ℕ) (ids : List IdentifierValue) (text : List ℕ) → SpellsPart mark ids text
     → text ≡ marked mark (map identifier_text ids)
-part_text mark ids text w = w.joined ∙ ap (marked mark) (spelled_texts ids w.texts w.each)
+part_text mark ids text w = w.joined ∙ rw (spelled_texts ids w.texts w.each)
 
 core_printed : (v : VersionValue) (core : List ℕ) → SpellsCore v core → core ≡ version_text v
 core_printed v core w =
-    w.spelled ∙ (λ i. join_with_byte 46 (map decimal (numbers v.plain)) ++ part_text (codes "-") v.plain.pre w.pre_text w.pre i
-    ++ part_text (codes "+") v.build w.build_text w.build i)
+    w.spelled ∙ (λ i. join_with_byte 46 (map decimal (numbers v.plain)) ++ part_text _ v.plain.pre w.pre_text w.pre i
+    ++ part_text _ v.build w.build_text w.build i)
 
 -- the bytes of a core, where those of numbers pass, dots, and those of its parts
 core_passes : (p : ℕ → Bool) → ((b : ℕ) → is_ascii_alphanumeric b ≡ true → p b ≡ true) → p 46 ≡ true → (v : VersionValue) (core : List ℕ)
     (w : SpellsCore v core) → Passes p w.pre_text → Passes p w.build_text → Passes p core
 core_passes p letters dot v core w pre build =
-    subst (Passes p) (sym w.spelled)
-    (passes_append p (three ++ w.pre_text) w.build_text (passes_append p three w.pre_text
+    rw w.spelled
+    (passes_append p _ w.build_text (passes_append p three w.pre_text
     (joined_pass p 46 dot (map decimal (numbers v.plain)) (number _ w.major, (number _ w.minor, (number _ w.patch, tt)))) pre) build)
   where
     three : List ℕ
     three = join_with_byte 46 (map decimal (numbers v.plain))
 
     number : (n : ℕ) → n < 2 ^ 64 → Passes p (decimal n)
-    number n small = all_more letters (decimal n) (decimal_is_run n small).1
+    number n small = all_more letters _ (decimal_is_run n small).1
 
 -- bytes of a version
 abbrev is_version_byte : ℕ → Bool
@@ -76,7 +76,7 @@ no_space_byte : (b : ℕ) → is_version_byte b ≡ true → is_space b ≡ fals
 no_space_byte b h = grind (arith, nat_tests)
 
 part_is_version : (b : ℕ) → is_part_byte b ≡ true → is_version_byte b ≡ true
-part_is_version b h = rw h refl
+part_is_version b h = rw h
 
 core_bytes : (v : VersionValue) (core : List ℕ) → SpellsCore v core → Passes is_version_byte core
 core_bytes v core w =
@@ -99,7 +99,7 @@ trimmed v text w =
       spaces_after = w.spaces_after;
       whole = w.whole;
       first = no_space 0;
-      last = no_space (length w.core - 1);
+      last = no_space _;
     })
 
 printable_identifier : (id : IdentifierValue) (text : List ℕ) → SpellsIdentifier id text → IsPrintableIdentifier id
@@ -130,8 +130,8 @@ prints_each (id ∷ ids) all = (all.0, prints_each ids all.1)
 -- the printed text of a printable version spells it
 pub printed_spells : (v : VersionValue) → IsPrintableVersion v → SpellsVersion v (version_text v)
 printed_spells v w = bare (record {
-  pre_text = marked (codes "-") (map identifier_text v.plain.pre);
-  build_text = marked (codes "+") (map identifier_text v.build);
+  pre_text = marked (codes "-") _;
+  build_text = marked (codes "+") _;
   major = w.major;
   minor = w.minor;
   patch = w.patch;
@@ -146,7 +146,7 @@ outer_texts : (text : List ℕ) (ts : List TokenValue) → IsOuterShape ts → A
     → (inner_texts ts ≡ []) × Passes is_space (tokens_text text ts)
 outer_texts text [] w placed = (refl, tt)
 outer_texts text ((Whitespace a b) ∷ []) w placed =
-    (refl, subst (Passes is_space) (sym (append-nil (token_text text (Whitespace a b)))) placed.0.1.3)
+    (refl, rw (append-nil _) placed.0.1.3)
 outer_texts text (t ∷ []) w placed = cc (w.1.0)
 outer_texts text (t ∷ u ∷ ts) w placed = absurd (omega (arith, w.0))
 
@@ -156,7 +156,7 @@ AreSame text ts = tokens_text text ts ≡ inner_texts ts
 
 same_append : (text : List ℕ) (ts us : List TokenValue) → AreSame text ts → AreSame text us → AreSame text (ts ++ us)
 same_append text ts us a b =
-    flat_map-append (token_text text) ts us ∙ (λ i. a i ++ b i) ∙ sym (flat_map-append inner_text ts us)
+    flat_map-append _ ts us ∙ (λ i. a i ++ b i) ∙ sym (flat_map-append inner_text ts us)
 
 identifier_same : (text : List ℕ) (id : List TokenValue) → IsIdentifierShape id → AreSame text id
 identifier_same text id w = let whole = identifier_is_read.read id w in pieces_text text id (pieces false whole.0 id whole.1)
@@ -170,13 +170,12 @@ identifiers_same text (id ∷ ids) all =
     others : (ids : List (List TokenValue)) → AllByRecursion IsIdentifierShape ids → AreSame text (flat_map (λ id. Dot ∷ id) ids)
     others [] all = refl
     others (id ∷ ids) all =
-        ap (λ l. 46 ∷ l)
-        (same_append text id (flat_map (λ id. Dot ∷ id) ids) (identifier_same text id all.0) (others ids all.1))
+        rw (same_append text id (flat_map (λ id. Dot ∷ id) ids) (identifier_same text id all.0) (others ids all.1))
 
 part_same : (text : List ℕ) (mark : TokenValue) (ts : List TokenValue) → token_text text mark ≡ inner_text mark → IsPartShape mark ts
     → AreSame text ts
 part_same text mark ts same w =
-    ⊎_elim (λ none. rw none.1 refl) (λ some. rw some.1 (λ i. same i ++ identifiers_same text w.ids w.each i)) w.parted
+    ⊎_elim (λ none. rw none.1) (λ some. rw some.1 (λ i. same i ++ identifiers_same text w.ids w.each i)) w.parted
 
 -- what the tokens spell without white space, the text spells with it
 pub whole_spelled : (v : VersionValue) (text : List ℕ) (ts : List TokenValue) → AreTokensOf text ts [] → IsVersionShape ts
@@ -184,7 +183,7 @@ pub whole_spelled : (v : VersionValue) (text : List ℕ) (ts : List TokenValue) 
 whole_spelled v text ts tokens shape w =
     let three : List TokenValue = join_by (λ n. Numeric n ∷ []) (Dot ∷ []) (shape.major ∷ shape.minor ∷ shape.patch ∷ []) in
     let core : List TokenValue = three ++ shape.pre ++ shape.build in
-    let joined : ts ≡ shape.before ++ (core ++ shape.after) = shape.joined ∙ simp append_assoc in
+    let joined = shape.joined ∙ simp append_assoc in
     let same : AreSame text core = same_append text (three ++ shape.pre) shape.build
     (same_append text three shape.pre refl (part_same text Hyphen shape.pre refl shape.pre_shape))
     (part_same text Plus shape.build refl shape.build_shape) in
@@ -204,7 +203,7 @@ whole_spelled v text ts tokens shape w =
       spells = w;
       whole = tokens.spelled ∙ append-nil (tokens_text text ts) ∙ ap (tokens_text text) joined
           ∙ split3 (token_text text) shape.before core shape.after
-          ∙ ap (λ l. tokens_text text shape.before ++ l ++ tokens_text text shape.after) (same ∙ sym inner_is);
+          ∙ rw (same ∙ sym inner_is);
     }
   where
     split3 : (f : TokenValue → List ℕ) (a b c : List TokenValue)
@@ -216,7 +215,7 @@ whole_spelled v text ts tokens shape w =
 tokens_ascii : (text : List ℕ) (place : ℕ) (ts : List TokenValue) → AreInPlace text place ts → IsAscii (tokens_text text ts)
 tokens_ascii text place [] w = IsAscii-nil
 tokens_ascii text place (t ∷ ts) w =
-    IsAscii-append (token_text text t) (tokens_text text ts) (IsAscii-token_text text place t w.0)
+    IsAscii-append _ (tokens_text text ts) (IsAscii-token_text text place t w.0)
     (tokens_ascii text (place + length (token_text text t)) ts w.1)
 
 none_first : (cs : List ℕ) → slice_get cs 0 ≡ None → cs ≡ []
@@ -228,14 +227,14 @@ no_rest : (text : List ℕ) (s : ParserState) → IsUtf8 text → (w : IsStateOf
 no_rest text s utf8 w none =
     let front : List ℕ = tokens_text text s.remaining in
     let front_utf8 : IsUtf8 front = IsUtf8-from_ascii front (tokens_ascii text 0 s.remaining w.1.in_place) in
-    let same : chars text ≡ chars front = ap chars w.1.spelled ∙ chars-append front w.0 front_utf8
-    ∙ ap (λ cs. chars front ++ cs) (none_first (chars w.0) (sym w.2 ∙ none)) ∙ append-nil (chars front) in
+    let same = ap chars w.1.spelled ∙ chars-append front w.0 front_utf8
+    ∙ rw (none_first (chars w.0) (sym w.2 ∙ none)) (append-nil (chars front)) in
     append_cancel_left front w.0 [] (sym w.1.spelled ∙ sym (encodes-chars text utf8) ∙ ap encode_utf8_all same
     ∙ encodes-chars front front_utf8 ∙ sym (append-nil front))
 
 -- and where they are, none is
 no_pending : (text : List ℕ) (s : ParserState) → (w : IsStateOf text s) → w.0 ≡ [] → s.pending ≡ None
-no_pending text s w empty = w.2 ∙ ap (λ l. slice_get (chars l) 0) empty ∙ ap (λ cs. slice_get cs 0) chars-nil
+no_pending text s w empty = w.2 ∙ rw empty (rw chars-nil)
 
 ok_whole : (v : VersionValue) (r : Result VersionValue Fault) (left : List TokenValue) (pending : Option ℕ)
     → Ok v ≡ whole_answer r left pending → (r ≡ Ok v) × (left ≡ [])
@@ -249,11 +248,10 @@ accepted_spells v text utf8 o =
     let q = ok_whole v o.answer o.end.remaining o.end.pending o.whole in
     let w : ReadsVersion o.start (Ok v) o.end = subst (λ r. ReadsVersion o.start r o.end) q.0 o.reads in
     let empty : w.rest ≡ [] = sym w.answer.leaves ∙ q.1 in
-    let all : w.front ≡ o.start.remaining = sym (w.longest.split ∙ ap (λ l. w.front ++ l) empty ∙ append-nil w.front) in
+    let all : w.front ≡ o.start.remaining = sym (w.longest.split ∙ rw empty (append-nil w.front)) in
     let none : o.start.pending ≡ None = ⊎_elim (λ some. absurd (omega (arith, some, ap length empty))) (λ n. n) w.answer.whole.known in
-    let tokens : AreTokensOf text o.start.remaining [] = subst (AreTokensOf text o.start.remaining)
-    (no_rest text o.start utf8 o.state none) o.state.1 in
-    whole_spelled v text o.start.remaining tokens (subst IsVersionShape all w.answer.whole.shape)
+    whole_spelled v text o.start.remaining (subst (AreTokensOf text o.start.remaining)
+    (no_rest text o.start utf8 o.state none) o.state.1) (subst IsVersionShape all w.answer.whole.shape)
     (subst (λ l. SpellsCore v (inner_texts l)) all w.answer.spelled)
 
 -- ---- a text that spells a version
@@ -268,8 +266,7 @@ letter_no_mark b h = grind (arith, nat_tests)
 -- so are all bytes of a part without identifiers
 no_part : (mark : List ℕ) (ids : List IdentifierValue) (part : List ℕ) → ids ≡ [] → SpellsPart mark ids part → Passes is_no_mark part
 no_part mark ids part none w =
-    subst (Passes is_no_mark)
-    (sym (part_text mark ids part w ∙ ap (λ l. marked mark (map identifier_text l)) none)) tt
+    rw (part_text mark ids part w ∙ ap (λ l. marked mark (map identifier_text l)) none) tt
 
 module _ (v : VersionValue) (text : List ℕ) (spells : SpellsVersion v text) where
   pub has : HasTokens v text
@@ -290,7 +287,7 @@ module _ (v : VersionValue) (text : List ℕ) (spells : SpellsVersion v text) wh
       → (has.ts ≡ front) × ([] ≡ rest)
   front_is s w front rest longest =
       same_front IsVersionShape has.ts has.ts front [] rest all_longest
-      (subst (λ l. IsLongestFront IsVersionShape l front rest) (sym (state_is s w).0) longest)
+      (rw (state_is s w).0 longest)
 
   pub outcome_spelled : (x : Result VersionValue Fault) → IsOutcomeOf text x → x ≡ Ok v
   outcome_spelled x o = o.whole ∙ go o.answer o.reads
@@ -314,7 +311,7 @@ module _ (v : VersionValue) (text : List ℕ) (spells : SpellsVersion v text) wh
   at_start = record { remaining = has.ts; pending = None }
 
   is_start : IsStateOf text at_start
-  is_start = ([], has.tokens, ap (λ cs. slice_get cs 0) (sym chars-nil))
+  is_start = ([], has.tokens, rw chars-nil)
 
   pub spelled_outcome : IsOutcomeOf text (Ok v)
   spelled_outcome = record {
@@ -353,12 +350,11 @@ module _ (v : VersionValue) (text : List ℕ) (spells : SpellsVersion v text) wh
 
       no_sign : HoldsIdentifierRun has.ts → ⊥
       no_sign h =
-          let split : inner_texts has.ts ≡ inner_texts h.before ++ (inner_text h.sign ++ inner_texts (h.component ∷ h.after)) = ap
-          inner_texts h.split
-          ∙ flat_map-append inner_text h.before (h.sign ∷ h.component ∷ h.after) in
           let at_sign : Passes is_no_mark (inner_text h.sign) =
           (passes_apart is_no_mark (inner_text h.sign) _
-          (passes_apart is_no_mark (inner_texts h.before) _ (subst (Passes is_no_mark) split no_marks)).1).0 in
+          (passes_apart is_no_mark (inner_texts h.before) _ (subst (Passes is_no_mark) (ap
+          inner_texts h.split
+          ∙ flat_map-append inner_text h.before (h.sign ∷ h.component ∷ h.after)) no_marks)).1).0 in
           ⊎_elim
           (λ hyphen. let e = subst (λ x. Passes is_no_mark (inner_text x)) hyphen at_sign in cc (e.0))
           (λ plus. let e = subst (λ x. Passes is_no_mark (inner_text x)) plus at_sign in cc (e.0))
@@ -369,8 +365,7 @@ module _ (v : VersionValue) (text : List ℕ) (spells : SpellsVersion v text) wh
 pub one_outcome : (text : List ℕ) (x y : Result VersionValue Fault) → IsOutcomeOf text x → IsOutcomeOf text y → x ≡ y
 one_outcome text x y a b =
     let same = same_tokens text 0 a.start.remaining b.start.remaining a.state.0 b.state.0 a.state.1 b.state.1 in
-    let pending : a.start.pending ≡ b.start.pending = a.state.2 ∙ ap (λ l. slice_get (chars l) 0) same.1 ∙ sym b.state.2 in
-    let begin : a.start ≡ b.start = (λ i. record { remaining = same.0 i; pending = pending i }) in
+    let pending = a.state.2 ∙ rw same.1 (sym b.state.2) in
     let once = reads_once IsVersionShape SpellsCore one_core b.start a.answer b.answer a.end b.end
-    (subst (λ s. ReadsVersion s a.answer a.end) begin a.reads) b.reads in
+    (subst (λ s. ReadsVersion s a.answer a.end) (λ i. record { remaining = same.0 i; pending = pending i }) a.reads) b.reads in
     a.whole ∙ (λ i. whole_answer (once.0 i) (once.1 i).remaining (once.1 i).pending) ∙ sym b.whole

@@ -1,4 +1,4 @@
-use Rattle.std.proofs.Common.{◌≡◌, rules, ap, sym, ◌∙◌}
+use Rattle.std.proofs.Common.{◌≡◌, rules, ◌∙◌}
 use Rattle.semver_texts.specs.Precedence.{identifier_cmp}
 use Rattle.semver_texts.specs.Versions.{numeric}
 use Rattle.semver_texts.specs.VersionViews.{identifier_value}
@@ -7,6 +7,5 @@ use Rattle.semver_versions.proofs.comparing.compare_with.Goals as goal
 
 pub returns-in-Some-Numeric : goal.returns-in-Some-Numeric
 returns-in-Some-Numeric c = λ id spells.
-    let bound = identifier_value c.args.other.now in
-    let here : c.cmp.result ≡ identifier_cmp (numeric c.in-Some-Numeric.number) bound = search rules in
-    here ∙ ap (λ x. identifier_cmp x bound) (sym (same_identifier id (numeric _) c.args.text.now spells c.in-Some-Numeric.ensures))
+    let here : c.cmp.result ≡ identifier_cmp (numeric c.in-Some-Numeric.number) (identifier_value c.args.other.now) = search rules in
+    here ∙ rw (same_identifier id (numeric _) c.args.text.now spells c.in-Some-Numeric.ensures)

@@ -1,8 +1,8 @@
-use Rattle.std.proofs.Common.{◌≡◌, ℕ, length, take, [], sym, ap, ◌∙◌, subst, append-nil, refl}
+use Rattle.std.proofs.Common.{[], sym, ap, ◌∙◌, subst, append-nil, refl}
 use Rattle.std.specs.List.{prefix_len}
 use Rattle.std.proofs.Math.Seq.{take-length}
 use Rattle.std.proofs.lemmas.Bool.{eqb-true, eq-eqb}
-use Rattle.semver_texts.specs.Texts.{Text, is_space}
+use Rattle.semver_texts.specs.Texts.{is_space}
 use Rattle.semver_tokens.proofs.FirstToken.{all_of_prefix}
 use Rattle.semver_tokens.proofs.TokenLists.{prefix_is}
 use Rattle.semver_versions.specs.Steps.Cutting.{AreSpaces}
@@ -10,13 +10,12 @@ use Rattle.semver_versions.proofs.from_bytes.are_spaces.Goals as goal
 
 pub returns-clause-yes : goal.returns-clause-yes
 returns-clause-yes c = λ all.
-    let bytes : Text = c.args.bytes.now in
-    let count : prefix_len is_space bytes ≡ length bytes = sym c.space_len.ensures ∙ eqb-true c.space_len.result (length bytes) all in
-    subst AreSpaces (ap (λ (n : ℕ). take n bytes) count ∙ take-length bytes) (all_of_prefix is_space bytes)
+    let bytes = c.args.bytes.now in
+    subst AreSpaces (rw (sym c.space_len.ensures ∙ eqb-true c.space_len.result _ all) (take-length bytes)) (all_of_prefix is_space bytes)
 
 pub returns-clause-no : goal.returns-clause-no
 returns-clause-no c = λ other spaces.
-    let bytes : Text = c.args.bytes.now in
-    let count : prefix_len is_space bytes ≡ length bytes =
+    let bytes = c.args.bytes.now in
+    let count =
     ap (prefix_len is_space) (sym (append-nil bytes)) ∙ prefix_is is_space bytes [] spaces refl refl in
-    let all = eq-eqb c.space_len.result (length bytes) (c.space_len.ensures ∙ count) in cc
+    let all = eq-eqb c.space_len.result _ (c.space_len.ensures ∙ count) in cc

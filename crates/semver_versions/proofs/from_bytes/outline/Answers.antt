@@ -1,4 +1,4 @@
-use Rattle.std.proofs.Common.{ℕ, subst, refl, None, drop, arith}
+use Rattle.std.proofs.Common.{subst, refl, None, drop, arith}
 use Rattle.std.specs.List.{prefix_len}
 use Rattle.semver_texts.specs.Texts.{Text, is_space, BeginsWithNumbers}
 use Rattle.semver_versions.proofs.CutIdentifiers.{ends_front}
@@ -10,8 +10,7 @@ pub returns-in_err-major : goal.returns-in_err-major
 returns-in_err-major c = rw c.from_residual.ensures
     (outlined_spaced c.args.input.now None
     (no_numbers _ (ends_front is_space refl c.args.input.now)
-    (subst (λ (t : Text). (major minor patch : ℕ) (rest : Text) → ¬ (BeginsWithNumbers t major minor patch rest))
-    c.behind_spaces.ensures c.in_err-major.ensures)))
+    (rw c.behind_spaces.ensures at c.in_err-major.ensures)))
 
 pub returns : goal.returns
 returns c =

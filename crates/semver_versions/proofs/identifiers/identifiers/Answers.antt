@@ -1,5 +1,4 @@
 use Rattle.std.proofs.Common.{rules}
-use Rattle.semver_texts.specs.Texts.{cut_at_dots}
 use Rattle.semver_texts.specs.VersionGrammar.{SpellsIdentifier}
 use Rattle.semver_texts.specs.VersionViews.{identifier_value}
 use Rattle.semver_texts.proofs.Lists.{zip_mapped}
@@ -11,7 +10,7 @@ pub returns-clause-spelled : goal.returns-clause-spelled
 returns-clause-spelled c =
     if_ok_more c.of_parts.result
     (λ made each. zip_mapped SpellsIdentifier identifier_value (λ id part made is. search rules) made.items
-    (cut_at_dots c.args.bytes.now) each c.requires)
+    _ each c.requires)
     c.of_parts.ensures.made
 
 pub of_parts-requires-clause-bytes : goal.of_parts-requires-clause-bytes

@@ -2,8 +2,7 @@ use Rattle.std.proofs.Common.{◌≡◌, ℕ, refl, sym, ap, ◌∙◌, Result, 
 use Rattle.std.proofs.lemmas.Result.{err_from_is_err_and}
 use Rattle.semver_tokens.specs.ParserState.{ParserState}
 use Rattle.semver_steps.specs.ParserSteps.{tail}
-use Rattle.semver_steps.specs.ParserViews.{fault_of, answer_of, UnlessOutOfMemory, IfOutOfMemory}
-use Rattle.semver_steps.specs.VersionReading.{IsOutcomeOf, TextMayRunOut}
+use Rattle.semver_steps.specs.ParserViews.{fault_of, UnlessOutOfMemory}
 use Rattle.semver_texts.specs.VersionViews.{version_value}
 use Rattle.semver_texts.specs.declared.version.Version.{Version}
 use Rattle.semver_steps.specs.declared.parser.Error.{Error}
@@ -17,34 +16,31 @@ Answer = Result Version Error
 
 pub returns-in_err-parser : goal.returns-in_err-parser
 returns-in_err-parser c =
-    let text : List ℕ = c.args.input.now in
-    let r : Answer = c.from_residual.result in
     let p = err_from_is_err_and c.from_residual.result c.from_residual.ensures.1 in
     let bad = c.in_err-parser.ensures.lexer in
-    let outcome : UnlessOutOfMemory r (IsOutcomeOf text (answer_of version_value r)) = unless_out_of_memory r
-    (rw (p.1, p.2) (at_bad_start text c.in_err-parser.field-0.0 bad)) in
-    let memory : IfOutOfMemory r (TextMayRunOut text) = rw (p.1, p.2) (lexer_has_memory _ c.in_err-parser.field-0.0 bad.0 bad.1) in
-    record { outcome = outcome; out_of_memory = memory }
+    let outcome = unless_out_of_memory c.from_residual.result
+    (rw (p.1, p.2) (at_bad_start c.args.input.now c.in_err-parser.field-0.0 bad)) in
+    record { outcome = outcome; out_of_memory = (rw (p.1, p.2) (lexer_has_memory _ c.in_err-parser.field-0.0 bad.0 bad.1)) }
 
 pub returns-in_err-version : goal.returns-in_err-version
 returns-in_err-version c =
-    let text : List ℕ = c.args.input.now in
-    let r : Answer = c.from_residual-in_err-version.result in
+    let text = c.args.input.now in
     let p = err_from_is_err_and c.from_residual-in_err-version.result c.from_residual-in_err-version.ensures.1 in
     let e : Error = c.in_err-version.field-0.0 in
     let state = c.in_ok-parser.ensures.ok in
-    let outcome : UnlessOutOfMemory r (IsOutcomeOf text (answer_of version_value r)) = rw (p.1, p.2)
+    let outcome : UnlessOutOfMemory c.from_residual-in_err-version.result _ = rw (p.1, p.2)
     (unless_err e (at_fault text c.in_ok-parser.parser c.version.new.self (fault_of e) state) c.in_err-version.ensures.answer) in
-    let memory : IfOutOfMemory r (TextMayRunOut text) = rw (p.1, p.2)
-    (if_err e (at_refusal text c.in_ok-parser.parser c.version.new.self state) c.in_err-version.ensures.out_of_memory) in
-    record { outcome = outcome; out_of_memory = memory }
+    record {
+      outcome = outcome;
+      out_of_memory = (rw (p.1, p.2)
+          (if_err e (at_refusal text c.in_ok-parser.parser c.version.new.self state) c.in_err-version.ensures.out_of_memory));
+    }
 
 pub returns-then-is_eof : goal.returns-then-is_eof
 returns-then-is_eof c =
-    let text : List ℕ = c.args.input.now in
     record {
-      outcome = at_end text c.in_ok-parser.parser c.version.new.self
-          (version_value c.in_ok-version.version) c.in_ok-parser.ensures.ok c.in_ok-version.ensures.answer
+      outcome = at_end c.args.input.now c.in_ok-parser.parser c.version.new.self
+          _ c.in_ok-parser.ensures.ok c.in_ok-version.ensures.answer
           (c.if-is_eof.ensures.answer.0 refl);
       out_of_memory = tt;
     }
@@ -56,27 +52,26 @@ some_left c = λ none. let e = c.if-is_eof.ensures.answer.1 none in cc
 pub returns-in_err-rest : goal.returns-in_err-rest
 returns-in_err-rest c =
     let text : List ℕ = c.args.input.now in
-    let r : Answer = c.from_residual-in_err-rest.result in
     let p = err_from_is_err_and c.from_residual-in_err-rest.result c.from_residual-in_err-rest.ensures.1 in
     let e : Error = c.in_err-rest.field-0.0 in
     let s : ParserState = c.in_ok-parser.parser in
     let t : ParserState = c.version.new.self in
     let some = some_left (goal.at.returns-in_err-rest c).Else-is_eof in
-    let same : c.is_eof.new.self ≡ t = c.is_eof.ensures.after in
+    let same = c.is_eof.ensures.after in
     let given = tail_given text s t (version_value c.in_ok-version.version) c.in_ok-parser.ensures.ok c.in_ok-version.ensures.answer some in
     let refusal = at_tail_refusal text s t (version_value c.in_ok-version.version) c.in_ok-parser.ensures.ok c.in_ok-version.ensures.answer
     some in
-    let outcome : UnlessOutOfMemory r (IsOutcomeOf text (answer_of version_value r)) = rw (p.1, p.2)
+    let outcome : UnlessOutOfMemory c.from_residual-in_err-rest.result _ = rw (p.1, p.2)
     (unless_err e (λ d. given _ (d ∙ ap tail same)) c.in_err-rest.ensures.answer) in
-    let memory : IfOutOfMemory r (TextMayRunOut text) = rw (p.1, p.2)
-    (if_err e (λ d. refusal (sym (ap (λ (z : ParserState). z.pending) same) ∙ d.1)) c.in_err-rest.ensures.out_of_memory) in
-    record { outcome = outcome; out_of_memory = memory }
+    record {
+      outcome = outcome;
+      out_of_memory = (rw (p.1, p.2)
+          (if_err e (λ d. refusal (sym (rw same) ∙ d.1)) c.in_err-rest.ensures.out_of_memory));
+    }
 
 pub returns : goal.returns
 returns c =
-    let text : List ℕ = c.args.input.now in
-    let some = some_left (goal.at.returns c).Else-is_eof in
-    let outcome = tail_given text c.in_ok-parser.parser c.version.new.self
-    (version_value c.in_ok-version.version) c.in_ok-parser.ensures.ok c.in_ok-version.ensures.answer some _
-    (c.in_ok-rest.ensures.answer ∙ ap tail c.is_eof.ensures.after) in
+    let outcome = tail_given c.args.input.now c.in_ok-parser.parser c.version.new.self
+    _ c.in_ok-parser.ensures.ok c.in_ok-version.ensures.answer (some_left (goal.at.returns c).Else-is_eof) _
+    (c.in_ok-rest.ensures.answer ∙ rw c.is_eof.ensures.after) in
     record { outcome = outcome; out_of_memory = tt }
