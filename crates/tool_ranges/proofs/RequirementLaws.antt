@@ -1,11 +1,11 @@
 -- What is said of a requirement's text: it has one tree, and what a call refuses of it.
 use Rattle.std.proofs.Common.{◌≡◌, true, false, List, [], ◌∷◌, refl, ap, ◌∙◌}
 use Rattle.std.proofs.Common.{Some, None, append-nil, sym, arith}
-use Rattle.std.specs.Prelude.{Result, Ok, Err, Vec}
+use Rattle.std.specs.Prelude.{Result, Ok, Err}
 use Rattle.std.proofs.Math.Bool.{and-true}
 use Rattle.std.proofs.lemmas.Bool.{both_ways}
 use Rattle.semver_texts.specs.Texts.{Text}
-use Rattle.semver_ranges.specs.declared.range.Range.{Range}
+use Rattle.semver_ranges.specs.declared.range_set.RangeSet.{RangeSet}
 use Rattle.semver_ranges.specs.declared.range_set.RangeError.{RangeError}
 use Rattle.semver_ranges.specs.declared.range_set.RangeError.TheVariants.{NotARange, NumberTooLarge, OutOfMemory}
 use Rattle.semver_ranges.specs.RangeTree.{Simple}
@@ -65,14 +65,14 @@ refused t OutOfMemory (tree, h, fit) = record {
 
 -- ---- one comparator
 
-pub one_rewritten : {Z : Type 0} (t : Text) (s : Simple) (r : Result (Vec Range Z) RangeError) → comparator_at t ≡ Some (s, None)
+pub one_rewritten : (t : Text) (s : Simple) (r : Result RangeSet RangeError) → comparator_at t ≡ Some (s, None)
     → IsRewrittenOne (as_read s) r → IsRewritten t r
-one_rewritten {Z = Z} t s r e = rewritten_so r where
+one_rewritten t s r e = rewritten_so r where
   spelled : SpellsRequirement (s ∷ []) t
   spelled = record { comparators = (at_last t [] t s (at_start t) e).0; alone = refl; few = omega arith }
 
-  rewritten_so : (r : Result (Vec Range Z) RangeError) → IsRewrittenOne (as_read s) r → IsRewritten t r
-  rewritten_so (Ok ranges) (fit, same) = (s ∷ [], spelled, and-true _ ∙ fit, same ∙ ap in_one_range (sym (append-nil (written_one s))))
+  rewritten_so : (r : Result RangeSet RangeError) → IsRewrittenOne (as_read s) r → IsRewritten t r
+  rewritten_so (Ok set) (fit, same) = (s ∷ [], spelled, and-true _ ∙ fit, same ∙ ap in_one_range (sym (append-nil (written_one s))))
   rewritten_so (Err NotARange) is = absurd is
   rewritten_so (Err NumberTooLarge) large = (s ∷ [], spelled, and-true _ ∙ large)
   rewritten_so (Err OutOfMemory) fit = (s ∷ [], spelled, and-true _ ∙ fit)

@@ -17,7 +17,7 @@ ghost use Rattle.tool_ranges.specs.CargoTable.{requirement_fits, rewritten_requi
 ghost use Rattle.tool_ranges.specs.CargoTexts.{RefusesRequirement};
 ghost use Rattle.tool_ranges.specs.Steps.Cells.{cell_fits, cell_written, IsBuildableAt};
 ghost use Rattle.tool_ranges.specs.Steps.CargoReading.{EndsAs, IsRefusal};
-ghost use Rattle.tool_ranges.specs.Steps.CargoReading.{in_one_range, set_with, IsRewritten};
+ghost use Rattle.tool_ranges.specs.Steps.CargoReading.{in_one_range, set_with, IsRewritten, IsSetOf};
 ghost use Rattle.tool_ranges.specs.Steps.CargoReading.{IsRewrittenOne};
 ghost use Rattle.tool_ranges.specs.Steps.CargoPreReleases.{counting_one, judging, judging_one};
 
@@ -74,30 +74,32 @@ pub fn rewrite(alloc: Global, requirement: &str) -> Result<RangeSet, RangeError>
         × Spells tree (set_text (set_of set)) × IsTrue (fits Cargo tree)
         × (rewritten Cargo tree ≡ set_of set)) }
 {
-    match rewritten(alloc, requirement.as_bytes()) {
-        Ok(ranges) => Ok(RangeSet {
-            ranges,
-            compat: Compat::Cargo,
-        }),
-        Err(refusal) => Err(refusal),
-    }
+    rewritten(alloc, requirement.as_bytes())
 }
 
-/// The range of a requirement. For speed, one comparator is read once.
-fn rewritten(alloc: Global, text: &[u8]) -> Result<Vec<Range>, RangeError>
+/// The set of a requirement. For speed, one comparator is read once, and what two runs answer is
+/// ranges alone: so the set of one isn't copied from where theirs might be.
+fn rewritten(alloc: Global, text: &[u8]) -> Result<RangeSet, RangeError>
     ensures { IsRewritten text.now result }
 {
-    if let Some((simple, None)) = read_comparator(text) {
-        return rewritten_one(alloc, &simple);
-    }
-    rewritten_all(alloc, text)
+    let Some((simple, None)) = read_comparator(text) else {
+        return match rewritten_all(alloc, text) {
+            Ok(ranges) => Ok(RangeSet {
+                ranges,
+                compat: Compat::Cargo,
+            }),
+            Err(refusal) => Err(refusal),
+        };
+    };
+    rewritten_one(alloc, &simple)
 }
 
 /// The range of a requirement in two runs: the first surveys all of it, and the second builds. For
 /// speed it is a function of its own: that of one comparator stays small.
 #[inline(never)]
 fn rewritten_all(alloc: Global, text: &[u8]) -> Result<Vec<Range>, RangeError>
-    ensures { IsRewritten text.now result }
+    ensures { MatchResult result (λ ranges. IsSetOf text.now (set_with ranges.items))
+        (λ e. IsRefusal text.now e) }
 {
     let count = match survey(text) {
         Ok(count) => count,
@@ -109,8 +111,8 @@ fn rewritten_all(alloc: Global, text: &[u8]) -> Result<Vec<Range>, RangeError>
     }
 }
 
-/// The range of one comparator, as it is read.
-fn rewritten_one(alloc: Global, simple: &Simple<'_>) -> Result<Vec<Range>, RangeError>
+/// The set of one comparator, as it is read.
+fn rewritten_one(alloc: Global, simple: &Simple<'_>) -> Result<RangeSet, RangeError>
     requires { (s : SimpleTree) × IsSimpleOf s simple.now }
     ensures { (s : SimpleTree) → IsSimpleOf s simple.now → IsRewrittenOne s result }
 {
@@ -119,7 +121,10 @@ fn rewritten_one(alloc: Global, simple: &Simple<'_>) -> Result<Vec<Range>, Range
         return Err(RangeError::NumberTooLarge);
     }
     match build_one(alloc, &simple.partial, cell) {
-        Ok(ranges) => Ok(ranges),
+        Ok(ranges) => Ok(RangeSet {
+            ranges,
+            compat: Compat::Cargo,
+        }),
         Err(_) => Err(RangeError::OutOfMemory),
     }
 }

@@ -2,11 +2,12 @@
 -- requirements follows, and what private contracts see of what it finds.
 use Prim.Native.Char.{code}
 use Rattle.std.specs.Prelude.{◌≡◌, ℕ, Bool, true, false, ◌&&◌, ◌==◌, if◌then◌else◌, Option, Some}
-use Rattle.std.specs.Prelude.{None, List, [], ◌∷◌, map, IsTrue, Result, Ok, Err, Vec}
+use Rattle.std.specs.Prelude.{None, List, [], ◌∷◌, map, IsTrue, Result, Ok, Err}
 use Rattle.std.specs.Borrow.{Bor}
 use Rattle.semver_ranges.specs.declared.grammar.Dialect.TheVariants as dialect
 use Rattle.semver_ranges.specs.declared.range.Compat.TheVariants.{Cargo}
 use Rattle.semver_ranges.specs.declared.range.Range.{Range}
+use Rattle.semver_ranges.specs.declared.range_set.RangeSet.{RangeSet}
 use Rattle.semver_ranges.specs.declared.range_set.RangeError.{RangeError}
 use Rattle.semver_ranges.specs.declared.range_set.RangeError.TheVariants.{NotARange, NumberTooLarge}
 use Rattle.semver_ranges.specs.declared.range_set.RangeError.TheVariants.{OutOfMemory}
@@ -15,7 +16,7 @@ use Rattle.semver_texts.specs.Texts.{Text}
 use Rattle.semver_ranges.specs.RangeTree.{Form, PartialTree, Simple}
 use Rattle.semver_ranges.specs.Steps.Reading.{behind_blanks, operator, with_first, component}
 use Rattle.semver_ranges.specs.RewritingTable.{PlainComparator, PlainSet}
-use Rattle.semver_ranges.specs.RangeViews.{range_of}
+use Rattle.semver_ranges.specs.RangeViews.{range_of, set_of}
 use Rattle.semver_ranges.specs.Steps.CursorViews.{IsSimpleOf}
 use Rattle.tool_ranges.specs.CargoGrammar.{is_of_cargo, SpellsRequirement}
 use Rattle.tool_ranges.specs.CargoMeaning.{as_read}
@@ -81,15 +82,15 @@ abbrev pub IsSetOf : Text → PlainSet → Type 0
 IsSetOf t set = (tree : List Simple) × SpellsRequirement tree t
     × IsTrue (requirement_fits tree) × (set ≡ rewritten_requirement tree)
 
--- the ranges of that set, or why there is none
-abbrev pub IsRewritten : {Z : Type 0} → Text → Result (Vec Range Z) RangeError → Type 0
-IsRewritten t (Ok ranges) = IsSetOf t (set_with ranges.items)
+-- that set, or why there is none
+abbrev pub IsRewritten : Text → Result RangeSet RangeError → Type 0
+IsRewritten t (Ok set) = IsSetOf t (set_of set)
 IsRewritten t (Err e) = IsRefusal t e
 
 -- the same of one, as it is read
-abbrev pub IsRewrittenOne : {Z : Type 0} → Simple → Result (Vec Range Z) RangeError → Type 0
-IsRewrittenOne s (Ok ranges) =
-    (fits_in Cargo s ≡ true) × (set_with ranges.items ≡ in_one_range (written_in Cargo s))
+abbrev pub IsRewrittenOne : Simple → Result RangeSet RangeError → Type 0
+IsRewrittenOne s (Ok set) =
+    (fits_in Cargo s ≡ true) × (set_of set ≡ in_one_range (written_in Cargo s))
 IsRewrittenOne s (Err NotARange) = ⊥
 IsRewrittenOne s (Err NumberTooLarge) = fits_in Cargo s ≡ false
 IsRewrittenOne s (Err OutOfMemory) = fits_in Cargo s ≡ true

@@ -1,51 +1,69 @@
-use Rattle.std.proofs.Common.{◌≡◌, refl, ap, sym, ◌∙◌, subst, List}
+use Rattle.std.proofs.Common.{◌≡◌, ap, sym, ◌∙◌, subst, List, []}
+use Rattle.std.specs.Prelude.{IfOk, IsTrue, Result, Ok, Err}
 use Rattle.semver_texts.specs.Texts.{Text}
+use Rattle.semver_texts.specs.Versions.{PlainVersion}
 use Rattle.semver_ranges.specs.declared.range.Compat.TheVariants.{Cargo}
+use Rattle.semver_ranges.specs.declared.range_set.RangeSet.{RangeSet}
+use Rattle.semver_ranges.specs.declared.range_set.RangeError.{RangeError}
 use Rattle.semver_ranges.specs.Meeting.{meets_set}
-use Rattle.semver_ranges.specs.PrintedRanges.{IsPrintableSet}
-use Rattle.semver_ranges.specs.RangeTree.{Simple}
-use Rattle.semver_ranges.specs.RewritingTable.{PlainSet}
+use Rattle.semver_ranges.specs.PrintedRanges.{IsPrintableSet, set_text}
+use Rattle.semver_ranges.specs.RangeTree.{Simple, SetTree, Spells}
+use Rattle.semver_ranges.specs.RangeViews.{set_of}
+use Rattle.semver_ranges.specs.RewritingTable.{fits, rewritten}
 use Rattle.tool_ranges.specs.CargoGrammar.{SpellsRequirement}
+use Rattle.tool_ranges.specs.CargoMeaning.{meets_requirement}
 use Rattle.tool_ranges.specs.CargoTable.{rewritten_requirement}
-use Rattle.tool_ranges.specs.Steps.CargoReading.{set_with, IsRefusal, IsSetOf}
+use Rattle.tool_ranges.specs.CargoTexts.{RefusesRequirement}
+use Rattle.tool_ranges.specs.Steps.CargoReading.{IsRewritten}
 use Rattle.tool_ranges.proofs.ReadMeanings.{requirement_meets}
 use Rattle.tool_ranges.proofs.RequirementLaws.{refused, answered, same_comparators}
 use Rattle.tool_ranges.proofs.RequirementPrinted.{requirement_printable, reads_back}
 use Rattle.tool_ranges.proofs.cargo.rewrite.Goals as goal
-use Rattle.tool_ranges.proofs.cargo.rewrite.Goals.{In-Ok}
 
--- the set that the text is rewritten to
-module _ (t : Text) (set : PlainSet) (is : IsSetOf t set) where
-  as_rewritten : (tree : List Simple) → SpellsRequirement tree t → set ≡ rewritten_requirement tree
-  as_rewritten tree h = is.3 ∙ ap rewritten_requirement (sym (same_comparators is.0 tree t is.1.comparators h.comparators))
+refuses : (t : Text) (r : Result RangeSet RangeError) → IsRewritten t r → RefusesRequirement t r
+refuses t (Ok set) (tree, h, fit, same) = answered t set tree h fit
+refuses t (Err e) none = refused t e none
 
-  printable : IsPrintableSet set
-  printable = subst IsPrintableSet (sym is.3) (requirement_printable is.0 t is.1.comparators is.2)
+as_rewritten : (t : Text) (r : Result RangeSet RangeError) → IsRewritten t r
+    → IfOk r (λ set. (tree : List Simple) → SpellsRequirement tree t → set_of set ≡ rewritten_requirement tree)
+as_rewritten t (Ok set) (tree, h, fit, same) = λ tree' h'.
+    same ∙ ap rewritten_requirement (sym (same_comparators tree tree' t h.comparators h'.comparators))
+as_rewritten t (Err e) none = tt
 
--- it is the same of the requirement's bytes
-set_of_bytes : (c : In-Ok) → IsSetOf c.args.requirement.now (set_with c.in-Ok.ranges.items)
-set_of_bytes c = subst (λ t. IsSetOf t (set_with c.in-Ok.ranges.items)) c.as_bytes.ensures.value c.in-Ok.ensures
+releases : (t : Text) (r : Result RangeSet RangeError) → IsRewritten t r
+    → IfOk r (λ set. (tree : List Simple) (v : PlainVersion) → SpellsRequirement tree t → v.pre ≡ []
+    → meets_set v (set_of set) ≡ meets_requirement tree v)
+releases t (Ok set) is = λ tree v h release.
+    ap (meets_set v) (as_rewritten t (Ok set) is tree h) ∙ requirement_meets v tree t release h.comparators
+releases t (Err e) none = tt
 
-pub returns-in-Ok-clause-refusals : goal.returns-in-Ok-clause-refusals
-returns-in-Ok-clause-refusals c =
-    let is = set_of_bytes (goal.at.returns-in-Ok-clause-refusals c).In-Ok in answered c.args.requirement.now _ is.0 is.1 is.2
+printable : (t : Text) (r : Result RangeSet RangeError) → IsRewritten t r → IfOk r (λ set. IsPrintableSet (set_of set))
+printable t (Ok set) (tree, h, fit, same) = subst IsPrintableSet (sym same) (requirement_printable tree t h.comparators fit)
+printable t (Err e) none = tt
 
-pub returns-in-Err-clause-refusals : goal.returns-in-Err-clause-refusals
-returns-in-Err-clause-refusals c = refused c.args.requirement.now c.in-Err.refusal
-    (subst (λ t. IsRefusal t c.in-Err.refusal) c.as_bytes.ensures.value c.in-Err.ensures)
+reads_it_back : (t : Text) (r : Result RangeSet RangeError) → IsRewritten t r → IfOk r (λ set. (tree : SetTree)
+    × Spells tree (set_text (set_of set)) × IsTrue (fits Cargo tree) × (rewritten Cargo tree ≡ set_of set))
+reads_it_back t (Ok set) (tree, h, fit, same) = reads_back Cargo (set_of set)
+    (subst IsPrintableSet (sym same) (requirement_printable tree t h.comparators fit)) (ap (λ s. s.compat) same)
+reads_it_back t (Err e) none = tt
 
-pub returns-in-Ok-clause-as_rewritten : goal.returns-in-Ok-clause-as_rewritten
-returns-in-Ok-clause-as_rewritten c =
-    as_rewritten c.args.requirement.now _ (set_of_bytes (goal.at.returns-in-Ok-clause-as_rewritten c).In-Ok)
+pub returns-clause-refusals : goal.returns-clause-refusals
+returns-clause-refusals c =
+    refuses c.args.requirement.now c.rewritten.result
+    (subst (λ t. IsRewritten t c.rewritten.result) c.as_bytes.ensures.value c.rewritten.ensures)
 
-pub returns-in-Ok-clause-releases : goal.returns-in-Ok-clause-releases
-returns-in-Ok-clause-releases c = λ tree v h release.
-    ap (meets_set v) (as_rewritten c.args.requirement.now _ (set_of_bytes (goal.at.returns-in-Ok-clause-releases c).In-Ok) tree h)
-    ∙ requirement_meets v tree c.args.requirement.now release h.comparators
+pub returns-clause-as_rewritten : goal.returns-clause-as_rewritten
+returns-clause-as_rewritten c = as_rewritten c.args.requirement.now c.rewritten.result
+    (subst (λ t. IsRewritten t c.rewritten.result) c.as_bytes.ensures.value c.rewritten.ensures)
 
-pub returns-in-Ok-clause-printable : goal.returns-in-Ok-clause-printable
-returns-in-Ok-clause-printable c = printable c.args.requirement.now _ (set_of_bytes (goal.at.returns-in-Ok-clause-printable c).In-Ok)
+pub returns-clause-releases : goal.returns-clause-releases
+returns-clause-releases c = releases c.args.requirement.now c.rewritten.result
+    (subst (λ t. IsRewritten t c.rewritten.result) c.as_bytes.ensures.value c.rewritten.ensures)
 
-pub returns-in-Ok-clause-reads_back : goal.returns-in-Ok-clause-reads_back
-returns-in-Ok-clause-reads_back c = reads_back Cargo _
-    (printable c.args.requirement.now _ (set_of_bytes (goal.at.returns-in-Ok-clause-reads_back c).In-Ok)) refl
+pub returns-clause-printable : goal.returns-clause-printable
+returns-clause-printable c = printable c.args.requirement.now c.rewritten.result
+    (subst (λ t. IsRewritten t c.rewritten.result) c.as_bytes.ensures.value c.rewritten.ensures)
+
+pub returns-clause-reads_back : goal.returns-clause-reads_back
+returns-clause-reads_back c = reads_it_back c.args.requirement.now c.rewritten.result
+    (subst (λ t. IsRewritten t c.rewritten.result) c.as_bytes.ensures.value c.rewritten.ensures)
