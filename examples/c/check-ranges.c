@@ -22,7 +22,8 @@
 #include <stdlib.h>
 #include <string.h>
 
-/* What a line comes to. The status is the greatest but for STOPPED, which is told as CANNOT_BE_CHECKED. */
+/* What a line comes to. The status is the greatest but for STOPPED, which is told as
+ * CANNOT_BE_CHECKED. */
 enum { HOLDS = 0, DOES_NOT_HOLD = 1, CANNOT_BE_CHECKED = 2, STOPPED = 3 };
 
 /* A reading, and the rule by which pre-releases meet a range. */
@@ -95,7 +96,8 @@ static int check_all(const reading_by_name *by) {
         int checked = check(line, (size_t)length, number, by);
         status = checked > status ? checked : status;
     }
-    /* getline ends at the end of the input, and where it can't be read or there is no memory for the line. */
+    /* getline ends at the end of the input, and where it can't be read or there is no memory for
+     * the line. */
     if (status != STOPPED && !feof(stdin)) {
         fprintf(stderr, "line %lu: the input can't be read: %s\n", number, strerror(errno));
         status = STOPPED;

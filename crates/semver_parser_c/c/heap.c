@@ -1,5 +1,6 @@
-/* The heap of the library: the three functions that it calls for memory, over malloc, realloc and free. Link this file with the library, once.
- * It is trusted: no proof reads it. malloc has to align to 16 bytes, as it does on 64-bit systems; no request asks for more. */
+/* The heap of the library: the three functions that it calls for memory, over malloc, realloc and
+ * free. Link this file with the library, once. It is trusted: no proof reads it. malloc has to
+ * align to 16 bytes, as it does on 64-bit systems; no request asks for more. */
 #include "heap.h"
 
 #include <stdlib.h>

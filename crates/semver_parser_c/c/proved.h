@@ -1,4 +1,5 @@
-/* The calls that are proved, as src/lib.rt has them. No pointer of theirs is null; c/calls.c makes the calls of include/semver_parser.h of them. */
+/* The calls that are proved, as src/lib.rt has them. No pointer of theirs is null; c/calls.c makes
+ * the calls of include/semver_parser.h of them. */
 #ifndef SEMVER_PARSER_PROVED_H
 #define SEMVER_PARSER_PROVED_H
 
@@ -8,10 +9,11 @@
 extern "C" {
 #endif
 
-int32_t semver_parser_proved_parse_version(const uint8_t *text, size_t text_length, semver_parser_version *out);
+int32_t semver_parser_proved_parse_version(
+    const uint8_t *text, size_t text_length, semver_parser_version *out);
 
-int32_t semver_parser_proved_precedence(const uint8_t *version, size_t version_length, const uint8_t *other, size_t other_length, int32_t *order,
-                                        bool *in_other);
+int32_t semver_parser_proved_precedence(const uint8_t *version, size_t version_length,
+    const uint8_t *other, size_t other_length, int32_t *order, bool *in_other);
 
 int32_t semver_parser_proved_rewrite(const uint8_t *text, size_t text_length, int32_t reading,
                                      bool exact, uint8_t *out, size_t room, size_t *length);
