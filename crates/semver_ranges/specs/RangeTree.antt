@@ -37,9 +37,9 @@ pub data RangeTree : Type 0 where
 abbrev pub SetTree : Type 0
 SetTree = List RangeTree
 
--- a byte of a blank: a space or a tab, to Cargo a space alone. To npm a space, each byte from the tab to the carriage
--- return, and those of characters beyond ASCII: which of these are blanks is a condition on the
--- whole text
+-- a byte of a blank: a space or a tab, to Cargo a space alone. To npm a space, each byte from the
+-- tab to the carriage return, and those of characters beyond ASCII: which of these are blanks is a
+-- condition on the whole text
 abbrev pub is_blank : Dialect → ℕ → Bool
 is_blank Crate b = (b == code " ") || (b == code "\t")
 is_blank Cargo b = b == code " "

@@ -38,7 +38,7 @@ use semver_texts::dotted::{Hyphens, behind_mark, marked_part, split_at_dot};
 pub enum Dialect {
     /// The crate's.
     Crate,
-    /// Cargo's own, as to blanks: what may stand in a requirement is told above.
+    /// Cargo's own, as to its blanks. `tool_ranges` says which partials a requirement may have.
     Cargo,
     /// npm's own, but for the characters beyond ASCII: each byte of one counts as a blank here.
     Npm,

@@ -257,8 +257,8 @@ fn raised_pre(alloc: Global, raised: RaisedBounds) -> Result<Vec<Identifier>, Al
     }
 }
 
-/// The parts of a pre-release as they are kept. For speed it is a function of its own: most partials
-/// have none, and then nothing is called.
+/// The parts of a pre-release as they are kept. For speed it is a function of its own: most
+/// partials have none, and then nothing is called.
 #[inline(never)]
 fn kept_parts(alloc: Global, pre: &[u8]) -> Result<Vec<Identifier>, AllocError>
     requires { list_all is_part (cut_at_dots pre.now) ≡ true }

@@ -17,7 +17,8 @@ ghost use Rattle.tool_ranges.specs.CargoTable.{requirement_fits, rewritten_requi
 ghost use Rattle.tool_ranges.specs.CargoTexts.{RefusesRequirement};
 ghost use Rattle.tool_ranges.specs.Steps.Cells.{cell_fits, cell_written, IsBuildableAt};
 ghost use Rattle.tool_ranges.specs.Steps.CargoReading.{EndsAs, IsRefusal};
-ghost use Rattle.tool_ranges.specs.Steps.CargoReading.{in_one_range, set_with, IsRewritten, IsSetOf};
+ghost use Rattle.tool_ranges.specs.Steps.CargoReading.{in_one_range, set_with, IsRewritten};
+ghost use Rattle.tool_ranges.specs.Steps.CargoReading.{IsSetOf};
 ghost use Rattle.tool_ranges.specs.Steps.CargoReading.{IsRewrittenOne};
 ghost use Rattle.tool_ranges.specs.Steps.CargoPreReleases.{counting_one, judging, judging_one};
 

@@ -1,8 +1,8 @@
 //! The cells of the tables of Cargo and npm that have the comparators of a simple. Nothing here
-//! takes memory but `push`, which comes once all is known to fit.
+//! takes memory but `made` and `push`, which come once all is known to fit.
 
-ghost use Rattle.std.specs.Prelude.{◌≡◌, ◌≤◌, ◌++◌, ◌&&◌, true, false, length, map, IfOk, MatchOption};
-ghost use Rattle.std.specs.Prelude.{Some, []};
+ghost use Rattle.std.specs.Prelude.{◌≡◌, ◌≤◌, ◌++◌, ◌&&◌, true, false, [], Some, length, map};
+ghost use Rattle.std.specs.Prelude.{IfOk, MatchOption};
 ghost use Rattle.semver_ranges.specs.RangeTree.{Simple as SimpleTree};
 ghost use Rattle.semver_ranges.specs.RangeViews.{comparator_of};
 ghost use Rattle.semver_ranges.specs.Steps.PartialViews.{stated_of, place_number};

@@ -1,4 +1,5 @@
--- Sets of the versions that the tree of a range text means.
+-- A means of proof, which no public clause cites: sets of the versions that the tree of a range
+-- text means.
 use Rattle.std.specs.Prelude.{◌↔◌}
 use Rattle.semver_parser.specs.Versions.{PlainVersion}
 use Rattle.version_sets.specs.VersionSets.{SetValue, IsIn}

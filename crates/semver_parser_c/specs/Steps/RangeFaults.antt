@@ -1,4 +1,5 @@
--- What a range text is to a reading, by the fault that is told of it, and which numbers tell which.
+-- A means of proof, which no public clause cites: what a range text is to a reading, by the fault
+-- that is told of it, and which numbers tell which.
 use Rattle.std.specs.Prelude.{ℤ, ◌≡◌, ◌⊎◌, ⊤, IsUtf8, List, ◌∷◌, ◌++◌}
 use Rattle.semver_parser.specs.Texts.{Text}
 use Rattle.tool_ranges.specs.declared.reading.Reading.{Reading}

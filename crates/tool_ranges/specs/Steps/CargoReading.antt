@@ -43,7 +43,8 @@ with_operator form (Some found) = if_read (record { form = form; partial = found
 abbrev pub comparator_here : Text → Option (Simple × Option Text)
 comparator_here t =
     if begins_with_tilde_greater t then None
-    else with_operator (operator dialect.Cargo t).0 (with_first (component (operator dialect.Cargo t).1))
+    else with_operator (operator dialect.Cargo t).0
+    (with_first (component (operator dialect.Cargo t).1))
 
 abbrev pub comparator_at : Text → Option (Simple × Option Text)
 comparator_at t = comparator_here (behind_blanks dialect.Cargo t)
