@@ -95,20 +95,20 @@ keep() {
     unfinished=''
 }
 
-# in_crate CRATE COMMAND..: runs a command in the folder of a crate. What it makes on the way and
-# leaves lies in the folder `work`.
-in_crate() {
-    cd "$top/crates/$1" || exit
-    shift
+# in_crate_of TOP CRATE COMMAND..: runs a command in the folder of a crate, of this repository or a
+# copy. What it makes on the way and leaves lies in the folder `work`.
+in_crate_of() {
+    cd "$1/crates/$2" || exit
+    shift 2
     TMPDIR=$work
     export TMPDIR
     exec "$@"
 }
 
-# crates_of CRATE: the crates that it stands on, and itself, one on a line, in the order of
+# crates_of CRATE..: the crates that these stand on, and themselves, one on a line, in the order of
 # crates.txt, which has the lowest first.
 crates_of() {
-    awk -v wanted="$1" '
+    awk -v wanted="$*" '
         /^[^#]/ { head = $1; sub(":", "", head); names[++count] = head; uses[head] = $0 }
         function need(name,   words, at) {
             if (!(name in uses) || name in needed) return
@@ -117,56 +117,12 @@ crates_of() {
             at = split(uses[name], words)
             while (at) need(words[at--])
         }
-        END { need(wanted); for (at = 1; at <= count; at++) if (names[at] in needed) print names[at] }
+        END {
+            at = split(wanted, tops)
+            while (at) need(tops[at--])
+            for (at = 1; at <= count; at++) if (names[at] in needed) print names[at]
+        }
     ' "$top/crates.txt"
-}
-
-# tell_crates CRATE: passes its input on to the notes, and says on standard error of each crate that
-# `rt` begins to prove which one it is of those that the crate needs.
-tell_crates() {
-    crates_of "$1" > "$work/needed"
-    all=$(wc -l < "$work/needed")
-    while IFS= read -r said; do
-        printf '%s\n' "$said" >> "$work/notes"
-        case $said in
-        'rt: chose --jobs '*' for '*)
-            place=$(grep -nx "${said##* }" "$work/needed") || continue
-            echo "proving ${said##* } (${place%%:*} of $all)" >&2
-            ;;
-        esac
-    done
-}
-
-# prove CRATE COMMAND..: runs a command beside the script, and has it told which crate is proved.
-prove() {
-    needing=$1
-    shift
-    [ -p "$work/said" ] || mkfifo "$work/said"
-    tell_crates "$needing" < "$work/said" &
-    telling=$!
-    proved=0
-    beside "$@" > "$work/said" 2>&1 || proved=$?
-    wait "$telling" || :
-    return "$proved"
-}
-
-# in_two_lanes: proves what reads versions, and beside it, in a copy, what reads ranges: `rt` works
-# in one crate at a time, and on all that it stands on, so two that both stand on semver_texts wait
-# for each other in one folder. What is proved in the copy is then as if it had been proved here.
-in_two_lanes() {
-    lanes='' failed=0
-    trap 'kill $lanes; exit 143' TERM
-    in_crate semver_texts rt lib &
-    lanes=$!
-    wait "$lanes" || return
-    mkdir -p "$work/copy/crates" && cp "$top/crates.txt" "$work/copy" || return
-    cp -R "$top/crates/semver_texts" "$top/crates/semver_ranges" "$work/copy/crates" || return
-    in_crate semver_versions rt lib &
-    lanes=$!
-    (top=$work/copy && in_crate semver_ranges rt lib) &
-    lanes="$lanes $!"
-    for lane in $lanes; do wait "$lane" || failed=$?; done
-    [ "$failed" = 0 ] && mkdir -p "$top/crates/semver_ranges/out" && mv "$work/copy/crates/semver_ranges/out"/* "$top/crates/semver_ranges/out"
 }
 
 # is_unproved CRATE: whether a crate is there, and nothing of it was proved yet.
@@ -174,41 +130,126 @@ is_unproved() {
     [ -d "$top/crates/$1/src" ] && [ -z "$(ls -A "$top/crates/$1/out" 2> /dev/null)" ]
 }
 
-# build NAME CRATE FILE COMMAND..: builds what isn't built, by a command in the folder of a crate
-# that makes the file out/FILE there. It says so first, on standard error, and which crate is
-# proved; what is said on the way goes there where it fails, and else nowhere.
+# is_proved CRATE: whether a library is proved, and nothing is newer that it is made from.
+is_proved() {
+    stamp=$top/crates/$1/out/rlib/stamp
+    [ -e "$stamp" ] && [ -z "$(cd "$top/crates/$1" && find src specs proofs "$top/crates.txt" -newer "$stamp" 2> /dev/null)" ]
+}
+
+# prove_beside CRATE..: proves these crates and all that they stand on, those side by side that don't
+# stand on each other. It does so where each of them is proved or nothing of it is; else `rt` goes
+# on with what it kept of them.
+prove_beside() {
+    : > "$work/lanes"
+    for crate in $(crates_of "$@"); do
+        case " $* " in
+        *" $crate "*) ! is_unproved "$crate" || echo "$crate" >> "$work/lanes" ;;
+        *) if is_unproved "$crate"; then echo "$crate" >> "$work/lanes"; else is_proved "$crate" || return 0; fi ;;
+        esac
+    done
+    [ ! -s "$work/lanes" ] || beside run_lanes
+}
+
+# run_lanes: starts a lane for each crate of the list, and waits for all. One that fails ends the
+# others.
+run_lanes() {
+    lanes='' failed=0
+    trap 'kill $lanes; exit 143' TERM
+    for crate in $(cat "$work/lanes"); do
+        prove_in_lane "$crate" &
+        lanes="$lanes $!"
+    done
+    for lane in $lanes; do wait "$lane" || failed=$?; done
+    return "$failed"
+}
+
+# prove_in_lane CRATE: waits until all that the crate stands on is proved, and proves it in a copy:
+# `rt` works in one crate at a time and on all that it stands on, so in one folder two lanes would
+# wait for each other. What is proved in the copy is then as if it had been proved here.
+prove_in_lane() {
+    proving='' lane=$work/lane-$1
+    trap '[ -z "$proving" ] || kill "$proving"; exit 143' TERM
+    for lower in $(crates_of "$1"); do
+        [ "$lower" = "$1" ] && continue
+        while grep -qx "$lower" "$work/lanes" && [ ! -e "$work/proved-$lower" ]; do
+            [ ! -e "$work/unproved" ] || return
+            sleep 0.2
+        done
+    done
+    echo "proving $1 ($(grep -nx "$1" "$work/lanes" | cut -d: -f1) of $(wc -l < "$work/lanes"))" >&2
+    copy_into_lane "$1" || return
+    make_in "$lane" "$1" > "$work/notes-$1" 2>&1 &
+    proving=$!
+    wait "$proving" || {
+        : > "$work/unproved"
+        cat "$work/notes-$1" >> "$work/notes"
+        return 1
+    }
+    mkdir -p "$top/crates/$1/out" && mv "$lane/crates/$1/out"/* "$top/crates/$1/out" && : > "$work/proved-$1"
+}
+
+# copy_into_lane CRATE: the crate's files, and of those that it stands on also what is proved, by
+# links where these can be.
+copy_into_lane() {
+    mkdir -p "$lane/crates" && cp "$top/crates.txt" "$lane" || return
+    for lower in $(crates_of "$1"); do
+        mkdir "$lane/crates/$lower" || return
+        for part in "$top/crates/$lower"/*; do
+            case $part in */out) ;; *) cp -R "$part" "$lane/crates/$lower" || return ;; esac
+        done
+        [ "$lower" != "$1" ] || continue
+        mkdir "$lane/crates/$lower/out" || return
+        cp -Rl "$top/crates/$lower/out/rlib" "$lane/crates/$lower/out" 2> /dev/null ||
+            { rm -rf "$lane/crates/$lower/out/rlib" && cp -R "$top/crates/$lower/out/rlib" "$lane/crates/$lower/out"; } || return
+    done
+}
+
+# crate_of NAME: tells the crate that a built file is made of.
+crate_of() {
+    case $1 in
+    libsemver_parser_c.a) echo semver_parser_c ;;
+    *) echo "$1" | sed 's/-/_/g; s/$/_main/' ;;
+    esac
+}
+
+# make_in TOP CRATE: makes what a crate is for, in a copy of the repository: a library, that for C
+# without what c/ has, or a program, which also runs once and has to end with status 0.
+make_in() {
+    case $2 in
+    semver_parser_main) in_crate_of "$@" rt run -- 1.2.3 ;;
+    *_main) in_crate_of "$@" rt run -- --help ;;
+    *) in_crate_of "$@" rt lib ;;
+    esac
+}
+
+# build NAME..: builds those that aren't built. It says so first, on standard error, and which crate
+# is proved; what is said on the way goes there where it fails, and else nowhere.
 build() {
-    ! is_built "$1" || return 0
-    may_build "$1"
-    echo "proving and building $1 first, which can take some minutes" >&2
+    missing='' wanted=''
+    for name in "$@"; do
+        is_built "$name" || missing="$missing $name" wanted="$wanted $(crate_of "$name")"
+    done
+    [ -n "$missing" ] || return 0
+    for name in $missing; do
+        may_build "$name"
+        echo "proving and building $name first, which can take some minutes" >&2
+    done
     begin
-    name=$1 crate=$2 file=$3
-    shift 3
     : > "$work/begun"
     : > "$work/notes"
-    if is_unproved semver_versions && is_unproved semver_ranges; then prove "$crate" in_two_lanes || :; fi
-    prove "$crate" in_crate "$crate" "$@" || {
+    prove_beside $wanted || {
         cat "$work/notes" >&2
         return 2
     }
-    keep "$name" "$top/crates/$crate/out/$file" "$work/begun"
+    for name in $missing; do build_one "$name" "$(crate_of "$name")" || return; done
 }
 
-# build_semver_parser, build_release_filter and build_compare_ranges: each of the three programs,
-# which also runs once, and has to make status 0.
-build_semver_parser() {
-    build semver-parser semver_parser_main semver_parser_main rt run -- 1.2.3
-}
-
-build_release_filter() {
-    build release-filter release_filter_main release_filter_main rt run -- --help
-}
-
-build_compare_ranges() {
-    build compare-ranges compare_ranges_main compare_ranges_main rt run -- --help
-}
-
-# build_library: the library of the calls for C, as it is proved: without what c/ has.
-build_library() {
-    build libsemver_parser_c.a semver_parser_c libsemver_parser_c.a rt lib
+# build_one NAME CRATE: builds the file over all that is proved below it, and keeps it.
+build_one() {
+    beside make_in "$top" "$2" > "$work/notes" 2>&1 || {
+        cat "$work/notes" >&2
+        return 2
+    }
+    case $1 in *.a) made=$1 ;; *) made=$2 ;; esac
+    keep "$1" "$top/crates/$2/out/$made" "$work/begun"
 }
