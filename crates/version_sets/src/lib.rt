@@ -9,6 +9,7 @@ mod combining;
 mod comparing;
 mod comparison;
 mod each;
+pub mod laws;
 mod least;
 mod of_comparators;
 mod reading;
