@@ -21,7 +21,6 @@ mod version_set;
 mod walk;
 
 pub use comparison::Comparison;
-pub use reading::read_set;
 pub use release::Release;
 pub use rules::PreReleases;
 pub use version_set::VersionSet;
