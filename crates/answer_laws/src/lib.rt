@@ -4,3 +4,4 @@
 #![tactic(auto)]
 
 pub mod ranges;
+pub mod sets;

@@ -1,0 +1,8 @@
+use Rattle.answer_laws.proofs.SameSets.{by_test, one_set_made}
+use Rattle.answer_laws.proofs.sets.one_union.Goals as goal
+
+pub returns : goal.returns
+returns c =
+    record {
+      one = one_set_made _ _ c.answers_are_alike.ensures.alike c.union-first.ensures.has c.union-second.ensures.has (by_test _);
+    }
