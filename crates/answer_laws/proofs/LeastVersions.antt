@@ -1,5 +1,6 @@
 -- There is one least version.
-use Rattle.std.proofs.Common.{IfOk, IfSome, ◌≡◌, ◌≢◌, ◌↔◌, [], refl, sym, ap, ◌∙◌, Option, Some, None, option_map, Result, Ok, Err, alloc_error}
+use Rattle.std.proofs.Common.{IfOk, IfSome, ◌≡◌, ◌≢◌, ◌↔◌, [], refl, sym, ap, ◌∙◌, Option, Some, None, option_map, Result, Ok, Err}
+use Rattle.std.proofs.Common.{alloc_error}
 use Rattle.std.specs.declared.alloc.AllocError.{AllocError}
 use Rattle.std.specs.Cmp.{IsTotalOrder}
 use Rattle.std.specs.Ordering.{ordering_reverse}

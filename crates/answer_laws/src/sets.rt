@@ -8,6 +8,8 @@ ghost use Rattle.answer_laws.specs.SameSets.{AreAlike, comparison_value};
 use semver_parser::version::Version;
 use semver_parser::{Compat, RangeError, RangeSet, laws};
 use std::alloc::{AllocError, Global};
+use tool_ranges::meaning::{self, Meaning};
+use tool_ranges::{cargo, npm};
 use version_sets::laws::one_set;
 use version_sets::{Comparison, PreReleases, Release, VersionSet};
 
@@ -51,6 +53,36 @@ pub fn one_of_text(alloc: Global, range: &str, compat: Compat, pre_releases: Pre
 {
     let first = VersionSet::of_text(alloc, range, compat, pre_releases);
     let second = VersionSet::of_text(alloc, range, compat, pre_releases);
+    answers_are_alike(&first, &second);
+    (first, second)
+}
+
+/// `cargo::read` has one answer.
+pub fn one_cargo_read(alloc: Global, requirement: &str) -> Read
+    ensures one { AreOne RangeError.OutOfMemory itself result.0 result.1 }
+{
+    let first = cargo::read(alloc, requirement);
+    let second = cargo::read(alloc, requirement);
+    answers_are_alike(&first, &second);
+    (first, second)
+}
+
+/// `npm::read` has one answer.
+pub fn one_npm_read(alloc: Global, range: &str) -> Read
+    ensures one { AreOne RangeError.OutOfMemory itself result.0 result.1 }
+{
+    let first = npm::read(alloc, range);
+    let second = npm::read(alloc, range);
+    answers_are_alike(&first, &second);
+    (first, second)
+}
+
+/// `meaning::read` has one answer.
+pub fn one_read(alloc: Global, meaning: Meaning, range: &str) -> Read
+    ensures one { AreOne RangeError.OutOfMemory itself result.0 result.1 }
+{
+    let first = meaning::read(alloc, meaning, range);
+    let second = meaning::read(alloc, meaning, range);
     answers_are_alike(&first, &second);
     (first, second)
 }

@@ -3,6 +3,6 @@ use Rattle.answer_laws.proofs.sets.one_difference.Goals as goal
 
 pub returns : goal.returns
 returns c =
-    record {
-      one = one_set_made _ _ c.answers_are_alike.ensures.alike c.difference-first.ensures.has c.difference-second.ensures.has (by_test _);
-    }
+    let r = c.difference-first.ensures in
+    let s = c.difference-second.ensures in
+    record { one = one_set_made _ _ c.answers_are_alike.ensures.alike r.has s.has (by_test _) }

@@ -3,6 +3,6 @@ use Rattle.answer_laws.proofs.sets.one_intersection.Goals as goal
 
 pub returns : goal.returns
 returns c =
-    record {
-      one = one_set_made _ _ c.answers_are_alike.ensures.alike c.intersection-first.ensures.has c.intersection-second.ensures.has (by_test _);
-    }
+    let r = c.intersection-first.ensures in
+    let s = c.intersection-second.ensures in
+    record { one = one_set_made _ _ c.answers_are_alike.ensures.alike r.has s.has (by_test _) }

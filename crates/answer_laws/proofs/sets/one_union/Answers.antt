@@ -3,6 +3,6 @@ use Rattle.answer_laws.proofs.sets.one_union.Goals as goal
 
 pub returns : goal.returns
 returns c =
-    record {
-      one = one_set_made _ _ c.answers_are_alike.ensures.alike c.union-first.ensures.has c.union-second.ensures.has (by_test _);
-    }
+    let r = c.union-first.ensures in
+    let s = c.union-second.ensures in
+    record { one = one_set_made _ _ c.answers_are_alike.ensures.alike r.has s.has (by_test _) }
