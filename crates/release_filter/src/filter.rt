@@ -7,6 +7,7 @@ ghost use Rattle.semver_parser.specs.RangeTree.{SetTree, Spells};
 ghost use Rattle.semver_parser.specs.Versions.{VersionValue};
 ghost use Rattle.semver_parser.specs.VersionViews.{version_value};
 ghost use Rattle.version_sets.specs.PreReleaseRules.{meant_with};
+ghost use Rattle.version_sets.specs.VersionSets.{IsNormal};
 ghost use Rattle.release_filter.specs.KeptReleases.{kept_releases};
 ghost use Rattle.release_filter.specs.Filters.{passes};
 ghost use Rattle.release_filter.specs.Extremes.{HasNone, IsGreatest, IsOneThat};
@@ -79,6 +80,13 @@ impl Filter {
             versions,
             pre_releases: PreReleases::Included,
         }
+    }
+
+    /// A law: the set of a filter is in the normal form. It does nothing.
+    pub fn is_normal(&self)
+        ensures normal { IsNormal self.now.set }
+    {
+        self.versions.is_normal();
     }
 
     /// Whether a version passes. Its build doesn't count. It takes no memory.

@@ -68,8 +68,8 @@ impl Filter {
     /// `None`. Which of the two it is that these are, [`Filter::judge`] says.
     ///
     /// The text is read as by `version::read`, but only as far as is needed. Memory is taken only
-    /// where it spells a version with a pre-release or a build, and where releases alone pass for
-    /// no pre-release. `Err` is want of it.
+    /// where it spells a version that passes, and that has a pre-release or a build. `Err` is out of
+    /// memory.
     pub fn read(&self, alloc: Global, text: &str) -> Result<Option<Version>, AllocError>
         // Unless memory ran out, a version is answered exactly where the text spells it, and it
         // passes.
@@ -80,9 +80,10 @@ impl Filter {
         // passes.
         ensures none { IfOk result (λ found. (found ≡ None)
             ↔ ((v : VersionValue) → SpellsVersion v text.now → passes self.now v ≡ false)) }
-        // Memory runs out only where the text spells a version with a pre-release or a build.
+        // Memory runs out only where the text spells a version that passes, and that has a
+        // pre-release or a build.
         ensures out_of_memory { IfErr result (λ _. (v : VersionValue) × SpellsVersion v text.now
-            × ((0 < length v.plain.pre) ⊎ (0 < length v.build))) }
+            × IsTrue (passes self.now v) × ((0 < length v.plain.pre) ⊎ (0 < length v.build))) }
         // A pre-release takes no memory where releases alone pass.
         ensures releases { (v : VersionValue) → SpellsVersion v text.now → ¬ (v.plain.pre ≡ [])
             → self.now.pre_releases ≡ PreReleases.Excluded → result ≡ Result.Ok None }

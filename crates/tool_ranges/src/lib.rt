@@ -2,6 +2,7 @@
 #![tactic(auto)]
 
 pub mod cargo;
+pub mod laws;
 pub mod meaning;
 pub mod npm;
 pub mod reading;

@@ -9,6 +9,7 @@ mod combining;
 mod comparing;
 mod comparison;
 mod each;
+pub mod laws;
 mod least;
 mod of_comparators;
 mod reading;
@@ -20,7 +21,6 @@ mod version_set;
 mod walk;
 
 pub use comparison::Comparison;
-pub use reading::read_set;
 pub use release::Release;
 pub use rules::PreReleases;
 pub use version_set::VersionSet;

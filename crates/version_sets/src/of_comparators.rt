@@ -1,6 +1,6 @@
 //! Sets of the versions that meet comparators, by a rule for pre-releases.
 
-ghost use Rattle.std.specs.Prelude.{◌≡◌, ◌&&◌, ◌||◌, IfOk};
+ghost use Rattle.std.specs.Prelude.{◌≡◌, ◌<◌, ◌&&◌, ◌||◌, length, IfOk, IfErr};
 ghost use Rattle.std.specs.List.{list_all, list_any};
 ghost use Rattle.semver_parser.specs.Meeting.{meets_comparator};
 ghost use Rattle.semver_parser.specs.RangeViews.{comparator_of, range_of, set_of};
@@ -26,7 +26,7 @@ impl VersionSet {
     /// rules it isn't.
     ///
     /// It takes time in n log n for n comparators, and memory for their switches, at most four a
-    /// comparator. `Err` is want of memory.
+    /// comparator, and none where there is no range. `Err` is out of memory.
     pub fn of_set(
         alloc: Global,
         set: &RangeSet,
@@ -34,6 +34,8 @@ impl VersionSet {
     ) -> Result<VersionSet, AllocError>
         ensures meaning { IfOk result (λ s. (v : VersionValue) → Fits v.plain
             → has s v.plain ≡ meets_with pre_releases (set_of set.now) v) }
+        // Memory runs out only where there is a range.
+        ensures out_of_memory { IfErr result (λ _. 0 < length (set_of set.now).ranges) }
     {
         of_ranges(alloc, &set.ranges, pre_releases)
     }
@@ -45,8 +47,9 @@ fn of_ranges(
     ranges: &[Range],
     pre_releases: PreReleases,
 ) -> Result<VersionSet, AllocError>
-    ensures { IfOk result (λ set. (v : PlainVersion) → Fits v → has set v
+    ensures meaning { IfOk result (λ set. (v : PlainVersion) → Fits v → has set v
         ≡ list_any (λ range. meets_range_with pre_releases v (range_of range)) ranges.now) }
+    ensures out_of_memory { IfErr result (λ _. 0 < length ranges.now) }
 {
     match ranges {
         [] => Ok(VersionSet::empty(alloc)),

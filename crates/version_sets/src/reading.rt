@@ -58,7 +58,7 @@ impl VersionSet {
 ///
 /// Those of `RangeSet::parse`: `NotARange` and `NumberTooLarge` exactly of the texts that it
 /// refuses so, and `OutOfMemory` in place of a set alone.
-pub fn read_set(
+fn read_set(
     alloc: Global,
     range: &str,
     compat: Compat,

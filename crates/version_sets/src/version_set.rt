@@ -61,6 +61,13 @@ impl VersionSet {
         }
     }
 
+    /// A law: each set is in the normal form. It does nothing.
+    pub fn is_normal(&self)
+        ensures normal { IsNormal self.now }
+    {
+        let _ = &self.releases;
+    }
+
     /// The releases of the set: of `>=1.2.0-rc` by `PreReleases::Included` 1.2.0 is left, and
     /// 1.2.0-rc.2 isn't. It takes no memory.
     pub fn only_releases(self, alloc: Global) -> VersionSet

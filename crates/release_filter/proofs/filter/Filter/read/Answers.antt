@@ -14,13 +14,14 @@ told c = rw (c.as_bytes.ensures.value, c.in-Passes.is) at c.judge.ensures.judged
 
 pub returns-in_err-version-in-Passes-clause-out_of_memory : goal.returns-in_err-version-in-Passes-clause-out_of_memory
 returns-in_err-version-in-Passes-clause-out_of_memory c =
-    let is = (told (goal.at.returns-in_err-version-in-Passes-clause-out_of_memory c).In-Passes).0 in
+    let judged = told (goal.at.returns-in_err-version-in-Passes-clause-out_of_memory c).In-Passes in
+    let is = judged.0 in
     let v = is.0 in
     let some : (0 < length v.plain.pre) ⊎ (0 < length v.build) =
     ⊎_elim (λ pre. inl (has_part v.plain.pre (subst (λ (o : OutlineValue). 0 < length o.pre) is.2 pre)))
     (λ build. inr (has_part v.build (subst (λ (o : OutlineValue). 0 < length o.build) is.2 build)))
     c.in_err-version-in-Passes.ensures.out_of_memory in
-    on_err _ c.from_residual.result (v, is.1, some)
+    on_err _ c.from_residual.result (v, is.1, judged.1 v is.1, some)
 
 pub returns-in_err-version-in-Passes-clause-releases : goal.returns-in_err-version-in-Passes-clause-releases
 returns-in_err-version-in-Passes-clause-releases c = λ v spells some only.

@@ -24,11 +24,10 @@ by_rule Excluded s v = any_beside (is_release v) (meets_range v.plain) s.ranges
 by_rule Stated s v = refl
 by_rule Included s v = refl
 
-pub returns : goal.returns
-returns c = record {
-  meaning = answered_so (λ s. (v : VersionValue) → Fits v.plain → has s v.plain ≡ meets_with c.args.pre_releases (set_of c.args.set.now) v)
-      c.of_ranges.result c.of_ranges.ensures
-      (λ s is v fits. is v.plain fits ∙ sym (list_any-map (meets_range_with c.args.pre_releases v.plain) range_of c.deref.result.now)
-      ∙ ap (λ (rs : List Range). list_any (meets_range_with c.args.pre_releases v.plain) (map range_of rs)) c.deref.ensures.value
-      ∙ by_rule c.args.pre_releases (set_of c.args.set.now) v);
-}
+pub returns-clause-meaning : goal.returns-clause-meaning
+returns-clause-meaning c =
+    answered_so (λ s. (v : VersionValue) → Fits v.plain → has s v.plain ≡ meets_with c.args.pre_releases (set_of c.args.set.now) v)
+    c.of_ranges.result c.of_ranges.ensures.meaning
+    (λ s is v fits. is v.plain fits ∙ sym (list_any-map (meets_range_with c.args.pre_releases v.plain) range_of c.deref.result.now)
+    ∙ ap (λ (rs : List Range). list_any (meets_range_with c.args.pre_releases v.plain) (map range_of rs)) c.deref.ensures.value
+    ∙ by_rule c.args.pre_releases (set_of c.args.set.now) v)

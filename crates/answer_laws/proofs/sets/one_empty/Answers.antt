@@ -1,0 +1,6 @@
+use Rattle.std.proofs.Common.{sym, ◌∙◌}
+use Rattle.answer_laws.proofs.sets.one_empty.Goals as goal
+
+pub returns : goal.returns
+returns c =
+    record { one = c.are_alike.ensures.alike (λ v fits. c.empty-first.ensures.empty v ∙ sym (c.empty-second.ensures.empty v)) }

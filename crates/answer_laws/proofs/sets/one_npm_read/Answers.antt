@@ -1,0 +1,12 @@
+use Rattle.std.proofs.Common.{sym, ◌∙◌}
+use Rattle.answer_laws.proofs.SameSets.{one_read}
+use Rattle.answer_laws.proofs.sets.one_npm_read.Goals as goal
+
+pub returns : goal.returns
+returns c =
+    let r = c.read-first.ensures in
+    let s = c.read-second.ensures in
+    record {
+      one = one_read _ _ r.refusals s.refusals c.answers_are_alike.ensures.alike r.meaning s.meaning
+          (λ text a b p q v fits. p text.0 v text.1 fits ∙ sym (q text.0 v text.1 fits));
+    }

@@ -1,0 +1,8 @@
+use Rattle.answer_laws.proofs.SameSets.{by_test, one_set_made}
+use Rattle.answer_laws.proofs.sets.one_union.Goals as goal
+
+pub returns : goal.returns
+returns c =
+    let r = c.union-first.ensures in
+    let s = c.union-second.ensures in
+    record { one = one_set_made _ _ c.answers_are_alike.ensures.alike r.has s.has (by_test _) }

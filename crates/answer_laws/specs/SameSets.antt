@@ -1,0 +1,24 @@
+-- Sets of versions, and what a comparison of two tells, as values.
+use Rattle.std.specs.Prelude.{◌≡◌, Option, option_map}
+use Rattle.semver_parser.specs.Versions.{PlainVersion, VersionValue}
+use Rattle.semver_parser.specs.VersionViews.{version_value}
+use Rattle.version_sets.specs.VersionSets.{SetValue, has, Fits}
+use Rattle.version_sets.specs.declared.Comparison.{Comparison}
+
+-- two sets are equal where they have the same versions
+abbrev pub AreAlike : SetValue → SetValue → Type 0
+AreAlike a b = ((v : PlainVersion) → Fits v → has a v ≡ has b v) → a ≡ b
+
+-- the three versions of a comparison, where there are any
+pub record ComparisonValue : Type 0 where
+  pub lost : Option VersionValue
+  pub gained : Option VersionValue
+  pub shared : Option VersionValue
+
+-- a comparison with the values of its versions
+abbrev pub comparison_value : Comparison → ComparisonValue
+comparison_value c = record {
+  lost = option_map version_value c.lost;
+  gained = option_map version_value c.gained;
+  shared = option_map version_value c.shared;
+}

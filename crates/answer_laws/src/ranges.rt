@@ -1,0 +1,69 @@
+//! The calls that read a range text into comparators.
+
+ghost use Rattle.semver_parser.specs.RangeViews.{set_of};
+ghost use Rattle.answer_laws.specs.OneAnswer.{AreOne};
+
+use semver_parser::{Compat, RangeError, RangeSet};
+use std::alloc::Global;
+use tool_ranges::reading::{self, Reading};
+use tool_ranges::{cargo, npm};
+
+/// Two answers of `RangeSet::parse`, or of a call below, on the same inputs.
+type Answers = (Result<RangeSet, RangeError>, Result<RangeSet, RangeError>);
+
+/// `RangeSet::parse` has one answer.
+pub fn one_parse(alloc: Global, input: &str, compat: Compat) -> Answers
+    ensures one { AreOne RangeError.OutOfMemory set_of result.0 result.1 }
+{
+    (
+        RangeSet::parse(alloc, input, compat),
+        RangeSet::parse(alloc, input, compat),
+    )
+}
+
+/// `RangeSet::parse_exact` has one answer.
+pub fn one_parse_exact(alloc: Global, input: &str, compat: Compat) -> Answers
+    ensures one { AreOne RangeError.OutOfMemory set_of result.0 result.1 }
+{
+    (
+        RangeSet::parse_exact(alloc, input, compat),
+        RangeSet::parse_exact(alloc, input, compat),
+    )
+}
+
+/// `RangeSet::from_str` has one answer.
+pub fn one_from_str(alloc: Global, input: &str) -> Answers
+    ensures one { AreOne RangeError.OutOfMemory set_of result.0 result.1 }
+{
+    (
+        RangeSet::from_str(alloc, input),
+        RangeSet::from_str(alloc, input),
+    )
+}
+
+/// `cargo::rewrite` has one answer.
+pub fn one_cargo_rewrite(alloc: Global, requirement: &str) -> Answers
+    ensures one { AreOne RangeError.OutOfMemory set_of result.0 result.1 }
+{
+    (
+        cargo::rewrite(alloc, requirement),
+        cargo::rewrite(alloc, requirement),
+    )
+}
+
+/// `npm::rewrite` has one answer.
+pub fn one_npm_rewrite(alloc: Global, range: &str) -> Answers
+    ensures one { AreOne RangeError.OutOfMemory set_of result.0 result.1 }
+{
+    (npm::rewrite(alloc, range), npm::rewrite(alloc, range))
+}
+
+/// `reading::rewrite` has one answer.
+pub fn one_rewrite(alloc: Global, reading: Reading, range: &str) -> Answers
+    ensures one { AreOne RangeError.OutOfMemory set_of result.0 result.1 }
+{
+    (
+        reading::rewrite(alloc, reading, range),
+        reading::rewrite(alloc, reading, range),
+    )
+}

@@ -1,0 +1,190 @@
+//! The calls that answer a set of versions, and those that tell of sets.
+
+ghost use Rattle.std.specs.Prelude.{◌≡◌, alloc_error, IfOk, option_map};
+ghost use Rattle.semver_parser.specs.VersionViews.{version_value};
+ghost use Rattle.answer_laws.specs.OneAnswer.{AreOne, itself};
+ghost use Rattle.answer_laws.specs.SameSets.{AreAlike, comparison_value};
+
+use semver_parser::version::Version;
+use semver_parser::{Compat, RangeError, RangeSet, laws};
+use std::alloc::{AllocError, Global};
+use tool_ranges::meaning::{self, Meaning};
+use tool_ranges::{cargo, npm};
+use version_sets::laws::one_set;
+use version_sets::{Comparison, PreReleases, Release, VersionSet};
+
+/// Two answers of a call that reads a text, on the same inputs.
+type Read = (
+    Result<VersionSet, RangeError>,
+    Result<VersionSet, RangeError>,
+);
+
+/// Two answers of a call that makes a set of others, on the same inputs.
+type Made = (
+    Result<VersionSet, AllocError>,
+    Result<VersionSet, AllocError>,
+);
+
+/// Two sets with the same versions are equal. It does nothing.
+pub(crate) fn are_alike(first: &VersionSet, second: &VersionSet)
+    ensures alike { AreAlike first.now second.now }
+{
+    one_set();
+    first.is_normal();
+    second.is_normal();
+}
+
+/// So it is of two sets that are answered. It does nothing.
+fn answers_are_alike<E>(first: &Result<VersionSet, E>, second: &Result<VersionSet, E>)
+    ensures alike { IfOk first.now (λ a. IfOk second.now (AreAlike a)) }
+{
+    let Ok(first) = first else {
+        return;
+    };
+    let Ok(second) = second else {
+        return;
+    };
+    are_alike(first, second);
+}
+
+/// `VersionSet::of_text` has one answer.
+pub fn one_of_text(alloc: Global, range: &str, compat: Compat, pre_releases: PreReleases) -> Read
+    ensures one { AreOne RangeError.OutOfMemory itself result.0 result.1 }
+{
+    let first = VersionSet::of_text(alloc, range, compat, pre_releases);
+    let second = VersionSet::of_text(alloc, range, compat, pre_releases);
+    answers_are_alike(&first, &second);
+    (first, second)
+}
+
+/// `cargo::read` has one answer.
+pub fn one_cargo_read(alloc: Global, requirement: &str) -> Read
+    ensures one { AreOne RangeError.OutOfMemory itself result.0 result.1 }
+{
+    let first = cargo::read(alloc, requirement);
+    let second = cargo::read(alloc, requirement);
+    answers_are_alike(&first, &second);
+    (first, second)
+}
+
+/// `npm::read` has one answer.
+pub fn one_npm_read(alloc: Global, range: &str) -> Read
+    ensures one { AreOne RangeError.OutOfMemory itself result.0 result.1 }
+{
+    let first = npm::read(alloc, range);
+    let second = npm::read(alloc, range);
+    answers_are_alike(&first, &second);
+    (first, second)
+}
+
+/// `meaning::read` has one answer.
+pub fn one_read(alloc: Global, meaning: Meaning, range: &str) -> Read
+    ensures one { AreOne RangeError.OutOfMemory itself result.0 result.1 }
+{
+    let first = meaning::read(alloc, meaning, range);
+    let second = meaning::read(alloc, meaning, range);
+    answers_are_alike(&first, &second);
+    (first, second)
+}
+
+/// `VersionSet::of_set` has one answer.
+pub fn one_of_set(alloc: Global, set: &RangeSet, pre_releases: PreReleases) -> Made
+    ensures one { AreOne alloc_error itself result.0 result.1 }
+{
+    let first = VersionSet::of_set(alloc, set, pre_releases);
+    let second = VersionSet::of_set(alloc, set, pre_releases);
+    answers_are_alike(&first, &second);
+    (first, second)
+}
+
+/// `VersionSet::union` has one answer.
+pub fn one_union(alloc: Global, set: &VersionSet, other: &VersionSet) -> Made
+    ensures one { AreOne alloc_error itself result.0 result.1 }
+{
+    let first = set.union(alloc, other);
+    let second = set.union(alloc, other);
+    answers_are_alike(&first, &second);
+    (first, second)
+}
+
+/// `VersionSet::intersection` has one answer.
+pub fn one_intersection(alloc: Global, set: &VersionSet, other: &VersionSet) -> Made
+    ensures one { AreOne alloc_error itself result.0 result.1 }
+{
+    let first = set.intersection(alloc, other);
+    let second = set.intersection(alloc, other);
+    answers_are_alike(&first, &second);
+    (first, second)
+}
+
+/// `VersionSet::difference` has one answer.
+pub fn one_difference(alloc: Global, set: &VersionSet, other: &VersionSet) -> Made
+    ensures one { AreOne alloc_error itself result.0 result.1 }
+{
+    let first = set.difference(alloc, other);
+    let second = set.difference(alloc, other);
+    answers_are_alike(&first, &second);
+    (first, second)
+}
+
+/// `VersionSet::empty` has one answer.
+pub fn one_empty(alloc: Global) -> (VersionSet, VersionSet)
+    ensures one { result.0 ≡ result.1 }
+{
+    let first = VersionSet::empty(alloc);
+    let second = VersionSet::empty(alloc);
+    are_alike(&first, &second);
+    (first, second)
+}
+
+/// `VersionSet::only_releases` has one answer: of two sets that are equal, since each is taken.
+pub fn one_only_releases(
+    alloc: Global,
+    set: VersionSet,
+    equal_set: VersionSet,
+) -> (VersionSet, VersionSet)
+    requires { set ≡ equal_set }
+    ensures one { result.0 ≡ result.1 }
+{
+    let first = set.only_releases(alloc);
+    let second = equal_set.only_releases(alloc);
+    are_alike(&first, &second);
+    (first, second)
+}
+
+/// `VersionSet::least` has one answer.
+pub fn one_least(
+    alloc: Global,
+    set: &VersionSet,
+) -> (
+    Result<Option<Version>, AllocError>,
+    Result<Option<Version>, AllocError>,
+)
+    ensures one { AreOne alloc_error (option_map version_value) result.0 result.1 }
+{
+    laws::precedence_is_total();
+    (set.least(alloc), set.least(alloc))
+}
+
+/// `VersionSet::least_release` has one answer.
+pub fn one_least_release(set: &VersionSet) -> (Option<Release>, Option<Release>)
+    ensures one { result.0 ≡ result.1 }
+{
+    laws::precedence_is_total();
+    (set.least_release(), set.least_release())
+}
+
+/// `VersionSet::compare` has one answer.
+pub fn one_compare(
+    alloc: Global,
+    set: &VersionSet,
+    new: &VersionSet,
+) -> (
+    Result<Comparison, AllocError>,
+    Result<Comparison, AllocError>,
+)
+    ensures one { AreOne alloc_error comparison_value result.0 result.1 }
+{
+    laws::precedence_is_total();
+    (set.compare(alloc, new), set.compare(alloc, new))
+}
