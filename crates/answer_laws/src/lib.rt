@@ -5,3 +5,5 @@
 
 pub mod ranges;
 pub mod sets;
+pub mod texts;
+pub mod versions;

@@ -27,6 +27,7 @@ enum Shown {
     Fault(&'static str),
 }
 
+// Answer: free, the writer's own errors: must-fail/report_forgets_the_npm_line.edit.
 /// Writes the three lines of a text, each with a printed value or a fault word, and a line feed:
 /// `version: ` with the version, `cargo: ` and `npm: ` with the range set in Cargo and in npm mode.
 /// It answers true where at least one line holds no fault word.
@@ -65,6 +66,7 @@ fn write_lines<W: Write>(
     Ok(version.is_value() || (cargo.is_value() || npm.is_value()))
 }
 
+// Answer: equation.
 /// The exit status of a run: 0 where some line holds no fault word, 1 where each holds one, 2 after
 /// a failed write.
 ///

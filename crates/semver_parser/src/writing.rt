@@ -3,6 +3,7 @@ ghost use Rattle.semver_parser.specs.Writing.{WritesOrBegins};
 
 use std::io::{self, ErrorKind, Write};
 
+// Answer: equation.
 /// Writes all of the bytes, by as many writes as it takes: `1.2.3` to a writer that takes four
 /// bytes a write is written as `1.2.` and then `3`.
 ///

@@ -38,6 +38,7 @@ pub struct Events<'input> {
 }
 
 impl<'input> Events<'input> {
+    // Answer: equation.
     /// The events of a text by a dialect.
     #[inline(always)]
     pub fn new(text: &'input [u8], dialect: Dialect) -> Events<'input>
@@ -51,6 +52,7 @@ impl<'input> Events<'input> {
         }
     }
 
+    // Answer: equation.
     /// The next event by a dialect, or that the text isn't in its grammar from there on. None at
     /// the end.
     #[inline(always)]
@@ -147,6 +149,7 @@ impl<'input> Events<'input> {
     }
 }
 
+// Answer: equation.
 impl<'input> Iterator for Events<'input> {
     ghost use Rattle.std.specs.Iterator.{at_most};
     ghost use Rattle.semver_ranges.specs.declared.grammar.Dialect.TheVariants.{Crate};

@@ -115,6 +115,7 @@ pub(crate) fn read_simple(text: &[u8], dialect: Dialect) -> Option<(Simple<'_>, 
     Some((Simple { form, partial }, behind_blanks(rest, dialect)))
 }
 
+// Answer: equation.
 /// The operator at the front of a text, and what follows it and its blanks.
 #[inline(always)]
 pub fn read_operator(text: &[u8], dialect: Dialect) -> (Form, &[u8])
@@ -172,6 +173,7 @@ fn takes(written: &Components<'_>, dialect: Dialect) -> bool
     }
 }
 
+// Answer: equation.
 /// Whether none of the parts that are digits alone has a leading zero.
 pub fn have_no_leading_zeros(parts: &[u8]) -> bool
     ensures { result ≡ list_all has_no_leading_zero (cut_at_dots parts.now) }
@@ -207,6 +209,7 @@ fn are_digits(part: &[u8]) -> bool
     part.iter().all(|byte| byte.is_ascii_digit())
 }
 
+// Answer: equation.
 /// The components of the partial at the front of a text, whatever follows it.
 #[inline(always)]
 pub fn read_components(text: &[u8]) -> Option<(Components<'_>, &[u8])>
@@ -323,6 +326,7 @@ fn with_digit(value: Option<u64>, digit: u8) -> Option<u64>
     decimals::with_digit(value?, digit)
 }
 
+// Answer: equation.
 /// What follows the blanks at the front of a text.
 #[inline(always)]
 pub fn behind_blanks(text: &[u8], dialect: Dialect) -> &[u8]

@@ -86,6 +86,7 @@ pub struct Partial<'input> {
 }
 
 impl<'input> Partial<'input> {
+    // Answer: equation.
     /// The partial of three components, of which those that aren't there are wildcards, and of the
     /// parts of a pre-release, which count behind three numbers alone.
     #[inline(always)]
@@ -137,6 +138,7 @@ impl<'input> Partial<'input> {
         }
     }
 
+    // Answer: equation.
     /// How many numbers are stated.
     #[inline(always)]
     pub fn kind(&self) -> PartialKind
@@ -145,6 +147,7 @@ impl<'input> Partial<'input> {
         self.kind
     }
 
+    // Answer: equation.
     /// Whether no number is stated.
     #[inline(always)]
     pub fn states_nothing(&self) -> bool
@@ -153,6 +156,7 @@ impl<'input> Partial<'input> {
         matches!(self.kind, PartialKind::XRangeOnly)
     }
 
+    // Answer: equation.
     /// Whether the numbers that are stated are at most 2^64 - 1.
     #[inline(always)]
     pub fn fits(&self) -> bool
@@ -161,6 +165,7 @@ impl<'input> Partial<'input> {
         self.fits
     }
 
+    // Answer: equation.
     /// The place of the first number that isn't 0, or of the last that is stated.
     #[inline(always)]
     pub fn leading_place(&self) -> Place
@@ -178,6 +183,7 @@ impl<'input> Partial<'input> {
         }
     }
 
+    // Answer: equation.
     /// Whether the number at a place is below 2^64 - 1.
     #[inline(always)]
     pub fn may_rise(&self, place: Place) -> bool
@@ -192,6 +198,7 @@ impl<'input> Partial<'input> {
         number < u64::MAX
     }
 
+    // Answer: equation.
     /// The comparator of an operator and this partial, with zeros for what isn't stated.
     #[inline(always)]
     pub fn as_comparator(&self, alloc: Global, op: Op) -> Result<Comparator, AllocError>
@@ -212,6 +219,7 @@ impl<'input> Partial<'input> {
         })
     }
 
+    // Answer: equation.
     /// Below the bound above all versions with these numbers up to a place: that number is raised
     /// by one, and those behind it are 0.
     #[inline(always)]

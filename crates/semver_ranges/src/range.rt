@@ -64,6 +64,7 @@ pub enum Compat {
     Npm,
 }
 
+// Answer: equation.
 impl fmt::Display for Op {
     ghost use Rattle.semver_ranges.specs.PrintedRanges.{op_text};
 
@@ -82,6 +83,7 @@ impl fmt::Display for Op {
     }
 }
 
+// Answer: equation.
 impl fmt::Display for Identifier {
     ghost use Rattle.semver_texts.specs.PrintedText.{identifier_text};
 
@@ -97,6 +99,7 @@ impl fmt::Display for Identifier {
     }
 }
 
+// Answer: equation.
 impl fmt::Display for Comparator {
     ghost use Rattle.semver_ranges.specs.PrintedRanges.{comparator_text};
 
@@ -112,6 +115,7 @@ impl fmt::Display for Comparator {
     }
 }
 
+// Answer: equation.
 impl fmt::Display for Range {
     ghost use Rattle.semver_ranges.specs.PrintedRanges.{range_text};
 

@@ -61,6 +61,7 @@ pub enum RangeError {
 }
 
 impl RangeSet {
+    // Answer: law answer_laws::ranges::one_parse.
     /// Reads a range text, as `>=1.2 <2 || 3.x`, into plain comparators.
     ///
     /// The text is one or more ranges parted by `||`. A range is nothing, one or more simples
@@ -121,6 +122,7 @@ impl RangeSet {
         parse_with(alloc, input, compat, RaisedBounds::Plain)
     }
 
+    // Answer: law answer_laws::ranges::one_parse_exact.
     /// Reads a range text as `RangeSet::parse` does, but with exact bounds: each upper bound that
     /// is raised by one has the pre-release `0`, the lowest there is. The Rust crate has no such
     /// call; npm writes its bounds so.
@@ -163,6 +165,7 @@ impl RangeSet {
         parse_with(alloc, input, compat, RaisedBounds::Exact)
     }
 
+    // Answer: law answer_laws::ranges::one_from_str.
     /// Reads a range text in Cargo mode: what `RangeSet::parse` answers with `Compat::Cargo`, with
     /// its errors.
     ///
@@ -365,6 +368,7 @@ fn count_ahead(mut events: Events<'_>, compat: Compat) -> usize {
     count
 }
 
+// Answer: equation.
 impl fmt::Display for RangeSet {
     ghost output = { λ s. Some (set_text (set_of s)) };
 

@@ -33,6 +33,7 @@ pub enum Bounds {
 }
 
 impl Bounds {
+    // Answer: equation.
     /// Whether the numbers that the partial states, and the bound that is raised, are at most
     /// 2^64 - 1.
     #[inline(always)]
@@ -47,6 +48,7 @@ impl Bounds {
             }
     }
 
+    // Answer: equation.
     /// How many comparators. Vectors are asked for at this size.
     #[inline(always)]
     pub fn count(&self) -> usize
@@ -73,6 +75,7 @@ impl Bounds {
         }
     }
 
+    // Answer: equation.
     /// The comparators alone. For speed none of them is pushed where there might be no room.
     #[inline(always)]
     pub fn made(
@@ -98,6 +101,7 @@ impl Bounds {
         }
     }
 
+    // Answer: equation.
     /// Adds the comparators.
     #[inline(always)]
     pub fn push(
@@ -123,6 +127,7 @@ impl Bounds {
     }
 }
 
+// Answer: equation.
 /// A vector of one comparator.
 #[inline(always)]
 pub fn alone(alloc: Global, comparator: Comparator) -> Result<Vec<Comparator>, AllocError>
@@ -133,6 +138,7 @@ pub fn alone(alloc: Global, comparator: Comparator) -> Result<Vec<Comparator>, A
     Ok(comparators)
 }
 
+// Answer: equation.
 /// The comparators of a simple, by the table: its form, how many numbers it states, and the mode.
 #[inline(always)]
 pub fn rewritten(simple: &Simple<'_>, compat: Compat) -> Bounds

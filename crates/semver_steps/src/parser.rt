@@ -55,6 +55,7 @@ pub enum Error<'input> {
     OutOfMemory,
 }
 
+// Answer: equation.
 impl<'input> From<lexer::Error> for Error<'input> {
     ghost use Rattle.std.specs.Prelude.{◌≡◌};
     ghost use Rattle.semver_steps.specs.declared.parser.Error.TheVariants as error;
@@ -68,6 +69,7 @@ impl<'input> From<lexer::Error> for Error<'input> {
     }
 }
 
+// Answer: free, debug text inside some sentences: must-fail/error_prints_another_sentence.edit.
 impl<'input> fmt::Display for Error<'input> {
     ghost use Rattle.semver_steps.specs.ParserViews.{fixed_text};
 
@@ -89,6 +91,7 @@ impl<'input> fmt::Display for Error<'input> {
 }
 
 impl<'input> Error<'input> {
+    // Answer: free, debug text inside some sentences: must-fail/text_of_an_error_is_empty.edit.
     /// The text that `Display` writes, for use where the Rust crate turns an error into a `String`.
     ///
     /// Of `UnexpectedEnd` it is `expected more input`. `Err` is want of memory; the error itself
@@ -130,6 +133,7 @@ impl<'input> Model for Parser<'input> {
 }
 
 impl<'input> Parser<'input> {
+    // Answer: law answer_laws::versions::one_parser.
     /// A parser at the start of the text: all its tokens remain, and where it ends in a character
     /// that opens no token, that character is pending. It takes no memory.
     ///
@@ -167,6 +171,7 @@ impl<'input> Parser<'input> {
         Ok(first)
     }
 
+    // Answer: equation.
     /// Takes a number: on `1.2` it answers 1, and `.` and `2` remain.
     ///
     /// `UnexpectedToken` of any other token, which is consumed; `UnexpectedEnd` where no token
@@ -189,6 +194,7 @@ impl<'input> Parser<'input> {
         self.lookahead.as_ref()
     }
 
+    // Answer: equation.
     /// Takes a number, or a wildcard as `None`: on `X.1` it answers `None`, and `.` and `1` remain.
     ///
     /// It refuses as `numeric` does, and takes no memory.
@@ -208,6 +214,7 @@ impl<'input> Parser<'input> {
         }
     }
 
+    // Answer: equation.
     /// Where a dot comes next, takes it and a component: `(Some(n), false)` for a number, `(None,
     /// true)` for a wildcard. Where none comes next, it answers `(None, false)` and takes nothing.
     ///
@@ -226,6 +233,7 @@ impl<'input> Parser<'input> {
         Ok((component, component.is_none()))
     }
 
+    // Answer: equation.
     /// Takes a dot and a number: on `.7` it answers 7.
     ///
     /// It refuses as `numeric` does, of either token; what it took before the refusal stays
@@ -240,6 +248,7 @@ impl<'input> Parser<'input> {
         }
     }
 
+    // Answer: equation.
     /// Whether no token remains. A character may still be pending. It changes nothing.
     ///
     /// On the empty text it is true; on `1` it is false until `numeric` took the number.
@@ -301,6 +310,7 @@ impl<'input> Parser<'input> {
         Ok(number)
     }
 
+    // Answer: law answer_laws::versions::one_identifier.
     /// An identifier of a version: one or more runs of ASCII letters and digits, joined by single
     /// hyphens. A lone run that is the canonical decimal of a number up to 18446744073709551615 is
     /// given as `Numeric`, anything else as `AlphaNumeric` with its text: `7` is `Numeric(7)`, `07`
@@ -392,6 +402,7 @@ impl<'input> Parser<'input> {
         Ok((major, minor, patch))
     }
 
+    // Answer: law answer_laws::versions::one_version_of_parser.
     /// A version and the white space round it: `1.2.3-rc.4+5aedf` gives the numbers 1, 2 and 3, the
     /// pre-release `"rc"`, 4 and the build `"5aedf"`. It ends where no further token fits, and the
     /// tokens behind it remain: of `1.2.3 a` the token `AlphaNumeric("a")`.
@@ -426,6 +437,7 @@ impl<'input> Parser<'input> {
         })
     }
 
+    // Answer: equation.
     /// All tokens that remain, in order; then none remains. On `a.b` it answers
     /// `AlphaNumeric("a")`, `Dot` and `AlphaNumeric("b")`.
     ///

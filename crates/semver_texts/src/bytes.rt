@@ -4,6 +4,7 @@ ghost use Rattle.std.specs.List.{prefix_len, count_by};
 ghost use Rattle.std.specs.Char.{is_ascii_alphanumeric};
 ghost use Rattle.semver_texts.specs.Texts.{is_space, is_part_byte, is_dot};
 
+// Answer: equation.
 /// Whether the byte is a space, a tab, a line feed or a carriage return.
 #[inline(always)]
 pub fn is_space(byte: u8) -> bool
@@ -12,6 +13,7 @@ pub fn is_space(byte: u8) -> bool
     matches!(byte, b' ' | b'\t' | b'\n' | b'\r')
 }
 
+// Answer: equation.
 /// Whether the byte is an ASCII letter, a digit or a hyphen.
 #[inline(always)]
 pub fn is_part_byte(byte: u8) -> bool
@@ -20,6 +22,7 @@ pub fn is_part_byte(byte: u8) -> bool
     byte.is_ascii_alphanumeric() || byte == b'-'
 }
 
+// Answer: equation.
 /// How many bytes at the front are white space: 2 of ` \t1`.
 #[inline(always)]
 pub fn space_len(bytes: &[u8]) -> usize
@@ -28,6 +31,7 @@ pub fn space_len(bytes: &[u8]) -> usize
     bytes.iter().take_while(|&&byte| is_space(byte)).count()
 }
 
+// Answer: equation.
 /// How many bytes at the front are ASCII letters and digits: 3 of `rc1-2`.
 #[inline(always)]
 pub fn run_len(bytes: &[u8]) -> usize
@@ -39,6 +43,7 @@ pub fn run_len(bytes: &[u8]) -> usize
         .count()
 }
 
+// Answer: equation.
 /// How many bytes at the front are ASCII letters, digits and hyphens: 5 of `rc1-2.3`.
 #[inline(always)]
 pub fn part_len(bytes: &[u8]) -> usize
@@ -47,6 +52,7 @@ pub fn part_len(bytes: &[u8]) -> usize
     bytes.iter().take_while(|&&byte| is_part_byte(byte)).count()
 }
 
+// Answer: equation.
 /// How many of the bytes are dots: 2 of `1.2.3`.
 #[inline(always)]
 pub fn count_dots(bytes: &[u8]) -> usize

@@ -10,6 +10,7 @@ ghost use Rattle.semver_texts.specs.Steps.Decimals.{digits_front};
 /// For speed: what is below this may be multiplied by ten and a digit added without a test.
 const LIMIT: u64 = 1_000_000_000_000_000_000;
 
+// Answer: equation.
 /// The number with one digit more behind it.
 #[inline(always)]
 pub fn with_digit(number: u64, digit: u8) -> Option<u64>
@@ -44,6 +45,7 @@ fn digits(bytes: &[u8]) -> Option<(u64, usize)>
     Some((number, bytes.len()))
 }
 
+// Answer: equation.
 /// Whether a digit stands at the front: of `1.2`, and not of `.2` or of nothing.
 #[inline(always)]
 pub fn begins_with_digit(bytes: &[u8]) -> bool
@@ -78,6 +80,7 @@ fn number(bytes: &[u8]) -> Option<(u64, &[u8])>
     Some((number, &bytes[len..]))
 }
 
+// Answer: law answer_laws::texts::one_whole_number.
 /// The number up to 2^64 - 1 that the whole text is.
 #[inline(always)]
 pub fn whole_number(text: &str) -> Option<u64>
@@ -102,6 +105,7 @@ fn dot_number(bytes: &[u8]) -> Option<(u64, &[u8])>
     }
 }
 
+// Answer: law answer_laws::texts::one_numbers.
 /// The three numbers at the front, joined by dots, and what follows them, which doesn't begin with
 /// a digit: 1, 2, 3 and `-rc` of `1.2.3-rc`. A number is at most 2^64 - 1.
 #[inline(always)]

@@ -60,6 +60,7 @@ fn parts_len(bytes: &[u8], hyphens: Hyphens) -> Option<usize>
     in_run.then_some(bytes.len())
 }
 
+// Answer: equation.
 /// What follows the mark, where the bytes begin with it.
 #[inline(always)]
 pub fn behind_mark(bytes: &[u8], mark: u8) -> Option<&[u8]>
@@ -72,6 +73,7 @@ pub fn behind_mark(bytes: &[u8], mark: u8) -> Option<&[u8]>
     }
 }
 
+// Answer: equation.
 /// The parts behind the mark, and what follows them; where the bytes don't begin with the mark,
 /// nothing and all of them. None where what stands behind the mark are no parts.
 #[inline(always)]
@@ -86,6 +88,7 @@ pub fn marked_part(bytes: &[u8], mark: u8, hyphens: Hyphens) -> Option<(&[u8], &
     Some(behind.split_at(len))
 }
 
+// Answer: equation.
 /// The text of parts. Their bytes and the dots between them are ASCII, which is proved, and so
 /// isn't checked.
 #[inline(always)]
@@ -96,6 +99,7 @@ pub fn text_of_parts(bytes: &[u8]) -> &str
     unsafe { str::from_utf8_unchecked(bytes) }
 }
 
+// Answer: law answer_laws::texts::one_split_at_dot.
 /// What stands in front of the first dot, and what follows it; all, where there is no dot.
 #[inline(always)]
 pub fn split_at_dot(bytes: &[u8]) -> (&[u8], Option<&[u8]>)
@@ -133,6 +137,7 @@ fn cut_parts<T: Drop, F: Fn(&str) -> Result<T, AllocError>>(
     Ok(made)
 }
 
+// Answer: equation.
 /// What is made of each part between the dots; nothing where there are no bytes, which takes no
 /// memory.
 #[inline(always)]

@@ -6,6 +6,7 @@ ghost use Rattle.semver_texts.specs.VersionViews.{identifier_value, version_valu
 use crate::version::{Identifier, Version};
 use std::cmp::Ordering;
 
+// Answer: equation.
 /// How two versions compare by precedence (SemVer 2.0.0, section 11): `Less` where the first is
 /// below the other. Builds don't count. It takes no memory.
 ///

@@ -5,6 +5,7 @@ ghost use Rattle.semver_texts.specs.Texts.{joined, marked};
 
 use std::fmt;
 
+// Answer: equation.
 /// Writes the mark and then the items joined by dots; nothing where there are none.
 ///
 /// Of the mark `-` and the items 7 and `"rc"` it writes `-7.rc`. It takes no memory, and its only
@@ -24,6 +25,7 @@ pub fn write_part<W: fmt::Write, T: fmt::Display>(
     write_joined(f, ".", items)
 }
 
+// Answer: equation.
 /// Writes the items with the separator between each two.
 ///
 /// Of the separator `.` and the items 7 and `"rc"` it writes `7.rc`. It takes no memory, and its

@@ -45,6 +45,7 @@ pub enum Identifier {
 }
 
 impl Identifier {
+    // Answer: equation.
     /// The text of the identifier followed by `add_str`, as `AlphaNumeric` whatever the texts are:
     /// `Numeric(7)` and `"a"` give `AlphaNumeric("7a")`, and `Numeric(7)` and `""` give
     /// `AlphaNumeric("7")`.
@@ -82,6 +83,7 @@ fn number_and(alloc: Global, number: u64, text: &str) -> Result<String, AllocErr
     Ok(whole)
 }
 
+// Answer: equation.
 impl fmt::Display for Identifier {
     ghost output = { λ identifier. Some (identifier_text (identifier_value identifier)) };
 
@@ -97,6 +99,7 @@ impl fmt::Display for Identifier {
     }
 }
 
+// Answer: equation.
 impl fmt::Display for Version {
     ghost use Rattle.semver_texts.specs.PrintedText.{version_text};
     ghost use Rattle.semver_texts.specs.VersionViews.{version_value};

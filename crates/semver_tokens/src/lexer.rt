@@ -60,6 +60,7 @@ pub enum Token<'input> {
 impl<'input> Token<'input> {
     ghost use Rattle.semver_tokens.specs.Tokens.{is_wildcard};
 
+    // Answer: equation.
     /// Whether the token is white space, of any length.
     ///
     /// `Whitespace(0, 2)` is; `Dot` isn't.
@@ -70,6 +71,7 @@ impl<'input> Token<'input> {
         matches!(self, Token::Whitespace(_, _))
     }
 
+    // Answer: equation.
     /// Whether the token is a wildcard: `*`, `x` or `X`.
     ///
     /// `Star` and `AlphaNumeric("x")` are; `AlphaNumeric("xx")` isn't.
@@ -172,6 +174,7 @@ impl<'input> Model for Lexer<'input> {
 impl<'input> Lexer<'input> {
     ghost use Rattle.semver_tokens.specs.ParserState.{IsStateOf};
 
+    // Answer: law answer_laws::versions::one_lexer.
     /// A lexer at the start of the text. Any text will do.
     #[inline(always)]
     pub fn new(input: &'input str) -> Lexer<'input>
@@ -185,6 +188,7 @@ impl<'input> Lexer<'input> {
     }
 }
 
+// Answer: equation.
 impl<'input> Iterator for Lexer<'input> {
     ghost use Rattle.std.specs.Iterator.{YieldsFirstBy, item_count};
     ghost use Rattle.semver_tokens.specs.Views.{item_value, items_left};
@@ -215,6 +219,7 @@ impl<'input> Iterator for Lexer<'input> {
     }
 }
 
+// Answer: equation.
 /// A lexer that has the same items left.
 #[inline(always)]
 pub fn copy<'input>(lexer: &Lexer<'input>) -> Lexer<'input>
@@ -228,6 +233,7 @@ pub fn copy<'input>(lexer: &Lexer<'input>) -> Lexer<'input>
     }
 }
 
+// Answer: free, which of the texts with these tokens: must-fail/rest_begins_at_the_start_of_the_text.edit.
 /// What stands from the first token that is left on: a text with the tokens that are left, and with
 /// the bad character behind them. Nothing once the error was given.
 ///
@@ -242,6 +248,7 @@ pub fn rest<'input>(lexer: &Lexer<'input>) -> &'input str
     &lexer.input[lexer.position..]
 }
 
+// Answer: equation.
 /// How many tokens are left, and a lexer behind the last of them: on `1.2/` these are 3, and a
 /// lexer whose next item is the error.
 pub fn count_tokens<'input>(lexer: &Lexer<'input>) -> (usize, Lexer<'input>)

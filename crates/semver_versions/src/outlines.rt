@@ -48,6 +48,7 @@ impl<'t> Model for Outline<'t> {
 }
 
 impl<'t> Outline<'t> {
+    // Answer: equation.
     /// The first number: 1 in `1.2.3-rc.4+5aedf`.
     #[inline(always)]
     pub fn major(&self) -> u64
@@ -56,6 +57,7 @@ impl<'t> Outline<'t> {
         self.major
     }
 
+    // Answer: equation.
     /// The second number: 2 in `1.2.3-rc.4+5aedf`.
     #[inline(always)]
     pub fn minor(&self) -> u64
@@ -64,6 +66,7 @@ impl<'t> Outline<'t> {
         self.minor
     }
 
+    // Answer: equation.
     /// The third number: 3 in `1.2.3-rc.4+5aedf`.
     #[inline(always)]
     pub fn patch(&self) -> u64
@@ -72,6 +75,7 @@ impl<'t> Outline<'t> {
         self.patch
     }
 
+    // Answer: equation.
     /// The identifiers of the pre-release joined by dots, without the `-` in front of them; empty
     /// where there is no pre-release: `rc.4` in `1.2.3-rc.4+5aedf`.
     #[inline(always)]
@@ -81,6 +85,7 @@ impl<'t> Outline<'t> {
         self.pre
     }
 
+    // Answer: equation.
     /// The identifiers of the build joined by dots, without the `+` in front of them; empty where
     /// there is no build: `5aedf` in `1.2.3-rc.4+5aedf`.
     #[inline(always)]
@@ -90,6 +95,7 @@ impl<'t> Outline<'t> {
         self.build
     }
 
+    // Answer: equation.
     /// Whether it has a pre-release: that of `1.2.3-rc.4+5aedf` has one, and that of `1.2.3+5aedf`
     /// hasn't.
     #[inline(always)]
@@ -101,6 +107,7 @@ impl<'t> Outline<'t> {
         !self.pre.is_empty()
     }
 
+    // Answer: equation.
     /// How many bytes of the text that was read stand in front of the identifiers of the
     /// pre-release: 7 of ` 1.2.3-rc.4`. It is 0 where there is no pre-release.
     #[inline(always)]
@@ -110,6 +117,7 @@ impl<'t> Outline<'t> {
         self.before_pre
     }
 
+    // Answer: equation.
     /// How many bytes of the text that was read stand in front of the identifiers of the build: 11
     /// of `1.2.3-rc.4+5aedf`. It is 0 where there is no build.
     #[inline(always)]
@@ -119,6 +127,7 @@ impl<'t> Outline<'t> {
         self.before_build
     }
 
+    // Answer: equation.
     /// The identifiers of the pre-release: `"rc"` and 4 of `1.2.3-rc.4+5aedf`.
     ///
     /// Memory is asked for where there are some: for their list, and for each that isn't a number.
@@ -134,6 +143,7 @@ impl<'t> Outline<'t> {
         identifiers(alloc, self.pre.as_bytes())
     }
 
+    // Answer: equation.
     /// The identifiers of the build: `"5aedf"` of `1.2.3-rc.4+5aedf`. Memory is asked for as by
     /// [`Outline::pre_identifiers`].
     #[inline(always)]
@@ -147,6 +157,7 @@ impl<'t> Outline<'t> {
         identifiers(alloc, self.build.as_bytes())
     }
 
+    // Answer: law answer_laws::versions::one_version_of_outline.
     /// The version: of the outline of `1.2.3-rc.4+5aedf` the numbers 1, 2 and 3, the pre-release
     /// `"rc"`, 4 and the build `"5aedf"`.
     ///
@@ -168,6 +179,7 @@ impl<'t> Outline<'t> {
             build: self.build_identifiers(alloc)?,
         })
     }
+    // Answer: equation.
     /// How the version of this outline compares with another by precedence (SemVer 2.0.0, section
     /// 11), as `version::cmp_precedence` tells it of two versions: the outline of
     /// `1.2.3-rc.4+5aedf` is `Less` than 1.2.3-rc.11. Builds don't count. It takes no memory.

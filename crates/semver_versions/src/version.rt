@@ -25,6 +25,7 @@ pub use semver_texts::precedence::cmp_precedence;
 pub use semver_texts::version::{Identifier, Version};
 use std::alloc::{AllocError, Global};
 
+// Answer: law answer_laws::versions::one_read.
 /// The version that the text spells, if it spells one: `" 1.2.3-rc.4\n"` gives the numbers 1, 2
 /// and 3, the pre-release `"rc"`, 4 and no build, and `1.2` and `1.2.3 a` give `None`. What is
 /// wrong with a text that spells none, [`parse`] tells.
@@ -47,6 +48,7 @@ pub fn read(alloc: Global, input: &str) -> Result<Option<Version>, AllocError>
     read_bytes(alloc, input.as_bytes())
 }
 
+// Answer: law answer_laws::versions::one_read_bytes.
 /// What [`read`] answers of a text, of bytes that needn't be UTF-8: `1.2.3-rc.4` gives that
 /// version, and `1.2.3` with a byte 255 behind it gives `None`, as all bytes that are no UTF-8.
 ///
@@ -69,6 +71,7 @@ pub fn read_bytes(alloc: Global, input: &[u8]) -> Result<Option<Version>, AllocE
     Ok(Some(outline.version(alloc)?))
 }
 
+// Answer: law answer_laws::versions::one_outline.
 /// The version that the text spells in outline, if it spells one: `" 1.2.3-rc.4+b5\n"` gives the
 /// numbers 1, 2 and 3, the pre-release `rc.4` behind 7 bytes and the build `b5` behind 12, and
 /// `1.2` and `1.2.3 a` give `None`.
@@ -94,6 +97,7 @@ pub fn outline(input: &str) -> Option<Outline<'_>>
     outline_bytes(input.as_bytes())
 }
 
+// Answer: law answer_laws::versions::one_outline_bytes.
 /// What [`outline`] answers of a text, of bytes that needn't be UTF-8: `1.2.3-rc.4` gives the
 /// numbers 1, 2 and 3 and the pre-release `rc.4`, and `1.2.3` with a byte 255 behind it gives
 /// `None`, as all bytes that are no UTF-8. They aren't checked for it. It takes no memory.
@@ -117,6 +121,7 @@ pub fn outline_bytes(input: &[u8]) -> Option<Outline<'_>>
     from_bytes::outline(input)
 }
 
+// Answer: law answer_laws::versions::one_outline_behind_numbers.
 /// What [`outline_bytes`] answers of a text that begins with three numbers, for who has read these:
 /// 1, 2 and 3, the 5 bytes up to their end, and `-rc.4` behind them give the outline of
 /// `1.2.3-rc.4`, and with `.4` behind them `None`. It takes no memory.
@@ -141,6 +146,7 @@ pub fn outline_behind_numbers(
     from_bytes::behind_numbers(major, minor, patch, numbers_end, rest)
 }
 
+// Answer: law answer_laws::versions::one_version_parse.
 /// The version that the text spells: `" 1.2.3-rc.4\n"` gives the numbers 1, 2 and 3, the
 /// pre-release `"rc"`, 4 and no build. It prints as the text without the white space round it, and
 /// a text that was printed from such a version gives that version.

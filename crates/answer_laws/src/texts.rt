@@ -1,0 +1,33 @@
+//! Laws on texts, numbers and parts.
+
+ghost use Rattle.std.specs.Prelude.{◌≡◌, option_map};
+ghost use Rattle.answer_laws.specs.SeenTexts.{seen_numbers, seen_text};
+
+use semver_texts::{decimals, dotted};
+
+/// A text is one number, or none.
+pub fn one_whole_number(text: &str) -> (Option<u64>, Option<u64>)
+    ensures one { result.0 ≡ result.1 }
+{
+    (decimals::whole_number(text), decimals::whole_number(text))
+}
+
+/// A text begins with three numbers and one rest, or with none.
+pub fn one_numbers(
+    bytes: &[u8],
+) -> (
+    Option<(u64, u64, u64, &[u8])>,
+    Option<(u64, u64, u64, &[u8])>,
+)
+    ensures one { option_map seen_numbers result.0 ≡ option_map seen_numbers result.1 }
+{
+    (decimals::numbers(bytes), decimals::numbers(bytes))
+}
+
+/// A text has one part before its first dot, and one rest after it.
+pub fn one_split_at_dot(bytes: &[u8]) -> ((&[u8], Option<&[u8]>), (&[u8], Option<&[u8]>))
+    ensures part { result.0.0.now ≡ result.1.0.now }
+    ensures rest { option_map seen_text result.0.1 ≡ option_map seen_text result.1.1 }
+{
+    (dotted::split_at_dot(bytes), dotted::split_at_dot(bytes))
+}

@@ -1,0 +1,161 @@
+//! Laws on tokens, parsers, versions and outlines.
+
+ghost use Rattle.std.specs.Prelude.{◌≡◌, ◌+◌, ◌<◌, ◌^◌, IsOk, alloc_error, length, option_map};
+ghost use Rattle.semver_texts.specs.Texts.{BeginsWithNumbers, Text};
+ghost use Rattle.semver_texts.specs.VersionViews.{identifier_value, version_value};
+ghost use Rattle.semver_tokens.specs.ParserState.{OutOfMemory};
+ghost use Rattle.semver_steps.specs.ParserViews.{IfOutOfMemory, UnlessOutOfMemory, answer_of, step_of};
+ghost use Rattle.semver_versions.specs.Outlines.{IsOutlineOf};
+ghost use Rattle.answer_laws.specs.OneAnswer.{AreOne};
+
+use semver_steps::parser::{self, Parser};
+use semver_texts::version::{Identifier, Version};
+use semver_tokens::lexer::Lexer;
+use semver_versions::version::{self, Outline};
+use std::alloc::{AllocError, Global};
+
+/// A text has one lexer.
+pub fn one_lexer(input: &str) -> (Lexer<'_>, Lexer<'_>)
+    ensures one { result.0 ≡ result.1 }
+{
+    semver_tokens::laws::one_token_list();
+    (Lexer::new(input), Lexer::new(input))
+}
+
+/// A text has one parser, or one error.
+pub fn one_parser<'t>(
+    input: &'t str,
+) -> (
+    Result<Parser<'t>, parser::Error<'t>>,
+    Result<Parser<'t>, parser::Error<'t>>,
+)
+    ensures one { answer_of (λ p. p) result.0 ≡ answer_of (λ p. p) result.1 }
+{
+    semver_tokens::laws::one_token_list();
+    (Parser::new(input), Parser::new(input))
+}
+
+/// Two parsers with the same state read the same identifier and are left in the same state, or
+/// memory ran out in one.
+pub fn one_identifier<'t>(
+    alloc: Global,
+    one: &mut Parser<'t>,
+    other: &mut Parser<'t>,
+) -> (
+    Result<Identifier, parser::Error<'t>>,
+    Result<Identifier, parser::Error<'t>>,
+)
+    requires { one.old ≡ other.old }
+    ensures one { UnlessOutOfMemory result.0 (UnlessOutOfMemory result.1
+        (step_of identifier_value result.0 one.new ≡ step_of identifier_value result.1 other.new)) }
+    ensures state { one.new ≡ other.new }
+    // Memory runs out in place of an identifier alone.
+    ensures memory { IfOutOfMemory result.0 (UnlessOutOfMemory result.1 (IsOk result.1)) }
+{
+    (one.identifier(alloc), other.identifier(alloc))
+}
+
+/// Two parsers with the same state read the same version and are left in the same state, or memory
+/// ran out in one.
+pub fn one_version_of_parser<'t>(
+    alloc: Global,
+    one: &mut Parser<'t>,
+    other: &mut Parser<'t>,
+) -> (
+    Result<Version, parser::Error<'t>>,
+    Result<Version, parser::Error<'t>>,
+)
+    requires { one.old ≡ other.old }
+    ensures one { UnlessOutOfMemory result.0 (UnlessOutOfMemory result.1
+        (step_of version_value result.0 one.new ≡ step_of version_value result.1 other.new)) }
+{
+    (one.version(alloc), other.version(alloc))
+}
+
+/// A text is read into one version, or none.
+pub fn one_read(
+    alloc: Global,
+    input: &str,
+) -> (
+    Result<Option<Version>, AllocError>,
+    Result<Option<Version>, AllocError>,
+)
+    ensures one { AreOne alloc_error (option_map version_value) result.0 result.1 }
+{
+    (version::read(alloc, input), version::read(alloc, input))
+}
+
+/// Bytes are read into one version, or none.
+pub fn one_read_bytes(
+    alloc: Global,
+    input: &[u8],
+) -> (
+    Result<Option<Version>, AllocError>,
+    Result<Option<Version>, AllocError>,
+)
+    ensures one { AreOne alloc_error (option_map version_value) result.0 result.1 }
+{
+    (
+        version::read_bytes(alloc, input),
+        version::read_bytes(alloc, input),
+    )
+}
+
+/// A text has one outline, or none.
+pub fn one_outline(input: &str) -> (Option<Outline<'_>>, Option<Outline<'_>>)
+    ensures one { result.0 ≡ result.1 }
+{
+    (version::outline(input), version::outline(input))
+}
+
+/// Bytes have one outline, or none.
+pub fn one_outline_bytes(input: &[u8]) -> (Option<Outline<'_>>, Option<Outline<'_>>)
+    ensures one { result.0 ≡ result.1 }
+{
+    (version::outline_bytes(input), version::outline_bytes(input))
+}
+
+/// What is outlined after its numbers has one outline, or none, if a text begins with them.
+pub fn one_outline_behind_numbers(
+    major: u64,
+    minor: u64,
+    patch: u64,
+    numbers_end: usize,
+    rest: &[u8],
+) -> (Option<Outline<'_>>, Option<Outline<'_>>)
+    requires fits { numbers_end + length rest.now < 2 ^ 64 }
+    ensures one { (text : Text) → BeginsWithNumbers text major minor patch rest.now
+        → length text ≡ numbers_end + length rest.now → result.0 ≡ result.1 }
+{
+    (
+        version::outline_behind_numbers(major, minor, patch, numbers_end, rest),
+        version::outline_behind_numbers(major, minor, patch, numbers_end, rest),
+    )
+}
+
+/// One version is made of the outline of a text, or memory ran out.
+pub fn one_version_of_outline(
+    alloc: Global,
+    outline: &Outline<'_>,
+) -> (Result<Version, AllocError>, Result<Version, AllocError>)
+    ensures one { (text : Text) → IsOutlineOf text outline.now
+        → AreOne alloc_error version_value result.0 result.1 }
+{
+    semver_versions::laws::one_version();
+    (outline.version(alloc), outline.version(alloc))
+}
+
+/// A text is parsed into one version, or gives one error, or memory ran out.
+pub fn one_version_parse(
+    alloc: Global,
+    input: &str,
+) -> (
+    Result<Version, parser::Error<'_>>,
+    Result<Version, parser::Error<'_>>,
+)
+    ensures one { UnlessOutOfMemory result.0 (UnlessOutOfMemory result.1
+        (answer_of version_value result.0 ≡ answer_of version_value result.1)) }
+{
+    semver_versions::laws::one_outcome();
+    (version::parse(alloc, input), version::parse(alloc, input))
+}
