@@ -188,12 +188,12 @@ prove_in_lane() {
     mkdir -p "$top/crates/$1/out" && mv "$lane/crates/$1/out"/* "$top/crates/$1/out" && : > "$work/proved-$1"
 }
 
-# copy_into_lane CRATE: the crate's files, and of those that it stands on also what is proved, by
-# links where these can be.
+# copy_into_lane CRATE: the crate's files and its line in crates.txt, and of those that it stands on
+# also what is proved, by links where these can be.
 copy_into_lane() {
-    mkdir -p "$lane/crates" && cp "$top/crates.txt" "$lane" || return
+    mkdir -p "$lane/crates" || return
     for lower in $(crates_of "$1"); do
-        mkdir "$lane/crates/$lower" || return
+        grep "^$lower[ :]" "$top/crates.txt" >> "$lane/crates.txt" && mkdir "$lane/crates/$lower" || return
         for part in "$top/crates/$lower"/*; do
             case $part in */out) ;; *) cp -R "$part" "$lane/crates/$lower" || return ;; esac
         done

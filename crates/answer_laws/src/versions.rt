@@ -4,7 +4,8 @@ ghost use Rattle.std.specs.Prelude.{◌≡◌, ◌+◌, ◌<◌, ◌^◌, IsOk, 
 ghost use Rattle.semver_texts.specs.Texts.{BeginsWithNumbers, Text};
 ghost use Rattle.semver_texts.specs.VersionViews.{identifier_value, version_value};
 ghost use Rattle.semver_tokens.specs.ParserState.{OutOfMemory};
-ghost use Rattle.semver_steps.specs.ParserViews.{IfOutOfMemory, UnlessOutOfMemory, answer_of, step_of};
+ghost use Rattle.semver_steps.specs.ParserViews.{IfOutOfMemory, UnlessOutOfMemory};
+ghost use Rattle.semver_steps.specs.ParserViews.{answer_of, step_of};
 ghost use Rattle.semver_versions.specs.Outlines.{IsOutlineOf};
 ghost use Rattle.answer_laws.specs.OneAnswer.{AreOne};
 

@@ -233,7 +233,7 @@ pub fn copy<'input>(lexer: &Lexer<'input>) -> Lexer<'input>
     }
 }
 
-// Answer: free, which of the texts with these tokens: must-fail/rest_begins_at_the_start_of_the_text.edit.
+// Answer: free, which text: must-fail/rest_begins_at_the_start_of_the_text.edit.
 /// What stands from the first token that is left on: a text with the tokens that are left, and with
 /// the bad character behind them. Nothing once the error was given.
 ///
