@@ -3,5 +3,6 @@
 //! proof sees the clauses of the call alone. No program is built of this crate.
 #![tactic(auto)]
 
+pub mod filters;
 pub mod ranges;
 pub mod sets;
