@@ -40,3 +40,8 @@ one_made view (Ok a) (Ok b) h = inl (ap Ok h)
 one_made view (Ok a) (Err e) h = inr (inr (a, refl, refl))
 one_made view (Err e) (Ok b) h = inr (inl (b, refl, refl))
 one_made view (Err e) (Err f) h = inl refl
+
+-- two answers of which what is seen of the value is this
+pub one_value : {A V : Type 0} (view : A → V) (value : V) (r s : Result A AllocError) → IfOk r (λ a. view a ≡ value)
+    → IfOk s (λ a. view a ≡ value) → AreOne alloc_error view r s
+one_value view value r s p q = one_made view r s (both r s p q (λ a b e e'. e ∙ sym e'))

@@ -3,6 +3,7 @@
 //! proof sees the clauses of the call alone. No program is built of this crate.
 #![tactic(auto)]
 
+pub mod filters;
 pub mod ranges;
 pub mod sets;
 pub mod texts;

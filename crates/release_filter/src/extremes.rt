@@ -27,6 +27,7 @@ pub enum Extreme {
 }
 
 impl Filter {
+    // Answer: free, the reader's own errors: must-fail/last_among_equals_is_the_greatest.edit.
     /// Of the lines that spell a version which passes, the one with the greatest by precedence
     /// (SemVer 2.0.0, section 11), and the first of those with an equal one; builds don't count. It
     /// is answered as it stands, with its end. `None` exactly where no line is kept.
@@ -51,6 +52,7 @@ impl Filter {
         self.greatest_line_behind(alloc, "", input)
     }
 
+    // Answer: free, the reader's own errors: must-fail/last_among_equals_is_the_greatest.edit.
     /// What [`Filter::greatest_line`] answers, of lines that begin with a prefix: a line is kept
     /// where its text is the prefix and then the text of a version that passes.
     pub fn greatest_line_behind<R: BufRead>(
@@ -67,6 +69,7 @@ impl Filter {
         self.extreme_line(alloc, prefix, input, Extreme::Greatest)
     }
 
+    // Answer: free, the reader's own errors: must-fail/last_among_equals_is_the_least.edit.
     /// Of the lines that spell a version which passes, the one with the least by precedence (SemVer
     /// 2.0.0, section 11), and the first of those with an equal one: all else is as of
     /// [`Filter::greatest_line`]. A filter of `^1.2` answers of the input
@@ -88,6 +91,7 @@ impl Filter {
         self.least_line_behind(alloc, "", input)
     }
 
+    // Answer: free, the reader's own errors: must-fail/last_among_equals_is_the_least.edit.
     /// What [`Filter::least_line`] answers, of lines that begin with a prefix: a line is kept where
     /// its text is the prefix and then the text of a version that passes.
     pub fn least_line_behind<R: BufRead>(

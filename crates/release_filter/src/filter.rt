@@ -42,6 +42,7 @@ impl Model for Filter {
 }
 
 impl Filter {
+    // Answer: law answer_laws::filters::one_filter.
     /// Reads a range text: `^1.2.3-beta || 3.x` in Cargo mode and with `PreReleases::Stated` gives
     /// a filter that 1.2.3-rc, 1.9.0 and 3.0.0 pass, and 1.3.0-rc and 2.0.0 don't.
     ///
@@ -69,6 +70,7 @@ impl Filter {
         })
     }
 
+    // Answer: equation.
     /// A filter that the versions of a set pass, as those that a tool's own reading of a range text
     /// answers. It takes no memory.
     pub fn of_versions(versions: VersionSet) -> Filter
@@ -89,6 +91,7 @@ impl Filter {
         self.versions.is_normal();
     }
 
+    // Answer: equation.
     /// Whether a version passes. Its build doesn't count. It takes no memory.
     pub fn meets(&self, version: &Version) -> bool
         ensures meets { result ≡ passes self.now (version_value version.now) }
@@ -96,6 +99,7 @@ impl Filter {
         self.versions.has(version)
     }
 
+    // Answer: law answer_laws::filters::one_greatest.
     /// Of the versions that pass, the greatest by precedence (SemVer 2.0.0, section 11), and the
     /// first of those that are equal to it; builds don't count. `None` exactly where none passes.
     /// Of 1.2.0, 2.0.0, 1.9.0+a and 1.9.0+b, a filter of `^1.2` answers 1.9.0+a. It takes no
@@ -124,6 +128,7 @@ impl Filter {
     }
 }
 
+// Answer: law answer_laws::filters::one_filter_text.
 /// The releases among the versions that a range text means, in the given order and with repeats
 /// kept: each version without pre-release that meets the text's own meaning. Of `^0.2 || 2.x` in
 /// Cargo mode, and of 0.2.0, 0.3.0, 2.0.0-rc, 2.5.0 and 2.5.0 again, these are 0.2.0, 2.5.0 and

@@ -28,6 +28,7 @@ pub enum Judged<'t> {
 }
 
 impl Filter {
+    // Answer: law answer_laws::filters::one_judge.
     /// What the filter says of a text: one of `^1.2`, releases alone, says of `1.2` that it is no
     /// version, of `2.0.0` and of `1.3.0-rc` that they don't pass, and of `1.9.0+b5` that 1.9.0+b5
     /// passes.
@@ -63,6 +64,7 @@ impl Filter {
         }
     }
 
+    // Answer: law answer_laws::filters::one_read.
     /// The version that a text spells, if it spells one that passes: with a filter of `^1.2`,
     /// releases alone, `1.9.0+b5` gives that version, and `2.0.0`, `1.3.0-rc` and `1.2` give
     /// `None`. Which of the two it is that these are, [`Filter::judge`] says.

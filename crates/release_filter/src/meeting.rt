@@ -14,6 +14,7 @@ use crate::precedence;
 use semver_parser::version::Version;
 use semver_parser::{Comparator, Op, Range, RangeSet};
 
+// Answer: equation.
 /// Whether a version is a release that meets a range set: it has no pre-release, and some range of
 /// the set has all its comparators met, by precedence (SemVer 2.0.0, section 11).
 ///
@@ -27,6 +28,7 @@ pub fn release_meets(set: &RangeSet, version: &Version) -> bool
     version.pre.is_empty() && version_meets(set, version)
 }
 
+// Answer: equation.
 /// Whether a version, a pre-release too, meets a range set: some range of the set has all its
 /// comparators met, by precedence (SemVer 2.0.0, section 11). The build of the version doesn't
 /// count.
@@ -41,6 +43,7 @@ pub fn version_meets(set: &RangeSet, version: &Version) -> bool
     some_range_is_met(&set.ranges, version)
 }
 
+// Answer: equation.
 /// Whether a version meets a range set by the rule that npm and Cargo's `semver` have for
 /// pre-releases: some range of the set has all its comparators met, by precedence (SemVer 2.0.0,
 /// section 11), and where the version has a pre-release, a comparator of that range has the same

@@ -26,6 +26,7 @@ pub struct SortedLine {
 }
 
 impl Filter {
+    // Answer: free, the reader's own errors: must-fail/sorted_line_is_lost.edit.
     /// The lines that spell a version which passes, from the least to the greatest by precedence
     /// (SemVer 2.0.0, section 11); builds don't count, and lines of equal versions come in the
     /// order that they have in the input. All repeats are among them. Each is answered as it
@@ -54,6 +55,7 @@ impl Filter {
         self.sorted_lines_behind(alloc, "", input)
     }
 
+    // Answer: free, the reader's own errors: must-fail/sorted_line_is_lost.edit.
     /// What [`Filter::sorted_lines`] answers, of lines that begin with a prefix: a line is kept
     /// where its text is the prefix and then the text of a version that passes.
     pub fn sorted_lines_behind<R: BufRead>(
@@ -121,6 +123,7 @@ fn in_order(alloc: Global, mut lines: Vec<SortedLine>) -> Result<Vec<Vec<u8>>, A
     Ok(sorted)
 }
 
+// Answer: equation.
 /// Writes lines one after the other, as [`write_whole`] writes bytes: of `"1.2.0\n"` and
 /// `"1.10.0\n"` the output is `"1.2.0\n1.10.0\n"`.
 ///

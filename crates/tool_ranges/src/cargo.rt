@@ -39,6 +39,7 @@ use std::alloc::{AllocError, Global};
 /// Cargo reads at most so many comparators.
 const MOST_COMPARATORS: usize = 32;
 
+// Answer: law answer_laws::ranges::one_cargo_rewrite.
 /// Rewrites a requirement, as Cargo reads it, into plain comparators with exact bounds.
 ///
 /// A requirement is one or more comparators parted by commas, at most 32, or a wildcard alone.

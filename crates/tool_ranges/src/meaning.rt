@@ -30,6 +30,7 @@ pub enum Meaning {
 }
 
 impl Meaning {
+    // Answer: equation.
     /// Whose reading it is by.
     pub fn reading(self) -> Reading
         ensures { result ≡ reading_of self }
@@ -44,6 +45,7 @@ impl Meaning {
     }
 }
 
+// Answer: law answer_laws::sets::one_read.
 /// Reads a range text into the set of the versions that it means.
 ///
 /// It is [`cargo::read`](crate::cargo::read), [`npm::read`](crate::npm::read) or

@@ -33,6 +33,7 @@ use semver_ranges::grammar::Dialect;
 use semver_ranges::{Compat, Range, RangeError, RangeSet};
 use std::alloc::{AllocError, Global};
 
+// Answer: law answer_laws::ranges::one_npm_rewrite.
 /// Rewrites a range text, as npm reads it, into plain comparators with exact bounds.
 ///
 /// The text is one or more ranges parted by `||`. `docs/GRAMMAR.md` states the grammar, and

@@ -25,6 +25,7 @@ pub enum Reading {
     Crate(Compat),
 }
 
+// Answer: law answer_laws::ranges::one_rewrite.
 /// Rewrites a range text, by one of the readings, into plain comparators with exact bounds.
 ///
 /// It is [`cargo::rewrite`](crate::cargo::rewrite), [`npm::rewrite`](crate::npm::rewrite) or

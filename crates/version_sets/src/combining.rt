@@ -10,6 +10,7 @@ use crate::version_set::VersionSet;
 use std::alloc::{AllocError, Global};
 
 impl VersionSet {
+    // Answer: law answer_laws::sets::one_union.
     /// The versions of one set or the other. It takes time in the number of their switches.
     ///
     /// Those of `>=1.0.0 <1.5.0` and `>=1.2.0 <2.0.0` give that of `>=1.0.0 <2.0.0`.
@@ -26,6 +27,7 @@ impl VersionSet {
         self.combined(alloc, Combination::Union, other)
     }
 
+    // Answer: law answer_laws::sets::one_intersection.
     /// The versions of both sets. It takes time in the number of their switches.
     ///
     /// Those of `>=1.0.0 <1.5.0` and `>=1.2.0 <2.0.0` give that of `>=1.2.0 <1.5.0`.
@@ -42,6 +44,7 @@ impl VersionSet {
         self.combined(alloc, Combination::Intersection, other)
     }
 
+    // Answer: law answer_laws::sets::one_difference.
     /// The versions of the first set that the other doesn't have. It takes time in the number of
     /// their switches.
     ///

@@ -10,6 +10,7 @@ use crate::switches::are_same;
 use crate::version_set::VersionSet;
 
 impl VersionSet {
+    // Answer: equation.
     /// Whether no version is in the set. It takes no memory.
     ///
     /// That of `>2.0.0 <1.0.0` is empty.
@@ -19,6 +20,7 @@ impl VersionSet {
         self.releases.is_empty() && self.pre_releases.is_empty()
     }
 
+    // Answer: equation.
     /// Whether each version that is in the set is in the other, too. It takes time in the number of
     /// their switches, and no memory.
     ///
@@ -30,6 +32,7 @@ impl VersionSet {
         !self.keeps_some(Combination::Difference, other)
     }
 
+    // Answer: equation.
     /// Whether some version is in both sets. It takes time in the number of their switches, and no
     /// memory.
     ///
@@ -50,6 +53,7 @@ impl VersionSet {
     }
 }
 
+// Answer: equation.
 impl PartialEq for VersionSet {
     ghost use Rattle.version_sets.specs.VersionSets.{same_switches};
     ghost use Rattle.std.specs.Cmp.{partial_equiv_from_equiv};

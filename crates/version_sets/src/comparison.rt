@@ -24,6 +24,7 @@ pub struct Comparison {
 }
 
 impl VersionSet {
+    // Answer: law answer_laws::sets::one_compare.
     /// Compares the set with a new one that is to take its place. It takes time in the number of
     /// their switches.
     ///

@@ -16,6 +16,7 @@ use semver_parser::version::Version;
 use std::alloc::{AllocError, Global};
 
 impl VersionSet {
+    // Answer: law answer_laws::sets::one_least.
     /// The least version in the set by precedence, without a build; `None` exactly where the set is
     /// empty. That of `>1.0.0-rc.1 || >=2.0.0` has 1.0.0-rc.1.0, where pre-releases count.
     ///
@@ -36,6 +37,7 @@ impl VersionSet {
         }
     }
 
+    // Answer: law answer_laws::sets::one_least_release.
     /// The least release in the set by precedence; `None` exactly where it has no release. That of
     /// `>1.0.0-rc.1 <1.0.0 || >=2.0.0` has 2.0.0. It takes no memory.
     pub fn least_release(&self) -> Option<Release>

@@ -19,6 +19,7 @@ use semver_parser::{Comparator, Op, Range, RangeSet};
 use std::alloc::{AllocError, Global};
 
 impl VersionSet {
+    // Answer: law answer_laws::sets::one_of_set.
     /// The versions that meet comparators by a rule for pre-releases (docs/MEANING.md).
     ///
     /// `>=1.2.0 <2.0.0 || =3.1.4` gives a set with 1.2.0, 1.9.0 and 3.1.4, and without 2.0.0. By

@@ -14,6 +14,7 @@ use semver_parser::{Compat, RangeError, RangeSet, laws};
 use std::alloc::Global;
 
 impl VersionSet {
+    // Answer: law answer_laws::sets::one_of_text.
     /// The versions that a range text means by a rule for pre-releases (docs/MEANING.md).
     ///
     /// `^1.2.3-beta || 3.x` in Cargo mode and by `PreReleases::Stated` gives a set with 1.2.3-rc,

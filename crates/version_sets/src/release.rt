@@ -21,6 +21,7 @@ pub struct Release {
 }
 
 impl Release {
+    // Answer: equation.
     /// The numbers of a version, without its pre-release and its build: 1.2.3 of 1.2.3-rc.1+b5.
     pub fn of(version: &Version) -> Release
         ensures { release_value result
@@ -33,6 +34,7 @@ impl Release {
         }
     }
 
+    // Answer: equation.
     /// The release as a version, without a pre-release and without a build. It takes no memory.
     pub fn version(self, alloc: Global) -> Version
         ensures { version_value result ≡ record { plain = release_value self; build = [] } }

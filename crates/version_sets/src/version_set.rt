@@ -43,6 +43,7 @@ impl Model for VersionSet {
 }
 
 impl VersionSet {
+    // Answer: law answer_laws::sets::one_empty.
     /// The set without versions. It takes no memory.
     pub fn empty(alloc: Global) -> VersionSet
         ensures empty { (v : PlainVersion) → has result v ≡ false }
@@ -68,6 +69,7 @@ impl VersionSet {
         let _ = &self.releases;
     }
 
+    // Answer: law answer_laws::sets::one_only_releases.
     /// The releases of the set: of `>=1.2.0-rc` by `PreReleases::Included` 1.2.0 is left, and
     /// 1.2.0-rc.2 isn't. It takes no memory.
     pub fn only_releases(self, alloc: Global) -> VersionSet
@@ -77,6 +79,7 @@ impl VersionSet {
         VersionSet::of_switches(self.releases, Vec::new(alloc))
     }
 
+    // Answer: equation.
     /// Whether a version is in the set: 1.9.0+b5 is in that of `^1.2.0`, and 2.0.0 isn't. It takes
     /// time in the logarithm of the number of switches, and no memory.
     pub fn has(&self, version: &Version) -> bool
@@ -96,6 +99,7 @@ impl VersionSet {
         switches::has(&self.pre_releases, version)
     }
 
+    // Answer: equation.
     /// Whether each of some versions is in the set, as [`VersionSet::has`] tells of one. Of many
     /// versions it is quicker to ask so: where the set has no pre-release and at most two switches
     /// of releases, as that of `^1.2.0` has, no answer hangs on a branch. It takes no memory.
@@ -123,6 +127,7 @@ impl VersionSet {
         }
     }
 
+    // Answer: equation.
     /// Whether a release is in the set, as [`VersionSet::has`] tells of a version.
     #[inline(always)]
     pub fn has_release(&self, release: Release) -> bool
@@ -131,6 +136,7 @@ impl VersionSet {
         switches::has_release(&self.releases, &release)
     }
 
+    // Answer: equation.
     /// Whether the version of an outline is in the set, as [`VersionSet::has`] tells of a version.
     /// Its identifiers are compared as they stand in the text. It takes no memory.
     #[inline(always)]

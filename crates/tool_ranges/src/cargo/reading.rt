@@ -20,6 +20,7 @@ use semver_ranges::{Compat, Range, RangeError, RangeSet};
 use std::alloc::{AllocError, Global};
 use version_sets::{PreReleases, VersionSet};
 
+// Answer: law answer_laws::sets::one_cargo_read.
 /// Reads a requirement, as Cargo reads it, into the set of the versions that it means.
 ///
 /// `docs/MEANING.md` states what each comparator means to Cargo. A release is in the set exactly if

@@ -17,6 +17,7 @@ use semver_ranges::{Comparator, Op, Range, RangeError, RangeSet};
 use std::alloc::{AllocError, Global};
 use version_sets::{PreReleases, VersionSet};
 
+// Answer: law answer_laws::sets::one_npm_read.
 /// Reads a range text, as npm reads it, into the set of the versions that it means.
 ///
 /// `docs/MEANING.md` states what each range means to npm. A release is in the set exactly if it

@@ -1,0 +1,6 @@
+use Rattle.answer_laws.proofs.FilterAnswers.{one_found}
+use Rattle.answer_laws.proofs.filters.one_read.Goals as goal
+
+pub returns : goal.returns
+returns c =
+    record { one = one_found _ _ _ c.read.ensures.exact c.read-2.ensures.exact }
