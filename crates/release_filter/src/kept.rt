@@ -12,7 +12,7 @@ use std::alloc::{AllocError, Global};
 const AT_ONCE: usize = 64;
 
 impl Filter {
-    // Answer: equation.
+    // Answer: law answer_laws::filters::one_kept.
     /// Those of the versions that pass, in their order and with repeats. Of 0.2.0, 0.3.0, 2.0.0-rc,
     /// 2.5.0 and 2.5.0 again, a filter of `^0.2 || 2.x` keeps 0.2.0, 2.5.0 and 2.5.0.
     ///
