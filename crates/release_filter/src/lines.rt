@@ -29,7 +29,7 @@ pub enum LineError {
 }
 
 impl Filter {
-    // Answer: free, the reader's and the writer's own errors: must-fail/fault_of_writing_is_one_of_reading.edit.
+    // Answer: free, errors of the streams: must-fail/fault_of_writing_is_one_of_reading.edit.
     /// Copies those lines of `input` to `out` that spell a version which passes, and tells whether
     /// there was one.
     ///
@@ -72,7 +72,7 @@ impl Filter {
         self.copy_lines_behind(alloc, "", input, out)
     }
 
-    // Answer: free, the reader's and the writer's own errors: must-fail/fault_of_writing_is_one_of_reading.edit.
+    // Answer: free, errors of the streams: must-fail/fault_of_writing_is_one_of_reading.edit.
     /// What [`Filter::copy_lines`] does, of lines that begin with a prefix: a line is kept where
     /// its text is the prefix and then the text of a version that passes. It is written as it
     /// stands, with the prefix. With the prefix `v`, `v1.2.0` is kept by `^1.2`, and `1.2.0` is
