@@ -324,7 +324,7 @@ pub extern "C" fn semver_parser_proved_meets(
         → RangeIsRead reading pre_releases range.now result × IsVersionText version.now }
     ensures accepted { RangeIsRead reading pre_releases range.now result
         → (v : VersionValue) → IsUtf8 version.now → SpellsVersion v version.now
-        → IsOneOf (number.ok ∷ number.version_out_of_memory ∷ []) result }
+        → result ≡ number.ok }
     ensures unchanged { result ≢ number.ok → meets.new ≡ meets.old }
 
     // Faults of the reading, of the rule, and of the range, whatever the version.
