@@ -325,6 +325,7 @@ int main(void) {
     version_takes("1.2.3 a", 1, SEMVER_PARSER_MORE_INPUT);
     version_takes("1.2", 0, SEMVER_PARSER_UNEXPECTED_END);
     order_takes("1.2.3-rc.1+b", "1.2.3", 0, SEMVER_PARSER_OK, true);
+    order_takes("1.2.3", "1.2.3+b.1", 0, SEMVER_PARSER_OK, true);
     order_takes("1.2.3", "1.2.3-1", 1, SEMVER_PARSER_OK, true);
     order_takes("1.2.3", "1.2.3-rc.1", 2, SEMVER_PARSER_OK, true);
     order_takes("1.2.3", "1.2.3-rc.1/", 2, SEMVER_PARSER_UNEXPECTED_CHAR, true);

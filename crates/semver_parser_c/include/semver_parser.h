@@ -280,13 +280,13 @@ int32_t semver_parser_parse_version(const uint8_t *text, size_t text_length,
  *   SEMVER_PARSER_VERSION_NOT_UTF8, _UNEXPECTED_END, _UNEXPECTED_TOKEN, _UNEXPECTED_CHAR,
  *   _MORE_INPUT or _VERSION_OUT_OF_MEMORY. `in_other` is then whether it is that of `other`: the
  *   first text is read first, so it holds exactly where that spells a version. Of two versions the
- *   answer is SEMVER_PARSER_VERSION_OUT_OF_MEMORY only where the other one has a pre-release or a
- *   build.
+ *   answer is SEMVER_PARSER_VERSION_OUT_OF_MEMORY only where the other one has a pre-release.
  *
  * After any answer but SEMVER_PARSER_OK `order` is as it was, and after SEMVER_PARSER_OK `in_other`
  * is.
  *
- * Memory: none for the first version, and the identifiers of the other one.
+ * Memory: none for the first version, and the identifiers of the other one's pre-release. A build
+ * takes none.
  */
 int32_t semver_parser_precedence(const uint8_t *version, size_t version_length,
                                  const uint8_t *other, size_t other_length, int32_t *order,

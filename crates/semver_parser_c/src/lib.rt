@@ -532,7 +532,7 @@ pub extern "C" fn semver_parser_proved_compare(
 /// # Faults
 ///
 /// Those of `semver_parser_proved_parse_version`. `VERSION_OUT_OF_MEMORY` comes for two versions
-/// only where the other one has a pre-release or a build.
+/// only where the other one has a pre-release: a build is checked where it stands in the text.
 #[unsafe(no_mangle)]
 pub extern "C" fn semver_parser_proved_precedence(
     alloc: Global,
@@ -546,12 +546,13 @@ pub extern "C" fn semver_parser_proved_precedence(
     ensures precedence { result ≡ number.ok → (v w : VersionValue) → SpellsVersion v version.now
         → SpellsVersion w other.now → order.new ≡ order_number (precedence v.plain w.plain) }
     ensures both_read { result ≡ number.ok → IsVersionText version.now × IsVersionText other.now }
+    ensures both_utf8 { result ≡ number.ok → IsUtf8 version.now × IsUtf8 other.now }
     ensures accepted { (v w : VersionValue) → IsUtf8 version.now → SpellsVersion v version.now
         → IsUtf8 other.now → SpellsVersion w other.now
         → IsOneOf (number.ok ∷ number.version_out_of_memory ∷ []) result }
-    // Memory runs out at two versions only where the other has a pre-release or a build.
+    // Memory runs out at two versions only where the other has a pre-release.
     ensures plain { (v w : VersionValue) → IsUtf8 version.now → SpellsVersion v version.now
-        → IsUtf8 other.now → SpellsVersion w other.now → w.plain.pre ≡ [] → w.build ≡ []
+        → IsUtf8 other.now → SpellsVersion w other.now → w.plain.pre ≡ []
         → result ≡ number.ok }
 
     // A fault is that of the first text, or of the other where the first spells a version.
@@ -569,7 +570,7 @@ pub extern "C" fn semver_parser_proved_precedence(
             return number;
         }
     };
-    match version_text::version(alloc, other) {
+    match version_text::plain_version(alloc, other) {
         Ok(second) => {
             *order = order_number(first.cmp_precedence(&second));
             numbers::OK
