@@ -34,7 +34,7 @@ ghost use Rattle.tool_ranges.specs.Readings.{SpellsAs, TreeOf, fits_as};
 ghost use Rattle.tool_ranges.specs.Meanings.{meant_as, reading_of};
 ghost use Rattle.semver_parser_c.specs.Numbers as number;
 ghost use Rattle.semver_parser_c.specs.Readings.{IsNamed, reading_number};
-ghost use Rattle.semver_parser_c.specs.Faults.{IsOneOf, NewRangeIsRead, RangeIsRead};
+ghost use Rattle.semver_parser_c.specs.Faults.{IsAccepted, IsOneOf, NewRangeIsRead, RangeIsRead};
 ghost use Rattle.semver_parser_c.specs.Faults.{RefusesNewRange, RefusesRange, RefusesText};
 ghost use Rattle.semver_parser_c.specs.Faults.{named_faults, new_range_faults, outcome_number};
 ghost use Rattle.semver_parser_c.specs.Faults.{range_faults, set_for};
@@ -460,11 +460,11 @@ pub extern "C" fn semver_parser_proved_least(
 ///
 /// # Faults
 ///
-/// `NO_SUCH_READING` and `NO_SUCH_RULE`, whatever the texts. Then the old range is read:
-/// `RANGE_NOT_UTF8`, `NOT_A_RANGE`, `NUMBER_TOO_LARGE` and `RANGE_OUT_OF_MEMORY`, whatever the new
-/// one. Then the new one:
-/// `NEW_RANGE_NOT_UTF8`, `NEW_NOT_A_RANGE`, `NEW_NUMBER_TOO_LARGE` and `NEW_RANGE_OUT_OF_MEMORY`,
-/// which also tells want of memory while both are compared. Then `NO_ROOM`.
+/// `NO_SUCH_READING` and `NO_SUCH_RULE`, whatever the texts. Then the errors of the old range,
+/// whatever the new one is: `RANGE_NOT_UTF8`, `NOT_A_RANGE` and `NUMBER_TOO_LARGE`. Then those of
+/// the new one, whatever memory there is: `NEW_RANGE_NOT_UTF8`, `NEW_NOT_A_RANGE` and
+/// `NEW_NUMBER_TOO_LARGE`. Then `NEW_RANGE_OUT_OF_MEMORY`, wherever memory ran out, also at the old
+/// range: `RANGE_OUT_OF_MEMORY` never comes. Then `NO_ROOM`.
 #[unsafe(no_mangle)]
 pub extern "C" fn semver_parser_proved_compare(
     alloc: Global,
@@ -495,12 +495,14 @@ pub extern "C" fn semver_parser_proved_compare(
         → RangeIsRead reading pre_releases old_range.now result
         × NewRangeIsRead reading pre_releases new_range.now result }
 
-    // Faults of the reading, of the rule, of the old range, and where that is read of the new one,
-    // whatever the room.
+    // Errors of the reading, of the rule, of the old range, and where that is accepted of the new
+    // one, whatever the room and the memory.
     ensures refusals { RefusesRange reading pre_releases old_range.now result }
     ensures new_refusals { RefusesNewRange
-        (RangeIsRead reading pre_releases old_range.now result)
+        (IsAccepted reading pre_releases old_range.now)
         reading pre_releases new_range.now result }
+    // Wherever memory runs out, one number tells it.
+    ensures one_memory { result ≢ number.range_out_of_memory }
     ensures room_unchanged { result ≢ number.ok → out.new ≡ out.old }
     ensures length_unchanged { IsOneOf (named_faults ++ new_range_faults) result
         → length.new ≡ length.old }
