@@ -10,6 +10,7 @@
 
 mod comparators;
 mod compared;
+pub mod laws;
 mod meeting;
 mod numbers;
 mod range_text;
