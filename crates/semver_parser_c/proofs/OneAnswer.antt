@@ -1,5 +1,6 @@
 -- What the clauses of a call say of two answers, they say of one.
-use Rattle.std.proofs.Common.{◌≡◌, ◌≢◌, ◌⊎◌, ◌↔◌, ◌∙◌, ℤ, Bool, true, false, List, [], ◌∷◌, Result, arith, refl, sym, ap, subst, inl, inr}
+use Rattle.std.proofs.Common.{◌≡◌, ◌≢◌, ◌⊎◌, ◌↔◌, ◌∙◌, ℤ, Bool, true, false, List, [], ◌∷◌, Result, arith, refl, sym, ap, inl, inr}
+use Rattle.std.proofs.Common.{to_z, of_z, w32}
 use Rattle.std.specs.Prelude.{⊤, IsUtf8}
 use Rattle.semver_parser.specs.Texts.{Text}
 use Rattle.semver_parser.specs.Versions.{VersionValue}
@@ -19,6 +20,16 @@ use Rattle.semver_parser_c.specs.OneAnswer.{AreOne, IsMemory}
 pub known : (n m : ℤ) → ((n ≢ m) → ⊥) → n ≡ m
 known n m not_other = grind arith
 
+-- what follows of what a number denies where it is another, as bytes that are no UTF-8
+pub unless : {P : Type 0} (k n m : ℤ) → (n ≡ k) ↔ ¬ P → n ≢ k → (P → n ≡ m) → n ≡ m
+unless k n m exact apart so = known n m (λ other. apart (exact.1 (λ is. other (so is))))
+
+-- where an output is one value behind `ok`, and else as it was, it is one
+pub told_once : {A : Type 0} (IsTold : A → Type 0) (n m : ℤ) (old old' out out' : A) → ((x y : A) → IsTold x → IsTold y → x ≡ y)
+    → (n ≡ number.ok → IsTold out) → (m ≡ number.ok → IsTold out') → (n ≢ number.ok → out ≡ old)
+    → (m ≢ number.ok → out' ≡ old') → old ≡ old' → n ≡ m → out ≡ out'
+told_once IsTold n m old old' out out' one told told' kept kept' before same = grind arith
+
 -- an exact number of one answer is that of the other
 pub carried : {P : Type 0} (k n m : ℤ) → (n ≡ k) ↔ P → (m ≡ k) ↔ P → n ≡ k → n ≡ m
 carried k n m p q e = e ∙ sym (q.1 (p.0 e))
@@ -26,23 +37,15 @@ carried k n m p q e = e ∙ sym (q.1 (p.0 e))
 -- two answers, each one of the exact numbers or of those beside memory
 pub are_one : (exact beside : List ℤ) (n m : ℤ) (IsSame : Type 0) → IsOneOf exact n ⊎ IsOneOf beside n
     → IsOneOf exact m ⊎ IsOneOf beside m → (IsOneOf exact n → n ≡ m) → (IsOneOf exact m → m ≡ n)
-    → (IsOneOf exact n → IsMemory n → ⊥) → (IsOneOf exact n → n ≡ m → IsSame)
+    → (IsOneOf exact n → IsMemory n → ⊥) → (IsOneOf exact n → IsOneOf exact m → n ≡ m → IsSame)
     → (IsOneOf beside n → IsOneOf beside m → ¬ (IsMemory n) → ¬ (IsMemory m) → (n ≡ m) × IsSame) → AreOne beside n m IsSame
-are_one exact beside n m IsSame p q once once' apart told answered = record {
-  same = λ some some'. same p q some some';
-  beside_memory = λ memory. other q memory;
-}
-  where
-    same : IsOneOf exact n ⊎ IsOneOf beside n → IsOneOf exact m ⊎ IsOneOf beside m → ¬ (IsMemory n) → ¬ (IsMemory m)
-        → (n ≡ m) × IsSame
-    same (inl e) _ some some' = (once e, told e (once e))
-    same (inr b) (inl e) some some' =
-        (sym (once' e), told (subst (IsOneOf exact) (once' e) e) (sym (once' e)))
-    same (inr b) (inr b') some some' = answered b b' some some'
+are_one exact beside n m IsSame p q once once' apart told answered =
+    record { same = λ some some'. grind arith; beside_memory = λ memory. grind arith }
 
-    other : IsOneOf exact m ⊎ IsOneOf beside m → IsMemory n → IsOneOf beside m
-    other (inl e) memory = absurd (apart (subst (IsOneOf exact) (once' e) e) memory)
-    other (inr b) memory = b
+-- a number that is answered comes as it is
+pub uncast : {beside : List ℤ} (n m : ℤ) {IsSame : Type 0} → to_z w32 (of_z w32 n) ≡ n → to_z w32 (of_z w32 m) ≡ m
+    → AreOne beside n m IsSame → AreOne beside (to_z w32 (of_z w32 n)) (to_z w32 (of_z w32 m)) IsSame
+uncast n m e e' one = rw (e, e') one
 
 -- ---- version texts
 
@@ -83,11 +86,11 @@ by_once : (k : RangeNumbers) (Asked : Type 0) (r : Reading) (text : Text) (n m :
     → k.not_utf8 ≢ k.too_large → Asked → RefusesBy k Asked r text n → RefusesBy k Asked r text m → IsOneOf (text_faults k) n → n ≡ m
 by_once k Asked r text n m apart apart' asked p q (inl e) = carried _ n m (p.not_utf8 asked) (q.not_utf8 asked) e
 by_once k Asked r text n m apart apart' asked p q (inr (inl e)) =
-    known n m (λ other. apart (sym ((p.not_utf8 asked).1 (λ utf8.
-    other (carried _ n m (p.not_a_range asked utf8) (q.not_a_range asked utf8) e))) ∙ e))
+    unless _ n m (p.not_utf8 asked) (λ e'. apart (sym e' ∙ e))
+    (λ utf8. carried _ n m (p.not_a_range asked utf8) (q.not_a_range asked utf8) e)
 by_once k Asked r text n m apart apart' asked p q (inr (inr (inl e))) =
-    known n m (λ other. apart' (sym ((p.not_utf8 asked).1 (λ utf8.
-    other (carried _ n m (p.too_large asked utf8) (q.too_large asked utf8) e))) ∙ e))
+    unless _ n m (p.not_utf8 asked) (λ e'. apart' (sym e' ∙ e))
+    (λ utf8. carried _ n m (p.too_large asked utf8) (q.too_large asked utf8) e)
 by_once k Asked r text n m apart apart' asked p q (inr (inr (inr none))) = absurd none
 
 old_once : (r : Reading) (text : Text) (n m : ℤ) → RefusesBy range_numbers ⊤ r text n → RefusesBy range_numbers ⊤ r text m
@@ -98,37 +101,22 @@ pub new_once : (Asked : Type 0) (r : Reading) (text : Text) (n m : ℤ) → Aske
     → RefusesBy new_range_numbers Asked r text m → IsOneOf (text_faults new_range_numbers) n → n ≡ m
 new_once Asked r text n m asked p q one = by_once new_range_numbers Asked r text n m (λ e. cc) (λ e. cc) asked p q one
 
--- a fault of the text isn't one of the numbers
-not_named : (n : ℤ) → IsOneOf (text_faults range_numbers) n → IsOneOf (number.no_such_reading ∷ number.no_such_rule ∷ []) n → ⊥
-not_named n one named = grind arith
-
-pub text_once : (reading : ℤ) (text : Text) (n m : ℤ) → RefusesText reading text n → RefusesText reading text m
+pub text_once : {reading : ℤ} {text : Text} {n m : ℤ} → RefusesText reading text n → RefusesText reading text m
     → IsOneOf rewrite_exact n → n ≡ m
-text_once reading text n m p q (inl e) = carried _ n m p.no_such_reading q.no_such_reading e
-text_once reading text n m p q (inr one) = by p.named
-  where
-    by : (n ≡ number.no_such_reading) ⊎ IsReading reading → n ≡ m
-    by (inl e) = absurd (not_named n one (inl e))
-    by (inr (r, is)) = old_once r text n m (p.range r is) (q.range r is) one
+text_once p q one = grind (arith, old_once)
 
-pub range_once : (reading rule : ℤ) (text : Text) (n m : ℤ) → RefusesRange reading rule text n → RefusesRange reading rule text m
+pub range_once : {reading rule : ℤ} {text : Text} {n m : ℤ} → RefusesRange reading rule text n → RefusesRange reading rule text m
     → IsOneOf range_exact n → n ≡ m
-range_once reading rule text n m p q (inl e) = carried _ n m p.no_such_reading q.no_such_reading e
-range_once reading rule text n m p q (inr (inl e)) = carried _ n m p.no_such_rule q.no_such_rule e
-range_once reading rule text n m p q (inr (inr one)) = by p.named
-  where
-    by : IsOneOf (number.no_such_reading ∷ number.no_such_rule ∷ []) n ⊎ IsMeaning reading rule → n ≡ m
-    by (inl e) = absurd (not_named n one e)
-    by (inr (m', named)) = old_once _ text n m (p.range m' named) (q.range m' named) one
+range_once p q one = grind (arith, old_once)
 
 by_bool : {A : Type 0} (b : Bool) → (b ≡ true → A) → (b ≡ false → A) → A
 by_bool true t f = t refl
 by_bool false t f = f refl
 
 -- where no such error is told, the range is accepted
-pub accepted_where : (reading rule : ℤ) (text : Text) (n : ℤ) → RefusesRange reading rule text n → ¬ (IsOneOf range_exact n)
+pub accepted_where : {reading rule : ℤ} {text : Text} {n : ℤ} → RefusesRange reading rule text n → ¬ (IsOneOf range_exact n)
     → ¬ (¬ (IsAccepted reading rule text))
-accepted_where reading rule text n p not_one none = by p.named
+accepted_where {reading = reading} {rule = rule} {n = n} p not_one none = by p.named
   where
     by : IsOneOf (number.no_such_reading ∷ number.no_such_rule ∷ []) n ⊎ IsMeaning reading rule → ⊥
     by (inl (inl e)) = not_one (inl e)
@@ -140,3 +128,9 @@ accepted_where reading rule text n p not_one none = by p.named
         not_one (inr (inr (inr (inl ((r.not_a_range tt utf8).1 (λ text.
         by_bool (fits_as (reading_of m) text.0) (λ fit. none (m, named, utf8, (text.0, text.1, fit)))
         (λ large. not_one (inr (inr (inr (inr (inl ((r.too_large tt utf8).1 (text.0, text.1, large)))))))))))))))))))
+
+pub range_apart : (n : ℤ) → IsOneOf range_exact n → IsMemory n → ⊥
+range_apart n one memory = grind arith
+
+pub range_not_ok : (n : ℤ) → IsOneOf range_exact n → n ≢ number.ok
+range_not_ok n one = grind arith

@@ -1,5 +1,5 @@
 -- The least of some versions is one, and so are its text and the place of that.
-use Rattle.std.proofs.Common.{◌≡◌, ◌≢◌, ◌↔◌, ◌∙◌, ◌++◌, ℕ, Option, Some, None, ap, ap₂, length, refl, sym}
+use Rattle.std.proofs.Common.{◌≡◌, ◌≢◌, ◌↔◌, ◌∙◌, ◌++◌, ℕ, Option, Some, None, ap, ap₂, arith, length, refl, sym}
 use Rattle.std.specs.declared.cmp.Ordering.{Ordering}
 use Rattle.std.specs.declared.cmp.Ordering.TheVariants.{Less, Equal, Greater}
 use Rattle.std.specs.Cmp.{IsTotalOrder}
@@ -23,9 +23,7 @@ pub record IsTotal : Type 0 where
   pub same : (v w : PlainVersion) → (precedence v w ≡ Equal) ↔ (v ≡ w)
 
 neither_less : (x y : Ordering) → x ≡ ordering_reverse y → x ≢ Less → y ≢ Less → x ≡ Equal
-neither_less x Less e more less = absurd (less refl)
-neither_less x Equal e more less = e
-neither_less x Greater e more less = absurd (more e)
+neither_less x y e more less = grind arith
 
 one_version : IsTotal → (P : PlainVersion → Type 0) (v w : VersionValue) → IsLeastOf P v → IsLeastOf P w → v ≡ w
 one_version t P v w a b =

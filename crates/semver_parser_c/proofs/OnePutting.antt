@@ -10,9 +10,9 @@ pub is_put : (memory n : ℤ) → IsMemory memory → IsOneOf (number.ok ∷ num
     → (n ≡ number.ok) ⊎ (n ≡ number.no_room)
 is_put memory n is one some = grind arith
 
-pub put_once : {A : Type 0} (items items' old old' new new' : List A) (told told' : ℕ) (n n' : ℤ) → items ≡ items' → old ≡ old'
+pub put_once : {A : Type 0} {items items' old old' new new' : List A} {told told' : ℕ} {n n' : ℤ} → items ≡ items' → old ≡ old'
     → Puts items old new told n → Puts items' old' new' told' n' → (n ≡ n') × ((new ≡ new') × (told ≡ told'))
-put_once items items' old old' new new' told told' n n' same room p q = grind arith
+put_once same room p q = grind arith
 
 pub both_once : {A B : Type 0} (a a' : Putting A) (b b' : Putting B) (n n' : ℤ) → a.items ≡ a'.items → a.old ≡ a'.old
     → b.items ≡ b'.items → b.old ≡ b'.old → PutsBoth a b n → PutsBoth a' b' n'

@@ -44,11 +44,11 @@ pub rewritten_once : (reading : ℤ) (exact : Bool) (text : Text) (n m : ℤ) (P
     → RefusesText reading text n → RefusesText reading text m
     → ((n ≡ number.ok) ⊎ (n ≡ number.no_room) → IsRewritten reading exact text P)
     → ((m ≡ number.ok) ⊎ (m ≡ number.no_room) → IsRewritten reading exact text Q)
-    → (IsOneOf rewrite_exact n → n ≡ m → IsSame)
+    → (IsOneOf rewrite_exact n → IsOneOf rewrite_exact m → n ≡ m → IsSame)
     → ((set : PlainSet) → P set → Q set → (n ≡ m) × IsSame) → AreOne put_or_memory n m IsSame
 rewritten_once reading exact text n m P Q IsSame one one' p q put put' kept same =
-    are_one rewrite_exact put_or_memory n m IsSame (sorted n one) (sorted m one') (text_once reading text n m p q)
-    (text_once reading text m n q p) (apart n) kept (λ b b' some some'.
+    are_one rewrite_exact put_or_memory n m IsSame (sorted n one) (sorted m one') (text_once p q)
+    (text_once q p) (apart n) kept (λ b b' some some'.
     let (r, is, tree, spells, fit, so) = put (is_put number.range_out_of_memory n (inl refl) b some) in
     let (s, is', other, spells', fit', so') = put' (is_put number.range_out_of_memory m (inl refl) b' some') in
     let e = same_set exact text r s tree other spells spells' (one_reading r s (sym is ∙ is')) in

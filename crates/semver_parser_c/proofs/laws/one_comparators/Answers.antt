@@ -1,9 +1,9 @@
-use Rattle.std.proofs.Common.{◌≡◌, ◌≢◌, ◌∙◌, ℤ, ◌∷◌, arith, rules, sym, subst, refl, to_z, of_z, w32}
+use Rattle.std.proofs.Common.{◌≡◌, ◌≢◌, ◌∙◌, ℤ, ◌∷◌, arith, rules, sym, subst, refl}
 use Rattle.semver_parser_c.specs.Numbers as number
 use Rattle.semver_parser_c.specs.Faults.{IsOneOf, range_faults}
 use Rattle.semver_parser_c.specs.Comparators.{comparators_of, pre_releases, told_comparators}
 use Rattle.semver_parser_c.specs.Printing.{PutsBoth}
-use Rattle.semver_parser_c.proofs.OneAnswer.{rewrite_exact}
+use Rattle.semver_parser_c.proofs.OneAnswer.{rewrite_exact, uncast}
 use Rattle.semver_parser_c.proofs.OnePutting.{both_once}
 use Rattle.semver_parser_c.proofs.OneRewriting.{is_fault, not_ok, rewritten_once}
 use Rattle.semver_parser_c.proofs.laws.one_comparators.Goals as goal
@@ -14,28 +14,36 @@ returns c =
     let m = c.semver_parser_proved_comparators-other in
     let p = n.ensures in
     let q = m.ensures in
-    let as_it_is : to_z w32 (of_z w32 n.result) ≡ n.result = search rules in
-    let as_it_is' : to_z w32 (of_z w32 m.result) ≡ m.result = search rules in
-    rw (as_it_is, as_it_is') (record {
-      one = rewritten_once _ c.args.exact c.args.text.now n.result m.result
+    record {
+      one = uncast n.result m.result (search rules) (search rules) (rewritten_once _ c.args.exact c.args.text.now n.result m.result
           (λ set. PutsBoth
-          (record { items = told_comparators (comparators_of set); old = c.args.comparators.now; new = n.new.comparators; told = n.new.count })
+          (record {
+            items = told_comparators (comparators_of set);
+            old = c.args.comparators.now;
+            new = n.new.comparators;
+            told = n.new.count;
+          })
           (record { items = pre_releases (comparators_of set); old = c.args.out.now; new = n.new.out; told = n.new.length })
           n.result)
           (λ set. PutsBoth
-          (record { items = told_comparators (comparators_of set); old = c.args.others.now; new = m.new.comparators; told = m.new.count })
+          (record {
+            items = told_comparators (comparators_of set);
+            old = c.args.others.now;
+            new = m.new.comparators;
+            told = m.new.count;
+          })
           (record { items = pre_releases (comparators_of set); old = c.args.other_out.now; new = m.new.out; told = m.new.length })
           m.result)
           _ p.numbers q.numbers p.refusals q.refusals p.rewritten q.rewritten
-          (λ one is.
+          (λ one one' _.
           let rooms = p.rooms_unchanged (not_ok _ one) in
-          let rooms' = q.rooms_unchanged (λ e. not_ok _ one (is ∙ e)) in
+          let rooms' = q.rooms_unchanged (not_ok _ one') in
           let told = p.numbers_unchanged (is_fault _ one) in
-          let told' = q.numbers_unchanged (subst (IsOneOf (number.no_such_reading ∷ range_faults)) is (is_fault _ one)) in (
+          let told' = q.numbers_unchanged (is_fault _ one') in (
             rooms.0 ∙ c.requires.comparators ∙ sym rooms'.0,
             told.0 ∙ c.requires.count ∙ sym told'.0,
             rooms.1 ∙ c.requires.room ∙ sym rooms'.1,
             told.1 ∙ c.requires.length ∙ sym told'.1,
           ))
-          (λ set a b. both_once _ _ _ _ _ _ refl c.requires.comparators refl c.requires.room a b);
-    })
+          (λ set a b. both_once _ _ _ _ _ _ refl c.requires.comparators refl c.requires.room a b));
+    }

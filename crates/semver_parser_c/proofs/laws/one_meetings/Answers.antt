@@ -1,5 +1,5 @@
-use Rattle.std.proofs.Common.{◌≡◌, ◌≢◌, ◌⊎◌, ◌∙◌, ◌<◌, ℕ, ℤ, pos, List, [], ◌∷◌, Err, IfSome, arith, inl, inr, length, rules, slice_get, sym}
-use Rattle.std.proofs.Common.{ap, drop, get_or, None, Some, ◌≤◌, ◌↔◌, to_z, of_z, w32}
+use Rattle.std.proofs.Common.{◌≡◌, ◌≢◌, ◌⊎◌, ◌∙◌, ◌<◌, ℕ, ℤ, pos, List, [], ◌∷◌, Err, IfSome, arith, inl, inr, length, rules, sym}
+use Rattle.std.proofs.Common.{slice_get, ap, drop, get_or, None, Some, ◌≤◌, ◌↔◌, to_z, of_z, w32}
 use Rattle.std.specs.Prelude.{⊤, IsUtf8}
 use Rattle.std.proofs.lemmas.Option.{slice_get_cases}
 use Rattle.semver_parser.specs.Texts.{Text}
@@ -11,7 +11,7 @@ use Rattle.semver_parser_c.specs.Numbers as number
 use Rattle.semver_parser_c.specs.Faults.{IsOneOf, named_faults, version_faults}
 use Rattle.semver_parser_c.specs.Meetings.{IsAnswer, IsMeeting}
 use Rattle.semver_parser_c.specs.OneAnswer.{AreOne, IsMemory, text_errors}
-use Rattle.semver_parser_c.proofs.OneAnswer.{OneOutcome, are_one, carried, known, range_exact, range_once, version_once}
+use Rattle.semver_parser_c.proofs.OneAnswer.{OneOutcome, are_one, carried, range_apart, range_exact, range_once, unless, version_once}
 use Rattle.semver_parser_c.proofs.laws.one_meetings.Goals as goal
 
 abbrev beside : List ℤ
@@ -19,12 +19,6 @@ beside = number.ok ∷ number.range_out_of_memory ∷ []
 
 sorted : (n : ℤ) → IsOneOf (number.ok ∷ named_faults) n → IsOneOf range_exact n ⊎ IsOneOf beside n
 sorted n one = grind arith
-
-apart : (n : ℤ) → IsOneOf range_exact n → IsMemory n → ⊥
-apart n one memory = grind arith
-
-not_ok : (n : ℤ) → IsOneOf range_exact n → n ≢ number.ok
-not_ok n one = grind arith
 
 answered : (n : ℤ) → IsOneOf beside n → ¬ (IsMemory n) → n ≡ number.ok
 answered n one some = grind arith
@@ -51,9 +45,9 @@ byte_once : (m : Meaning) (range version : Text) (tree : TreeOf (reading_of m)) 
     → IsAnswer m range version b → IsAnswer m range version b' → IsMeeting b ⊎ (pos b ≡ number.version_not_utf8) → pos b ≡ pos b'
 byte_once m range version tree spells b b' p q (inl meeting) =
     let (v, spelled) = p.read meeting in
-    known _ _ (λ other. no_meeting b meeting (p.not_utf8.1 (λ utf8.
+    unless _ _ _ p.not_utf8 (no_meeting b meeting) (λ utf8.
     let meeting' = q.accepted v utf8 spelled in
-    other (ap pos (p.meaning meeting tree v spells spelled ∙ sym (q.meaning meeting' tree v spells spelled))))))
+    ap pos (p.meaning meeting tree v spells spelled ∙ sym (q.meaning meeting' tree v spells spelled)))
 byte_once m range version tree spells b b' p q (inr e) = carried _ _ _ p.not_utf8 q.not_utf8 e
 
 one_byte : OneOutcome → (m : Meaning) (range version : Text) (tree : TreeOf (reading_of m)) → SpellsAs (reading_of m) tree range
@@ -61,7 +55,7 @@ one_byte : OneOutcome → (m : Meaning) (range version : Text) (tree : TreeOf (r
 one_byte one m range version tree spells b b' p q =
     are_one exact text_errors (pos b) (pos b') ⊤ (sorted_byte b p.one) (sorted_byte b' q.one)
     (λ e. byte_once m range version tree spells b b' p q (meeting_or b e))
-    (λ e. byte_once m range version tree spells b' b q p (meeting_or b' e)) (apart_byte _) (λ _ _. tt)
+    (λ e. byte_once m range version tree spells b' b q p (meeting_or b' e)) (apart_byte _) (λ _ _ _. tt)
     (λ e e' some some'. (
       version_once one version (pos b) (pos b') p.not_utf8 q.not_utf8
           (λ utf8 is. byte_once m range version tree spells b b' p q (inl (p.accepted is.0 utf8 is.1)))
@@ -73,11 +67,7 @@ one_byte one m range version tree spells b b' p q =
 -- what is so of a place of a list, twice
 both_some : {X : Type 0} (P Q : X → Type 0) (R : Type 0) (xs : List X) (k : ℕ) → k < length xs → IfSome (slice_get xs k) P
     → IfSome (slice_get xs k) Q → ((x : X) → P x → Q x → R) → R
-both_some {X = X} P Q R xs k within p q f = by (slice_get_cases xs k).1
-  where
-    by : ((x : X) × (k < length xs) × (slice_get xs k ≡ Some x) × (get_or xs k x ≡ x)) ⊎ ((length xs ≤ k) × (slice_get xs k ≡ None)) → R
-    by (inl (x, _, is, _)) = f x (rw is at p) (rw is at q)
-    by (inr (past, _)) = absurd (omega arith)
+both_some P Q R xs k within p q f = grind (arith, slice_get_cases)
 
 pub returns : goal.returns
 returns c =
@@ -89,8 +79,8 @@ returns c =
     let as_it_is' : to_z w32 (of_z w32 m.result) ≡ m.result = search rules in
     rw (as_it_is, as_it_is') (record {
       one = are_one range_exact beside n.result m.result _ (sorted _ p.numbers) (sorted _ q.numbers)
-          (range_once _ _ _ _ _ p.refusals q.refusals) (range_once _ _ _ _ _ q.refusals p.refusals) (apart _)
-          (λ _ _. p.behind ∙ ap (drop _) c.requires ∙ sym q.behind)
+          (range_once p.refusals q.refusals) (range_once q.refusals p.refusals) (range_apart _)
+          (λ _ _ _. p.behind ∙ ap (drop _) c.requires ∙ sym q.behind)
           (λ b b' some some'. (answered _ b some ∙ sym (answered _ b' some'), p.behind ∙ ap (drop _) c.requires ∙ sym q.behind));
       each = λ ok ok' k within room.
           let (meaning, named, read) = p.read ok in

@@ -1,4 +1,5 @@
-use Rattle.std.proofs.Common.{List, ◌≡◌, ◌≢◌, ◌⊎◌, ◌↔◌, ◌∙◌, ℤ, Bool, true, false, [], ◌∷◌, Err, arith, inl, inr, rules, sym, subst, ⊎_elim, to_z, of_z, w32}
+use Rattle.std.proofs.Common.{List, ◌≡◌, ◌≢◌, ◌⊎◌, ◌↔◌, ◌∙◌, ℤ, Bool, true, false, [], ◌∷◌, Err, arith, inl, inr, rules, sym, ⊎_elim}
+use Rattle.std.proofs.Common.{to_z, of_z, w32}
 use Rattle.std.specs.Prelude.{IsTrue, IsUtf8}
 use Rattle.semver_parser.specs.Texts.{Text}
 use Rattle.semver_parser.specs.VersionGrammar.{IsVersionText}
@@ -20,9 +21,6 @@ apart n one memory = grind arith
 
 not_ok : (n : ℤ) → IsOneOf version_faults n → n ≢ number.ok
 not_ok n one = grind arith
-
-is_fault : (n : ℤ) → IsOneOf exact n → IsOneOf version_faults n
-is_fault n one = grind arith
 
 same_bool : (P : Type 0) (b b' : Bool) → IsTrue b ↔ P → IsTrue b' ↔ P → b ≡ b'
 same_bool P b b' p q = grind arith
@@ -54,7 +52,7 @@ module _ {version other : Text} {n m : ℤ} {b b' : Bool} (p : Answers version o
 
   -- the error of the second is that of the first one's text
   moved : n ≢ number.ok → m ≢ number.ok → RefusesVersion (at_fault b version other) m
-  moved wrong wrong' = subst (λ x. RefusesVersion (at_fault x version other) m) (sym (same_text wrong wrong')) (q.refused wrong')
+  moved wrong wrong' = rw (same_text wrong wrong') (q.refused wrong')
 
   -- two versions are refused for memory alone
   unless_memory : m ≡ number.ok → n ≢ number.ok → n ≡ number.version_out_of_memory
@@ -66,15 +64,15 @@ module _ {version other : Text} {n m : ℤ} {b b' : Bool} (p : Answers version o
       (p.refused wrong).accepted v u spelled
 
   once : IsOneOf exact n → n ≡ m
-  once one = by one q.numbers
-    where
-      by : IsOneOf exact n → IsOneOf (number.ok ∷ version_faults) m → n ≡ m
-      by (inr never) _ = absurd never
-      by (inl e) (inl ok) = absurd (apart n (inl e) (inr (inl (unless_memory ok (not_ok n (inl e))))))
-      by (inl e) (inr fault) =
-          let wrong = not_ok n (inl e) in
-          let wrong' = not_ok m fault in
-          carried _ n m (p.refused wrong).not_utf8 (moved wrong wrong').not_utf8 e
+  once one = grind (arith, moved, unless_memory)
+
+same_number : OneOutcome → {version other : Text} {n m : ℤ} {b b' : Bool} → Answers version other n b → Answers version other m b'
+    → ¬ (IsMemory n) → ¬ (IsMemory m) → n ≡ m
+same_number one p q some some' = ⊎_elim
+    (λ ok. ⊎_elim (λ ok'. ok ∙ sym ok') (λ fault. absurd (some' (inr (inl (unless_memory q p ok (not_ok _ fault)))))) q.numbers)
+    (λ fault. ⊎_elim (λ ok. absurd (some (inr (inl (unless_memory p q ok (not_ok _ fault))))))
+    (λ fault'. refused_once one _ _ _ (p.refused (not_ok _ fault)) (moved p q (not_ok _ fault) (not_ok _ fault')) some some') q.numbers)
+    p.numbers
 
 pub returns : goal.returns
 returns c =
@@ -88,34 +86,21 @@ returns c =
     record { numbers = q.numbers; utf8 = q.both_utf8; read = q.both_read; refused = q.refused; text = q.in_other } in
     let as_it_is : to_z w32 (of_z w32 n.result) ≡ n.result = search rules in
     let as_it_is' : to_z w32 (of_z w32 m.result) ≡ m.result = search rules in
-    let order = λ (wrong : n.result ≢ number.ok) (wrong' : m.result ≢ number.ok).
-    p.order_unchanged wrong ∙ c.requires.order ∙ sym (q.order_unchanged wrong') in
+    let output : n.result ≡ m.result → (n.new.order ≡ m.new.order) × (n.new.in_other ≡ m.new.in_other) = λ same. ⊎_elim
+    (λ ok.
+    let ok' = sym same ∙ ok in
+    let ((v, spelled), (w, spelled')) = p.both_read ok in (
+      p.precedence ok v w spelled spelled' ∙ sym (q.precedence ok' v w spelled spelled'),
+      p.in_other_unchanged ok ∙ c.requires.in_other ∙ sym (q.in_other_unchanged ok'),
+    ))
+    (λ fault.
+    let wrong = not_ok _ fault in
+    let wrong' = λ (e : m.result ≡ number.ok). wrong (same ∙ e) in
+    (p.order_unchanged wrong ∙ c.requires.order ∙ sym (q.order_unchanged wrong'), same_text a b wrong wrong'))
+    p.numbers in
     rw (as_it_is, as_it_is') (record {
       one = are_one exact (number.ok ∷ text_errors) n.result m.result _ (sorted _ p.numbers) (sorted _ q.numbers)
-          (once a b) (once b a) (apart _)
-          (λ one is.
-          let wrong = not_ok _ (is_fault _ one) in
-          let wrong' = λ (e : m.result ≡ number.ok). wrong (is ∙ e) in
-          (order wrong wrong', same_text a b wrong wrong'))
-          (λ _ _ some some'. ⊎_elim
-          (λ ok. ⊎_elim
-          (λ ok'.
-          let ((v, spelled), (w, spelled')) = p.both_read ok in (
-            ok ∙ sym ok',
-            (
-              p.precedence ok v w spelled spelled' ∙ sym (q.precedence ok' v w spelled spelled'),
-              p.in_other_unchanged ok ∙ c.requires.in_other ∙ sym (q.in_other_unchanged ok'),
-            ),
-          ))
-          (λ fault'. absurd (some' (inr (inl (unless_memory b a ok (not_ok _ fault'))))))
-          q.numbers)
-          (λ fault. ⊎_elim
-          (λ ok'. absurd (some (inr (inl (unless_memory a b ok' (not_ok _ fault))))))
-          (λ fault'.
-          let wrong = not_ok _ fault in
-          let wrong' = not_ok _ fault' in
-          (refused_once c.one_outcome.ensures.same_outcome _ _ _ (p.refused wrong) (moved a b wrong wrong') some some', (order wrong wrong', same_text a b wrong wrong')))
-          q.numbers)
-          p.numbers);
+          (once a b) (once b a) (apart _) (λ _ _. output)
+          (λ _ _ some some'. let same = same_number c.one_outcome.ensures.same_outcome a b some some' in (same, output same));
       in_other = same_text a b;
     })
