@@ -183,6 +183,9 @@ static void versions_in_order(void) {
     order_is(with_a.bytes, with_a.bytes, 0);
     text_free(&with_a);
     text_free(&with_b);
+    text built = long_text("1.0.0+", "a", "");
+    order_is("1.0.0", built.bytes, 0);
+    text_free(&built);
 }
 
 /* A fault of one of two texts, where the other is a version; and of both, where the first one's is

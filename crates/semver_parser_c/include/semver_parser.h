@@ -118,7 +118,7 @@ enum {
     /* It is, and a number that it states, or an upper bound that is raised by one, is above 2^64 -
      * 1. */
     SEMVER_PARSER_NEW_NUMBER_TOO_LARGE = 18,
-    /* Memory ran out at the new range, or where both are compared. */
+    /* Memory ran out where two ranges are compared, at either of them or later. */
     SEMVER_PARSER_NEW_RANGE_OUT_OF_MEMORY = 19,
 
     /* Another fault of a call. */
@@ -280,13 +280,13 @@ int32_t semver_parser_parse_version(const uint8_t *text, size_t text_length,
  *   SEMVER_PARSER_VERSION_NOT_UTF8, _UNEXPECTED_END, _UNEXPECTED_TOKEN, _UNEXPECTED_CHAR,
  *   _MORE_INPUT or _VERSION_OUT_OF_MEMORY. `in_other` is then whether it is that of `other`: the
  *   first text is read first, so it holds exactly where that spells a version. Of two versions the
- *   answer is SEMVER_PARSER_VERSION_OUT_OF_MEMORY only where the other one has a pre-release or a
- *   build.
+ *   answer is SEMVER_PARSER_VERSION_OUT_OF_MEMORY only where the other one has a pre-release.
  *
  * After any answer but SEMVER_PARSER_OK `order` is as it was, and after SEMVER_PARSER_OK `in_other`
  * is.
  *
- * Memory: none for the first version, and the identifiers of the other one.
+ * Memory: none for the first version, and the identifiers of the other one's pre-release. A build
+ * takes none.
  */
 int32_t semver_parser_precedence(const uint8_t *version, size_t version_length,
                                  const uint8_t *other, size_t other_length, int32_t *order,
@@ -459,13 +459,14 @@ int32_t semver_parser_least(const uint8_t *range, size_t range_length, int32_t r
  * - SEMVER_PARSER_NO_ROOM: they have more than `room` bytes. `length` and `comparison` are told all
  *   the same, and `out` is as it was. So a call with `room` 0 answers which of the three there are.
  * - SEMVER_PARSER_NO_SUCH_READING or _NO_SUCH_RULE, exactly as of `semver_parser_meets`.
- * - A fault of the old range, as those of `semver_parser_rewrite`, whatever the new one is:
- *   SEMVER_PARSER_RANGE_NOT_UTF8, _NOT_A_RANGE, _NUMBER_TOO_LARGE or _RANGE_OUT_OF_MEMORY. The old
- *   range is read first.
- * - Where the old range has none, a fault of the new one: SEMVER_PARSER_NEW_RANGE_NOT_UTF8,
- *   _NEW_NOT_A_RANGE or _NEW_NUMBER_TOO_LARGE, exactly as the first three of the old one; or
- *   SEMVER_PARSER_NEW_RANGE_OUT_OF_MEMORY where memory ran out at the new range, which is one that
- *   fits, or later.
+ * - An error of the old range, exactly as those of `semver_parser_rewrite`, whatever the new one
+ *   is and whatever memory there is: SEMVER_PARSER_RANGE_NOT_UTF8, _NOT_A_RANGE or
+ *   _NUMBER_TOO_LARGE.
+ * - Where the old range has none, an error of the new one, exactly as those of the old one,
+ *   whatever memory there is: SEMVER_PARSER_NEW_RANGE_NOT_UTF8, _NEW_NOT_A_RANGE or
+ *   _NEW_NUMBER_TOO_LARGE.
+ * - SEMVER_PARSER_NEW_RANGE_OUT_OF_MEMORY where memory ran out, at either range or later: only in
+ *   place of the first two. SEMVER_PARSER_RANGE_OUT_OF_MEMORY never comes.
  *
  * After any answer but SEMVER_PARSER_OK `out` is as it was, and after any but the first two
  * `length` and `comparison` are too.

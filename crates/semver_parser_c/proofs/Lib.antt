@@ -3,3 +3,7 @@ mod Steps
 mod RangeFaults
 mod LeastVersions
 mod ComparedVersions
+mod OneAnswer
+mod OnePutting
+mod OneRewriting
+mod OneLeast

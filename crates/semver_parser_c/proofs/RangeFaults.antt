@@ -1,13 +1,13 @@
 -- What is told of a range text by a number.
-use Rattle.std.proofs.Common.{◌≡◌, ◌⊎◌, ℤ, [], ◌∷◌, ◌++◌, rules, arith, inl, inr, refl}
+use Rattle.std.proofs.Common.{◌≡◌, ◌≢◌, ◌⊎◌, ℤ, [], ◌∷◌, ◌++◌, rules, arith, inl, inr, refl}
 use Rattle.std.specs.Prelude.{⊤}
 use Rattle.semver_parser.specs.Texts.{Text}
 use Rattle.tool_ranges.specs.declared.reading.Reading.{Reading}
 use Rattle.tool_ranges.specs.declared.meaning.Meaning.{Meaning}
 use Rattle.tool_ranges.specs.Meanings.{reading_of}
-use Rattle.semver_parser_c.specs.Numbers.{no_such_reading, no_such_rule, ok, no_room, new_range_out_of_memory}
+use Rattle.semver_parser_c.specs.Numbers.{no_such_reading, no_such_rule, ok, no_room, range_out_of_memory, new_range_out_of_memory}
 use Rattle.semver_parser_c.specs.Faults.{IsAccepted, IsOneOf, RefusesBy, RefusesRange, RefusesText, range_numbers, new_range_numbers}
-use Rattle.semver_parser_c.specs.Faults.{named_faults, new_range_faults}
+use Rattle.semver_parser_c.specs.Faults.{RangeIsRead, named_faults, new_range_faults}
 use Rattle.semver_parser_c.specs.Steps.RangeFaults.{IsMeaningOf, IsReadingOf, IsReadable, IsTold, IsRefused, IsTextRefused, Stands}
 use Rattle.semver_parser_c.specs.Steps.RangeFaults.{IsEitherRefused, TellsBoth, other_numbers}
 
@@ -76,40 +76,70 @@ asked : (Asked : Type 0) (r : Reading) (text : Text) (n : ℤ) → RefusesBy new
     → RefusesBy new_range_numbers Asked r text n
 asked Asked r text n told = search rules
 
+-- an accepted range is read by a number of another kind than memory
+pub read_of : (reading rule : ℤ) (text : Text) (n : ℤ) → IsAccepted reading rule text → n ≢ range_out_of_memory
+    → RangeIsRead reading rule text n
+read_of reading rule text n accepted found = search rules
+
 -- where the numbers or the old range are refused
-pub not_asked : (reading rule : ℤ) (old new : Text) (n : ℤ) → IsRefused reading rule old n → IsEitherRefused reading rule old new n
-not_asked reading rule old new n refusal =
+pub not_asked : (reading rule : ℤ) (old new : Text) (n : ℤ) → IsRefused reading rule old n → n ≢ range_out_of_memory
+    → IsEitherRefused reading rule old new n
+not_asked reading rule old new n refusal found =
     let number : IsOneOf (named_faults ++ new_range_faults) n = grind arith in
     record {
       number = number;
       both = record {
         read = λ put. absurd (not_put n number put);
         old_range = refusal.refusals;
-        new_range = λ m named. unasked _ _ new n refusal.unread refusal.number;
+        new_range = λ m named. unasked _ _ new n (λ accepted. refusal.unread (read_of _ _ _ n accepted found)) refusal.number;
+        one_memory = found;
       };
     }
 
 -- where the new one is
 pub new_refused : (m : Meaning) (reading rule : ℤ) (old new : Text) (n : ℤ) → IsMeaningOf m reading rule
-    → Stands (RefusesRange reading rule old) → IsOneOf new_range_faults n → RefusesBy new_range_numbers ⊤ (reading_of m) new n
+    → IsReadable (reading_of m) old → IsOneOf new_range_faults n → RefusesBy new_range_numbers ⊤ (reading_of m) new n
     → IsEitherRefused reading rule old new n
-new_refused m reading rule old new n only old_stands one told =
+new_refused m reading rule old new n only readable one told =
     let number : IsOneOf (named_faults ++ new_range_faults) n = grind arith in
     record {
       number = number;
       both = record {
         read = λ put. absurd (not_put n number put);
-        old_range = old_stands.each n (grind arith);
+        old_range = (stands m reading rule old only readable).each n (grind arith);
         new_range = λ k named. rw (← (only.only k named)) (asked _ _ new n told);
+        one_memory = grind arith;
       };
     }
 
+put_found : (n : ℤ) → (n ≡ ok) ⊎ (n ≡ no_room) → n ≢ new_range_out_of_memory
+put_found n put = grind arith
+
+pub named_found : (n : ℤ) → IsOneOf (no_such_reading ∷ no_such_rule ∷ []) n → n ≢ range_out_of_memory
+named_found n one = grind arith
+
 -- where both are read
-pub both_stand : (m : Meaning) (reading rule : ℤ) (old new : Text) → IsMeaningOf m reading rule → IsAccepted reading rule old
-    → Stands (RefusesRange reading rule old) → IsReadable (reading_of m) new → (n : ℤ)
-    → IsOneOf (ok ∷ no_room ∷ new_range_out_of_memory ∷ []) n → TellsBoth reading rule old new n
-both_stand m reading rule old new only accepted old_stands read n one = record {
-  read = λ put. (search rules, (m, only.named, search rules));
-  old_range = old_stands.each n (grind arith);
-  new_range = λ k named. rw (← (only.only k named)) (stands_new _ (reading_of m) new read n one);
-}
+pub both_stand : (m : Meaning) (reading rule : ℤ) (old new : Text) → IsMeaningOf m reading rule → IsReadable (reading_of m) old
+    → IsReadable (reading_of m) new → (n : ℤ) → IsOneOf (ok ∷ no_room ∷ new_range_out_of_memory ∷ []) n
+    → TellsBoth reading rule old new n
+both_stand m reading rule old new only old_read read n one =
+    let found : n ≢ range_out_of_memory = grind arith in
+    record {
+      read = λ put. (
+        read_of reading rule old n (m, only.named, old_read.0, old_read.1) found,
+        (
+          m,
+          only.named,
+          record { utf8 = read.0; tree = read.1.0; spells = read.1.1; fit = read.1.2; memory = put_found n put },
+        ),
+      );
+      old_range = (stands m reading rule old only old_read).each n (grind arith);
+      new_range = λ k named. rw (← (only.only k named)) (stands_new _ (reading_of m) new read n one);
+      one_memory = found;
+    }
+
+-- so where memory ran out
+pub neither_refused : (m : Meaning) (reading rule : ℤ) (old new : Text) → IsMeaningOf m reading rule → IsReadable (reading_of m) old
+    → IsReadable (reading_of m) new → IsEitherRefused reading rule old new new_range_out_of_memory
+neither_refused m reading rule old new only old_read read =
+    record { number = grind arith; both = both_stand m reading rule old new only old_read read _ (inr (inr (inl refl))) }

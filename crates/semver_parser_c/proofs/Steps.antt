@@ -1,5 +1,5 @@
--- The faults of version texts, and the parts of versions.
-use Rattle.std.proofs.Common.{◌≡◌, ◌≢◌, ◌⊎◌, ℕ, List, [], ◌∷◌, Err, arith, length, ◌<◌}
+-- The faults of version texts, and the pre-releases of versions.
+use Rattle.std.proofs.Common.{◌≡◌, ◌≢◌, ℕ, List, [], ◌∷◌, Err, arith, length, ◌<◌}
 use Rattle.semver_parser.specs.Texts.{Text}
 use Rattle.semver_parser.specs.Versions.{IdentifierValue, VersionValue}
 use Rattle.semver_parser.specs.VersionReading.{IsOutcomeOf}
@@ -16,7 +16,7 @@ some_identifiers : (ids : List IdentifierValue) → 0 < length (dotted_text ids)
 some_identifiers [] none = none
 some_identifiers (id ∷ ids) some = omega arith
 
--- a version has a pre-release or a build where its outline has
-pub has_part : (o : OutlineValue) (v : VersionValue) (at : ℕ) → o ≡ outline_behind at v → (0 < length o.pre) ⊎ (0 < length o.build)
-    → (0 < length v.plain.pre) ⊎ (0 < length v.build)
-has_part o v at is parts = grind (arith, some_identifiers)
+-- a version has a pre-release where its outline has
+pub has_pre_release : (o : OutlineValue) (v : VersionValue) (at : ℕ) → o ≡ outline_behind at v → 0 < length o.pre
+    → 0 < length v.plain.pre
+has_pre_release o v at is some = grind (arith, some_identifiers)

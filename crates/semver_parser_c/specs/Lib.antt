@@ -8,4 +8,5 @@ pub mod Meetings
 pub mod Sets
 pub mod Compared
 pub mod Orders
+pub mod OneAnswer
 pub mod Steps

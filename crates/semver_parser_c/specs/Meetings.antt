@@ -37,7 +37,7 @@ pub record IsAnswer (m : Meaning) (range version : Text) (byte : ℕ) : Type 0 w
       → byte ≡ meeting_byte (meant_as m tree v)
   pub read : IsMeeting byte → IsVersionText version
   pub accepted : (v : VersionValue) → IsUtf8 version → SpellsVersion v version
-      → IsMeeting byte ⊎ (pos byte ≡ number.version_out_of_memory)
+      → IsMeeting byte
   pub not_utf8 : (pos byte ≡ number.version_not_utf8) ↔ ¬ (IsUtf8 version)
   pub refused : IsUtf8 version → ¬ (IsVersionText version)
       → pos byte ≢ number.version_out_of_memory

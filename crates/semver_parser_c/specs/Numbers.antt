@@ -74,7 +74,7 @@ new_not_a_range = pos 17
 abbrev pub new_number_too_large : ℤ
 new_number_too_large = pos 18
 
--- memory ran out at the new range, or where both are compared
+-- memory ran out where two ranges are compared, at either of them or later
 abbrev pub new_range_out_of_memory : ℤ
 new_range_out_of_memory = pos 19
 

@@ -10,6 +10,7 @@
 
 mod comparators;
 mod compared;
+pub mod laws;
 mod meeting;
 mod numbers;
 mod range_text;
@@ -34,7 +35,7 @@ ghost use Rattle.tool_ranges.specs.Readings.{SpellsAs, TreeOf, fits_as};
 ghost use Rattle.tool_ranges.specs.Meanings.{meant_as, reading_of};
 ghost use Rattle.semver_parser_c.specs.Numbers as number;
 ghost use Rattle.semver_parser_c.specs.Readings.{IsNamed, reading_number};
-ghost use Rattle.semver_parser_c.specs.Faults.{IsOneOf, NewRangeIsRead, RangeIsRead};
+ghost use Rattle.semver_parser_c.specs.Faults.{IsAccepted, IsOneOf, NewRangeIsRead, RangeIsRead};
 ghost use Rattle.semver_parser_c.specs.Faults.{RefusesNewRange, RefusesRange, RefusesText};
 ghost use Rattle.semver_parser_c.specs.Faults.{named_faults, new_range_faults, outcome_number};
 ghost use Rattle.semver_parser_c.specs.Faults.{range_faults, set_for};
@@ -324,7 +325,7 @@ pub extern "C" fn semver_parser_proved_meets(
         → RangeIsRead reading pre_releases range.now result × IsVersionText version.now }
     ensures accepted { RangeIsRead reading pre_releases range.now result
         → (v : VersionValue) → IsUtf8 version.now → SpellsVersion v version.now
-        → IsOneOf (number.ok ∷ number.version_out_of_memory ∷ []) result }
+        → result ≡ number.ok }
     ensures unchanged { result ≢ number.ok → meets.new ≡ meets.old }
 
     // Faults of the reading, of the rule, and of the range, whatever the version.
@@ -460,11 +461,11 @@ pub extern "C" fn semver_parser_proved_least(
 ///
 /// # Faults
 ///
-/// `NO_SUCH_READING` and `NO_SUCH_RULE`, whatever the texts. Then the old range is read:
-/// `RANGE_NOT_UTF8`, `NOT_A_RANGE`, `NUMBER_TOO_LARGE` and `RANGE_OUT_OF_MEMORY`, whatever the new
-/// one. Then the new one:
-/// `NEW_RANGE_NOT_UTF8`, `NEW_NOT_A_RANGE`, `NEW_NUMBER_TOO_LARGE` and `NEW_RANGE_OUT_OF_MEMORY`,
-/// which also tells want of memory while both are compared. Then `NO_ROOM`.
+/// `NO_SUCH_READING` and `NO_SUCH_RULE`, whatever the texts. Then the errors of the old range,
+/// whatever the new one is: `RANGE_NOT_UTF8`, `NOT_A_RANGE` and `NUMBER_TOO_LARGE`. Then those of
+/// the new one, whatever memory there is: `NEW_RANGE_NOT_UTF8`, `NEW_NOT_A_RANGE` and
+/// `NEW_NUMBER_TOO_LARGE`. Then `NEW_RANGE_OUT_OF_MEMORY`, wherever memory ran out, also at the old
+/// range: `RANGE_OUT_OF_MEMORY` never comes. Then `NO_ROOM`.
 #[unsafe(no_mangle)]
 pub extern "C" fn semver_parser_proved_compare(
     alloc: Global,
@@ -495,12 +496,14 @@ pub extern "C" fn semver_parser_proved_compare(
         → RangeIsRead reading pre_releases old_range.now result
         × NewRangeIsRead reading pre_releases new_range.now result }
 
-    // Faults of the reading, of the rule, of the old range, and where that is read of the new one,
-    // whatever the room.
+    // Errors of the reading, of the rule, of the old range, and where that is accepted of the new
+    // one, whatever the room and the memory.
     ensures refusals { RefusesRange reading pre_releases old_range.now result }
     ensures new_refusals { RefusesNewRange
-        (RangeIsRead reading pre_releases old_range.now result)
+        (IsAccepted reading pre_releases old_range.now)
         reading pre_releases new_range.now result }
+    // Wherever memory runs out, one number tells it.
+    ensures one_memory { result ≢ number.range_out_of_memory }
     ensures room_unchanged { result ≢ number.ok → out.new ≡ out.old }
     ensures length_unchanged { IsOneOf (named_faults ++ new_range_faults) result
         → length.new ≡ length.old }
@@ -532,7 +535,7 @@ pub extern "C" fn semver_parser_proved_compare(
 /// # Faults
 ///
 /// Those of `semver_parser_proved_parse_version`. `VERSION_OUT_OF_MEMORY` comes for two versions
-/// only where the other one has a pre-release or a build.
+/// only where the other one has a pre-release: a build is checked where it stands in the text.
 #[unsafe(no_mangle)]
 pub extern "C" fn semver_parser_proved_precedence(
     alloc: Global,
@@ -546,12 +549,13 @@ pub extern "C" fn semver_parser_proved_precedence(
     ensures precedence { result ≡ number.ok → (v w : VersionValue) → SpellsVersion v version.now
         → SpellsVersion w other.now → order.new ≡ order_number (precedence v.plain w.plain) }
     ensures both_read { result ≡ number.ok → IsVersionText version.now × IsVersionText other.now }
+    ensures both_utf8 { result ≡ number.ok → IsUtf8 version.now × IsUtf8 other.now }
     ensures accepted { (v w : VersionValue) → IsUtf8 version.now → SpellsVersion v version.now
         → IsUtf8 other.now → SpellsVersion w other.now
         → IsOneOf (number.ok ∷ number.version_out_of_memory ∷ []) result }
-    // Memory runs out at two versions only where the other has a pre-release or a build.
+    // Memory runs out at two versions only where the other has a pre-release.
     ensures plain { (v w : VersionValue) → IsUtf8 version.now → SpellsVersion v version.now
-        → IsUtf8 other.now → SpellsVersion w other.now → w.plain.pre ≡ [] → w.build ≡ []
+        → IsUtf8 other.now → SpellsVersion w other.now → w.plain.pre ≡ []
         → result ≡ number.ok }
 
     // A fault is that of the first text, or of the other where the first spells a version.
@@ -569,7 +573,7 @@ pub extern "C" fn semver_parser_proved_precedence(
             return number;
         }
     };
-    match version_text::version(alloc, other) {
+    match version_text::plain_version(alloc, other) {
         Ok(second) => {
             *order = order_number(first.cmp_precedence(&second));
             numbers::OK

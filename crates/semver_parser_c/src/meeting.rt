@@ -44,6 +44,7 @@ pub fn judge(alloc: Global, filter: &Filter, version: &[u8]) -> Result<bool, i32
     ensures read { IfOk result (λ met. IsVersionText version.now) }
     ensures utf8 { IfOk result (λ met. IsUtf8 version.now) }
     ensures refused { IfErr result (RefusesVersion version.now) }
+    ensures none { IfErr result (λ _. IsUtf8 version.now → ¬ (IsVersionText version.now)) }
 {
     let Ok(text) = std::str::from_utf8(version) else {
         return Err(numbers::VERSION_NOT_UTF8);

@@ -36,7 +36,7 @@ pub const NEW_RANGE_NOT_UTF8: i32 = 16;
 pub const NEW_NOT_A_RANGE: i32 = 17;
 /// A stated number of the new range, or a raised bound, is above 2^64 - 1.
 pub const NEW_NUMBER_TOO_LARGE: i32 = 18;
-/// Memory ran out at the new range, or where both are compared.
+/// Memory ran out where two ranges are compared, at either of them or later.
 pub const NEW_RANGE_OUT_OF_MEMORY: i32 = 19;
 
 /// No reading of range texts has that number.

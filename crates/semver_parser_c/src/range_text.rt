@@ -6,6 +6,8 @@ ghost use Rattle.semver_parser.specs.Texts.{Text};
 ghost use Rattle.semver_parser.specs.RangeViews.{set_of};
 ghost use Rattle.tool_ranges.specs.declared.reading.Reading.{Reading as SomeReading};
 ghost use Rattle.tool_ranges.specs.Readings.{HasSetAs, RefusesAs};
+ghost use Rattle.semver_parser_c.specs.Numbers as number;
+ghost use Rattle.semver_parser_c.specs.declared.range_text.RangeFault.TheVariants.{OutOfMemory};
 ghost use Rattle.semver_parser_c.specs.Readings.{reading_number};
 ghost use Rattle.semver_parser_c.specs.Faults.{IsOneOf, IsSetFor, RefusesBy, RefusesText};
 ghost use Rattle.semver_parser_c.specs.Faults.{new_range_faults, new_range_numbers};
@@ -94,8 +96,9 @@ fn rewritten_text(
 
 /// The number of a fault.
 pub fn number_of(fault: RangeFault) -> i32
-    ensures { (reading : SomeReading) (text : Text) → HasFault reading text fault
+    ensures told { (reading : SomeReading) (text : Text) → HasFault reading text fault
         → IsTold reading text result }
+    ensures memory { result ≡ number.range_out_of_memory → fault ≡ OutOfMemory }
 {
     match fault {
         RangeFault::NotUtf8 => numbers::RANGE_NOT_UTF8,

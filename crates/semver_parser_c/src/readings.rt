@@ -1,10 +1,12 @@
 //! Readings of range texts, and what is meant by them, by the numbers that C has for them.
 
-ghost use Rattle.std.specs.Prelude.{◌≡◌, IfOk, IfErr, MatchOption};
+ghost use Rattle.std.specs.Prelude.{◌≡◌, ◌∷◌, [], IfOk, IfErr, MatchOption};
 ghost use Rattle.semver_parser.specs.Texts.{Text};
 ghost use Rattle.tool_ranges.specs.declared.meaning.Meaning.{Meaning};
 ghost use Rattle.version_sets.specs.declared.PreReleases.{PreReleases as Rule};
 ghost use Rattle.tool_ranges.specs.Meanings.{reading_of};
+ghost use Rattle.semver_parser_c.specs.Numbers as number;
+ghost use Rattle.semver_parser_c.specs.Faults.{IsOneOf};
 ghost use Rattle.semver_parser_c.specs.Readings.{IsReading, crate_rule_number, rule_number};
 ghost use Rattle.semver_parser_c.specs.Steps.RangeFaults.{IsMeaningOf, IsReadingOf, IsRefused};
 
@@ -19,6 +21,7 @@ pub fn meaning_of(reading: i32, pre_releases: i32) -> Result<Meaning, i32>
     ensures named { IfOk result (λ m. IsMeaningOf m reading pre_releases) }
     ensures refused { IfErr result (λ n. (text : Text)
         → IsRefused reading pre_releases text n) }
+    ensures numbers { IfErr result (IsOneOf (number.no_such_reading ∷ number.no_such_rule ∷ [])) }
 {
     let Some(reading) = reading_of(reading) else {
         return Err(numbers::NO_SUCH_READING);

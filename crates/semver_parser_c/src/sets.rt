@@ -1,6 +1,7 @@
 //! Sets of the versions that range texts mean, and the texts of their least versions.
 
-ghost use Rattle.std.specs.Prelude.{◌≡◌, ◌∷◌, [], ℤ, IfOk, IfErr, Option, string_bytes};
+ghost use Rattle.std.specs.Prelude.{◌≡◌, ◌≢◌, ◌∷◌, [], ℤ, IfOk, IfErr, IfSome, Option};
+ghost use Rattle.std.specs.Prelude.{string_bytes};
 ghost use Rattle.semver_parser.specs.declared.version.Version.{Version as SomeVersion};
 ghost use Rattle.version_sets.specs.VersionSets.{IsIn};
 ghost use Rattle.version_sets.specs.Comparisons.{TellsLeast};
@@ -11,11 +12,11 @@ ghost use Rattle.semver_parser_c.specs.Readings.{IsNamed};
 ghost use Rattle.semver_parser_c.specs.Faults.{IsAccepted, IsOneOf, RefusesRange};
 ghost use Rattle.semver_parser_c.specs.Sets.{text_of};
 ghost use Rattle.semver_parser_c.specs.Steps.RangeFaults.{HasFault, IsEitherRefused, IsMeaningOf};
-ghost use Rattle.semver_parser_c.specs.Steps.RangeFaults.{IsReadable, IsRefused, Stands};
+ghost use Rattle.semver_parser_c.specs.Steps.RangeFaults.{IsReadable, IsRefused, IsTold, Stands};
 ghost use Rattle.semver_parser_c.specs.Steps.RangeFaults.{TellsBoth};
 
 use crate::range_text::{self, RangeFault};
-use crate::readings;
+use crate::{numbers, readings};
 use semver_parser::RangeError;
 use semver_parser::version::Version;
 use std::alloc::{AllocError, Global};
@@ -65,7 +66,8 @@ fn read_as(alloc: Global, meaning: Meaning, range: &[u8]) -> Result<VersionSet, 
     }
 }
 
-/// The sets of an old and of a new range text, or the number of a fault.
+/// The sets of an old and of a new range text, or the number of a fault: both are read for their
+/// errors, also where memory ran out at the old one.
 pub fn sets_of(
     alloc: Global,
     old_range: &[u8],
@@ -81,13 +83,38 @@ pub fn sets_of(
     ensures refused { IfErr result (λ n.
         IsEitherRefused reading pre_releases old_range.now new_range.now n) }
 {
-    let (meaning, old_set) = match read(alloc, old_range, reading, pre_releases) {
-        Ok(read) => read,
+    let meaning = match readings::meaning_of(reading, pre_releases) {
+        Ok(meaning) => meaning,
         Err(number) => return Err(number),
     };
-    match read_as(alloc, meaning, new_range) {
-        Ok(new_set) => Ok((old_set, new_set)),
-        Err(fault) => Err(range_text::new_number_of(fault)),
+    let old_set = match unless_refused(alloc, meaning, old_range) {
+        Ok(set) => set,
+        Err(number) => return Err(number),
+    };
+    let new_set = match read_as(alloc, meaning, new_range) {
+        Ok(set) => set,
+        Err(fault) => return Err(range_text::new_number_of(fault)),
+    };
+    match old_set {
+        Some(old_set) => Ok((old_set, new_set)),
+        None => Err(numbers::NEW_RANGE_OUT_OF_MEMORY),
+    }
+}
+
+/// The set of the versions that a range text means, none where memory ran out, or the number of why
+/// the text is refused.
+fn unless_refused(alloc: Global, meaning: Meaning, range: &[u8]) -> Result<Option<VersionSet>, i32>
+    ensures accepted { IfOk result (λ set. IsReadable (reading_of meaning) range.now) }
+    ensures meaning { IfOk result (λ set. IfSome set (MeansAs meaning range.now)) }
+    ensures refused { IfErr result (λ n. IsTold (reading_of meaning) range.now n) }
+    ensures no_memory { IfErr result (λ n. n ≢ number.range_out_of_memory) }
+{
+    match read_as(alloc, meaning, range) {
+        Ok(set) => Ok(Some(set)),
+        Err(fault) => match fault {
+            RangeFault::OutOfMemory => Ok(None),
+            _ => Err(range_text::number_of(fault)),
+        },
     }
 }
 

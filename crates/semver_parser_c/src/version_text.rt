@@ -1,6 +1,6 @@
-//! Version texts: the outline of one or the version, or the number of its fault.
+//! Version texts: the outline of one or the version without its build, or the number of its fault.
 
-ghost use Rattle.std.specs.Prelude.{◌<◌, ◌⊎◌, IfOk, IfErr, IsUtf8, length};
+ghost use Rattle.std.specs.Prelude.{◌≡◌, ◌<◌, IfOk, IfErr, IsUtf8, length};
 ghost use Rattle.semver_parser.specs.Texts.{Text};
 ghost use Rattle.semver_parser.specs.Versions.{VersionValue};
 ghost use Rattle.semver_parser.specs.VersionViews.{version_value};
@@ -32,20 +32,29 @@ pub fn outline(alloc: Global, text: &[u8]) -> Result<Outline<'_>, i32>
     }
 }
 
-/// The version of a text, or the number of its fault.
-pub fn version(alloc: Global, text: &[u8]) -> Result<Version, i32>
-    ensures version { IfOk result (λ version. SpellsVersion (version_value version) text.now) }
+/// The version of a text without its build, or the number of its fault.
+pub fn plain_version(alloc: Global, text: &[u8]) -> Result<Version, i32>
+    ensures version { IfOk result (λ version. (v : VersionValue) → SpellsVersion v text.now
+        → (version_value version).plain ≡ v.plain) }
+    ensures read { IfOk result (λ _. IsVersionText text.now) }
+    ensures utf8 { IfOk result (λ _. IsUtf8 text.now) }
     ensures refused { IfErr result (RefusesVersion text.now) }
-    // Memory runs out at a version only where that has a pre-release or a build.
+    // Memory runs out at a version only where that has a pre-release.
     ensures plain { IfErr result (λ _. IsUtf8 text.now → (v : VersionValue)
-        → SpellsVersion v text.now → (0 < length v.plain.pre) ⊎ (0 < length v.build)) }
+        → SpellsVersion v text.now → 0 < length v.plain.pre) }
 {
     let outline = match outline(alloc, text) {
         Ok(outline) => outline,
         Err(number) => return Err(number),
     };
-    match outline.version(alloc) {
-        Ok(version) => Ok(version),
+    match outline.pre_identifiers(alloc) {
+        Ok(pre) => Ok(Version {
+            major: outline.major(),
+            minor: outline.minor(),
+            patch: outline.patch(),
+            pre,
+            build: Vec::new(alloc),
+        }),
         Err(_) => Err(numbers::VERSION_OUT_OF_MEMORY),
     }
 }

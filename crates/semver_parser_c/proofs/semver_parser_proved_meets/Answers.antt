@@ -23,9 +23,7 @@ pub returns-clause-refusals : goal.returns-clause-refusals
 returns-clause-refusals c = search (rules, c.in-Ok.ensures.stands.each c.in-Err-judge.fault (search rules))
 
 pub returns-clause-accepted : goal.returns-clause-accepted
-returns-clause-accepted c = λ read v utf8 spelled.
-    let full = c.in-Err-judge.ensures.refused.accepted v utf8 spelled in
-    search rules
+returns-clause-accepted c = λ read v utf8 spelled. absurd (c.in-Err-judge.ensures.none utf8 (v, spelled))
 
 pub returns-clause-version_refused : goal.returns-clause-version_refused
 returns-clause-version_refused c = λ read utf8 none other.

@@ -1,6 +1,6 @@
 -- A means of proof, which no public clause cites: what a range text is to a reading, by the fault
 -- that is told of it, and which numbers tell which.
-use Rattle.std.specs.Prelude.{ℤ, ◌≡◌, ◌⊎◌, ⊤, IsUtf8, List, ◌∷◌, ◌++◌}
+use Rattle.std.specs.Prelude.{ℤ, ◌≡◌, ◌≢◌, ◌⊎◌, ⊤, IsUtf8, List, ◌∷◌, ◌++◌}
 use Rattle.semver_parser.specs.Texts.{Text}
 use Rattle.tool_ranges.specs.declared.reading.Reading.{Reading}
 use Rattle.tool_ranges.specs.declared.meaning.Meaning.{Meaning}
@@ -9,7 +9,7 @@ use Rattle.semver_parser_c.specs.declared.range_text.RangeFault.{RangeFault}
 use Rattle.semver_parser_c.specs.declared.range_text.RangeFault.TheVariants as range_fault
 use Rattle.semver_parser_c.specs.Numbers as number
 use Rattle.semver_parser_c.specs.Readings.{IsNamed, reading_number}
-use Rattle.semver_parser_c.specs.Faults.{IsOneOf, IsReadBy, NewRangeIsRead, RangeIsRead}
+use Rattle.semver_parser_c.specs.Faults.{IsAccepted, IsOneOf, IsReadBy, NewRangeIsRead, RangeIsRead}
 use Rattle.semver_parser_c.specs.Faults.{RefusesBy, RefusesNewRange, RefusesRange, RefusesText}
 use Rattle.semver_parser_c.specs.Faults.{named_faults, new_range_faults, range_faults}
 use Rattle.semver_parser_c.specs.Faults.{range_numbers, version_faults}
@@ -69,7 +69,8 @@ pub record TellsBoth (reading rule : ℤ) (old new : Text) (n : ℤ) : Type 0 wh
   pub read : (n ≡ number.ok) ⊎ (n ≡ number.no_room) → RangeIsRead reading rule old n
       × NewRangeIsRead reading rule new n
   pub old_range : RefusesRange reading rule old n
-  pub new_range : RefusesNewRange (RangeIsRead reading rule old n) reading rule new n
+  pub new_range : RefusesNewRange (IsAccepted reading rule old) reading rule new n
+  pub one_memory : n ≢ number.range_out_of_memory
 
 -- the numbers or one of the ranges are refused by the number
 pub record IsEitherRefused (reading rule : ℤ) (old new : Text) (n : ℤ) : Type 0 where

@@ -1,4 +1,6 @@
 use Rattle.std.proofs.Common.{rules, arith, pos, ℕ, inr}
+use Rattle.std.specs.Prelude.{IsUtf8}
+use Rattle.semver_parser.specs.VersionGrammar.{IsVersionText}
 use Rattle.semver_parser_c.specs.Faults.{IsOneOf, RefusesVersion, version_faults}
 use Rattle.semver_parser_c.specs.Meetings.{IsMeeting}
 use Rattle.semver_parser_c.proofs.meeting.byte_for.Goals as goal
@@ -10,11 +12,12 @@ no_meeting byte one meeting = grind arith
 pub returns-in-Err : goal.returns-in-Err
 returns-in-Err c = λ m range _.
     let r : RefusesVersion c.args.version.now (pos c.byte_of.result) = search rules in
+    let none : IsUtf8 c.args.version.now → ¬ (IsVersionText c.args.version.now) = search rules in
     record {
       one = inr r.one;
       meaning = λ meeting. absurd (no_meeting _ r.one meeting);
       read = λ meeting. absurd (no_meeting _ r.one meeting);
-      accepted = λ v utf8 spelled. inr (r.accepted v utf8 spelled);
+      accepted = λ v utf8 spelled. absurd (none utf8 (v, spelled));
       not_utf8 = r.not_utf8;
       refused = λ utf8 _. r.refused utf8;
       out_of_memory = r.out_of_memory;

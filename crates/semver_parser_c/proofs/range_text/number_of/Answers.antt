@@ -2,8 +2,8 @@ use Rattle.std.proofs.Common.{rules}
 use Rattle.tool_ranges.proofs.ReadingLaws.{one_tree}
 use Rattle.semver_parser_c.proofs.range_text.number_of.Goals as goal
 
-pub returns-in-TooLarge : goal.returns-in-TooLarge
-returns-in-TooLarge c = λ r text has.
+pub returns-in-TooLarge-clause-told : goal.returns-in-TooLarge-clause-told
+returns-in-TooLarge-clause-told c = λ r text has.
     let large = rw c.in-TooLarge.is at has in
     record {
       number = search rules;

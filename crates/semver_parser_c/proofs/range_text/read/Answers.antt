@@ -13,4 +13,4 @@ returns-in-Ok-clause-stands c = stands_text c.in-Some.reading _ _ (search rules)
 
 pub returns-in-Err-clause-refused : goal.returns-in-Err-clause-refused
 returns-in-Err-clause-refused c =
-    search (rules, refused_text _ _ _ _ c.in-Some.ensures (c.number_of.ensures _ _ c.in-Err.ensures.fault))
+    search (rules, refused_text _ _ _ _ c.in-Some.ensures (c.number_of.ensures.told _ _ c.in-Err.ensures.fault))

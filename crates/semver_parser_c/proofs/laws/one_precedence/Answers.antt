@@ -1,0 +1,106 @@
+use Rattle.std.proofs.Common.{List, ◌≡◌, ◌≢◌, ◌⊎◌, ◌↔◌, ◌∙◌, ℤ, Bool, true, false, [], ◌∷◌, Err, arith, inl, inr, rules, sym, ⊎_elim}
+use Rattle.std.proofs.Common.{to_z, of_z, w32}
+use Rattle.std.specs.Prelude.{IsTrue, IsUtf8}
+use Rattle.semver_parser.specs.Texts.{Text}
+use Rattle.semver_parser.specs.VersionGrammar.{IsVersionText}
+use Rattle.semver_parser_c.specs.Numbers as number
+use Rattle.semver_parser_c.specs.Faults.{IsOneOf, RefusesVersion, version_faults}
+use Rattle.semver_parser_c.specs.Orders.{at_fault}
+use Rattle.semver_parser_c.specs.OneAnswer.{IsMemory, text_errors}
+use Rattle.semver_parser_c.proofs.OneAnswer.{OneOutcome, are_one, carried, version_once}
+use Rattle.semver_parser_c.proofs.laws.one_precedence.Goals as goal
+
+abbrev exact : List ℤ
+exact = number.version_not_utf8 ∷ []
+
+sorted : (n : ℤ) → IsOneOf (number.ok ∷ version_faults) n → IsOneOf exact n ⊎ IsOneOf (number.ok ∷ text_errors) n
+sorted n one = grind arith
+
+apart : (n : ℤ) → IsOneOf exact n → IsMemory n → ⊥
+apart n one memory = grind arith
+
+not_ok : (n : ℤ) → IsOneOf version_faults n → n ≢ number.ok
+not_ok n one = grind arith
+
+same_bool : (P : Type 0) (b b' : Bool) → IsTrue b ↔ P → IsTrue b' ↔ P → b ≡ b'
+same_bool P b b' p q = grind arith
+
+-- what is so of both texts is so of that at fault
+of_either : (P : Text → Type 0) (b : Bool) (version other : Text) → P version → P other → P (at_fault b version other)
+of_either P true version other p q = q
+of_either P false version other p q = p
+
+-- two errors of one text, none of them memory that ran out
+refused_once : OneOutcome → (text : Text) (n m : ℤ) → RefusesVersion text n → RefusesVersion text m → ¬ (IsMemory n)
+    → ¬ (IsMemory m) → n ≡ m
+refused_once one text n m p q some some' =
+    version_once one text n m p.not_utf8 q.not_utf8 (λ utf8 is. absurd (some (inr (inl (p.accepted is.0 utf8 is.1)))))
+    (λ utf8 _. let (e, is, eq) = p.refused utf8 (λ e. some (inr (inl e))) in (Err e, is, eq))
+    (λ utf8 _. let (e, is, eq) = q.refused utf8 (λ e. some' (inr (inl e))) in (Err e, is, eq))
+
+-- what the clauses say of an answer and of which text it is
+record Answers (version other : Text) (n : ℤ) (in_other : Bool) : Type 0 where
+  numbers : IsOneOf (number.ok ∷ version_faults) n
+  utf8 : n ≡ number.ok → IsUtf8 version × IsUtf8 other
+  read : n ≡ number.ok → IsVersionText version × IsVersionText other
+  refused : n ≢ number.ok → RefusesVersion (at_fault in_other version other) n
+  text : n ≢ number.ok → IsTrue in_other ↔ (IsUtf8 version × IsVersionText version)
+
+module _ {version other : Text} {n m : ℤ} {b b' : Bool} (p : Answers version other n b) (q : Answers version other m b') where
+  same_text : n ≢ number.ok → m ≢ number.ok → b ≡ b'
+  same_text wrong wrong' = same_bool _ b b' (p.text wrong) (q.text wrong')
+
+  -- the error of the second is that of the first one's text
+  moved : n ≢ number.ok → m ≢ number.ok → RefusesVersion (at_fault b version other) m
+  moved wrong wrong' = rw (same_text wrong wrong') (q.refused wrong')
+
+  -- two versions are refused for memory alone
+  unless_memory : m ≡ number.ok → n ≢ number.ok → n ≡ number.version_out_of_memory
+  unless_memory ok wrong =
+      let utf8 = q.utf8 ok in
+      let read = q.read ok in
+      let (u, (v, spelled)) =
+      of_either (λ t. IsUtf8 t × IsVersionText t) b version other (utf8.0, read.0) (utf8.1, read.1) in
+      (p.refused wrong).accepted v u spelled
+
+  once : IsOneOf exact n → n ≡ m
+  once one = grind (arith, moved, unless_memory)
+
+same_number : OneOutcome → {version other : Text} {n m : ℤ} {b b' : Bool} → Answers version other n b → Answers version other m b'
+    → ¬ (IsMemory n) → ¬ (IsMemory m) → n ≡ m
+same_number one p q some some' = ⊎_elim
+    (λ ok. ⊎_elim (λ ok'. ok ∙ sym ok') (λ fault. absurd (some' (inr (inl (unless_memory q p ok (not_ok _ fault)))))) q.numbers)
+    (λ fault. ⊎_elim (λ ok. absurd (some (inr (inl (unless_memory p q ok (not_ok _ fault))))))
+    (λ fault'. refused_once one _ _ _ (p.refused (not_ok _ fault)) (moved p q (not_ok _ fault) (not_ok _ fault')) some some') q.numbers)
+    p.numbers
+
+pub returns : goal.returns
+returns c =
+    let n = c.semver_parser_proved_precedence-first in
+    let m = c.semver_parser_proved_precedence-second in
+    let p = n.ensures in
+    let q = m.ensures in
+    let a : Answers c.args.version.now c.args.other.now n.result n.new.in_other =
+    record { numbers = p.numbers; utf8 = p.both_utf8; read = p.both_read; refused = p.refused; text = p.in_other } in
+    let b : Answers c.args.version.now c.args.other.now m.result m.new.in_other =
+    record { numbers = q.numbers; utf8 = q.both_utf8; read = q.both_read; refused = q.refused; text = q.in_other } in
+    let as_it_is : to_z w32 (of_z w32 n.result) ≡ n.result = search rules in
+    let as_it_is' : to_z w32 (of_z w32 m.result) ≡ m.result = search rules in
+    let output : n.result ≡ m.result → (n.new.order ≡ m.new.order) × (n.new.in_other ≡ m.new.in_other) = λ same. ⊎_elim
+    (λ ok.
+    let ok' = sym same ∙ ok in
+    let ((v, spelled), (w, spelled')) = p.both_read ok in (
+      p.precedence ok v w spelled spelled' ∙ sym (q.precedence ok' v w spelled spelled'),
+      p.in_other_unchanged ok ∙ c.requires.in_other ∙ sym (q.in_other_unchanged ok'),
+    ))
+    (λ fault.
+    let wrong = not_ok _ fault in
+    let wrong' = λ (e : m.result ≡ number.ok). wrong (same ∙ e) in
+    (p.order_unchanged wrong ∙ c.requires.order ∙ sym (q.order_unchanged wrong'), same_text a b wrong wrong'))
+    p.numbers in
+    rw (as_it_is, as_it_is') (record {
+      one = are_one exact (number.ok ∷ text_errors) n.result m.result _ (sorted _ p.numbers) (sorted _ q.numbers)
+          (once a b) (once b a) (apart _) (λ _ _. output)
+          (λ _ _ some some'. let same = same_number c.one_outcome.ensures.same_outcome a b some some' in (same, output same));
+      in_other = same_text a b;
+    })

@@ -1,0 +1,274 @@
+//! Laws of the calls: two answers of the same inputs are one, or memory ran out in one of them, and
+//! then the other is no error that a text has whatever memory there is. Each makes its call twice,
+//! and all that its proof knows of the two answers is what the clauses of the call say.
+
+ghost use Rattle.std.specs.Prelude.{◌≡◌, ◌≢◌, ◌<◌, ◌∷◌, [], ℕ, ⊤, pos, drop, length};
+ghost use Rattle.std.specs.Prelude.{slice_index};
+ghost use Rattle.semver_parser_c.specs.Numbers as number;
+ghost use Rattle.semver_parser_c.specs.Faults.{IsOneOf, version_faults};
+ghost use Rattle.semver_parser_c.specs.OneAnswer.{AreOne, text_errors};
+
+use crate::{
+    ComparedRanges, ReadVersion, RewrittenComparator, semver_parser_proved_comparators,
+    semver_parser_proved_compare, semver_parser_proved_least, semver_parser_proved_meets,
+    semver_parser_proved_meets_each, semver_parser_proved_parse_version,
+    semver_parser_proved_precedence, semver_parser_proved_rewrite,
+};
+use semver_parser::laws::{one_outcome, precedence_is_total};
+use std::alloc::Global;
+
+/// A text is read as one version, or has one error, in place of which memory may run out.
+pub fn one_parsed_version(
+    alloc: Global,
+    text: &[u8],
+    out: &mut ReadVersion,
+    other_out: &mut ReadVersion,
+) -> (i32, i32)
+    requires { out.old ≡ other_out.old }
+    ensures one { AreOne text_errors result.0 result.1 (out.new ≡ other_out.new) }
+{
+    one_outcome();
+    let number = semver_parser_proved_parse_version(alloc, text, out);
+    let other = semver_parser_proved_parse_version(alloc, text, other_out);
+    (number, other)
+}
+
+/// A text is rewritten to one printed set, or has one error.
+pub fn one_rewriting(
+    alloc: Global,
+    text: &[u8],
+    reading: i32,
+    exact: bool,
+    out: &mut [u8],
+    other_out: &mut [u8],
+    length: &mut usize,
+    other_length: &mut usize,
+) -> (i32, i32)
+    requires room { out.old ≡ other_out.old }
+    requires length { length.old ≡ other_length.old }
+    ensures one { AreOne (number.ok ∷ number.no_room ∷ number.range_out_of_memory ∷ [])
+        result.0 result.1 ((out.new ≡ other_out.new) × (length.new ≡ other_length.new)) }
+{
+    let number = semver_parser_proved_rewrite(alloc, text, reading, exact, out, length);
+    let other = semver_parser_proved_rewrite(alloc, text, reading, exact, other_out, other_length);
+    (number, other)
+}
+
+/// A text is rewritten to one list of comparators, or has one error.
+pub fn one_comparators(
+    alloc: Global,
+    text: &[u8],
+    reading: i32,
+    exact: bool,
+    comparators: &mut [RewrittenComparator],
+    others: &mut [RewrittenComparator],
+    count: &mut usize,
+    other_count: &mut usize,
+    out: &mut [u8],
+    other_out: &mut [u8],
+    length: &mut usize,
+    other_length: &mut usize,
+) -> (i32, i32)
+    requires comparators { comparators.old ≡ others.old }
+    requires count { count.old ≡ other_count.old }
+    requires room { out.old ≡ other_out.old }
+    requires length { length.old ≡ other_length.old }
+    ensures one { AreOne (number.ok ∷ number.no_room ∷ number.range_out_of_memory ∷ [])
+        result.0 result.1 ((comparators.new ≡ others.new) × (count.new ≡ other_count.new)
+        × (out.new ≡ other_out.new) × (length.new ≡ other_length.new)) }
+{
+    let number = semver_parser_proved_comparators(
+        alloc,
+        text,
+        reading,
+        exact,
+        comparators,
+        count,
+        out,
+        length,
+    );
+    let other = semver_parser_proved_comparators(
+        alloc,
+        text,
+        reading,
+        exact,
+        others,
+        other_count,
+        other_out,
+        other_length,
+    );
+    (number, other)
+}
+
+/// A version meets a range or it doesn't, or one of the texts has one error.
+pub fn one_meeting(
+    alloc: Global,
+    range: &[u8],
+    reading: i32,
+    pre_releases: i32,
+    version: &[u8],
+    meets: &mut bool,
+    other_meets: &mut bool,
+) -> (i32, i32)
+    requires { meets.old ≡ other_meets.old }
+    ensures one { AreOne (number.ok ∷ number.range_out_of_memory ∷ version_faults)
+        result.0 result.1 (meets.new ≡ other_meets.new) }
+    // In place of an answer memory runs out at the range alone.
+    ensures version_memory { result.0 ≡ number.version_out_of_memory
+        → IsOneOf (number.range_out_of_memory ∷ text_errors) result.1 }
+{
+    one_outcome();
+    let number = semver_parser_proved_meets(alloc, range, reading, pre_releases, version, meets);
+    let other = semver_parser_proved_meets(
+        alloc,
+        range,
+        reading,
+        pre_releases,
+        version,
+        other_meets,
+    );
+    (number, other)
+}
+
+/// Each of many versions has one answer, or the range has one error.
+pub fn one_meetings(
+    alloc: Global,
+    range: &[u8],
+    reading: i32,
+    pre_releases: i32,
+    versions: &[&[u8]],
+    answers: &mut [u8],
+    others: &mut [u8],
+) -> (i32, i32)
+    requires { answers.old ≡ others.old }
+    ensures one { AreOne (number.ok ∷ number.range_out_of_memory ∷ []) result.0 result.1
+        (drop (length versions.now) answers.new ≡ drop (length versions.now) others.new) }
+    // Of each version memory may run out in place of an error of its text alone.
+    ensures each { result.0 ≡ number.ok → result.1 ≡ number.ok → (k : ℕ) → k < length versions.now
+        → k < length answers.old → AreOne text_errors (pos (slice_index answers.new k))
+        (pos (slice_index others.new k)) ⊤ }
+    ensures unchanged { result.0 ≢ number.ok → result.1 ≢ number.ok → answers.new ≡ others.new }
+{
+    one_outcome();
+    let number = semver_parser_proved_meets_each(
+        alloc,
+        range,
+        reading,
+        pre_releases,
+        versions,
+        answers,
+    );
+    let other = semver_parser_proved_meets_each(
+        alloc,
+        range,
+        reading,
+        pre_releases,
+        versions,
+        others,
+    );
+    (number, other)
+}
+
+/// A range has one least version, or one error.
+pub fn one_least(
+    alloc: Global,
+    range: &[u8],
+    reading: i32,
+    pre_releases: i32,
+    out: &mut [u8],
+    other_out: &mut [u8],
+    length: &mut usize,
+    other_length: &mut usize,
+) -> (i32, i32)
+    requires room { out.old ≡ other_out.old }
+    requires length { length.old ≡ other_length.old }
+    ensures one { AreOne (number.ok ∷ number.no_room ∷ number.range_out_of_memory ∷ [])
+        result.0 result.1 ((out.new ≡ other_out.new) × (length.new ≡ other_length.new)) }
+{
+    precedence_is_total();
+    let number = semver_parser_proved_least(alloc, range, reading, pre_releases, out, length);
+    let other = semver_parser_proved_least(
+        alloc,
+        range,
+        reading,
+        pre_releases,
+        other_out,
+        other_length,
+    );
+    (number, other)
+}
+
+/// Two ranges have one comparison, or one of them has one error.
+pub fn one_comparison(
+    alloc: Global,
+    old_range: &[u8],
+    new_range: &[u8],
+    reading: i32,
+    pre_releases: i32,
+    out: &mut [u8],
+    other_out: &mut [u8],
+    length: &mut usize,
+    other_length: &mut usize,
+    comparison: &mut ComparedRanges,
+    other_comparison: &mut ComparedRanges,
+) -> (i32, i32)
+    requires room { out.old ≡ other_out.old }
+    requires length { length.old ≡ other_length.old }
+    requires comparison { comparison.old ≡ other_comparison.old }
+    ensures one { AreOne (number.ok ∷ number.no_room ∷ number.new_range_out_of_memory ∷ [])
+        result.0 result.1 ((out.new ≡ other_out.new) × (length.new ≡ other_length.new)
+        × (comparison.new ≡ other_comparison.new)) }
+{
+    precedence_is_total();
+    let number = semver_parser_proved_compare(
+        alloc,
+        old_range,
+        new_range,
+        reading,
+        pre_releases,
+        out,
+        length,
+        comparison,
+    );
+    let other = semver_parser_proved_compare(
+        alloc,
+        old_range,
+        new_range,
+        reading,
+        pre_releases,
+        other_out,
+        other_length,
+        other_comparison,
+    );
+    (number, other)
+}
+
+/// Two versions have one order, or one of the texts has one error.
+pub fn one_precedence(
+    alloc: Global,
+    version: &[u8],
+    other: &[u8],
+    order: &mut i32,
+    other_order: &mut i32,
+    in_other: &mut bool,
+    other_in_other: &mut bool,
+) -> (i32, i32)
+    requires order { order.old ≡ other_order.old }
+    requires in_other { in_other.old ≡ other_in_other.old }
+    ensures one { AreOne (number.ok ∷ text_errors) result.0 result.1
+        ((order.new ≡ other_order.new) × (in_other.new ≡ other_in_other.new)) }
+    // Both tell the same text's error, also where memory ran out.
+    ensures in_other { result.0 ≢ number.ok → result.1 ≢ number.ok
+        → in_other.new ≡ other_in_other.new }
+{
+    one_outcome();
+    let first = semver_parser_proved_precedence(alloc, version, other, order, in_other);
+    let second = semver_parser_proved_precedence(
+        alloc,
+        version,
+        other,
+        other_order,
+        other_in_other,
+    );
+    (first, second)
+}
