@@ -114,6 +114,7 @@ pub struct ComparedRanges {
     pub shared: Part,
 }
 
+// Answer: law semver_parser_c::laws::one_parsed_version.
 /// Reads a version text: `OK` with the version in `out`, or the number of a fault with `out` as it
 /// was.
 ///
@@ -171,6 +172,7 @@ pub extern "C" fn semver_parser_proved_parse_version(
     }
 }
 
+// Answer: law semver_parser_c::laws::one_rewriting.
 /// Rewrites a range text into plain comparators, and prints them: `OK` with the printed set at the
 /// front of `out`. `reading` is the number of a reading: `CARGO` and `NPM` are the tools' own, and
 /// `CRATE_CARGO` and `CRATE_NPM` those of the crate. Where `exact` holds, the bounds are exact, as
@@ -219,6 +221,7 @@ pub extern "C" fn semver_parser_proved_rewrite(
     }
 }
 
+// Answer: law semver_parser_c::laws::one_comparators.
 /// Rewrites a range text into plain comparators, as `semver_parser_proved_rewrite` does, and tells
 /// them as plain data: `OK` with the comparators at the front of `comparators`, and at the front of
 /// `out` the identifiers of their pre-releases, joined by dots, those of one comparator right
@@ -291,6 +294,7 @@ pub extern "C" fn semver_parser_proved_comparators(
     }
 }
 
+// Answer: law semver_parser_c::laws::one_meeting.
 /// Whether a version meets a range, by the reading and by the rule for pre-releases that numbers
 /// name: `OK` with the answer in `meets`, or the number of a fault with `meets` as it was.
 ///
@@ -355,6 +359,7 @@ pub extern "C" fn semver_parser_proved_meets(
     }
 }
 
+// Answer: law semver_parser_c::laws::one_meetings.
 /// Whether each of many versions meets a range, as `semver_parser_proved_meets` says of one: `OK`
 /// with a byte in `answers` for each text of `versions`, or the number of a fault with `answers` as
 /// it was. The range is read once.
@@ -397,6 +402,7 @@ pub extern "C" fn semver_parser_proved_meets_each(
     numbers::OK
 }
 
+// Answer: law semver_parser_c::laws::one_least.
 /// Puts the text of the least version that a range means into a room, by the reading and by the
 /// rule for pre-releases that numbers name, as in `semver_parser_proved_meets`: `OK` with the text
 /// at the front of `out`. Least is it by precedence (SemVer 2.0.0, section 11), and it has no
@@ -445,6 +451,7 @@ pub extern "C" fn semver_parser_proved_least(
     }
 }
 
+// Answer: law semver_parser_c::laws::one_comparison.
 /// Compares what an old range means with what a new one means, both by the reading and by the rule
 /// for pre-releases that numbers name, as in `semver_parser_proved_meets`: `OK` with three texts at
 /// the front of `out`, one behind the other, and where each lies in `comparison`. They are the
@@ -524,6 +531,7 @@ pub extern "C" fn semver_parser_proved_compare(
     }
 }
 
+// Answer: law semver_parser_c::laws::one_precedence.
 /// How a version compares with another by precedence (SemVer 2.0.0, section 11): `OK` with the
 /// answer in `order`, which is -1 where it is below the other, 0 where both are equal, and 1 where
 /// it is above. Builds don't count.
