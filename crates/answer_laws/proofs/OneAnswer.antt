@@ -1,22 +1,19 @@
 -- Two answers that meet the clauses of one call are one.
-use Rattle.std.proofs.Common.{IfOk, ◌≡◌, refl, sym, ap, ◌∙◌, inl, inr, Result, Ok, Err, alloc_error}
+use Rattle.std.proofs.Common.{IfOk, ◌≡◌, refl, sym, ap, subst, ◌∙◌, inl, inr, Result, Ok, Err, alloc_error}
 use Rattle.std.specs.declared.alloc.AllocError.{AllocError}
 use Rattle.semver_parser.specs.declared.RangeError.{RangeError}
 use Rattle.semver_parser.specs.declared.RangeError.TheVariants.{NotARange, NumberTooLarge, OutOfMemory}
 use Rattle.semver_parser.specs.RangeTexts.{Refuses}
 use Rattle.answer_laws.specs.OneAnswer.{AreOne, seen}
 
--- what is so of each value is so of the values of two answers
-pub both : {A E : Type 0} {P : A → Type 0} {R : A → A → Type 0} (r s : Result A E) → IfOk r P → IfOk s P
-    → ((a b : A) → P a → P b → R a b) → IfOk r (λ a. IfOk s (R a))
-both (Ok a) (Ok b) p q h = h a b p q
-both (Ok a) (Err e) p q h = tt
-both (Err e) s p q h = tt
+-- what a clause says of the value that is answered
+pub said : {A E : Type 0} (P : A → Type 0) {r : Result A E} {a : A} → r ≡ Ok a → IfOk r P → P a
+said P is h = subst (λ r. IfOk r P) is h
 
 -- two answers that refuse the same, and of which what is seen of the values is equal where a text fits
 pub one : {A V T L F : Type 0} (view : A → V) (r s : Result A RangeError) → Refuses T L F r → Refuses T L F s
-    → IfOk r (λ a. IfOk s (λ b. F → view a ≡ view b)) → AreOne OutOfMemory view r s
-one view (Ok a) (Ok b) p q h = inl (ap Ok (h p.accepted))
+    → ((a b : A) → r ≡ Ok a → s ≡ Ok b → F → view a ≡ view b) → AreOne OutOfMemory view r s
+one view (Ok a) (Ok b) p q h = inl (ap Ok (h a b refl refl p.accepted))
 one view (Ok a) (Err OutOfMemory) p q h = inr (inr (a, refl, refl))
 one view (Err OutOfMemory) (Ok b) p q h = inr (inl (b, refl, refl))
 one view (Err OutOfMemory) (Err OutOfMemory) p q h = inl refl
@@ -25,23 +22,18 @@ one view (Err NumberTooLarge) s p q h = inl (ap (seen view) (sym (q.too_large.1 
 one view r (Err NotARange) p q h = inl (ap (seen view) (p.not_a_range.1 (q.not_a_range.0 refl)))
 one view r (Err NumberTooLarge) p q h = inl (ap (seen view) (p.too_large.1 (q.too_large.0 refl)))
 
--- two answers that refuse the same, and whose values are what each tree of the text is rewritten to
+-- so where the values are what each tree of the text is rewritten to
 pub one_rewritten : {A V Tree T L : Type 0} {Spells Fits : Tree → Type 0} (view : A → V) (rewritten : Tree → V)
     (r s : Result A RangeError) → Refuses T L ((tree : Tree) × Spells tree × Fits tree) r
     → Refuses T L ((tree : Tree) × Spells tree × Fits tree) s → IfOk r (λ a. (tree : Tree) → Spells tree → view a ≡ rewritten tree)
     → IfOk s (λ a. (tree : Tree) → Spells tree → view a ≡ rewritten tree) → AreOne OutOfMemory view r s
 one_rewritten view rewritten r s p q h k =
-    one view r s p q (both r s h k (λ a b is is' fits. is fits.0 fits.1 ∙ sym (is' fits.0 fits.1)))
+    one view r s p q (λ a b is is' text. said _ is h text.0 text.1 ∙ sym (said _ is' k text.0 text.1))
 
--- two answers of which what is seen of the values is equal
-pub one_made : {A V : Type 0} (view : A → V) (r s : Result A AllocError) → IfOk r (λ a. IfOk s (λ b. view a ≡ view b))
-    → AreOne alloc_error view r s
-one_made view (Ok a) (Ok b) h = inl (ap Ok h)
+-- two answers that fail only where memory runs out
+pub one_made : {A V : Type 0} (view : A → V) (r s : Result A AllocError)
+    → ((a b : A) → r ≡ Ok a → s ≡ Ok b → view a ≡ view b) → AreOne alloc_error view r s
+one_made view (Ok a) (Ok b) h = inl (ap Ok (h a b refl refl))
 one_made view (Ok a) (Err e) h = inr (inr (a, refl, refl))
 one_made view (Err e) (Ok b) h = inr (inl (b, refl, refl))
 one_made view (Err e) (Err f) h = inl refl
-
--- two answers of which what is seen of the value is this
-pub one_value : {A V : Type 0} (view : A → V) (value : V) (r s : Result A AllocError) → IfOk r (λ a. view a ≡ value)
-    → IfOk s (λ a. view a ≡ value) → AreOne alloc_error view r s
-one_value view value r s p q = one_made view r s (both r s p q (λ a b e e'. e ∙ sym e'))

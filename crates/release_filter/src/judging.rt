@@ -70,8 +70,8 @@ impl Filter {
     /// `None`. Which of the two it is that these are, [`Filter::judge`] says.
     ///
     /// The text is read as by `version::read`, but only as far as is needed. Memory is taken only
-    /// where it spells a version that passes and has a pre-release or a build. `Err` is out of
-    /// memory.
+    /// where it spells a version that passes, and that has a pre-release or a build. `Err` means
+    /// that memory ran out.
     pub fn read(&self, alloc: Global, text: &str) -> Result<Option<Version>, AllocError>
         // Unless memory ran out, a version is answered exactly where the text spells it, and it
         // passes.

@@ -27,7 +27,7 @@ impl VersionSet {
     /// rules it isn't.
     ///
     /// It takes time in n log n for n comparators, and memory for their switches, at most four a
-    /// comparator, and none where there is no range. `Err` is out of memory.
+    /// comparator, and none where there is no range. `Err` means that memory ran out.
     pub fn of_set(
         alloc: Global,
         set: &RangeSet,
