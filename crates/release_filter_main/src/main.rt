@@ -60,7 +60,7 @@ As crate-cargo and crate-npm do, releases alone are copied without --pre and
 written, 1 where none was, and 2 after a fault, which standard error tells.";
 
 /// The version of this program, as the file VERSION has it.
-const VERSION: &str = "release-filter 0.3.0";
+const VERSION: &str = "release-filter 0.3.1";
 
 /// Why a run ended by a fault.
 #[derive(Drop)]
