@@ -154,7 +154,7 @@ prove_beside() {
 # others.
 run_lanes() {
     lanes='' failed=0
-    trap 'kill $lanes; exit 143' TERM
+    trap 'kill $lanes 2> /dev/null; wait; exit 143' TERM
     for crate in $(cat "$work/lanes"); do
         prove_in_lane "$crate" &
         lanes="$lanes $!"
@@ -168,7 +168,7 @@ run_lanes() {
 # wait for each other. What is proved in the copy is then as if it had been proved here.
 prove_in_lane() {
     proving='' lane=$work/lane-$1
-    trap '[ -z "$proving" ] || kill "$proving"; exit 143' TERM
+    trap '[ -z "$proving" ] || kill "$proving" 2> /dev/null; wait; exit 143' TERM
     for lower in $(crates_of "$1"); do
         [ "$lower" = "$1" ] && continue
         while grep -qx "$lower" "$work/lanes" && [ ! -e "$work/proved-$lower" ]; do
