@@ -22,9 +22,6 @@ apart n one memory = grind arith
 not_ok : (n : ℤ) → IsOneOf version_faults n → n ≢ number.ok
 not_ok n one = grind arith
 
-same_bool : (P : Type 0) (b b' : Bool) → IsTrue b ↔ P → IsTrue b' ↔ P → b ≡ b'
-same_bool P b b' p q = grind arith
-
 -- what is so of both texts is so of that at fault
 of_either : (P : Text → Type 0) (b : Bool) (version other : Text) → P version → P other → P (at_fault b version other)
 of_either P true version other p q = q
@@ -48,7 +45,7 @@ record Answers (version other : Text) (n : ℤ) (in_other : Bool) : Type 0 where
 
 module _ {version other : Text} {n m : ℤ} {b b' : Bool} (p : Answers version other n b) (q : Answers version other m b') where
   same_text : n ≢ number.ok → m ≢ number.ok → b ≡ b'
-  same_text wrong wrong' = same_bool _ b b' (p.text wrong) (q.text wrong')
+  same_text wrong wrong' = grind (arith, p.text wrong, q.text wrong')
 
   -- the error of the second is that of the first one's text
   moved : n ≢ number.ok → m ≢ number.ok → RefusesVersion (at_fault b version other) m
