@@ -82,24 +82,24 @@ rewrite_exact = number.no_such_reading ∷ text_faults range_numbers
 abbrev pub range_exact : List ℤ
 range_exact = number.no_such_reading ∷ number.no_such_rule ∷ text_faults range_numbers
 
-by_once : (k : RangeNumbers) (Asked : Type 0) (r : Reading) (text : Text) (n m : ℤ) → k.not_utf8 ≢ k.not_a_range
+by_once : {k : RangeNumbers} {Asked : Type 0} {r : Reading} {text : Text} {n m : ℤ} → k.not_utf8 ≢ k.not_a_range
     → k.not_utf8 ≢ k.too_large → Asked → RefusesBy k Asked r text n → RefusesBy k Asked r text m → IsOneOf (text_faults k) n → n ≡ m
-by_once k Asked r text n m apart apart' asked p q (inl e) = carried _ n m (p.not_utf8 asked) (q.not_utf8 asked) e
-by_once k Asked r text n m apart apart' asked p q (inr (inl e)) =
-    unless _ n m (p.not_utf8 asked) (λ e'. apart (sym e' ∙ e))
-    (λ utf8. carried _ n m (p.not_a_range asked utf8) (q.not_a_range asked utf8) e)
-by_once k Asked r text n m apart apart' asked p q (inr (inr (inl e))) =
-    unless _ n m (p.not_utf8 asked) (λ e'. apart' (sym e' ∙ e))
-    (λ utf8. carried _ n m (p.too_large asked utf8) (q.too_large asked utf8) e)
-by_once k Asked r text n m apart apart' asked p q (inr (inr (inr none))) = absurd none
+by_once apart apart' asked p q (inl e) = carried _ _ _ (p.not_utf8 asked) (q.not_utf8 asked) e
+by_once apart apart' asked p q (inr (inl e)) =
+    unless _ _ _ (p.not_utf8 asked) (λ e'. apart (sym e' ∙ e))
+    (λ utf8. carried _ _ _ (p.not_a_range asked utf8) (q.not_a_range asked utf8) e)
+by_once apart apart' asked p q (inr (inr (inl e))) =
+    unless _ _ _ (p.not_utf8 asked) (λ e'. apart' (sym e' ∙ e))
+    (λ utf8. carried _ _ _ (p.too_large asked utf8) (q.too_large asked utf8) e)
+by_once apart apart' asked p q (inr (inr (inr none))) = absurd none
 
-old_once : (r : Reading) (text : Text) (n m : ℤ) → RefusesBy range_numbers ⊤ r text n → RefusesBy range_numbers ⊤ r text m
+old_once : {r : Reading} {text : Text} {n m : ℤ} → RefusesBy range_numbers ⊤ r text n → RefusesBy range_numbers ⊤ r text m
     → IsOneOf (text_faults range_numbers) n → n ≡ m
-old_once r text n m p q one = by_once range_numbers ⊤ r text n m (λ e. cc) (λ e. cc) tt p q one
+old_once p q one = by_once (λ e. cc) (λ e. cc) tt p q one
 
-pub new_once : (Asked : Type 0) (r : Reading) (text : Text) (n m : ℤ) → Asked → RefusesBy new_range_numbers Asked r text n
+pub new_once : {Asked : Type 0} {r : Reading} {text : Text} {n m : ℤ} → Asked → RefusesBy new_range_numbers Asked r text n
     → RefusesBy new_range_numbers Asked r text m → IsOneOf (text_faults new_range_numbers) n → n ≡ m
-new_once Asked r text n m asked p q one = by_once new_range_numbers Asked r text n m (λ e. cc) (λ e. cc) asked p q one
+new_once asked p q one = by_once (λ e. cc) (λ e. cc) asked p q one
 
 pub text_once : {reading : ℤ} {text : Text} {n m : ℤ} → RefusesText reading text n → RefusesText reading text m
     → IsOneOf rewrite_exact n → n ≡ m

@@ -37,15 +37,15 @@ either n one = grind arith
 of_new : (n : ℤ) → IsOneOf (text_faults new_range_numbers) n → IsOneOf range_exact n → ⊥
 of_new n one old = grind arith
 
-once : (reading rule : ℤ) (old new : Text) (n m : ℤ) → RefusesRange reading rule old n → RefusesRange reading rule old m
+once : {reading rule : ℤ} {old new : Text} {n m : ℤ} → RefusesRange reading rule old n → RefusesRange reading rule old m
     → RefusesNewRange (IsAccepted reading rule old) reading rule new n → RefusesNewRange (IsAccepted reading rule old) reading rule new m
     → IsOneOf range_exact n ⊎ IsOneOf (text_faults new_range_numbers) n → n ≡ m
-once reading rule old new n m p q a b (inl one) = range_once p q one
-once reading rule old new n m p q a b (inr one) =
-    known n m (λ other. accepted_where p (of_new n one) (λ accepted.
+once p q a b (inl one) = range_once p q one
+once p q a b (inr one) =
+    known _ _ (λ other. accepted_where p (of_new _ one) (λ accepted.
     let meaning = accepted.0 in
     let named = accepted.1 in
-    other (new_once (IsAccepted reading rule old) (reading_of meaning) new n m accepted (a meaning named) (b meaning named) one)))
+    other (new_once accepted (a meaning named) (b meaning named) one)))
 
 pub returns : goal.returns
 returns c =
@@ -58,8 +58,8 @@ returns c =
     record {
       one = uncast n.result m.result (search rules) (search rules)
           (are_one exact beside n.result m.result _ (sorted _ p.numbers p.one_memory) (sorted _ q.numbers q.one_memory)
-          (λ one. once _ _ _ _ _ _ p.refusals q.refusals p.new_refusals q.new_refusals (either _ one))
-          (λ one. once _ _ _ _ _ _ q.refusals p.refusals q.new_refusals p.new_refusals (either _ one)) (apart _)
+          (λ one. once p.refusals q.refusals p.new_refusals q.new_refusals (either _ one))
+          (λ one. once q.refusals p.refusals q.new_refusals p.new_refusals (either _ one)) (apart _)
           (λ one one' _.
           let fault = is_fault _ one in
           let fault' = is_fault _ one' in (

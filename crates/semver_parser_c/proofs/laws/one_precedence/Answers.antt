@@ -27,14 +27,6 @@ of_either : (P : Text → Type 0) (b : Bool) (version other : Text) → P versio
 of_either P true version other p q = q
 of_either P false version other p q = p
 
--- two errors of one text, none of them memory that ran out
-refused_once : OneOutcome → (text : Text) (n m : ℤ) → RefusesVersion text n → RefusesVersion text m → ¬ (IsMemory n)
-    → ¬ (IsMemory m) → n ≡ m
-refused_once one text n m p q some some' =
-    version_once one text n m p.not_utf8 q.not_utf8 (λ utf8 is. absurd (some (inr (inl (p.accepted is.0 utf8 is.1)))))
-    (λ utf8 _. let (e, is, eq) = p.refused utf8 (λ e. some (inr (inl e))) in (Err e, is, eq))
-    (λ utf8 _. let (e, is, eq) = q.refused utf8 (λ e. some' (inr (inl e))) in (Err e, is, eq))
-
 -- what the clauses say of an answer and of which text it is
 record Answers (version other : Text) (n : ℤ) (in_other : Bool) : Type 0 where
   numbers : IsOneOf (number.ok ∷ version_faults) n
@@ -68,7 +60,13 @@ same_number : OneOutcome → {version other : Text} {n m : ℤ} {b b' : Bool} �
 same_number one p q some some' = ⊎_elim
     (λ ok. ⊎_elim (λ ok'. ok ∙ sym ok') (λ fault. absurd (some' (inr (inl (unless_memory q p ok (not_ok _ fault)))))) q.numbers)
     (λ fault. ⊎_elim (λ ok. absurd (some (inr (inl (unless_memory p q ok (not_ok _ fault))))))
-    (λ fault'. refused_once one _ _ _ (p.refused (not_ok _ fault)) (moved p q (not_ok _ fault) (not_ok _ fault')) some some') q.numbers)
+    (λ fault'.
+    let r = p.refused (not_ok _ fault) in
+    let r' = moved p q (not_ok _ fault) (not_ok _ fault') in
+    version_once one _ _ _ r.not_utf8 r'.not_utf8 (λ utf8 is. absurd (some (inr (inl (r.accepted is.0 utf8 is.1)))))
+    (λ utf8 _. let (e, is, eq) = r.refused utf8 (λ e. some (inr (inl e))) in (Err e, is, eq))
+    (λ utf8 _. let (e, is, eq) = r'.refused utf8 (λ e. some' (inr (inl e))) in (Err e, is, eq)))
+    q.numbers)
     p.numbers
 
 pub returns : goal.returns
