@@ -7,6 +7,7 @@ use Rattle.semver_parser.specs.Versions.{VersionValue}
 use Rattle.semver_parser.specs.VersionGrammar.{IsVersionText}
 use Rattle.semver_parser.specs.VersionReading.{IsOutcomeOf}
 use Rattle.semver_parser.specs.ParserState.{Fault}
+use Rattle.semver_parser.proofs.WholeText.{one_outcome}
 use Rattle.tool_ranges.specs.declared.reading.Reading.{Reading}
 use Rattle.tool_ranges.specs.Meanings.{reading_of}
 use Rattle.tool_ranges.specs.Readings.{fits_as}
@@ -49,25 +50,22 @@ uncast n m e e' one = rw (e, e') one
 
 -- ---- version texts
 
-abbrev pub OneOutcome : Type 0
-OneOutcome = (text : Text) (x y : Result VersionValue Fault) → IsOutcomeOf text x → IsOutcomeOf text y → x ≡ y
-
 -- the number is that of an outcome of the text
 abbrev pub HasOutcome : Text → ℤ → Type 0
 HasOutcome text n = (r : Result VersionValue Fault) × IsOutcomeOf text r × (n ≡ outcome_number r)
 
 -- two numbers of a text that tell bytes that are no UTF-8 exactly, and else the outcome of what is no version
-pub version_once : OneOutcome → (text : Text) (n m : ℤ) → (n ≡ number.version_not_utf8) ↔ ¬ (IsUtf8 text)
+pub version_once : (text : Text) (n m : ℤ) → (n ≡ number.version_not_utf8) ↔ ¬ (IsUtf8 text)
     → (m ≡ number.version_not_utf8) ↔ ¬ (IsUtf8 text) → (IsUtf8 text → IsVersionText text → n ≡ m)
     → (IsUtf8 text → ¬ (IsVersionText text) → HasOutcome text n) → (IsUtf8 text → ¬ (IsVersionText text) → HasOutcome text m)
     → n ≡ m
-version_once one text n m u u' read p q =
+version_once text n m u u' read p q =
     known n m (λ other.
     other (carried _ n m u u' (u.1 (λ utf8.
     let none : ¬ (IsVersionText text) = λ is. other (read utf8 is) in
     let (r, is, e) = p utf8 none in
     let (s, is', e') = q utf8 none in
-    other (e ∙ ap outcome_number (one text r s is is') ∙ sym e')))))
+    other (e ∙ ap outcome_number (one_outcome text r s is is') ∙ sym e')))))
 
 -- ---- range texts
 

@@ -9,7 +9,7 @@ use Rattle.semver_parser_c.specs.OneAnswer.{IsMemory}
 use Rattle.semver_parser_c.proofs.OneAnswer.{accepted_where, are_one, known, new_once, range_exact, range_once, text_faults, uncast}
 use Rattle.semver_parser_c.proofs.OnePutting.{is_put, put_once}
 use Rattle.semver_parser_c.proofs.OneRewriting.{one_reading}
-use Rattle.semver_parser_c.proofs.OneLeast.{IsTotal, one_compared}
+use Rattle.semver_parser_c.proofs.OneLeast.{one_compared}
 use Rattle.semver_parser_c.proofs.laws.one_comparison.Goals as goal
 
 abbrev exact : List ℤ
@@ -53,8 +53,6 @@ returns c =
     let m = c.semver_parser_proved_compare-other in
     let p = n.ensures in
     let q = m.ensures in
-    let law = c.precedence_is_total.ensures in
-    let total : IsTotal = record { total = law.total; same = law.same } in
     record {
       one = uncast n.result m.result (search rules) (search rules)
           (are_one exact beside n.result m.result _ (sorted _ p.numbers p.one_memory) (sorted _ q.numbers q.one_memory)
@@ -75,7 +73,7 @@ returns c =
           (one_reading _ _ (sym named'.0 ∙ named.0)) (read'.tree, read'.spells) in
           let (told, compares, puts, places) = p.told put meaning named read.tree new read.spells spells in
           let (told', compares', puts', places') = q.told put' meaning named read.tree new read.spells spells in
-          let (texts, same_places) = one_compared total meaning read.tree new told told' compares compares' in
+          let (texts, same_places) = one_compared meaning read.tree new told told' compares compares' in
           let rest = put_once texts c.requires.room puts puts' in
           (rest.0, (rest.1.0, rest.1.1, places ∙ same_places ∙ sym places'))));
     }

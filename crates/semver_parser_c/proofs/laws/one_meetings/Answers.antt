@@ -11,7 +11,7 @@ use Rattle.semver_parser_c.specs.Numbers as number
 use Rattle.semver_parser_c.specs.Faults.{IsOneOf, named_faults, version_faults}
 use Rattle.semver_parser_c.specs.Meetings.{IsAnswer, IsMeeting}
 use Rattle.semver_parser_c.specs.OneAnswer.{AreOne, IsMemory, text_errors}
-use Rattle.semver_parser_c.proofs.OneAnswer.{OneOutcome, are_one, carried, range_apart, range_exact, range_once, unless, version_once}
+use Rattle.semver_parser_c.proofs.OneAnswer.{are_one, carried, range_apart, range_exact, range_once, unless, version_once}
 use Rattle.semver_parser_c.proofs.laws.one_meetings.Goals as goal
 
 abbrev beside : List ℤ
@@ -51,12 +51,12 @@ module _ {m : Meaning} {range version : Text} (tree : TreeOf (reading_of m)) (sp
       ap pos (p.meaning meeting tree v spells spelled ∙ sym (q.meaning meeting' tree v spells spelled)))
   byte_once p q (inr e) = carried _ _ _ p.not_utf8 q.not_utf8 e
 
-  one_byte : OneOutcome → {b b' : ℕ} → IsAnswer m range version b → IsAnswer m range version b' → AreOne text_errors (pos b) (pos b') ⊤
-  one_byte one p q =
+  one_byte : {b b' : ℕ} → IsAnswer m range version b → IsAnswer m range version b' → AreOne text_errors (pos b) (pos b') ⊤
+  one_byte p q =
       are_one exact text_errors _ _ ⊤ (sorted_byte _ p.one) (sorted_byte _ q.one) (λ e. byte_once p q (meeting_or _ e))
       (λ e. byte_once q p (meeting_or _ e)) (apart_byte _) (λ _ _ _. tt)
       (λ e e' some some'. (
-        version_once one version _ _ p.not_utf8 q.not_utf8 (λ utf8 is. byte_once p q (inl (p.accepted is.0 utf8 is.1)))
+        version_once version _ _ p.not_utf8 q.not_utf8 (λ utf8 is. byte_once p q (inl (p.accepted is.0 utf8 is.1)))
             (λ utf8 none. let (e, is, eq) = p.refused utf8 none (λ e. some (inr (inl e))) in (Err e, is, eq))
             (λ utf8 none. let (e, is, eq) = q.refused utf8 none (λ e. some' (inr (inl e))) in (Err e, is, eq)),
         tt,
@@ -84,6 +84,6 @@ returns c =
           let (meaning, named, read) = p.read ok in
           both_some _ _ c.args.versions.now k within (p.answers ok meaning named k within room)
           (q.answers ok' meaning named k within (rw c.requires at room))
-          (λ text a b. one_byte read.tree read.spells c.one_outcome.ensures.same_outcome a b);
+          (λ text a b. one_byte read.tree read.spells a b);
       unchanged = λ no no'. p.unchanged no ∙ c.requires ∙ sym (q.unchanged no');
     })

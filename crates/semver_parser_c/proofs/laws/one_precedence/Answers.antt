@@ -7,7 +7,7 @@ use Rattle.semver_parser_c.specs.Numbers as number
 use Rattle.semver_parser_c.specs.Faults.{IsOneOf, RefusesVersion, version_faults}
 use Rattle.semver_parser_c.specs.Orders.{at_fault}
 use Rattle.semver_parser_c.specs.OneAnswer.{IsMemory, text_errors}
-use Rattle.semver_parser_c.proofs.OneAnswer.{OneOutcome, are_one, carried, version_once}
+use Rattle.semver_parser_c.proofs.OneAnswer.{are_one, carried, version_once}
 use Rattle.semver_parser_c.proofs.laws.one_precedence.Goals as goal
 
 abbrev exact : List ℤ
@@ -55,15 +55,15 @@ module _ {version other : Text} {n m : ℤ} {b b' : Bool} (p : Answers version o
   once : IsOneOf exact n → n ≡ m
   once one = grind (arith, moved, unless_memory)
 
-same_number : OneOutcome → {version other : Text} {n m : ℤ} {b b' : Bool} → Answers version other n b → Answers version other m b'
+same_number : {version other : Text} {n m : ℤ} {b b' : Bool} → Answers version other n b → Answers version other m b'
     → ¬ (IsMemory n) → ¬ (IsMemory m) → n ≡ m
-same_number one p q some some' = ⊎_elim
+same_number p q some some' = ⊎_elim
     (λ ok. ⊎_elim (λ ok'. ok ∙ sym ok') (λ fault. absurd (some' (inr (inl (unless_memory q p ok (not_ok _ fault)))))) q.numbers)
     (λ fault. ⊎_elim (λ ok. absurd (some (inr (inl (unless_memory p q ok (not_ok _ fault))))))
     (λ fault'.
     let r = p.refused (not_ok _ fault) in
     let r' = moved p q (not_ok _ fault) (not_ok _ fault') in
-    version_once one _ _ _ r.not_utf8 r'.not_utf8 (λ utf8 is. absurd (some (inr (inl (r.accepted is.0 utf8 is.1)))))
+    version_once _ _ _ r.not_utf8 r'.not_utf8 (λ utf8 is. absurd (some (inr (inl (r.accepted is.0 utf8 is.1)))))
     (λ utf8 _. let (e, is, eq) = r.refused utf8 (λ e. some (inr (inl e))) in (Err e, is, eq))
     (λ utf8 _. let (e, is, eq) = r'.refused utf8 (λ e. some' (inr (inl e))) in (Err e, is, eq)))
     q.numbers)
@@ -96,6 +96,6 @@ returns c =
     rw (as_it_is, as_it_is') (record {
       one = are_one exact (number.ok ∷ text_errors) n.result m.result _ (sorted _ p.numbers) (sorted _ q.numbers)
           (once a b) (once b a) (apart _) (λ _ _. output)
-          (λ _ _ some some'. let same = same_number c.one_outcome.ensures.same_outcome a b some some' in (same, output same));
+          (λ _ _ some some'. let same = same_number a b some some' in (same, output same));
       in_other = same_text a b;
     })
