@@ -12,7 +12,7 @@ use Rattle.tool_ranges.specs.declared.reading.Reading.{Reading}
 use Rattle.tool_ranges.specs.Meanings.{reading_of}
 use Rattle.tool_ranges.specs.Readings.{fits_as}
 use Rattle.semver_parser_c.specs.Numbers as number
-use Rattle.semver_parser_c.specs.Readings.{IsMeaning, IsReading}
+use Rattle.semver_parser_c.specs.Readings.{IsMeaning}
 use Rattle.semver_parser_c.specs.Faults.{IsAccepted, IsOneOf, RangeNumbers, RefusesBy, RefusesRange, RefusesText}
 use Rattle.semver_parser_c.specs.Faults.{new_range_numbers, outcome_number, range_numbers}
 use Rattle.semver_parser_c.specs.OneAnswer.{AreOne, IsMemory}

@@ -1,11 +1,10 @@
 -- The least of some versions is one, and so are its text and the place of that.
-use Rattle.std.proofs.Common.{◌≡◌, ◌≢◌, ◌↔◌, ◌∙◌, ◌++◌, ℕ, Option, Some, None, ap, ap₂, arith, length, refl, sym}
+use Rattle.std.proofs.Common.{◌≡◌, ◌≢◌, ◌∙◌, ◌++◌, ℕ, Option, Some, None, ap, ap₂, arith, length, refl, sym}
 use Rattle.std.specs.declared.cmp.Ordering.{Ordering}
-use Rattle.std.specs.declared.cmp.Ordering.TheVariants.{Less, Equal, Greater}
+use Rattle.std.specs.declared.cmp.Ordering.TheVariants.{Less, Equal}
 use Rattle.std.specs.Ordering.{ordering_reverse}
 use Rattle.semver_parser.specs.Versions.{PlainVersion, VersionValue}
 use Rattle.semver_texts.specs.Steps.PrecedenceLaws.{precedence_total, precedence-same}
-use Rattle.semver_parser.specs.VersionViews.{version_value}
 use Rattle.semver_parser.specs.PrintedText.{version_text}
 use Rattle.semver_parser.specs.declared.version.Version.{Version}
 use Rattle.version_sets.specs.Comparisons.{IsLeastOf, TellsLeast}

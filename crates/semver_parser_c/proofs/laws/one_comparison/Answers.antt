@@ -1,7 +1,6 @@
 use Rattle.std.proofs.Common.{◌≡◌, ◌≢◌, ◌⊎◌, ◌∙◌, ◌++◌, ℤ, List, [], ◌∷◌, arith, inl, inr, rules, refl, sym, subst}
 use Rattle.semver_parser.specs.Texts.{Text}
 use Rattle.tool_ranges.specs.Readings.{SpellsAs, TreeOf}
-use Rattle.tool_ranges.specs.Meanings.{reading_of}
 use Rattle.semver_parser_c.specs.Numbers as number
 use Rattle.semver_parser_c.specs.Faults.{IsAccepted, IsOneOf, RefusesNewRange, RefusesRange, named_faults, new_range_faults}
 use Rattle.semver_parser_c.specs.Faults.{new_range_numbers}

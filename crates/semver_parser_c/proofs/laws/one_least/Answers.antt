@@ -1,7 +1,6 @@
-use Rattle.std.proofs.Common.{◌≡◌, ◌≢◌, ◌⊎◌, ◌∙◌, ℤ, [], ◌∷◌, arith, inl, rules, refl, sym, subst}
+use Rattle.std.proofs.Common.{◌⊎◌, ◌∙◌, ℤ, ◌∷◌, arith, inl, rules, refl, sym}
 use Rattle.semver_parser_c.specs.Numbers as number
 use Rattle.semver_parser_c.specs.Faults.{IsOneOf, named_faults}
-use Rattle.semver_parser_c.specs.OneAnswer.{IsMemory}
 use Rattle.semver_parser_c.proofs.OneAnswer.{are_one, range_apart, range_exact, range_not_ok, range_once, uncast}
 use Rattle.semver_parser_c.proofs.OnePutting.{is_put, put_once}
 use Rattle.semver_parser_c.proofs.OneRewriting.{put_or_memory}

@@ -1,7 +1,7 @@
 use Rattle.std.proofs.Common.{◌≡◌, ◌≢◌, ◌⊎◌, ◌∙◌, ◌++◌, ℤ, List, [], ◌∷◌, Err, arith, inl, inr, rules, sym, ⊎_elim, to_z, of_z, w32}
 use Rattle.semver_parser_c.specs.Numbers as number
 use Rattle.semver_parser_c.specs.Faults.{IsOneOf, named_faults, version_faults}
-use Rattle.semver_parser_c.specs.OneAnswer.{IsMemory, text_errors}
+use Rattle.semver_parser_c.specs.OneAnswer.{text_errors}
 use Rattle.semver_parser_c.proofs.OneAnswer.{accepted_where, are_one, known, version_once}
 use Rattle.semver_parser_c.proofs.OneAnswer.{range_apart, range_exact, range_not_ok, range_once}
 use Rattle.semver_parser_c.proofs.RangeFaults.{read_of}

@@ -1,9 +1,8 @@
 use Rattle.std.proofs.Common.{◌≡◌, ◌≢◌, ◌⊎◌, ◌∙◌, ◌<◌, ℕ, ℤ, pos, List, [], ◌∷◌, Err, IfSome, arith, inl, inr, length, rules, sym}
-use Rattle.std.proofs.Common.{slice_get, ap, drop, get_or, None, Some, ◌≤◌, ◌↔◌, to_z, of_z, w32}
-use Rattle.std.specs.Prelude.{⊤, IsUtf8}
+use Rattle.std.proofs.Common.{slice_get, ap, drop, to_z, of_z, w32}
+use Rattle.std.specs.Prelude.{⊤}
 use Rattle.std.proofs.lemmas.Option.{slice_get_cases}
 use Rattle.semver_parser.specs.Texts.{Text}
-use Rattle.semver_parser.specs.VersionGrammar.{IsVersionText}
 use Rattle.tool_ranges.specs.declared.meaning.Meaning.{Meaning}
 use Rattle.tool_ranges.specs.Readings.{TreeOf, SpellsAs}
 use Rattle.tool_ranges.specs.Meanings.{reading_of}

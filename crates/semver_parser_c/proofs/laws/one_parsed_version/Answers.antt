@@ -1,4 +1,4 @@
-use Rattle.std.proofs.Common.{List, ◌≡◌, ◌≢◌, ◌⊎◌, ◌↔◌, ◌∙◌, ℤ, [], ◌∷◌, arith, ap, refl, rules, sym, inl, inr}
+use Rattle.std.proofs.Common.{List, ◌≡◌, ◌⊎◌, ◌↔◌, ◌∙◌, ℤ, [], ◌∷◌, arith, ap, rules, sym, inl, inr}
 use Rattle.std.specs.Prelude.{IsUtf8}
 use Rattle.semver_parser.specs.Texts.{Text}
 use Rattle.semver_parser.specs.Versions.{VersionValue}

@@ -7,7 +7,7 @@ use Rattle.semver_parser_c.specs.Numbers as number
 use Rattle.semver_parser_c.specs.Faults.{IsOneOf, RefusesVersion, version_faults}
 use Rattle.semver_parser_c.specs.Orders.{at_fault}
 use Rattle.semver_parser_c.specs.OneAnswer.{IsMemory, text_errors}
-use Rattle.semver_parser_c.proofs.OneAnswer.{are_one, carried, version_once}
+use Rattle.semver_parser_c.proofs.OneAnswer.{are_one, version_once}
 use Rattle.semver_parser_c.proofs.laws.one_precedence.Goals as goal
 
 abbrev exact : List ℤ
