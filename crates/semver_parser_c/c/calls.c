@@ -157,7 +157,7 @@ const char *semver_parser_fault_text(int32_t answer) {
     case SEMVER_PARSER_NEW_RANGE_NOT_UTF8: return "the new range isn't UTF-8";
     case SEMVER_PARSER_NEW_NOT_A_RANGE: return "the new range is not a range";
     case SEMVER_PARSER_NEW_NUMBER_TOO_LARGE: return "the new range has a number that is too large";
-    case SEMVER_PARSER_NEW_RANGE_OUT_OF_MEMORY: return "out of memory at the new range";
+    case SEMVER_PARSER_NEW_RANGE_OUT_OF_MEMORY: return "out of memory at two ranges";
     case SEMVER_PARSER_NO_SUCH_READING: return "no reading of range texts has this number";
     default: return "no call answers this number";
     }

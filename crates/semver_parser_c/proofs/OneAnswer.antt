@@ -7,11 +7,12 @@ use Rattle.semver_parser.specs.Versions.{VersionValue}
 use Rattle.semver_parser.specs.VersionGrammar.{IsVersionText}
 use Rattle.semver_parser.specs.VersionReading.{IsOutcomeOf}
 use Rattle.semver_parser.specs.ParserState.{Fault}
+use Rattle.semver_parser.proofs.WholeText.{one_outcome}
 use Rattle.tool_ranges.specs.declared.reading.Reading.{Reading}
 use Rattle.tool_ranges.specs.Meanings.{reading_of}
 use Rattle.tool_ranges.specs.Readings.{fits_as}
 use Rattle.semver_parser_c.specs.Numbers as number
-use Rattle.semver_parser_c.specs.Readings.{IsMeaning, IsReading}
+use Rattle.semver_parser_c.specs.Readings.{IsMeaning}
 use Rattle.semver_parser_c.specs.Faults.{IsAccepted, IsOneOf, RangeNumbers, RefusesBy, RefusesRange, RefusesText}
 use Rattle.semver_parser_c.specs.Faults.{new_range_numbers, outcome_number, range_numbers}
 use Rattle.semver_parser_c.specs.OneAnswer.{AreOne, IsMemory}
@@ -49,25 +50,22 @@ uncast n m e e' one = rw (e, e') one
 
 -- ---- version texts
 
-abbrev pub OneOutcome : Type 0
-OneOutcome = (text : Text) (x y : Result VersionValue Fault) → IsOutcomeOf text x → IsOutcomeOf text y → x ≡ y
-
 -- the number is that of an outcome of the text
 abbrev pub HasOutcome : Text → ℤ → Type 0
 HasOutcome text n = (r : Result VersionValue Fault) × IsOutcomeOf text r × (n ≡ outcome_number r)
 
 -- two numbers of a text that tell bytes that are no UTF-8 exactly, and else the outcome of what is no version
-pub version_once : OneOutcome → (text : Text) (n m : ℤ) → (n ≡ number.version_not_utf8) ↔ ¬ (IsUtf8 text)
+pub version_once : (text : Text) (n m : ℤ) → (n ≡ number.version_not_utf8) ↔ ¬ (IsUtf8 text)
     → (m ≡ number.version_not_utf8) ↔ ¬ (IsUtf8 text) → (IsUtf8 text → IsVersionText text → n ≡ m)
     → (IsUtf8 text → ¬ (IsVersionText text) → HasOutcome text n) → (IsUtf8 text → ¬ (IsVersionText text) → HasOutcome text m)
     → n ≡ m
-version_once one text n m u u' read p q =
+version_once text n m u u' read p q =
     known n m (λ other.
     other (carried _ n m u u' (u.1 (λ utf8.
     let none : ¬ (IsVersionText text) = λ is. other (read utf8 is) in
     let (r, is, e) = p utf8 none in
     let (s, is', e') = q utf8 none in
-    other (e ∙ ap outcome_number (one text r s is is') ∙ sym e')))))
+    other (e ∙ ap outcome_number (one_outcome text r s is is') ∙ sym e')))))
 
 -- ---- range texts
 
@@ -82,24 +80,24 @@ rewrite_exact = number.no_such_reading ∷ text_faults range_numbers
 abbrev pub range_exact : List ℤ
 range_exact = number.no_such_reading ∷ number.no_such_rule ∷ text_faults range_numbers
 
-by_once : (k : RangeNumbers) (Asked : Type 0) (r : Reading) (text : Text) (n m : ℤ) → k.not_utf8 ≢ k.not_a_range
+by_once : {k : RangeNumbers} {Asked : Type 0} {r : Reading} {text : Text} {n m : ℤ} → k.not_utf8 ≢ k.not_a_range
     → k.not_utf8 ≢ k.too_large → Asked → RefusesBy k Asked r text n → RefusesBy k Asked r text m → IsOneOf (text_faults k) n → n ≡ m
-by_once k Asked r text n m apart apart' asked p q (inl e) = carried _ n m (p.not_utf8 asked) (q.not_utf8 asked) e
-by_once k Asked r text n m apart apart' asked p q (inr (inl e)) =
-    unless _ n m (p.not_utf8 asked) (λ e'. apart (sym e' ∙ e))
-    (λ utf8. carried _ n m (p.not_a_range asked utf8) (q.not_a_range asked utf8) e)
-by_once k Asked r text n m apart apart' asked p q (inr (inr (inl e))) =
-    unless _ n m (p.not_utf8 asked) (λ e'. apart' (sym e' ∙ e))
-    (λ utf8. carried _ n m (p.too_large asked utf8) (q.too_large asked utf8) e)
-by_once k Asked r text n m apart apart' asked p q (inr (inr (inr none))) = absurd none
+by_once apart apart' asked p q (inl e) = carried _ _ _ (p.not_utf8 asked) (q.not_utf8 asked) e
+by_once apart apart' asked p q (inr (inl e)) =
+    unless _ _ _ (p.not_utf8 asked) (λ e'. apart (sym e' ∙ e))
+    (λ utf8. carried _ _ _ (p.not_a_range asked utf8) (q.not_a_range asked utf8) e)
+by_once apart apart' asked p q (inr (inr (inl e))) =
+    unless _ _ _ (p.not_utf8 asked) (λ e'. apart' (sym e' ∙ e))
+    (λ utf8. carried _ _ _ (p.too_large asked utf8) (q.too_large asked utf8) e)
+by_once apart apart' asked p q (inr (inr (inr none))) = absurd none
 
-old_once : (r : Reading) (text : Text) (n m : ℤ) → RefusesBy range_numbers ⊤ r text n → RefusesBy range_numbers ⊤ r text m
+old_once : {r : Reading} {text : Text} {n m : ℤ} → RefusesBy range_numbers ⊤ r text n → RefusesBy range_numbers ⊤ r text m
     → IsOneOf (text_faults range_numbers) n → n ≡ m
-old_once r text n m p q one = by_once range_numbers ⊤ r text n m (λ e. cc) (λ e. cc) tt p q one
+old_once p q one = by_once (λ e. cc) (λ e. cc) tt p q one
 
-pub new_once : (Asked : Type 0) (r : Reading) (text : Text) (n m : ℤ) → Asked → RefusesBy new_range_numbers Asked r text n
+pub new_once : {Asked : Type 0} {r : Reading} {text : Text} {n m : ℤ} → Asked → RefusesBy new_range_numbers Asked r text n
     → RefusesBy new_range_numbers Asked r text m → IsOneOf (text_faults new_range_numbers) n → n ≡ m
-new_once Asked r text n m asked p q one = by_once new_range_numbers Asked r text n m (λ e. cc) (λ e. cc) asked p q one
+new_once asked p q one = by_once (λ e. cc) (λ e. cc) asked p q one
 
 pub text_once : {reading : ℤ} {text : Text} {n m : ℤ} → RefusesText reading text n → RefusesText reading text m
     → IsOneOf rewrite_exact n → n ≡ m

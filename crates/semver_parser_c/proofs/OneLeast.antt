@@ -1,12 +1,10 @@
 -- The least of some versions is one, and so are its text and the place of that.
-use Rattle.std.proofs.Common.{◌≡◌, ◌≢◌, ◌↔◌, ◌∙◌, ◌++◌, ℕ, Option, Some, None, ap, ap₂, arith, length, refl, sym}
+use Rattle.std.proofs.Common.{◌≡◌, ◌≢◌, ◌∙◌, ◌++◌, ℕ, Option, Some, None, ap, ap₂, arith, length, refl, sym}
 use Rattle.std.specs.declared.cmp.Ordering.{Ordering}
-use Rattle.std.specs.declared.cmp.Ordering.TheVariants.{Less, Equal, Greater}
-use Rattle.std.specs.Cmp.{IsTotalOrder}
+use Rattle.std.specs.declared.cmp.Ordering.TheVariants.{Less, Equal}
 use Rattle.std.specs.Ordering.{ordering_reverse}
 use Rattle.semver_parser.specs.Versions.{PlainVersion, VersionValue}
-use Rattle.semver_parser.specs.Precedence.{precedence}
-use Rattle.semver_parser.specs.VersionViews.{version_value}
+use Rattle.semver_texts.specs.Steps.PrecedenceLaws.{precedence_total, precedence-same}
 use Rattle.semver_parser.specs.PrintedText.{version_text}
 use Rattle.semver_parser.specs.declared.version.Version.{Version}
 use Rattle.version_sets.specs.Comparisons.{IsLeastOf, TellsLeast}
@@ -17,47 +15,42 @@ use Rattle.tool_ranges.specs.Readings.{TreeOf}
 use Rattle.tool_ranges.specs.Meanings.{reading_of}
 use Rattle.semver_parser_c.specs.Compared.{Compares, joined_texts, place_behind, places_of}
 
--- precedence is a total order, and ties no two versions
-pub record IsTotal : Type 0 where
-  pub total : IsTotalOrder precedence
-  pub same : (v w : PlainVersion) → (precedence v w ≡ Equal) ↔ (v ≡ w)
-
 neither_less : (x y : Ordering) → x ≡ ordering_reverse y → x ≢ Less → y ≢ Less → x ≡ Equal
 neither_less x y e more less = grind arith
 
-one_version : IsTotal → (P : PlainVersion → Type 0) (v w : VersionValue) → IsLeastOf P v → IsLeastOf P w → v ≡ w
-one_version t P v w a b =
-    let plain = (t.same v.plain w.plain).0
-    (neither_less _ _ (t.total.antisymm v.plain w.plain) (b.lowest v.plain a.is_one) (a.lowest w.plain b.is_one)) in
+one_version : (P : PlainVersion → Type 0) (v w : VersionValue) → IsLeastOf P v → IsLeastOf P w → v ≡ w
+one_version P v w a b =
+    let plain = precedence-same v.plain w.plain
+    (neither_less _ _ (precedence_total.antisymm v.plain w.plain) (b.lowest v.plain a.is_one) (a.lowest w.plain b.is_one)) in
     ap₂ (λ p b. let it : VersionValue = record { plain = p; build = b } in it) plain (a.no_build ∙ sym b.no_build)
 
-pub one_text : IsTotal → (P : PlainVersion → Type 0) (o other : Option Version) → TellsLeast P o → TellsLeast P other
+pub one_text : (P : PlainVersion → Type 0) (o other : Option Version) → TellsLeast P o → TellsLeast P other
     → text_of o ≡ text_of other
-one_text t P None None a b = refl
-one_text t P None (Some w) a b = absurd (a _ b.is_one)
-one_text t P (Some v) None a b = absurd (b _ a.is_one)
-one_text t P (Some v) (Some w) a b = ap version_text (one_version t P _ _ a b)
+one_text P None None a b = refl
+one_text P None (Some w) a b = absurd (a _ b.is_one)
+one_text P (Some v) None a b = absurd (b _ a.is_one)
+one_text P (Some v) (Some w) a b = ap version_text (one_version P _ _ a b)
 
-pub one_place : IsTotal → (P : PlainVersion → Type 0) (o other : Option Version) (at at' : ℕ) → TellsLeast P o → TellsLeast P other
+pub one_place : (P : PlainVersion → Type 0) (o other : Option Version) (at at' : ℕ) → TellsLeast P o → TellsLeast P other
     → at ≡ at' → place_behind at o ≡ place_behind at' other
-one_place t P None None at at' a b e = refl
-one_place t P None (Some w) at at' a b e = absurd (a _ b.is_one)
-one_place t P (Some v) None at at' a b e = absurd (b _ a.is_one)
-one_place t P (Some v) (Some w) at at' a b e =
-    let text = ap version_text (one_version t P _ _ a b) in cc
+one_place P None None at at' a b e = refl
+one_place P None (Some w) at at' a b e = absurd (a _ b.is_one)
+one_place P (Some v) None at at' a b e = absurd (b _ a.is_one)
+one_place P (Some v) (Some w) at at' a b e =
+    let text = ap version_text (one_version P _ _ a b) in cc
 
 -- so of a comparison
-pub one_compared : IsTotal → (m : Meaning) (old new : TreeOf (reading_of m)) (told other : Comparison) → Compares m old new told
+pub one_compared : (m : Meaning) (old new : TreeOf (reading_of m)) (told other : Comparison) → Compares m old new told
     → Compares m old new other → (joined_texts told ≡ joined_texts other) × (places_of told ≡ places_of other)
-one_compared t m old new told other a b =
-    let lost = one_text t _ _ _ a.lost b.lost in
-    let gained = one_text t _ _ _ a.gained b.gained in
-    let shared = one_text t _ _ _ a.shared b.shared in
+one_compared m old new told other a b =
+    let lost = one_text _ _ _ a.lost b.lost in
+    let gained = one_text _ _ _ a.gained b.gained in
+    let shared = one_text _ _ _ a.shared b.shared in
     let before = ap₂ (λ x y. x ++ y) lost gained in (
       ap₂ (λ x y. x ++ y) before shared,
       λ i. record {
-        lost = one_place t _ _ _ 0 0 a.lost b.lost refl i;
-        gained = one_place t _ _ _ _ _ a.gained b.gained (ap length lost) i;
-        shared = one_place t _ _ _ _ _ a.shared b.shared (ap length before) i;
+        lost = one_place _ _ _ 0 0 a.lost b.lost refl i;
+        gained = one_place _ _ _ _ _ a.gained b.gained (ap length lost) i;
+        shared = one_place _ _ _ _ _ a.shared b.shared (ap length before) i;
       },
     )

@@ -14,7 +14,6 @@ use crate::{
     semver_parser_proved_meets_each, semver_parser_proved_parse_version,
     semver_parser_proved_precedence, semver_parser_proved_rewrite,
 };
-use semver_parser::laws::{one_outcome, precedence_is_total};
 use std::alloc::Global;
 
 /// A text is read as one version, or has one error, in place of which memory may run out.
@@ -27,7 +26,6 @@ pub fn one_parsed_version(
     requires { out.old ≡ other_out.old }
     ensures one { AreOne text_errors result.0 result.1 (out.new ≡ other_out.new) }
 {
-    one_outcome();
     let number = semver_parser_proved_parse_version(alloc, text, out);
     let other = semver_parser_proved_parse_version(alloc, text, other_out);
     (number, other)
@@ -117,7 +115,6 @@ pub fn one_meeting(
     ensures version_memory { result.0 ≡ number.version_out_of_memory
         → IsOneOf (number.range_out_of_memory ∷ text_errors) result.1 }
 {
-    one_outcome();
     let number = semver_parser_proved_meets(alloc, range, reading, pre_releases, version, meets);
     let other = semver_parser_proved_meets(
         alloc,
@@ -149,7 +146,6 @@ pub fn one_meetings(
         (pos (slice_index others.new k)) ⊤ }
     ensures unchanged { result.0 ≢ number.ok → result.1 ≢ number.ok → answers.new ≡ others.new }
 {
-    one_outcome();
     let number = semver_parser_proved_meets_each(
         alloc,
         range,
@@ -185,7 +181,6 @@ pub fn one_least(
     ensures one { AreOne (number.ok ∷ number.no_room ∷ number.range_out_of_memory ∷ [])
         result.0 result.1 ((out.new ≡ other_out.new) × (length.new ≡ other_length.new)) }
 {
-    precedence_is_total();
     let number = semver_parser_proved_least(alloc, range, reading, pre_releases, out, length);
     let other = semver_parser_proved_least(
         alloc,
@@ -219,7 +214,6 @@ pub fn one_comparison(
         result.0 result.1 ((out.new ≡ other_out.new) × (length.new ≡ other_length.new)
         × (comparison.new ≡ other_comparison.new)) }
 {
-    precedence_is_total();
     let number = semver_parser_proved_compare(
         alloc,
         old_range,
@@ -261,7 +255,6 @@ pub fn one_precedence(
     ensures in_other { result.0 ≢ number.ok → result.1 ≢ number.ok
         → in_other.new ≡ other_in_other.new }
 {
-    one_outcome();
     let first = semver_parser_proved_precedence(alloc, version, other, order, in_other);
     let second = semver_parser_proved_precedence(
         alloc,

@@ -1,9 +1,7 @@
-use Rattle.std.proofs.Common.{◌≡◌, ◌≢◌, ◌∙◌, ℤ, ◌∷◌, arith, rules, sym, subst, refl}
-use Rattle.semver_parser_c.specs.Numbers as number
-use Rattle.semver_parser_c.specs.Faults.{IsOneOf, range_faults}
+use Rattle.std.proofs.Common.{◌∙◌, rules, sym, refl}
 use Rattle.semver_parser_c.specs.Comparators.{comparators_of, pre_releases, told_comparators}
 use Rattle.semver_parser_c.specs.Printing.{PutsBoth}
-use Rattle.semver_parser_c.proofs.OneAnswer.{rewrite_exact, uncast}
+use Rattle.semver_parser_c.proofs.OneAnswer.{uncast}
 use Rattle.semver_parser_c.proofs.OnePutting.{both_once}
 use Rattle.semver_parser_c.proofs.OneRewriting.{is_fault, not_ok, rewritten_once}
 use Rattle.semver_parser_c.proofs.laws.one_comparators.Goals as goal

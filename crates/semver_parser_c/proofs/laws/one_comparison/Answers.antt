@@ -1,7 +1,6 @@
 use Rattle.std.proofs.Common.{◌≡◌, ◌≢◌, ◌⊎◌, ◌∙◌, ◌++◌, ℤ, List, [], ◌∷◌, arith, inl, inr, rules, refl, sym, subst}
 use Rattle.semver_parser.specs.Texts.{Text}
 use Rattle.tool_ranges.specs.Readings.{SpellsAs, TreeOf}
-use Rattle.tool_ranges.specs.Meanings.{reading_of}
 use Rattle.semver_parser_c.specs.Numbers as number
 use Rattle.semver_parser_c.specs.Faults.{IsAccepted, IsOneOf, RefusesNewRange, RefusesRange, named_faults, new_range_faults}
 use Rattle.semver_parser_c.specs.Faults.{new_range_numbers}
@@ -9,7 +8,7 @@ use Rattle.semver_parser_c.specs.OneAnswer.{IsMemory}
 use Rattle.semver_parser_c.proofs.OneAnswer.{accepted_where, are_one, known, new_once, range_exact, range_once, text_faults, uncast}
 use Rattle.semver_parser_c.proofs.OnePutting.{is_put, put_once}
 use Rattle.semver_parser_c.proofs.OneRewriting.{one_reading}
-use Rattle.semver_parser_c.proofs.OneLeast.{IsTotal, one_compared}
+use Rattle.semver_parser_c.proofs.OneLeast.{one_compared}
 use Rattle.semver_parser_c.proofs.laws.one_comparison.Goals as goal
 
 abbrev exact : List ℤ
@@ -37,15 +36,15 @@ either n one = grind arith
 of_new : (n : ℤ) → IsOneOf (text_faults new_range_numbers) n → IsOneOf range_exact n → ⊥
 of_new n one old = grind arith
 
-once : (reading rule : ℤ) (old new : Text) (n m : ℤ) → RefusesRange reading rule old n → RefusesRange reading rule old m
+once : {reading rule : ℤ} {old new : Text} {n m : ℤ} → RefusesRange reading rule old n → RefusesRange reading rule old m
     → RefusesNewRange (IsAccepted reading rule old) reading rule new n → RefusesNewRange (IsAccepted reading rule old) reading rule new m
     → IsOneOf range_exact n ⊎ IsOneOf (text_faults new_range_numbers) n → n ≡ m
-once reading rule old new n m p q a b (inl one) = range_once p q one
-once reading rule old new n m p q a b (inr one) =
-    known n m (λ other. accepted_where p (of_new n one) (λ accepted.
+once p q a b (inl one) = range_once p q one
+once p q a b (inr one) =
+    known _ _ (λ other. accepted_where p (of_new _ one) (λ accepted.
     let meaning = accepted.0 in
     let named = accepted.1 in
-    other (new_once (IsAccepted reading rule old) (reading_of meaning) new n m accepted (a meaning named) (b meaning named) one)))
+    other (new_once accepted (a meaning named) (b meaning named) one)))
 
 pub returns : goal.returns
 returns c =
@@ -53,13 +52,11 @@ returns c =
     let m = c.semver_parser_proved_compare-other in
     let p = n.ensures in
     let q = m.ensures in
-    let law = c.precedence_is_total.ensures in
-    let total : IsTotal = record { total = law.total; same = law.same } in
     record {
       one = uncast n.result m.result (search rules) (search rules)
           (are_one exact beside n.result m.result _ (sorted _ p.numbers p.one_memory) (sorted _ q.numbers q.one_memory)
-          (λ one. once _ _ _ _ _ _ p.refusals q.refusals p.new_refusals q.new_refusals (either _ one))
-          (λ one. once _ _ _ _ _ _ q.refusals p.refusals q.new_refusals p.new_refusals (either _ one)) (apart _)
+          (λ one. once p.refusals q.refusals p.new_refusals q.new_refusals (either _ one))
+          (λ one. once q.refusals p.refusals q.new_refusals p.new_refusals (either _ one)) (apart _)
           (λ one one' _.
           let fault = is_fault _ one in
           let fault' = is_fault _ one' in (
@@ -75,7 +72,7 @@ returns c =
           (one_reading _ _ (sym named'.0 ∙ named.0)) (read'.tree, read'.spells) in
           let (told, compares, puts, places) = p.told put meaning named read.tree new read.spells spells in
           let (told', compares', puts', places') = q.told put' meaning named read.tree new read.spells spells in
-          let (texts, same_places) = one_compared total meaning read.tree new told told' compares compares' in
+          let (texts, same_places) = one_compared meaning read.tree new told told' compares compares' in
           let rest = put_once texts c.requires.room puts puts' in
           (rest.0, (rest.1.0, rest.1.1, places ∙ same_places ∙ sym places'))));
     }

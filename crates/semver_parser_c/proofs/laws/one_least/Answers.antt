@@ -1,11 +1,10 @@
-use Rattle.std.proofs.Common.{◌≡◌, ◌≢◌, ◌⊎◌, ◌∙◌, ℤ, [], ◌∷◌, arith, inl, rules, refl, sym, subst}
+use Rattle.std.proofs.Common.{◌⊎◌, ◌∙◌, ℤ, ◌∷◌, arith, inl, rules, refl, sym}
 use Rattle.semver_parser_c.specs.Numbers as number
 use Rattle.semver_parser_c.specs.Faults.{IsOneOf, named_faults}
-use Rattle.semver_parser_c.specs.OneAnswer.{IsMemory}
 use Rattle.semver_parser_c.proofs.OneAnswer.{are_one, range_apart, range_exact, range_not_ok, range_once, uncast}
 use Rattle.semver_parser_c.proofs.OnePutting.{is_put, put_once}
 use Rattle.semver_parser_c.proofs.OneRewriting.{put_or_memory}
-use Rattle.semver_parser_c.proofs.OneLeast.{IsTotal, one_text}
+use Rattle.semver_parser_c.proofs.OneLeast.{one_text}
 use Rattle.semver_parser_c.proofs.laws.one_least.Goals as goal
 
 sorted : (n : ℤ) → IsOneOf (number.ok ∷ number.no_room ∷ named_faults) n → IsOneOf range_exact n ⊎ IsOneOf put_or_memory n
@@ -20,8 +19,6 @@ returns c =
     let m = c.semver_parser_proved_least-other in
     let p = n.ensures in
     let q = m.ensures in
-    let law = c.precedence_is_total.ensures in
-    let total : IsTotal = record { total = law.total; same = law.same } in
     record {
       one = uncast n.result m.result (search rules) (search rules)
           (are_one range_exact put_or_memory n.result m.result _ (sorted _ p.numbers) (sorted _ q.numbers)
@@ -36,5 +33,5 @@ returns c =
           let (meaning, named, read) = p.read put in
           let (o, least, puts) = p.least put meaning named read.tree read.spells in
           let (o', least', puts') = q.least put' meaning named read.tree read.spells in
-          put_once (one_text total _ o o' least least') c.requires.room puts puts'));
+          put_once (one_text _ o o' least least') c.requires.room puts puts'));
     }

@@ -1,7 +1,7 @@
 use Rattle.std.proofs.Common.{◌≡◌, ◌≢◌, ◌⊎◌, ◌∙◌, ◌++◌, ℤ, List, [], ◌∷◌, Err, arith, inl, inr, rules, sym, ⊎_elim, to_z, of_z, w32}
 use Rattle.semver_parser_c.specs.Numbers as number
 use Rattle.semver_parser_c.specs.Faults.{IsOneOf, named_faults, version_faults}
-use Rattle.semver_parser_c.specs.OneAnswer.{IsMemory, text_errors}
+use Rattle.semver_parser_c.specs.OneAnswer.{text_errors}
 use Rattle.semver_parser_c.proofs.OneAnswer.{accepted_where, are_one, known, version_once}
 use Rattle.semver_parser_c.proofs.OneAnswer.{range_apart, range_exact, range_not_ok, range_once}
 use Rattle.semver_parser_c.proofs.RangeFaults.{read_of}
@@ -46,7 +46,7 @@ returns c =
     let same = known n.result m.result (λ other. accepted_where p.refusals (no_range _ b) (λ accepted.
     let read = read_of _ _ _ n.result accepted (λ e. some (inl e)) in
     let read' = read_of _ _ _ m.result accepted (λ e. some' (inl e)) in
-    other (version_once c.one_outcome.ensures.same_outcome _ n.result m.result (p.version_not_utf8 read) (q.version_not_utf8 read')
+    other (version_once _ n.result m.result (p.version_not_utf8 read) (q.version_not_utf8 read')
     (λ utf8 is. p.accepted read is.0 utf8 is.1 ∙ sym (q.accepted read' is.0 utf8 is.1))
     (λ utf8 none. let (e, is, eq) = p.version_refused read utf8 none (λ e. some (inr (inl e))) in (Err e, is, eq))
     (λ utf8 none. let (e, is, eq) = q.version_refused read' utf8 none (λ e. some' (inr (inl e))) in (Err e, is, eq))))) in (

@@ -1,9 +1,8 @@
 use Rattle.std.proofs.Common.{◌≡◌, ◌≢◌, ◌⊎◌, ◌∙◌, ◌<◌, ℕ, ℤ, pos, List, [], ◌∷◌, Err, IfSome, arith, inl, inr, length, rules, sym}
-use Rattle.std.proofs.Common.{slice_get, ap, drop, get_or, None, Some, ◌≤◌, ◌↔◌, to_z, of_z, w32}
-use Rattle.std.specs.Prelude.{⊤, IsUtf8}
+use Rattle.std.proofs.Common.{slice_get, ap, drop, to_z, of_z, w32}
+use Rattle.std.specs.Prelude.{⊤}
 use Rattle.std.proofs.lemmas.Option.{slice_get_cases}
 use Rattle.semver_parser.specs.Texts.{Text}
-use Rattle.semver_parser.specs.VersionGrammar.{IsVersionText}
 use Rattle.tool_ranges.specs.declared.meaning.Meaning.{Meaning}
 use Rattle.tool_ranges.specs.Readings.{TreeOf, SpellsAs}
 use Rattle.tool_ranges.specs.Meanings.{reading_of}
@@ -11,7 +10,7 @@ use Rattle.semver_parser_c.specs.Numbers as number
 use Rattle.semver_parser_c.specs.Faults.{IsOneOf, named_faults, version_faults}
 use Rattle.semver_parser_c.specs.Meetings.{IsAnswer, IsMeeting}
 use Rattle.semver_parser_c.specs.OneAnswer.{AreOne, IsMemory, text_errors}
-use Rattle.semver_parser_c.proofs.OneAnswer.{OneOutcome, are_one, carried, range_apart, range_exact, range_once, unless, version_once}
+use Rattle.semver_parser_c.proofs.OneAnswer.{are_one, carried, range_apart, range_exact, range_once, unless, version_once}
 use Rattle.semver_parser_c.proofs.laws.one_meetings.Goals as goal
 
 abbrev beside : List ℤ
@@ -41,33 +40,31 @@ meeting_or b one = grind arith
 no_meeting : (b : ℕ) → IsMeeting b → pos b ≢ number.version_not_utf8
 no_meeting b meeting = grind arith
 
-byte_once : (m : Meaning) (range version : Text) (tree : TreeOf (reading_of m)) → SpellsAs (reading_of m) tree range → (b b' : ℕ)
-    → IsAnswer m range version b → IsAnswer m range version b' → IsMeeting b ⊎ (pos b ≡ number.version_not_utf8) → pos b ≡ pos b'
-byte_once m range version tree spells b b' p q (inl meeting) =
-    let (v, spelled) = p.read meeting in
-    unless _ _ _ p.not_utf8 (no_meeting b meeting) (λ utf8.
-    let meeting' = q.accepted v utf8 spelled in
-    ap pos (p.meaning meeting tree v spells spelled ∙ sym (q.meaning meeting' tree v spells spelled)))
-byte_once m range version tree spells b b' p q (inr e) = carried _ _ _ p.not_utf8 q.not_utf8 e
+module _ {m : Meaning} {range version : Text} (tree : TreeOf (reading_of m)) (spells : SpellsAs (reading_of m) tree range) where
+  byte_once : {b b' : ℕ} → IsAnswer m range version b → IsAnswer m range version b' → IsMeeting b ⊎ (pos b ≡ number.version_not_utf8)
+      → pos b ≡ pos b'
+  byte_once p q (inl meeting) =
+      let (v, spelled) = p.read meeting in
+      unless _ _ _ p.not_utf8 (no_meeting _ meeting) (λ utf8.
+      let meeting' = q.accepted v utf8 spelled in
+      ap pos (p.meaning meeting tree v spells spelled ∙ sym (q.meaning meeting' tree v spells spelled)))
+  byte_once p q (inr e) = carried _ _ _ p.not_utf8 q.not_utf8 e
 
-one_byte : OneOutcome → (m : Meaning) (range version : Text) (tree : TreeOf (reading_of m)) → SpellsAs (reading_of m) tree range
-    → (b b' : ℕ) → IsAnswer m range version b → IsAnswer m range version b' → AreOne text_errors (pos b) (pos b') ⊤
-one_byte one m range version tree spells b b' p q =
-    are_one exact text_errors (pos b) (pos b') ⊤ (sorted_byte b p.one) (sorted_byte b' q.one)
-    (λ e. byte_once m range version tree spells b b' p q (meeting_or b e))
-    (λ e. byte_once m range version tree spells b' b q p (meeting_or b' e)) (apart_byte _) (λ _ _ _. tt)
-    (λ e e' some some'. (
-      version_once one version (pos b) (pos b') p.not_utf8 q.not_utf8
-          (λ utf8 is. byte_once m range version tree spells b b' p q (inl (p.accepted is.0 utf8 is.1)))
-          (λ utf8 none. let (e, is, eq) = p.refused utf8 none (λ e. some (inr (inl e))) in (Err e, is, eq))
-          (λ utf8 none. let (e, is, eq) = q.refused utf8 none (λ e. some' (inr (inl e))) in (Err e, is, eq)),
-      tt,
-    ))
+  one_byte : {b b' : ℕ} → IsAnswer m range version b → IsAnswer m range version b' → AreOne text_errors (pos b) (pos b') ⊤
+  one_byte p q =
+      are_one exact text_errors _ _ ⊤ (sorted_byte _ p.one) (sorted_byte _ q.one) (λ e. byte_once p q (meeting_or _ e))
+      (λ e. byte_once q p (meeting_or _ e)) (apart_byte _) (λ _ _ _. tt)
+      (λ e e' some some'. (
+        version_once version _ _ p.not_utf8 q.not_utf8 (λ utf8 is. byte_once p q (inl (p.accepted is.0 utf8 is.1)))
+            (λ utf8 none. let (e, is, eq) = p.refused utf8 none (λ e. some (inr (inl e))) in (Err e, is, eq))
+            (λ utf8 none. let (e, is, eq) = q.refused utf8 none (λ e. some' (inr (inl e))) in (Err e, is, eq)),
+        tt,
+      ))
 
 -- what is so of a place of a list, twice
-both_some : {X : Type 0} (P Q : X → Type 0) (R : Type 0) (xs : List X) (k : ℕ) → k < length xs → IfSome (slice_get xs k) P
+both_some : {X : Type 0} (P Q : X → Type 0) {R : Type 0} (xs : List X) (k : ℕ) → k < length xs → IfSome (slice_get xs k) P
     → IfSome (slice_get xs k) Q → ((x : X) → P x → Q x → R) → R
-both_some P Q R xs k within p q f = grind (arith, slice_get_cases)
+both_some P Q xs k within p q f = grind (arith, slice_get_cases)
 
 pub returns : goal.returns
 returns c =
@@ -84,8 +81,8 @@ returns c =
           (λ b b' some some'. (answered _ b some ∙ sym (answered _ b' some'), p.behind ∙ ap (drop _) c.requires ∙ sym q.behind));
       each = λ ok ok' k within room.
           let (meaning, named, read) = p.read ok in
-          both_some _ _ _ c.args.versions.now k within (p.answers ok meaning named k within room)
+          both_some _ _ c.args.versions.now k within (p.answers ok meaning named k within room)
           (q.answers ok' meaning named k within (rw c.requires at room))
-          (λ text a b. one_byte c.one_outcome.ensures.same_outcome meaning _ _ read.tree read.spells _ _ a b);
+          (λ text a b. one_byte read.tree read.spells a b);
       unchanged = λ no no'. p.unchanged no ∙ c.requires ∙ sym (q.unchanged no');
     })

@@ -1,4 +1,4 @@
-use Rattle.std.proofs.Common.{List, ◌≡◌, ◌≢◌, ◌⊎◌, ◌↔◌, ◌∙◌, ℤ, [], ◌∷◌, arith, ap, refl, rules, sym, inl, inr}
+use Rattle.std.proofs.Common.{List, ◌≡◌, ◌⊎◌, ◌↔◌, ◌∙◌, ℤ, [], ◌∷◌, arith, ap, rules, sym, inl, inr}
 use Rattle.std.specs.Prelude.{IsUtf8}
 use Rattle.semver_parser.specs.Texts.{Text}
 use Rattle.semver_parser.specs.Versions.{VersionValue}
@@ -55,7 +55,7 @@ returns c =
           (apart _)
           (λ _ _. output)
           (λ b b' some some'.
-          let same = version_once c.one_outcome.ensures.same_outcome _ n.result m.result p.not_utf8 q.not_utf8
+          let same = version_once _ n.result m.result p.not_utf8 q.not_utf8
           (λ utf8 is. p.accepted is.0 utf8 is.1 ∙ sym (q.accepted is.0 utf8 is.1))
           (λ utf8 _. p.outcome utf8 (λ e. some (inr (inl e))))
           (λ utf8 _. q.outcome utf8 (λ e. some' (inr (inl e)))) in

@@ -7,7 +7,7 @@ use Rattle.semver_parser_c.specs.Numbers as number
 use Rattle.semver_parser_c.specs.Faults.{IsOneOf, RefusesVersion, version_faults}
 use Rattle.semver_parser_c.specs.Orders.{at_fault}
 use Rattle.semver_parser_c.specs.OneAnswer.{IsMemory, text_errors}
-use Rattle.semver_parser_c.proofs.OneAnswer.{OneOutcome, are_one, carried, version_once}
+use Rattle.semver_parser_c.proofs.OneAnswer.{are_one, version_once}
 use Rattle.semver_parser_c.proofs.laws.one_precedence.Goals as goal
 
 abbrev exact : List ℤ
@@ -22,21 +22,10 @@ apart n one memory = grind arith
 not_ok : (n : ℤ) → IsOneOf version_faults n → n ≢ number.ok
 not_ok n one = grind arith
 
-same_bool : (P : Type 0) (b b' : Bool) → IsTrue b ↔ P → IsTrue b' ↔ P → b ≡ b'
-same_bool P b b' p q = grind arith
-
 -- what is so of both texts is so of that at fault
 of_either : (P : Text → Type 0) (b : Bool) (version other : Text) → P version → P other → P (at_fault b version other)
 of_either P true version other p q = q
 of_either P false version other p q = p
-
--- two errors of one text, none of them memory that ran out
-refused_once : OneOutcome → (text : Text) (n m : ℤ) → RefusesVersion text n → RefusesVersion text m → ¬ (IsMemory n)
-    → ¬ (IsMemory m) → n ≡ m
-refused_once one text n m p q some some' =
-    version_once one text n m p.not_utf8 q.not_utf8 (λ utf8 is. absurd (some (inr (inl (p.accepted is.0 utf8 is.1)))))
-    (λ utf8 _. let (e, is, eq) = p.refused utf8 (λ e. some (inr (inl e))) in (Err e, is, eq))
-    (λ utf8 _. let (e, is, eq) = q.refused utf8 (λ e. some' (inr (inl e))) in (Err e, is, eq))
 
 -- what the clauses say of an answer and of which text it is
 record Answers (version other : Text) (n : ℤ) (in_other : Bool) : Type 0 where
@@ -48,7 +37,7 @@ record Answers (version other : Text) (n : ℤ) (in_other : Bool) : Type 0 where
 
 module _ {version other : Text} {n m : ℤ} {b b' : Bool} (p : Answers version other n b) (q : Answers version other m b') where
   same_text : n ≢ number.ok → m ≢ number.ok → b ≡ b'
-  same_text wrong wrong' = same_bool _ b b' (p.text wrong) (q.text wrong')
+  same_text wrong wrong' = grind (arith, p.text wrong, q.text wrong')
 
   -- the error of the second is that of the first one's text
   moved : n ≢ number.ok → m ≢ number.ok → RefusesVersion (at_fault b version other) m
@@ -66,12 +55,18 @@ module _ {version other : Text} {n m : ℤ} {b b' : Bool} (p : Answers version o
   once : IsOneOf exact n → n ≡ m
   once one = grind (arith, moved, unless_memory)
 
-same_number : OneOutcome → {version other : Text} {n m : ℤ} {b b' : Bool} → Answers version other n b → Answers version other m b'
+same_number : {version other : Text} {n m : ℤ} {b b' : Bool} → Answers version other n b → Answers version other m b'
     → ¬ (IsMemory n) → ¬ (IsMemory m) → n ≡ m
-same_number one p q some some' = ⊎_elim
+same_number p q some some' = ⊎_elim
     (λ ok. ⊎_elim (λ ok'. ok ∙ sym ok') (λ fault. absurd (some' (inr (inl (unless_memory q p ok (not_ok _ fault)))))) q.numbers)
     (λ fault. ⊎_elim (λ ok. absurd (some (inr (inl (unless_memory p q ok (not_ok _ fault))))))
-    (λ fault'. refused_once one _ _ _ (p.refused (not_ok _ fault)) (moved p q (not_ok _ fault) (not_ok _ fault')) some some') q.numbers)
+    (λ fault'.
+    let r = p.refused (not_ok _ fault) in
+    let r' = moved p q (not_ok _ fault) (not_ok _ fault') in
+    version_once _ _ _ r.not_utf8 r'.not_utf8 (λ utf8 is. absurd (some (inr (inl (r.accepted is.0 utf8 is.1)))))
+    (λ utf8 _. let (e, is, eq) = r.refused utf8 (λ e. some (inr (inl e))) in (Err e, is, eq))
+    (λ utf8 _. let (e, is, eq) = r'.refused utf8 (λ e. some' (inr (inl e))) in (Err e, is, eq)))
+    q.numbers)
     p.numbers
 
 pub returns : goal.returns
@@ -101,6 +96,6 @@ returns c =
     rw (as_it_is, as_it_is') (record {
       one = are_one exact (number.ok ∷ text_errors) n.result m.result _ (sorted _ p.numbers) (sorted _ q.numbers)
           (once a b) (once b a) (apart _) (λ _ _. output)
-          (λ _ _ some some'. let same = same_number c.one_outcome.ensures.same_outcome a b some some' in (same, output same));
+          (λ _ _ some some'. let same = same_number a b some some' in (same, output same));
       in_other = same_text a b;
     })

@@ -1,9 +1,7 @@
-use Rattle.std.proofs.Common.{◌≡◌, ◌≢◌, ◌∙◌, ℤ, ◌∷◌, arith, ap, rules, sym, subst, refl}
+use Rattle.std.proofs.Common.{◌∙◌, rules, sym, refl}
 use Rattle.semver_parser.specs.PrintedRanges.{set_text}
-use Rattle.semver_parser_c.specs.Numbers as number
-use Rattle.semver_parser_c.specs.Faults.{IsOneOf, range_faults}
 use Rattle.semver_parser_c.specs.Printing.{Puts}
-use Rattle.semver_parser_c.proofs.OneAnswer.{rewrite_exact, uncast}
+use Rattle.semver_parser_c.proofs.OneAnswer.{uncast}
 use Rattle.semver_parser_c.proofs.OnePutting.{put_once}
 use Rattle.semver_parser_c.proofs.OneRewriting.{is_fault, not_ok, rewritten_once}
 use Rattle.semver_parser_c.proofs.laws.one_rewriting.Goals as goal
