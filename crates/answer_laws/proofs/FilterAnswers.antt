@@ -8,9 +8,7 @@ use Rattle.semver_parser.specs.Outlines.{outline_behind}
 use Rattle.semver_parser.specs.Precedence.{precedence}
 use Rattle.semver_parser.specs.Texts.{Text}
 use Rattle.semver_parser.specs.VersionGrammar.{SpellsVersion}
-use Rattle.semver_parser.specs.VersionViews.{version_value}
 use Rattle.semver_parser.specs.Versions.{VersionValue}
-use Rattle.semver_parser.specs.declared.version.Version.{Version}
 use Rattle.release_filter.specs.Extremes.{IsBelow, IsGreatest, IsNotAbove, HasNone}
 use Rattle.release_filter.specs.Filters.{FilterValue, passes}
 use Rattle.release_filter.specs.Judging.{IsJudged}
@@ -40,16 +38,6 @@ module _ (same : (v w : VersionValue) (text : Text) → SpellsVersion v text →
   one_judged (Passes o) NoVersion p q = absurd (q (p.0.0, p.0.1))
   one_judged (Passes o) DoesNotPass p q = absurd (true≢false (sym (p.1 q.0.0 q.0.1) ∙ q.1 q.0.0 q.0.1))
   one_judged (Passes o) (Passes o') p q = ap Passes (p.0.2 ∙ ap (outline_behind _) (same p.0.0 q.0.0 text p.0.1 q.0.1) ∙ sym q.0.2)
-
--- a version is answered exactly where it is so
-abbrev pub IsExactly : (VersionValue → Type 0) → Option Version → Type 0
-IsExactly IsIt x = (v : VersionValue) → (option_map version_value x ≡ Some v) ↔ IsIt v
-
-pub one_found : (IsIt : VersionValue → Type 0) (x y : Option Version) → IsExactly IsIt x → IsExactly IsIt y
-    → option_map version_value x ≡ option_map version_value y
-one_found IsIt (Some a) y p q = sym ((q (version_value a)).1 ((p (version_value a)).0 refl))
-one_found IsIt x (Some b) p q = (p (version_value b)).1 ((q (version_value b)).0 refl)
-one_found IsIt None None p q = refl
 
 module _ {X : Type 0} (total : IsTotalOrder precedence) (Has : X → VersionValue → Type 0) where
   -- one that an item behind it isn't above isn't below that

@@ -1,5 +1,5 @@
 -- Two answers about one version text are one.
-use Rattle.std.proofs.Common.{◌≡◌, ◌↔◌, ◌∙◌, ◌<◌, ◌^◌, ◌++◌, ◌∷◌, [], ℕ, List, refl, sym, ap, arith, length, decimal, inl, inr}
+use Rattle.std.proofs.Common.{◌≡◌, ◌↔◌, ◌∙◌, ◌<◌, ◌^◌, ◌++◌, ◌∷◌, [], ℕ, List, refl, sym, ap, arith, length, decimal}
 use Rattle.std.proofs.Common.{Option, Some, None, Result, Ok, Err, IfOk, IfErr, MatchOption, option_map, alloc_error}
 use Rattle.std.specs.Prelude.{IsErr, IsOk, chars, slice_get}
 use Rattle.std.specs.List.{slice_split}
@@ -10,7 +10,7 @@ use Rattle.std.specs.Borrow.{Bor}
 use Rattle.std.specs.declared.alloc.AllocError.{AllocError}
 use Rattle.semver_texts.specs.Texts.{Text, BeginsWithNumbers, IsNumber, is_dot}
 use Rattle.semver_texts.specs.Versions.{VersionValue, IdentifierValue, alphanumeric}
-use Rattle.semver_texts.specs.VersionGrammar.{SpellsVersion, SpellsCore, SpellsIdentifier}
+use Rattle.semver_texts.specs.VersionGrammar.{SpellsCore, SpellsIdentifier}
 use Rattle.semver_texts.specs.VersionViews.{version_value, identifier_value}
 use Rattle.semver_texts.specs.declared.version.Version.{Version}
 use Rattle.semver_texts.specs.declared.version.Identifier.{Identifier}
@@ -24,25 +24,16 @@ use Rattle.semver_steps.specs.VersionReading.{IsIdentifierShape, IsVersionShape,
 use Rattle.semver_steps.specs.declared.parser.Error.{Error}
 use Rattle.semver_steps.specs.declared.parser.Error.TheVariants as error
 use Rattle.semver_steps.proofs.ReadingSteps.{reads_once}
-use Rattle.semver_versions.specs.Outlines.{IsOutlineOf, OutlineValue}
 use Rattle.semver_versions.proofs.OneVersion.{one_core, same_identifier}
 use Rattle.answer_laws.specs.OneAnswer.{AreOne}
+use Rattle.answer_laws.proofs.OneAnswer.{one_found, one_made, said}
 use Rattle.answer_laws.specs.SeenTexts.{seen_numbers, seen_text}
-
--- what is answered exactly where a condition holds is one
-pub one_option : {A : Type 0} (P : A → Type 0) (x y : Option A) → ((a : A) → (x ≡ Some a) ↔ P a) → ((a : A) → (y ≡ Some a) ↔ P a) → x ≡ y
-one_option P (Some a) y f g = sym ((g a).1 ((f a).0 refl))
-one_option P None (Some b) f g = (f b).1 ((g b).0 refl)
-one_option P None None f g = refl
 
 pub one_read : (P : VersionValue → Type 0) (r s : Result (Option Version) AllocError)
     → ((v : VersionValue) → IfOk r (λ found. (option_map version_value found ≡ Some v) ↔ P v))
     → ((v : VersionValue) → IfOk s (λ found. (option_map version_value found ≡ Some v) ↔ P v))
     → AreOne alloc_error (option_map version_value) r s
-one_read P (Ok a) (Ok b) f g = inl (ap Ok (one_option P (option_map version_value a) (option_map version_value b) f g))
-one_read P (Ok a) (Err e) f g = inr (inr (a, refl, refl))
-one_read P (Err e) (Ok b) f g = inr (inl (b, refl, refl))
-one_read P (Err e) (Err d) f g = inl refl
+one_read P r s f g = one_made (option_map version_value) r s (λ a b is is'. one_found P _ _ (λ v. said _ is (f v)) (λ v. said _ is' (g v)))
 
 -- ---- numbers and parts
 
@@ -111,14 +102,8 @@ one_parser same_tokens text (Err e) (Err f) a b =
 
 -- what follows of an answer unless memory ran out
 pub unless_more : {T P Q : Type 0} (r : Result T Error) → (P → Q) → UnlessOutOfMemory r P → UnlessOutOfMemory r Q
-unless_more (Ok x) f p = f p
-unless_more (Err error.UnexpectedEnd) f p = f p
-unless_more (Err (error.UnexpectedToken t)) f p = f p
-unless_more (Err (error.Lexer l)) f p = f p
-unless_more (Err (error.MoreInput ts)) f p = f p
-unless_more (Err error.EmptyPredicate) f p = f p
-unless_more (Err error.EmptyRange) f p = f p
 unless_more (Err error.OutOfMemory) f p = tt
+unless_more r f p = f p
 
 pub unless_both : {T U P Q R : Type 0} (r : Result T Error) (s : Result U Error) → (P → Q → R) → UnlessOutOfMemory r P → UnlessOutOfMemory s Q
     → UnlessOutOfMemory r (UnlessOutOfMemory s R)
@@ -158,14 +143,8 @@ something : (before : ParserState) (r : Result Identifier Error) (s : ParserStat
     → UnlessOutOfMemory r (ReadsIdentifier before (step_of identifier_value r s).0 s)
     → IfOutOfMemory r ((text : Text) × ReadsIdentifier before (Ok (alphanumeric text)) s)
     → (x : Result IdentifierValue Fault) × ReadsIdentifier before x s
-something before (Ok x) s a m = (_, a)
-something before (Err error.UnexpectedEnd) s a m = (_, a)
-something before (Err (error.UnexpectedToken t)) s a m = (_, a)
-something before (Err (error.Lexer l)) s a m = (_, a)
-something before (Err (error.MoreInput ts)) s a m = (_, a)
-something before (Err error.EmptyPredicate) s a m = (_, a)
-something before (Err error.EmptyRange) s a m = (_, a)
 something before (Err error.OutOfMemory) s a m = (_, m.1)
+something before r s a m = (_, a)
 
 pub one_left : (before : ParserState) (r q : Result Identifier Error) (s t : ParserState) → IsRead before r s → IsRead before q t → s ≡ t
 one_left before r q s t a b =
@@ -182,13 +161,7 @@ one_memory before (Err error.OutOfMemory) q s t a b =
     is_identifier : (q : Result Identifier Error) {v : IdentifierValue} → Ok v ≡ (step_of identifier_value q t).0 → IsOk q
     is_identifier (Ok x) e = refl
     is_identifier (Err x) e = cc
-one_memory before (Ok x) q s t a b = tt
-one_memory before (Err error.UnexpectedEnd) q s t a b = tt
-one_memory before (Err (error.UnexpectedToken u)) q s t a b = tt
-one_memory before (Err (error.Lexer l)) q s t a b = tt
-one_memory before (Err (error.MoreInput ts)) q s t a b = tt
-one_memory before (Err error.EmptyPredicate) q s t a b = tt
-one_memory before (Err error.EmptyRange) q s t a b = tt
+one_memory before r q s t a b = tt
 
 pub one_version : (before : ParserState) (r q : Result Version Error) (s t : ParserState)
     → UnlessOutOfMemory r (ReadsVersion before (step_of version_value r s).0 s)
@@ -196,14 +169,3 @@ pub one_version : (before : ParserState) (r q : Result Version Error) (s t : Par
     → UnlessOutOfMemory r (UnlessOutOfMemory q (step_of version_value r s ≡ step_of version_value q t))
 one_version before r q s t a b = unless_both r q
     (one_step version_value IsVersionShape SpellsCore one_core before r q s t) a b
-
-abbrev pub OneVersion : Type 0
-OneVersion = (v w : VersionValue) (text : Text) → SpellsVersion v text → SpellsVersion w text → v ≡ w
-
-pub one_made : OneVersion → (text : Text) (o : OutlineValue) (r s : Result Version AllocError) → IsOutlineOf text o
-    → IfOk r (λ v. (t : Text) → IsOutlineOf t o → SpellsVersion (version_value v) t)
-    → IfOk s (λ v. (t : Text) → IsOutlineOf t o → SpellsVersion (version_value v) t) → AreOne alloc_error version_value r s
-one_made same text o (Ok a) (Ok b) outlined f g = inl (ap Ok (same _ _ text (f text outlined) (g text outlined)))
-one_made same text o (Ok a) (Err e) outlined f g = inr (inr (a, refl, refl))
-one_made same text o (Err e) (Ok b) outlined f g = inr (inl (b, refl, refl))
-one_made same text o (Err e) (Err d) outlined f g = inl refl

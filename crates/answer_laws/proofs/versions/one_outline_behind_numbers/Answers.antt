@@ -1,9 +1,9 @@
-use Rattle.answer_laws.proofs.VersionAnswers.{one_option}
+use Rattle.answer_laws.proofs.OneAnswer.{one_found}
 use Rattle.answer_laws.proofs.versions.one_outline_behind_numbers.Goals as goal
 
 pub returns : goal.returns
 returns c = record {
-  one = λ text begins ends. one_option _ _ _
+  one = λ text begins ends. one_found _ _ _
       (λ o. c.outline_behind_numbers.ensures.outlined text o begins ends)
       (λ o. c.outline_behind_numbers-2.ensures.outlined text o begins ends);
 }
