@@ -9,3 +9,6 @@ mod LineSteps
 mod ExtremeLines
 mod SortedSteps
 mod SortedLineSteps
+mod KeptAfter
+mod TakenPieces
+mod PieceLaws

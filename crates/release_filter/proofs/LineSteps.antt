@@ -37,7 +37,7 @@ lines_from x (y ∷ ys) = at (eqb x 10) (lines_from y ys)
     at true later = refl
     at false later = ap (onto_first x) later
 
-first_line : (xs : List ℕ) → 0 < length xs → lines_of xs ≡ take_through 10 xs ∷ lines_of (drop_through 10 xs)
+pub first_line : (xs : List ℕ) → 0 < length xs → lines_of xs ≡ take_through 10 xs ∷ lines_of (drop_through 10 xs)
 first_line [] some = absurd (omega arith)
 first_line (x ∷ xs) some = lines_from x xs
 

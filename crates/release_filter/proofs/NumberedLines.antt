@@ -1,7 +1,7 @@
 -- A line that begins with three numbers, and whose end was sought behind them.
-use Rattle.std.proofs.Common.{◌≡◌, ℕ, zero, suc, ◌+◌, ◌-◌, ◌<◌, ◌≢◌, ◌^◌, ◌==◌, ◌||◌, Bool, true, false, List, [], ◌∷◌, ◌++◌}
+use Rattle.std.proofs.Common.{◌≡◌, ℕ, zero, suc, ◌+◌, ◌-◌, ◌<◌, ◌≢◌, ◌==◌, ◌||◌, Bool, true, false, List, [], ◌∷◌, ◌++◌}
 use Rattle.std.proofs.Common.{length, take, map, decimal}
-use Rattle.std.proofs.Common.{refl, sym, ap, subst, ◌∙◌, arith, append_assoc, append-nil, length-append, get_or, if◌then◌else◌, slice_index}
+use Rattle.std.proofs.Common.{refl, sym, ap, subst, ◌∙◌, arith, append-nil, length-append, slice_index}
 use Rattle.std.proofs.Math.Seq.{take-append-add}
 use Rattle.std.proofs.lemmas.List.{get_or-append-add}
 use Rattle.std.proofs.lemmas.List.Elements.{All-append, All-from_recursion}
@@ -12,7 +12,7 @@ use Rattle.std.specs.Prelude.{All, Option, Some, None, ◌↔◌}
 use Rattle.std.specs.Char.{is_ascii_digit}
 use Rattle.std.specs.List.{join_with_byte}
 use Rattle.std.specs.Str.{all_ascii_digits}
-use Rattle.std.specs.Io.{StartsWith, StopsAt}
+use Rattle.std.specs.Io.{StartsWith}
 use Rattle.std.specs.Io.BufRead.{ends_with_byte, strip_last}
 use Rattle.semver_texts.specs.Texts.{Text, BeginsWithNumbers}
 use Rattle.semver_texts.proofs.Lists.{Passes, passes_append, all_more, by_test}

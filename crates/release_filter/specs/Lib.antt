@@ -4,5 +4,6 @@ pub mod Judging
 pub mod Extremes
 pub mod Steps
 pub mod KeptLines
+pub mod Pieces
 pub mod SortedLines
 pub use Rattle.version_sets.specs.PreReleaseRules

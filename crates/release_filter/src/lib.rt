@@ -7,9 +7,11 @@ mod extremes;
 mod filter;
 mod judging;
 mod kept;
+pub mod laws;
 mod lines;
 mod meeting;
 mod next_line;
+mod pieces;
 mod precedence;
 mod sorting;
 
@@ -17,5 +19,6 @@ pub use filter::{Filter, filter_text};
 pub use judging::Judged;
 pub use lines::LineError;
 pub use meeting::{release_meets, version_meets, version_meets_as_stated};
+pub use pieces::{Lines, Stopped};
 pub use sorting::write_lines;
 pub use version_sets::PreReleases;

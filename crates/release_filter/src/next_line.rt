@@ -218,7 +218,7 @@ fn outline_of<'l>(prefix: &str, line: &'l [u8]) -> Option<Outline<'l>>
 
 /// What stands behind the prefix in the text of a line, if the text begins with it.
 #[inline(always)]
-fn text_behind<'l>(prefix: &str, line: &'l [u8]) -> Option<&'l [u8]>
+pub(crate) fn text_behind<'l>(prefix: &str, line: &'l [u8]) -> Option<&'l [u8]>
     ensures { MatchOption result
         ((text : Text) → ¬ (line_text line.now ≡ prefix.now ++ text))
         (λ text. line_text line.now ≡ prefix.now ++ text.now) }
@@ -245,7 +245,7 @@ fn judged(found: Result<Option<Version>, AllocError>) -> Result<Taken, LineError
 
 /// The first line with its end, if some line has one.
 #[inline(always)]
-fn whole_line(bytes: &[u8]) -> Option<&[u8]>
+pub(crate) fn whole_line(bytes: &[u8]) -> Option<&[u8]>
     ensures none { result ≡ None → All (λ x. x ≢ 10) bytes.now }
     ensures front { IfSome result (λ line. StartsWith bytes.now line.now) }
     ensures whole { IfSome result (λ line. IsWholeLine line.now) }
