@@ -25,7 +25,7 @@ once : {reading rule : ℤ} {old new : Text} {n m : ℤ} → RefusesRange readin
     → IsOneOf exact n → n ≡ m
 once p q a b one = ⊎_elim (range_once p q)
     (λ one.
-    known _ _ (λ other. accepted_where p (apart (text_faults new_range_numbers) range_exact _ refl one) (λ accepted.
+    known (λ other. accepted_where p (apart (text_faults new_range_numbers) range_exact _ refl one) (λ accepted.
     let (meaning, named, _, _) = accepted in
     other (new_once accepted (a meaning named) (b meaning named) one))))
     (split range_exact (text_faults new_range_numbers) _ one)

@@ -3,7 +3,7 @@ use Rattle.semver_parser_c.specs.Numbers as number
 use Rattle.semver_parser_c.specs.Faults.{named_faults}
 use Rattle.semver_parser_c.proofs.OneAnswer.{range_exact, range_once, uncast}
 use Rattle.semver_parser_c.proofs.OnePutting.{put_are_one, put_once}
-use Rattle.semver_parser_c.proofs.OneLeast.{one_text}
+use Rattle.semver_parser_c.proofs.OneLeast.{one_told}
 use Rattle.semver_parser_c.proofs.laws.one_least.Goals as goal
 
 pub returns : goal.returns
@@ -24,5 +24,5 @@ returns c =
           let (meaning, named, read) = p.read put in
           let (o, least, puts) = p.least put meaning named read.tree read.spells in
           let (o', least', puts') = q.least put' meaning named read.tree read.spells in
-          put_once (one_text _ o o' least least') c.requires.room puts puts'));
+          put_once (one_told _ o o' least least').0 c.requires.room puts puts'));
     }

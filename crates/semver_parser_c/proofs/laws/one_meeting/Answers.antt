@@ -1,8 +1,8 @@
-use Rattle.std.proofs.Common.{◌≡◌, ◌≢◌, ◌∙◌, ◌++◌, ℤ, List, ◌∷◌, arith, inl, inr, rules, refl, sym, to_z, of_z, w32}
+use Rattle.std.proofs.Common.{◌≡◌, ◌≢◌, ◌∙◌, ◌++◌, ℤ, List, ◌∷◌, arith, inl, inr, rules, refl, sym}
 use Rattle.semver_parser_c.specs.Numbers as number
 use Rattle.semver_parser_c.specs.Faults.{IsOneOf, named_faults, version_faults}
 use Rattle.semver_parser_c.specs.OneAnswer.{AreOne, text_errors}
-use Rattle.semver_parser_c.proofs.OneAnswer.{accepted_where, apart, are_one, by_ok, known, of_fault, version_once}
+use Rattle.semver_parser_c.proofs.OneAnswer.{IsItself, accepted_where, apart, are_one, by_ok, known, of_fault, version_once}
 use Rattle.semver_parser_c.proofs.OneAnswer.{range_exact, range_once}
 use Rattle.semver_parser_c.proofs.RangeFaults.{read_of}
 use Rattle.semver_parser_c.proofs.laws.one_meeting.Goals as goal
@@ -21,23 +21,22 @@ returns c =
     let m = c.semver_parser_proved_meets-other in
     let p = n.ensures in
     let q = m.ensures in
-    let as_it_is : to_z w32 (of_z w32 n.result) ≡ n.result = search rules in
-    let as_it_is' : to_z w32 (of_z w32 m.result) ≡ m.result = search rules in
-    let output = by_ok n.result m.result
+    let as_it_is : IsItself n.result = search rules in
+    let as_it_is' : IsItself m.result = search rules in
+    let one : AreOne beside n.result m.result (n.new.meets ≡ m.new.meets) =
+    are_one (number.ok ∷ named_faults ++ version_faults) range_exact refl refl p.numbers q.numbers (range_once p.refusals q.refusals)
+    (range_once q.refusals p.refusals) (λ b b' some some'.
+    known (λ other. accepted_where p.refusals (apart beside range_exact _ refl b) (λ accepted.
+    let read = read_of _ _ _ n.result accepted (λ e. some (inl e)) in
+    let read' = read_of _ _ _ m.result accepted (λ e. some' (inl e)) in
+    other (version_once _ (p.version_not_utf8 read) (q.version_not_utf8 read')
+    (λ utf8 is. p.accepted read is.0 utf8 is.1 ∙ sym (q.accepted read' is.0 utf8 is.1))
+    (of_fault _ (p.version_refused read)) (of_fault _ (q.version_refused read')) some some'))))
+    (λ _. by_ok n.result m.result
     (λ ok ok'.
     let ((meaning, named, read), (v, spelled)) = p.both_read ok in
     p.meaning ok meaning named read.tree v read.spells spelled ∙ sym (q.meaning ok' meaning named read.tree v read.spells spelled))
-    (λ no no'. p.unchanged no ∙ c.requires ∙ sym (q.unchanged no')) in
-    let one : AreOne beside n.result m.result (n.new.meets ≡ m.new.meets) =
-    are_one (number.ok ∷ named_faults ++ version_faults) range_exact refl refl p.numbers q.numbers (range_once p.refusals q.refusals)
-    (range_once q.refusals p.refusals) (λ _ _. output) (λ b b' some some'.
-    let same = known n.result m.result (λ other. accepted_where p.refusals (apart beside range_exact _ refl b) (λ accepted.
-    let read = read_of _ _ _ n.result accepted (λ e. some (inl e)) in
-    let read' = read_of _ _ _ m.result accepted (λ e. some' (inl e)) in
-    other (version_once _ _ _ (p.version_not_utf8 read) (q.version_not_utf8 read')
-    (λ utf8 is. p.accepted read is.0 utf8 is.1 ∙ sym (q.accepted read' is.0 utf8 is.1))
-    (of_fault _ _ (p.version_refused read)) (of_fault _ _ (q.version_refused read')) some some'))) in
-    (same, output same)) in
+    (λ no no'. p.unchanged no ∙ c.requires ∙ sym (q.unchanged no'))) in
     rw (as_it_is, as_it_is') (record {
       one = one;
       version_memory = λ e.

@@ -24,8 +24,8 @@ once : {text : Text} {n m : ℤ} {out : ReadVersion} → (n ≡ number.ok → Is
     → ((v : VersionValue) → IsUtf8 text → SpellsVersion v text → m ≡ number.ok) → IsOneOf exact n → n ≡ m
 once read u u' accepted (inl e) =
     let (o, (v, spelled, is), _) = read e in
-    unless number.version_not_utf8 _ _ u (λ e'. cc) (λ utf8. e ∙ sym (accepted v utf8 spelled))
-once read u u' accepted (inr (inl e)) = carried _ _ _ u u' e
+    unless u (λ e'. cc) (λ utf8. e ∙ sym (accepted v utf8 spelled))
+once read u u' accepted (inr (inl e)) = carried u u' e
 once read u u' accepted (inr (inr none)) = absurd none
 
 same_read : (text : Text) (out other : ReadVersion) → IsRead text out → IsRead text other → out ≡ other
@@ -38,17 +38,14 @@ returns c =
     let m = c.semver_parser_proved_parse_version-other in
     let p = n.ensures in
     let q = m.ensures in
-    let output = by_ok n.result m.result (λ ok ok'. same_read _ _ _ (p.version ok) (q.version ok'))
-    (λ no no'. p.unchanged no ∙ c.requires ∙ sym (q.unchanged no')) in
     record {
       one = uncast n.result m.result (search rules) (search rules)
           (are_one (number.ok ∷ version_faults) exact refl refl p.numbers q.numbers
           (once p.version p.not_utf8 q.not_utf8 q.accepted)
           (once q.version q.not_utf8 p.not_utf8 p.accepted)
-          (λ _ _. output)
-          (λ b b' some some'.
-          let same = version_once _ n.result m.result p.not_utf8 q.not_utf8
-          (λ utf8 is. p.accepted is.0 utf8 is.1 ∙ sym (q.accepted is.0 utf8 is.1))
-          (λ utf8 _. p.outcome utf8) (λ utf8 _. q.outcome utf8) some some' in
-          (same, output same)));
+          (λ _ _.
+          version_once _ p.not_utf8 q.not_utf8 (λ utf8 is. p.accepted is.0 utf8 is.1 ∙ sym (q.accepted is.0 utf8 is.1))
+          (λ utf8 _. p.outcome utf8) (λ utf8 _. q.outcome utf8))
+          (λ _. by_ok n.result m.result (λ ok ok'. same_read _ _ _ (p.version ok) (q.version ok'))
+          (λ no no'. p.unchanged no ∙ c.requires ∙ sym (q.unchanged no'))));
     }
