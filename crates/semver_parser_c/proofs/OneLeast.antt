@@ -24,33 +24,26 @@ one_version P v w a b =
     (neither_less _ _ (precedence_total.antisymm v.plain w.plain) (b.lowest v.plain a.is_one) (a.lowest w.plain b.is_one)) in
     ap₂ (λ p b. let it : VersionValue = record { plain = p; build = b } in it) plain (a.no_build ∙ sym b.no_build)
 
-pub one_text : (P : PlainVersion → Type 0) (o other : Option Version) → TellsLeast P o → TellsLeast P other
-    → text_of o ≡ text_of other
-one_text P None None a b = refl
-one_text P None (Some w) a b = absurd (a _ b.is_one)
-one_text P (Some v) None a b = absurd (b _ a.is_one)
-one_text P (Some v) (Some w) a b = ap version_text (one_version P _ _ a b)
-
-pub one_place : (P : PlainVersion → Type 0) (o other : Option Version) (at at' : ℕ) → TellsLeast P o → TellsLeast P other
-    → at ≡ at' → place_behind at o ≡ place_behind at' other
-one_place P None None at at' a b e = refl
-one_place P None (Some w) at at' a b e = absurd (a _ b.is_one)
-one_place P (Some v) None at at' a b e = absurd (b _ a.is_one)
-one_place P (Some v) (Some w) at at' a b e =
-    let text = ap version_text (one_version P _ _ a b) in cc
+pub one_told : (P : PlainVersion → Type 0) (o other : Option Version) → TellsLeast P o → TellsLeast P other
+    → (text_of o ≡ text_of other) × ((at at' : ℕ) → at ≡ at' → place_behind at o ≡ place_behind at' other)
+one_told P None None a b = (refl, λ at at' e. refl)
+one_told P None (Some w) a b = absurd (a _ b.is_one)
+one_told P (Some v) None a b = absurd (b _ a.is_one)
+one_told P (Some v) (Some w) a b =
+    let text = ap version_text (one_version P _ _ a b) in (text, λ at at' e. cc)
 
 -- so of a comparison
 pub one_compared : (m : Meaning) (old new : TreeOf (reading_of m)) (told other : Comparison) → Compares m old new told
     → Compares m old new other → (joined_texts told ≡ joined_texts other) × (places_of told ≡ places_of other)
 one_compared m old new told other a b =
-    let lost = one_text _ _ _ a.lost b.lost in
-    let gained = one_text _ _ _ a.gained b.gained in
-    let shared = one_text _ _ _ a.shared b.shared in
-    let before = ap₂ (λ x y. x ++ y) lost gained in (
-      ap₂ (λ x y. x ++ y) before shared,
+    let lost = one_told _ _ _ a.lost b.lost in
+    let gained = one_told _ _ _ a.gained b.gained in
+    let shared = one_told _ _ _ a.shared b.shared in
+    let before = ap₂ (λ x y. x ++ y) lost.0 gained.0 in (
+      ap₂ (λ x y. x ++ y) before shared.0,
       λ i. record {
-        lost = one_place _ _ _ 0 0 a.lost b.lost refl i;
-        gained = one_place _ _ _ _ _ a.gained b.gained (ap length lost) i;
-        shared = one_place _ _ _ _ _ a.shared b.shared (ap length before) i;
+        lost = lost.1 0 0 refl i;
+        gained = gained.1 _ _ (ap length lost.0) i;
+        shared = shared.1 _ _ (ap length before) i;
       },
     )

@@ -1,9 +1,9 @@
-use Rattle.std.proofs.Common.{◌∙◌, rules, sym, refl}
+use Rattle.std.proofs.Common.{◌∙◌, ◌∷◌, ap, inl, rules, sym, refl}
 use Rattle.semver_parser_c.specs.Comparators.{comparators_of, pre_releases, told_comparators}
-use Rattle.semver_parser_c.specs.Printing.{PutsBoth}
-use Rattle.semver_parser_c.proofs.OneAnswer.{uncast}
-use Rattle.semver_parser_c.proofs.OnePutting.{both_once}
-use Rattle.semver_parser_c.proofs.OneRewriting.{is_fault, not_ok, rewritten_once}
+use Rattle.semver_parser_c.specs.Numbers as number
+use Rattle.semver_parser_c.proofs.OneAnswer.{rewrite_exact, text_once, uncast}
+use Rattle.semver_parser_c.proofs.OnePutting.{both_once, put_are_one}
+use Rattle.semver_parser_c.proofs.OneRewriting.{rewrite_faults, same_set}
 use Rattle.semver_parser_c.proofs.laws.one_comparators.Goals as goal
 
 pub returns : goal.returns
@@ -13,35 +13,22 @@ returns c =
     let p = n.ensures in
     let q = m.ensures in
     record {
-      one = uncast n.result m.result (search rules) (search rules) (rewritten_once _ c.args.exact c.args.text.now n.result m.result
-          (λ set. PutsBoth
-          (record {
-            items = told_comparators (comparators_of set);
-            old = c.args.comparators.now;
-            new = n.new.comparators;
-            told = n.new.count;
-          })
-          (record { items = pre_releases (comparators_of set); old = c.args.out.now; new = n.new.out; told = n.new.length })
-          n.result)
-          (λ set. PutsBoth
-          (record {
-            items = told_comparators (comparators_of set);
-            old = c.args.others.now;
-            new = m.new.comparators;
-            told = m.new.count;
-          })
-          (record { items = pre_releases (comparators_of set); old = c.args.other_out.now; new = m.new.out; told = m.new.length })
-          m.result)
-          _ p.numbers q.numbers p.refusals q.refusals p.rewritten q.rewritten
-          (λ one one' _.
-          let rooms = p.rooms_unchanged (not_ok _ one) in
-          let rooms' = q.rooms_unchanged (not_ok _ one') in
-          let told = p.numbers_unchanged (is_fault _ one) in
-          let told' = q.numbers_unchanged (is_fault _ one') in (
+      one = uncast n.result m.result (search rules) (search rules)
+          (put_are_one (number.ok ∷ number.no_room ∷ rewrite_faults) rewrite_faults rewrite_exact number.range_out_of_memory refl refl refl refl
+          (inl refl) p.numbers q.numbers (text_once p.refusals q.refusals) (text_once q.refusals p.refusals)
+          (λ no no' fault fault'.
+          let rooms = p.rooms_unchanged no in
+          let rooms' = q.rooms_unchanged no' in
+          let told = p.numbers_unchanged fault in
+          let told' = q.numbers_unchanged fault' in (
             rooms.0 ∙ c.requires.comparators ∙ sym rooms'.0,
             told.0 ∙ c.requires.count ∙ sym told'.0,
             rooms.1 ∙ c.requires.room ∙ sym rooms'.1,
             told.1 ∙ c.requires.length ∙ sym told'.1,
           ))
-          (λ set a b. both_once _ _ _ _ _ _ refl c.requires.comparators refl c.requires.room a b));
+          (λ put put'.
+          let (r, is, tree, spells, fit, puts) = p.rewritten put in
+          let (s, is', other, spells', fit', puts') = q.rewritten put' in
+          let same = ap comparators_of (same_set c.args.exact _ _ r s tree other is is' spells spells') in
+          both_once _ _ _ _ _ _ (ap told_comparators same) c.requires.comparators (ap pre_releases same) c.requires.room puts puts'));
     }

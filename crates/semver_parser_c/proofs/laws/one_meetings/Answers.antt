@@ -1,5 +1,5 @@
-use Rattle.std.proofs.Common.{◌≡◌, ◌≢◌, ◌⊎◌, ◌∙◌, ◌<◌, ℕ, ℤ, pos, List, [], ◌∷◌, Err, IfSome, arith, inl, inr, length, rules, sym}
-use Rattle.std.proofs.Common.{slice_get, ap, drop, to_z, of_z, w32}
+use Rattle.std.proofs.Common.{◌≡◌, ◌≢◌, ◌⊎◌, ◌∙◌, ◌<◌, ◌++◌, ℕ, ℤ, pos, List, [], ◌∷◌, IfSome, arith, inl, inr, length, rules, refl, sym}
+use Rattle.std.proofs.Common.{slice_get, ap, drop}
 use Rattle.std.specs.Prelude.{⊤}
 use Rattle.std.proofs.lemmas.Option.{slice_get_cases}
 use Rattle.semver_parser.specs.Texts.{Text}
@@ -10,14 +10,11 @@ use Rattle.semver_parser_c.specs.Numbers as number
 use Rattle.semver_parser_c.specs.Faults.{IsOneOf, named_faults, version_faults}
 use Rattle.semver_parser_c.specs.Meetings.{IsAnswer, IsMeeting}
 use Rattle.semver_parser_c.specs.OneAnswer.{AreOne, IsMemory, text_errors}
-use Rattle.semver_parser_c.proofs.OneAnswer.{are_one, carried, range_apart, range_exact, range_once, unless, version_once}
+use Rattle.semver_parser_c.proofs.OneAnswer.{IsItself, are_one, carried, of_fault, range_exact, range_once, unless, version_once}
 use Rattle.semver_parser_c.proofs.laws.one_meetings.Goals as goal
 
 abbrev beside : List ℤ
 beside = number.ok ∷ number.range_out_of_memory ∷ []
-
-sorted : (n : ℤ) → IsOneOf (number.ok ∷ named_faults) n → IsOneOf range_exact n ⊎ IsOneOf beside n
-sorted n one = grind arith
 
 answered : (n : ℤ) → IsOneOf beside n → ¬ (IsMemory n) → n ≡ number.ok
 answered n one some = grind arith
@@ -28,11 +25,8 @@ answered n one some = grind arith
 abbrev exact : List ℤ
 exact = pos number.does_not_meet ∷ pos number.meets ∷ number.version_not_utf8 ∷ []
 
-sorted_byte : (b : ℕ) → IsMeeting b ⊎ IsOneOf version_faults (pos b) → IsOneOf exact (pos b) ⊎ IsOneOf text_errors (pos b)
+sorted_byte : (b : ℕ) → IsMeeting b ⊎ IsOneOf version_faults (pos b) → IsOneOf (exact ++ text_errors) (pos b)
 sorted_byte b one = grind arith
-
-apart_byte : (n : ℤ) → IsOneOf exact n → IsMemory n → ⊥
-apart_byte n one memory = grind arith
 
 meeting_or : (b : ℕ) → IsOneOf exact (pos b) → IsMeeting b ⊎ (pos b ≡ number.version_not_utf8)
 meeting_or b one = grind arith
@@ -45,21 +39,19 @@ module _ {m : Meaning} {range version : Text} (tree : TreeOf (reading_of m)) (sp
       → pos b ≡ pos b'
   byte_once p q (inl meeting) =
       let (v, spelled) = p.read meeting in
-      unless _ _ _ p.not_utf8 (no_meeting _ meeting) (λ utf8.
+      unless p.not_utf8 (no_meeting _ meeting) (λ utf8.
       let meeting' = q.accepted v utf8 spelled in
       ap pos (p.meaning meeting tree v spells spelled ∙ sym (q.meaning meeting' tree v spells spelled)))
-  byte_once p q (inr e) = carried _ _ _ p.not_utf8 q.not_utf8 e
+  byte_once p q (inr e) = carried p.not_utf8 q.not_utf8 e
 
   one_byte : {b b' : ℕ} → IsAnswer m range version b → IsAnswer m range version b' → AreOne text_errors (pos b) (pos b') ⊤
   one_byte p q =
-      are_one exact text_errors _ _ ⊤ (sorted_byte _ p.one) (sorted_byte _ q.one) (λ e. byte_once p q (meeting_or _ e))
-      (λ e. byte_once q p (meeting_or _ e)) (apart_byte _) (λ _ _ _. tt)
-      (λ e e' some some'. (
-        version_once version _ _ p.not_utf8 q.not_utf8 (λ utf8 is. byte_once p q (inl (p.accepted is.0 utf8 is.1)))
-            (λ utf8 none. let (e, is, eq) = p.refused utf8 none (λ e. some (inr (inl e))) in (Err e, is, eq))
-            (λ utf8 none. let (e, is, eq) = q.refused utf8 none (λ e. some' (inr (inl e))) in (Err e, is, eq)),
-        tt,
-      ))
+      are_one (exact ++ text_errors) exact refl refl (sorted_byte _ p.one) (sorted_byte _ q.one) (λ e. byte_once p q (meeting_or _ e))
+      (λ e. byte_once q p (meeting_or _ e))
+      (λ _ _.
+      version_once version p.not_utf8 q.not_utf8 (λ utf8 is. byte_once p q (inl (p.accepted is.0 utf8 is.1)))
+      (of_fault _ p.refused) (of_fault _ q.refused))
+      (λ _ _. tt)
 
 -- what is so of a place of a list, twice
 both_some : {X : Type 0} (P Q : X → Type 0) {R : Type 0} (xs : List X) (k : ℕ) → k < length xs → IfSome (slice_get xs k) P
@@ -72,13 +64,12 @@ returns c =
     let m = c.semver_parser_proved_meets_each-other in
     let p = n.ensures in
     let q = m.ensures in
-    let as_it_is : to_z w32 (of_z w32 n.result) ≡ n.result = search rules in
-    let as_it_is' : to_z w32 (of_z w32 m.result) ≡ m.result = search rules in
+    let as_it_is : IsItself n.result = search rules in
+    let as_it_is' : IsItself m.result = search rules in
     rw (as_it_is, as_it_is') (record {
-      one = are_one range_exact beside n.result m.result _ (sorted _ p.numbers) (sorted _ q.numbers)
-          (range_once p.refusals q.refusals) (range_once q.refusals p.refusals) (range_apart _)
-          (λ _ _ _. p.behind ∙ ap (drop _) c.requires ∙ sym q.behind)
-          (λ b b' some some'. (answered _ b some ∙ sym (answered _ b' some'), p.behind ∙ ap (drop _) c.requires ∙ sym q.behind));
+      one = are_one (number.ok ∷ named_faults) range_exact refl refl p.numbers q.numbers (range_once p.refusals q.refusals)
+          (range_once q.refusals p.refusals)
+          (λ b b' some some'. answered _ b some ∙ sym (answered _ b' some')) (λ _ _. p.behind ∙ ap (drop _) c.requires ∙ sym q.behind);
       each = λ ok ok' k within room.
           let (meaning, named, read) = p.read ok in
           both_some _ _ c.args.versions.now k within (p.answers ok meaning named k within room)

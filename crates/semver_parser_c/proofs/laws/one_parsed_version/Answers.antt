@@ -1,4 +1,4 @@
-use Rattle.std.proofs.Common.{List, ◌≡◌, ◌⊎◌, ◌↔◌, ◌∙◌, ℤ, [], ◌∷◌, arith, ap, rules, sym, inl, inr}
+use Rattle.std.proofs.Common.{List, ◌≡◌, ◌↔◌, ◌∙◌, ℤ, [], ◌∷◌, ap, rules, refl, sym, inl, inr}
 use Rattle.std.specs.Prelude.{IsUtf8}
 use Rattle.semver_parser.specs.Texts.{Text}
 use Rattle.semver_parser.specs.Versions.{VersionValue}
@@ -9,18 +9,11 @@ use Rattle.semver_parser_c.specs.declared.ReadVersion.{ReadVersion}
 use Rattle.semver_parser_c.specs.Numbers as number
 use Rattle.semver_parser_c.specs.Faults.{IsOneOf, version_faults}
 use Rattle.semver_parser_c.specs.Places.{told}
-use Rattle.semver_parser_c.specs.OneAnswer.{IsMemory, text_errors}
-use Rattle.semver_parser_c.proofs.OneAnswer.{are_one, carried, told_once, uncast, unless, version_once}
+use Rattle.semver_parser_c.proofs.OneAnswer.{are_one, carried, by_ok, uncast, unless, version_once}
 use Rattle.semver_parser_c.proofs.laws.one_parsed_version.Goals as goal
 
 abbrev exact : List ℤ
 exact = number.ok ∷ number.version_not_utf8 ∷ []
-
-sorted : (n : ℤ) → IsOneOf (number.ok ∷ version_faults) n → IsOneOf exact n ⊎ IsOneOf text_errors n
-sorted n one = grind arith
-
-apart : (n : ℤ) → IsOneOf exact n → IsMemory n → ⊥
-apart n one memory = grind arith
 
 -- what is read of a text
 abbrev IsRead : Text → ReadVersion → Type 0
@@ -31,8 +24,8 @@ once : {text : Text} {n m : ℤ} {out : ReadVersion} → (n ≡ number.ok → Is
     → ((v : VersionValue) → IsUtf8 text → SpellsVersion v text → m ≡ number.ok) → IsOneOf exact n → n ≡ m
 once read u u' accepted (inl e) =
     let (o, (v, spelled, is), _) = read e in
-    unless number.version_not_utf8 _ _ u (λ e'. cc) (λ utf8. e ∙ sym (accepted v utf8 spelled))
-once read u u' accepted (inr (inl e)) = carried _ _ _ u u' e
+    unless u (λ e'. cc) (λ utf8. e ∙ sym (accepted v utf8 spelled))
+once read u u' accepted (inr (inl e)) = carried u u' e
 once read u u' accepted (inr (inr none)) = absurd none
 
 same_read : (text : Text) (out other : ReadVersion) → IsRead text out → IsRead text other → out ≡ other
@@ -45,19 +38,14 @@ returns c =
     let m = c.semver_parser_proved_parse_version-other in
     let p = n.ensures in
     let q = m.ensures in
-    let output = told_once (IsRead c.args.text.now) n.result m.result _ _ _ _ (same_read _) p.version q.version
-    p.unchanged q.unchanged c.requires in
     record {
       one = uncast n.result m.result (search rules) (search rules)
-          (are_one exact text_errors n.result m.result _ (sorted _ p.numbers) (sorted _ q.numbers)
+          (are_one (number.ok ∷ version_faults) exact refl refl p.numbers q.numbers
           (once p.version p.not_utf8 q.not_utf8 q.accepted)
           (once q.version q.not_utf8 p.not_utf8 p.accepted)
-          (apart _)
-          (λ _ _. output)
-          (λ b b' some some'.
-          let same = version_once _ n.result m.result p.not_utf8 q.not_utf8
-          (λ utf8 is. p.accepted is.0 utf8 is.1 ∙ sym (q.accepted is.0 utf8 is.1))
-          (λ utf8 _. p.outcome utf8 (λ e. some (inr (inl e))))
-          (λ utf8 _. q.outcome utf8 (λ e. some' (inr (inl e)))) in
-          (same, output same)));
+          (λ _ _.
+          version_once _ p.not_utf8 q.not_utf8 (λ utf8 is. p.accepted is.0 utf8 is.1 ∙ sym (q.accepted is.0 utf8 is.1))
+          (λ utf8 _. p.outcome utf8) (λ utf8 _. q.outcome utf8))
+          (λ _. by_ok n.result m.result (λ ok ok'. same_read _ _ _ (p.version ok) (q.version ok'))
+          (λ no no'. p.unchanged no ∙ c.requires ∙ sym (q.unchanged no'))));
     }

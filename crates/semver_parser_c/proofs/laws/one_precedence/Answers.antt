@@ -1,35 +1,25 @@
-use Rattle.std.proofs.Common.{List, ◌≡◌, ◌≢◌, ◌⊎◌, ◌↔◌, ◌∙◌, ℤ, Bool, true, false, [], ◌∷◌, Err, arith, inl, inr, rules, sym, ⊎_elim}
-use Rattle.std.proofs.Common.{to_z, of_z, w32}
+use Rattle.std.proofs.Common.{List, ◌≡◌, ◌≢◌, ◌↔◌, ◌∙◌, ℤ, Bool, true, false, [], ◌∷◌, arith, inl, inr, rules, refl, sym}
 use Rattle.std.specs.Prelude.{IsTrue, IsUtf8}
 use Rattle.semver_parser.specs.Texts.{Text}
 use Rattle.semver_parser.specs.VersionGrammar.{IsVersionText}
 use Rattle.semver_parser_c.specs.Numbers as number
 use Rattle.semver_parser_c.specs.Faults.{IsOneOf, RefusesVersion, version_faults}
 use Rattle.semver_parser_c.specs.Orders.{at_fault}
-use Rattle.semver_parser_c.specs.OneAnswer.{IsMemory, text_errors}
-use Rattle.semver_parser_c.proofs.OneAnswer.{are_one, version_once}
+use Rattle.semver_parser_c.specs.OneAnswer.{IsMemory}
+use Rattle.semver_parser_c.proofs.OneAnswer.{IsItself, are_one, by_ok, known, of_fault, version_once}
 use Rattle.semver_parser_c.proofs.laws.one_precedence.Goals as goal
 
 abbrev exact : List ℤ
 exact = number.version_not_utf8 ∷ []
 
-sorted : (n : ℤ) → IsOneOf (number.ok ∷ version_faults) n → IsOneOf exact n ⊎ IsOneOf (number.ok ∷ text_errors) n
-sorted n one = grind arith
-
-apart : (n : ℤ) → IsOneOf exact n → IsMemory n → ⊥
-apart n one memory = grind arith
-
-not_ok : (n : ℤ) → IsOneOf version_faults n → n ≢ number.ok
-not_ok n one = grind arith
-
--- what is so of both texts is so of that at fault
-of_either : (P : Text → Type 0) (b : Bool) (version other : Text) → P version → P other → P (at_fault b version other)
-of_either P true version other p q = q
-of_either P false version other p q = p
+-- two versions are refused for memory alone
+for_memory : (version other : Text) {n : ℤ} (b : Bool) → RefusesVersion (at_fault b version other) n → IsUtf8 version × IsUtf8 other
+    → IsVersionText version × IsVersionText other → n ≡ number.version_out_of_memory
+for_memory version other true refused (_, utf8) (_, (v, spelled)) = refused.accepted v utf8 spelled
+for_memory version other false refused (utf8, _) ((v, spelled), _) = refused.accepted v utf8 spelled
 
 -- what the clauses say of an answer and of which text it is
 record Answers (version other : Text) (n : ℤ) (in_other : Bool) : Type 0 where
-  numbers : IsOneOf (number.ok ∷ version_faults) n
   utf8 : n ≡ number.ok → IsUtf8 version × IsUtf8 other
   read : n ≡ number.ok → IsVersionText version × IsVersionText other
   refused : n ≢ number.ok → RefusesVersion (at_fault in_other version other) n
@@ -43,31 +33,22 @@ module _ {version other : Text} {n m : ℤ} {b b' : Bool} (p : Answers version o
   moved : n ≢ number.ok → m ≢ number.ok → RefusesVersion (at_fault b version other) m
   moved wrong wrong' = rw (same_text wrong wrong') (q.refused wrong')
 
-  -- two versions are refused for memory alone
   unless_memory : m ≡ number.ok → n ≢ number.ok → n ≡ number.version_out_of_memory
-  unless_memory ok wrong =
-      let utf8 = q.utf8 ok in
-      let read = q.read ok in
-      let (u, (v, spelled)) =
-      of_either (λ t. IsUtf8 t × IsVersionText t) b version other (utf8.0, read.0) (utf8.1, read.1) in
-      (p.refused wrong).accepted v u spelled
+  unless_memory ok wrong = for_memory version other b (p.refused wrong) (q.utf8 ok) (q.read ok)
 
   once : IsOneOf exact n → n ≡ m
   once one = grind (arith, moved, unless_memory)
 
 same_number : {version other : Text} {n m : ℤ} {b b' : Bool} → Answers version other n b → Answers version other m b'
     → ¬ (IsMemory n) → ¬ (IsMemory m) → n ≡ m
-same_number p q some some' = ⊎_elim
-    (λ ok. ⊎_elim (λ ok'. ok ∙ sym ok') (λ fault. absurd (some' (inr (inl (unless_memory q p ok (not_ok _ fault)))))) q.numbers)
-    (λ fault. ⊎_elim (λ ok. absurd (some (inr (inl (unless_memory p q ok (not_ok _ fault))))))
-    (λ fault'.
-    let r = p.refused (not_ok _ fault) in
-    let r' = moved p q (not_ok _ fault) (not_ok _ fault') in
-    version_once _ _ _ r.not_utf8 r'.not_utf8 (λ utf8 is. absurd (some (inr (inl (r.accepted is.0 utf8 is.1)))))
-    (λ utf8 _. let (e, is, eq) = r.refused utf8 (λ e. some (inr (inl e))) in (Err e, is, eq))
-    (λ utf8 _. let (e, is, eq) = r'.refused utf8 (λ e. some' (inr (inl e))) in (Err e, is, eq)))
-    q.numbers)
-    p.numbers
+same_number {n = n} {m = m} p q some some' =
+    known (λ other.
+    let wrong : n ≢ number.ok = λ ok. some' (inr (inl (unless_memory q p ok (λ ok'. other (ok ∙ sym ok'))))) in
+    let wrong' : m ≢ number.ok = λ ok. some (inr (inl (unless_memory p q ok wrong))) in
+    let r = p.refused wrong in
+    let r' = moved p q wrong wrong' in
+    other (version_once _ r.not_utf8 r'.not_utf8 (λ utf8 is. absurd (some (inr (inl (r.accepted is.0 utf8 is.1)))))
+    (of_fault _ (λ utf8 _. r.refused utf8)) (of_fault _ (λ utf8 _. r'.refused utf8)) some some'))
 
 pub returns : goal.returns
 returns c =
@@ -76,26 +57,19 @@ returns c =
     let p = n.ensures in
     let q = m.ensures in
     let a : Answers c.args.version.now c.args.other.now n.result n.new.in_other =
-    record { numbers = p.numbers; utf8 = p.both_utf8; read = p.both_read; refused = p.refused; text = p.in_other } in
+    assumption p in
     let b : Answers c.args.version.now c.args.other.now m.result m.new.in_other =
-    record { numbers = q.numbers; utf8 = q.both_utf8; read = q.both_read; refused = q.refused; text = q.in_other } in
-    let as_it_is : to_z w32 (of_z w32 n.result) ≡ n.result = search rules in
-    let as_it_is' : to_z w32 (of_z w32 m.result) ≡ m.result = search rules in
-    let output : n.result ≡ m.result → (n.new.order ≡ m.new.order) × (n.new.in_other ≡ m.new.in_other) = λ same. ⊎_elim
-    (λ ok.
-    let ok' = sym same ∙ ok in
-    let ((v, spelled), (w, spelled')) = p.both_read ok in (
-      p.precedence ok v w spelled spelled' ∙ sym (q.precedence ok' v w spelled spelled'),
-      p.in_other_unchanged ok ∙ c.requires.in_other ∙ sym (q.in_other_unchanged ok'),
-    ))
-    (λ fault.
-    let wrong = not_ok _ fault in
-    let wrong' = λ (e : m.result ≡ number.ok). wrong (same ∙ e) in
-    (p.order_unchanged wrong ∙ c.requires.order ∙ sym (q.order_unchanged wrong'), same_text a b wrong wrong'))
-    p.numbers in
+    assumption q in
+    let as_it_is : IsItself n.result = search rules in
+    let as_it_is' : IsItself m.result = search rules in
     rw (as_it_is, as_it_is') (record {
-      one = are_one exact (number.ok ∷ text_errors) n.result m.result _ (sorted _ p.numbers) (sorted _ q.numbers)
-          (once a b) (once b a) (apart _) (λ _ _. output)
-          (λ _ _ some some'. let same = same_number a b some some' in (same, output same));
+      one = are_one (number.ok ∷ version_faults) exact refl refl p.numbers q.numbers (once a b) (once b a) (λ _ _. same_number a b)
+          (λ _. by_ok n.result m.result
+          (λ ok ok'.
+          let ((v, spelled), (w, spelled')) = p.both_read ok in (
+            p.precedence ok v w spelled spelled' ∙ sym (q.precedence ok' v w spelled spelled'),
+            p.in_other_unchanged ok ∙ c.requires.in_other ∙ sym (q.in_other_unchanged ok'),
+          ))
+          (λ no no'. (p.order_unchanged no ∙ c.requires.order ∙ sym (q.order_unchanged no'), same_text a b no no')));
       in_other = same_text a b;
     })

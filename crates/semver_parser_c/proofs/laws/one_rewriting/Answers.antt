@@ -1,9 +1,9 @@
-use Rattle.std.proofs.Common.{◌∙◌, rules, sym, refl}
+use Rattle.std.proofs.Common.{◌∙◌, ◌∷◌, ap, inl, rules, sym, refl}
 use Rattle.semver_parser.specs.PrintedRanges.{set_text}
-use Rattle.semver_parser_c.specs.Printing.{Puts}
-use Rattle.semver_parser_c.proofs.OneAnswer.{uncast}
-use Rattle.semver_parser_c.proofs.OnePutting.{put_once}
-use Rattle.semver_parser_c.proofs.OneRewriting.{is_fault, not_ok, rewritten_once}
+use Rattle.semver_parser_c.specs.Numbers as number
+use Rattle.semver_parser_c.proofs.OneAnswer.{rewrite_exact, text_once, uncast}
+use Rattle.semver_parser_c.proofs.OnePutting.{put_are_one, put_once}
+use Rattle.semver_parser_c.proofs.OneRewriting.{rewrite_faults, same_set}
 use Rattle.semver_parser_c.proofs.laws.one_rewriting.Goals as goal
 
 pub returns : goal.returns
@@ -13,13 +13,15 @@ returns c =
     let p = n.ensures in
     let q = m.ensures in
     record {
-      one = uncast n.result m.result (search rules) (search rules) (rewritten_once _ c.args.exact c.args.text.now n.result m.result
-          (λ set. Puts (set_text set) c.args.out.now n.new.out n.new.length n.result)
-          (λ set. Puts (set_text set) c.args.other_out.now m.new.out m.new.length m.result)
-          _ p.numbers q.numbers p.refusals q.refusals p.rewritten q.rewritten
-          (λ one one' _. (
-            p.room_unchanged (not_ok _ one) ∙ c.requires.room ∙ sym (q.room_unchanged (not_ok _ one')),
-            p.length_unchanged (is_fault _ one) ∙ c.requires.length ∙ sym (q.length_unchanged (is_fault _ one')),
+      one = uncast n.result m.result (search rules) (search rules)
+          (put_are_one (number.ok ∷ number.no_room ∷ rewrite_faults) rewrite_faults rewrite_exact number.range_out_of_memory refl refl refl refl
+          (inl refl) p.numbers q.numbers (text_once p.refusals q.refusals) (text_once q.refusals p.refusals)
+          (λ no no' fault fault'. (
+            p.room_unchanged no ∙ c.requires.room ∙ sym (q.room_unchanged no'),
+            p.length_unchanged fault ∙ c.requires.length ∙ sym (q.length_unchanged fault'),
           ))
-          (λ set a b. put_once refl c.requires.room a b));
+          (λ put put'.
+          let (r, is, tree, spells, fit, puts) = p.rewritten put in
+          let (s, is', other, spells', fit', puts') = q.rewritten put' in
+          put_once (ap set_text (same_set c.args.exact _ _ r s tree other is is' spells spells')) c.requires.room puts puts'));
     }
