@@ -12,3 +12,4 @@ mod SortedLineSteps
 mod KeptAfter
 mod TakenPieces
 mod PieceLaws
+mod ExtremeLaws

@@ -3,6 +3,7 @@
 //! which versions meet a range set.
 #![tactic(auto)]
 
+mod extreme_pieces;
 mod extremes;
 mod filter;
 mod judging;
@@ -15,6 +16,7 @@ mod pieces;
 mod precedence;
 mod sorting;
 
+pub use extremes::Extreme;
 pub use filter::{Filter, filter_text};
 pub use judging::Judged;
 pub use lines::LineError;
