@@ -1,5 +1,5 @@
 -- Which lines are kept after one of some prefixes, prefix by prefix.
-use Rattle.std.proofs.Common.{◌≡◌, ◌⊎◌, ⊎_elim, ◌∙◌, ◌++◌, ◌∷◌, ◌≤◌, ◌<◌, ◌-◌, [], List, ℕ, true, false, refl, sym, inl, inr, subst, arith}
+use Rattle.std.proofs.Common.{◌≡◌, ◌∙◌, ◌++◌, ◌∷◌, ◌≤◌, ◌<◌, ◌-◌, [], List, ℕ, true, false, refl, sym, inl, inr, subst, arith}
 use Rattle.std.proofs.Common.{String, Global, string_bytes, map, length, get_or, take, drop, ap₂}
 use Rattle.std.proofs.lemmas.Grind.{common_steps}
 use Rattle.std.specs.Prelude.{IsTrue}
@@ -10,9 +10,8 @@ use Rattle.semver_parser.specs.VersionGrammar.{SpellsVersion}
 use Rattle.semver_parser.specs.Outlines.{OutlineValue}
 use Rattle.release_filter.specs.Filters.{FilterValue, passes}
 use Rattle.release_filter.specs.Judging.{IsJudged}
-use Rattle.release_filter.specs.KeptLines.{IsKeptLine, line_text}
-use Rattle.release_filter.proofs.LineReading.{LineIsJudged}
-use Rattle.release_filter.specs.Pieces.{HasVersion, HoldsKept, IsKeptAfter, JudgesBy, SpellsAfter, asked}
+use Rattle.release_filter.specs.KeptLines.{line_text}
+use Rattle.release_filter.specs.Pieces.{HasVersion, IsKeptAfter, JudgesBy, SpellsAfter, asked}
 use Rattle.release_filter.specs.declared.judging.Judged.{Judged}
 use Rattle.release_filter.specs.declared.judging.Judged.TheVariants.{NoVersion, DoesNotPass, Passes}
 
@@ -24,7 +23,7 @@ one_after same prefix line v w a b =
     let text = append_cancel_left prefix a.0 b.0 (sym a.1 ∙ b.1) in
     same v w b.0 (subst (λ t. SpellsVersion v t) text a.2) b.2
 
-pub one_had : OneVersion → (prefixes : List Text) (line : List ℕ) (v w : VersionValue) → HasVersion prefixes line v → HasVersion prefixes line w → v ≡ w
+one_had : OneVersion → (prefixes : List Text) (line : List ℕ) (v w : VersionValue) → HasVersion prefixes line v → HasVersion prefixes line w → v ≡ w
 one_had same [] line v w a b = absurd a
 one_had same (prefix ∷ prefixes) line v w (inl a) (inl b) = one_after same prefix line v w a b
 one_had same (prefix ∷ prefixes) line v w (inl a) (inr (none, b)) = absurd (none v a)
@@ -37,7 +36,7 @@ pub judged_after : (filter : FilterValue) (prefix : Text) (line : List ℕ) (tex
 judged_after filter prefix line text NoVersion e none =
     λ w s. none (w, subst (λ t. SpellsVersion w t) (append_cancel_left prefix s.0 text (sym s.1 ∙ e)) s.2)
 judged_after filter prefix line text DoesNotPass e j = (j.0.0, (text, e, j.0.1), j.1 j.0.0 j.0.1)
-judged_after filter prefix line text (Passes o) e j = (j.0.0, (text, e, j.0.1), j.1 j.0.0 j.0.1, (text, j.0, j.0.1))
+judged_after filter prefix line text (Passes o) e j = (j.0.0, (text, e, j.0.1), j.1 j.0.0 j.0.1)
 
 pub no_text : (prefix : Text) (line : List ℕ) → ((text : Text) → ¬ (line_text line ≡ prefix ++ text)) → (w : VersionValue) → ¬ (SpellsAfter prefix line w)
 no_text prefix line none w s = none s.0 s.1
@@ -47,7 +46,7 @@ pub decided : (filter : FilterValue) (prefix : Text) (prefixes : List Text) (lin
     → JudgesBy (SpellsAfter prefix line) filter r → JudgesBy (HasVersion (prefix ∷ prefixes) line) filter r
 decided filter prefix prefixes line NoVersion some j = absurd (some refl)
 decided filter prefix prefixes line DoesNotPass some j = (j.0, inl j.1, j.2)
-decided filter prefix prefixes line (Passes o) some j = (j.0, inl j.1, j.2, j.3)
+decided filter prefix prefixes line (Passes o) some j = (j.0, inl j.1, j.2)
 
 -- after another one the next prefix is asked
 pub next : (filter : FilterValue) (prefix : Text) (prefixes : List Text) (line : List ℕ) (r : Judged)
@@ -59,13 +58,13 @@ next filter prefix prefixes line NoVersion none j = no_version
     no_version w (inl a) = none w a
     no_version w (inr (other, a)) = j w a
 next filter prefix prefixes line DoesNotPass none j = (j.0, inr (none, j.1), j.2)
-next filter prefix prefixes line (Passes o) none j = (j.0, inr (none, j.1), j.2, j.3)
+next filter prefix prefixes line (Passes o) none j = (j.0, inr (none, j.1), j.2)
 
 pub only : (filter : FilterValue) (prefix : Text) (line : List ℕ) (r : Judged) → JudgesBy (SpellsAfter prefix line) filter r
     → JudgesBy (HasVersion (prefix ∷ []) line) filter r
 only filter prefix line NoVersion j = next filter prefix [] line NoVersion j (λ w a. a)
 only filter prefix line DoesNotPass j = (j.0, inl j.1, j.2)
-only filter prefix line (Passes o) j = (j.0, inl j.1, j.2, j.3)
+only filter prefix line (Passes o) j = (j.0, inl j.1, j.2)
 
 -- a line is kept exactly if its version passes
 pub isnt_kept : OneVersion → (filter : FilterValue) (prefixes : List Text) (line : List ℕ) (r : Judged)
@@ -97,34 +96,3 @@ pub some_asked : (filter : FilterValue) (prefixes : List (String Global)) (line 
     → JudgesBy (HasVersion (texts prefixes) line) filter r → JudgesBy (HasVersion (asked (texts prefixes)) line) filter r
 some_asked filter [] line r some j = absurd (omega arith)
 some_asked filter (prefix ∷ prefixes) line r some j = j
-
--- ---- a line that is judged by its outline
-
--- so is a line kept where no prefix is asked for
-kept_alone : (filter : FilterValue) (line : Text) → IsKeptAfter filter ([] ∷ []) line → IsKeptLine (passes filter) [] line
-kept_alone filter line (v, inl (text, at, spells), met) = (v, (text, at, spells, met))
-kept_alone filter line (v, inr (none, a), met) = absurd a
-
-pub alone : (filter : FilterValue) (line : Text) (outline : OutlineValue) → LineIsJudged (passes filter) [] line (Passes outline)
-    → IsKeptAfter filter ([] ∷ []) line
-alone filter line outline (text, at, (of, told)) = (of.0, inl (text, at, of.1), told of.0 of.1)
-
-pub isnt_alone : (filter : FilterValue) (line : Text) (said : Judged) → ((o : OutlineValue) → ¬ (said ≡ Passes o))
-    → LineIsJudged (passes filter) [] line said → ¬ (IsKeptAfter filter ([] ∷ []) line)
-isnt_alone filter line NoVersion fails j kept = j (kept_alone filter line kept)
-isnt_alone filter line DoesNotPass fails j kept = j (kept_alone filter line kept)
-isnt_alone filter line (Passes o) fails j kept = fails o refl
-
--- ---- the versions of kept lines
-
-pub none_held : OneVersion → (filter : FilterValue) (prefixes : List (String Global)) (line : Text) (said : Judged)
-    → (said ≡ NoVersion) ⊎ (said ≡ DoesNotPass) → JudgesBy (HasVersion (asked (texts prefixes)) line) filter said
-    → (v : VersionValue) → ¬ (HoldsKept filter prefixes line v)
-none_held same filter prefixes line NoVersion either j v has = j v has.0
-none_held same filter prefixes line DoesNotPass either j v has =
-    isnt_kept same filter (asked (texts prefixes)) line DoesNotPass (λ o e. cc) j (v, has.0, has.1)
-none_held same filter prefixes line (Passes o) either j v has = absurd (⊎_elim (λ none. cc) (λ fails. cc) either)
-
-pub one_held : OneVersion → (filter : FilterValue) (prefixes : List (String Global)) (line : Text) (v w : VersionValue)
-    → HoldsKept filter prefixes line v → HoldsKept filter prefixes line w → v ≡ w
-one_held same filter prefixes line v w a b = one_had same (asked (texts prefixes)) line v w a.0 b.0

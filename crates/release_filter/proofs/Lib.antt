@@ -12,4 +12,3 @@ mod SortedLineSteps
 mod KeptAfter
 mod TakenPieces
 mod PieceLaws
-mod ExtremeLaws

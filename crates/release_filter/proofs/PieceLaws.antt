@@ -4,12 +4,7 @@ use Rattle.std.proofs.Common.{All, ap, ap₂, append_assoc, arith, cond, get_or,
 use Rattle.std.proofs.Common.{Result, Ok, Err, IfOk, IfErr}
 use Rattle.std.specs.List.{AllByRecursion, concat}
 use Rattle.std.specs.Io.BufRead.{take_through, drop_through}
-use Rattle.std.proofs.BufReadLemmas.{take_through-append, through_part}
-use Rattle.std.proofs.lemmas.List.{append-nil, drop-drop, take-append-drop, take_rest}
-use Rattle.std.proofs.Math.Seq.{drop-append_seam}
-use Rattle.std.proofs.Common.{◌+◌, ◌<◌, ◌≤◌, Some, length-drop}
-use Rattle.std.specs.Io.{StartsWith}
-use Rattle.std.proofs.Common.{drop}
+use Rattle.std.proofs.BufReadLemmas.{through_part}
 use Rattle.std.proofs.Math.Bool.{and-false}
 use Rattle.std.proofs.lemmas.Grind.{common_steps}
 use Rattle.std.proofs.lemmas.List.Folds.{concat-append}
@@ -17,17 +12,10 @@ use Rattle.std.proofs.lemmas.List.Elements.{All-same, All-tail}
 use Rattle.semver_parser.specs.Texts.{Text, is_empty}
 use Rattle.release_filter.specs.KeptLines.{AreThose, lines_of}
 use Rattle.release_filter.specs.Pieces.{AppendsKept, IsKept, LinesValue, Takes, after_mark, begun, marked_off, without_mark}
-use Rattle.release_filter.specs.Steps.Reading.{IsWholeLine, ReadsLine}
-use Rattle.std.specs.declared.cmp.Ordering.{Ordering}
-use Rattle.std.proofs.Common.{None, Option, drop_of_length-le, rules}
-use Rattle.std.specs.Option.{is_some}
-use Rattle.release_filter.specs.Extremes.{HasNone, IsGreatestBy}
-use Rattle.semver_parser.specs.Versions.{PlainVersion, VersionValue}
-use Rattle.semver_parser.specs.declared.version.Version.{Version}
-use Rattle.release_filter.proofs.ExtremeLines.{IsKnown, Stands}
-use Rattle.release_filter.proofs.LineSteps.{at_last, first_line, those_append}
+use Rattle.release_filter.specs.Steps.Reading.{IsWholeLine}
+use Rattle.release_filter.proofs.LineSteps.{first_line, those_append}
 use Rattle.release_filter.proofs.Passing.{not_both}
-use Rattle.release_filter.proofs.TakenPieces.{NoEnd, as_asked, left_of}
+use Rattle.release_filter.proofs.TakenPieces.{NoEnd, as_asked}
 
 -- ---- one outcome
 
@@ -85,7 +73,7 @@ one_appending s text old new other (kept, those, appended) (kept', those', appen
 
 -- ---- a whole text
 
-pub lines_before : (line rest : Text) → IsWholeLine line → lines_of (line ++ rest) ≡ line ∷ lines_of rest
+lines_before : (line rest : Text) → IsWholeLine line → lines_of (line ++ rest) ≡ line ∷ lines_of rest
 lines_before line rest whole =
     let first = through line rest whole in
     let some : 0 < length (line ++ rest) = omega (arith, whole.0, length-append line rest) in
@@ -201,74 +189,3 @@ two_finished s r t u old before new other states bytes (a, is) (b, so) =
     let on_state = subst (λ x. AppendsKept x (after_mark x.at_front x.unended) before other) (sym states) b in
     let on_bytes = subst (λ x. AppendsKept s (after_mark s.at_front s.unended) x other) (sym bytes) on_state in
     (is ∙ ap begun states ∙ sym so, one_appending s (after_mark s.at_front s.unended) old new other a on_bytes)
-
--- ---- the first line of some bytes
-
-pub begins_with : (bytes line : Text) → StartsWith bytes line → IsWholeLine line → line ≡ take_through 10 bytes
-begins_with bytes line begins whole =
-    let split = sym (take-append-drop (length line) bytes) ∙ ap (λ l. l ++ drop (length line) bytes) begins in
-    sym (ap (take_through 10) split ∙ (through line (drop (length line) bytes) whole).0)
-
-pub is_one : (bytes : Text) → NoEnd bytes → bytes ≡ take_through 10 bytes
-is_one bytes none = sym (ap (take_through 10) (sym (append-nil bytes)) ∙ take_through-append 10 bytes [] none ∙ append-nil bytes)
-
-split_through : (xs : Text) → take_through 10 xs ++ drop_through 10 xs ≡ xs
-split_through [] = refl
-split_through (x ∷ xs) = at (x == 10) (split_through xs)
-  where
-    at : (b : Bool) → take_through 10 xs ++ drop_through 10 xs ≡ xs
-        → cond b (x ∷ []) (x ∷ take_through 10 xs) ++ cond b xs (drop_through 10 xs) ≡ x ∷ xs
-    at true later = refl
-    at false later = ap (λ l. x ∷ l) later
-
-some_through : (xs : Text) → 0 < length xs → 0 < length (take_through 10 xs)
-some_through [] some = some
-some_through (x ∷ xs) some = at (x == 10)
-  where
-    at : (b : Bool) → 0 < length (cond b (x ∷ []) (x ∷ take_through 10 xs))
-    at true = omega arith
-    at false = omega arith
-
--- the next line of some bytes of which so many were read
-pub reads_next : (bytes line : Text) (taken : ℕ) → taken < length bytes → line ≡ take_through 10 (left_of bytes taken)
-    → (taken + length line ≤ length bytes) × ReadsLine (Some (drop taken bytes)) (Some (drop (taken + length line) bytes)) line
-reads_next bytes line taken more is =
-    let rest = drop taken bytes in
-    let next : line ≡ take_through 10 rest = is ∙ ap (take_through 10) (take_rest bytes taken) in
-    let some : 0 < length rest = omega (arith, length-drop taken bytes) in
-    let split = ap (λ l. l ++ drop_through 10 rest) next ∙ split_through rest in
-    let left = sym (drop-drop (length line) taken bytes) ∙ ap (drop (length line)) (sym split) ∙ drop-append_seam line (drop_through 10 rest) in (
-      omega (arith, ap length split, length-append line (drop_through 10 rest), length-drop taken bytes, more),
-      (next, subst (λ l. 0 < length l) (sym next) (some_through rest some), ap Some left),
-    )
-
--- of a search for the greatest line by an order it does not matter how many lines were read
-pub uncounted : (order : PlainVersion → PlainVersion → Ordering) (Has : Text → VersionValue → Type 0) (bytes : Text) (left : Option Text)
-    (line : Text) (found : Option Version) (count : ℕ) → Stands order Has bytes left line found count → Stands order Has bytes left line found 0
-uncounted order Has bytes left line found count at =
-    record { read = at.read; behind = at.behind; known = at.known; many = omega arith }
-
--- all of the bytes were read
-pub all_read : (order : PlainVersion → PlainVersion → Ordering) (Has : Text → VersionValue → Type 0) (bytes : Text) (taken : ℕ)
-    (line : Text) (found : Option Version) → length bytes ≤ taken → Stands order Has bytes (Some (drop taken bytes)) line found 0
-    → (lines : List Text) × (lines_of bytes ≡ lines) × IsKnown order Has lines line found
-all_read order Has bytes taken line found all at =
-    let none = drop_of_length-le bytes {i = taken} all in
-    let last = at_last bytes (Some (drop taken bytes)) (Some []) at.read at.behind (none, refl) in
-    (at.read, last.0, at.known)
-
-pub is_greatest : (order : PlainVersion → PlainVersion → Ordering) (Has : Text → VersionValue → Type 0) (bytes : Text) (taken : ℕ)
-    (line : Text) (found : Option Version) → length bytes ≤ taken → true ≡ is_some found
-    → Stands order Has bytes (Some (drop taken bytes)) line found 0 → IsGreatestBy order Has (lines_of bytes) line
-is_greatest order Has bytes taken line None all some at = absurd (search rules)
-is_greatest order Has bytes taken line (Some version) all some at =
-    let read = all_read order Has bytes taken line (Some version) all at in
-    subst (λ l. IsGreatestBy order Has l line) (sym read.1) read.2.0
-
-pub is_none : (order : PlainVersion → PlainVersion → Ordering) (Has : Text → VersionValue → Type 0) (bytes : Text) (taken : ℕ)
-    (line : Text) (found : Option Version) → length bytes ≤ taken → false ≡ is_some found
-    → Stands order Has bytes (Some (drop taken bytes)) line found 0 → HasNone Has (lines_of bytes)
-is_none order Has bytes taken line None all none at =
-    let read = all_read order Has bytes taken line None all at in
-    subst (HasNone Has) (sym read.1) read.2
-is_none order Has bytes taken line (Some version) all none at = absurd (search rules)

@@ -1,6 +1,6 @@
 -- What a piece of a text does, line by line.
 use Rattle.std.proofs.Common.{◌≡◌, ◌≢◌, ◌∙◌, ◌++◌, ◌∷◌, ◌≤◌, ◌<◌, ◌+◌, ◌-◌, ◌&&◌, [], List, ℕ, Bool, true, false, refl, sym, inl, inr, subst, arith}
-use Rattle.std.proofs.Common.{length, take, drop, ap, ap₂, append_assoc, append-nil, All, length-append, length-take, length-drop, get_or, cond, ne_eqb, ◌==◌}
+use Rattle.std.proofs.Common.{length, take, drop, ap, append_assoc, append-nil, All, length-append, length-take, length-drop, get_or, cond, ne_eqb, ◌==◌}
 use Rattle.std.specs.List.{AllByRecursion, concat}
 use Rattle.std.specs.Io.{StartsWith}
 use Rattle.std.proofs.lemmas.Grind.{common_steps}
@@ -68,20 +68,10 @@ took_line s end left old new whole none k is =
       prefixes = refl;
     }
 
--- a line was taken of which no byte was taken before
-pub took_whole : (s : LinesValue) (line old new : Text) → IsWholeLine line → s.at_front ≡ false → s.unended ≡ []
-    → Keeps (IsKept s) line old new → Takes s line s old new
-took_whole s line old new whole later none k =
-    let is = ap₂ (λ f l. after_mark f (l ++ line)) (sym later) (sym none) in
-    let same = ap (λ f. record s { at_front = f }) (sym later) in
-    let unended = All-same (λ b. b ≢ 10) s.unended [] none (All-nil (λ b. b ≢ 10)) in
-    subst (λ t. Takes s line t old new) same
-    (took_line s line s.unended old new whole unended (subst (λ l. Keeps (IsKept s) l old new) is k) none)
-
 -- what ends no line was taken
-pub took_rest : (s : LinesValue) (rest left old new : Text) → NoEnd s.unended → NoEnd rest → left ≡ s.unended ++ rest → new ≡ old
-    → Takes s rest (record s { unended = left }) old new
-took_rest s rest left old new none more is same =
+pub took_rest : (s : LinesValue) (rest left old : Text) → NoEnd s.unended → NoEnd rest → left ≡ s.unended ++ rest
+    → Takes s rest (record s { unended = left }) old old
+took_rest s rest left old none more is =
     record {
       lines = [];
       kept = [];
@@ -91,14 +81,14 @@ took_rest s rest left old new none more is same =
         whole = sym is;
       };
       keeps = refl;
-      appended = same ∙ sym (append-nil old);
+      appended = sym (append-nil old);
       at_front = sym (and-true s.at_front);
       filter = refl;
       prefixes = refl;
     }
 
 pub took_nothing : (s : LinesValue) (old : Text) → NoEnd s.unended → Takes s [] s old old
-took_nothing s old none = took_rest s [] s.unended old old none (All-nil (λ b. b ≢ 10)) (sym (append-nil s.unended)) refl
+took_nothing s old none = took_rest s [] s.unended old none (All-nil (λ b. b ≢ 10)) (sym (append-nil s.unended))
 
 -- a value with private fields is seen as this
 pub seen : (inside s t : LinesValue) (piece old new : Text) → inside ≡ s → Takes inside piece t old new → Takes s piece t old new

@@ -1,18 +1,13 @@
 -- Lines that come in pieces: what a piece ends, what is kept of that, and what is left.
 use Rattle.std.specs.Prelude.{◌≡◌, ◌≢◌, ◌⊎◌, ◌&&◌, ℕ, Bool, true, false, List, [], ◌∷◌, ◌++◌}
 use Rattle.std.specs.Prelude.{All, IsTrue, ◌==◌, if◌then◌else◌}
-use Rattle.std.specs.Prelude.{String, map, string_bytes}
-use Rattle.std.specs.Global.{Global}
 use Rattle.std.specs.List.{AllByRecursion, concat}
 use Rattle.semver_parser.specs.Texts.{Text, is_empty}
 use Rattle.semver_parser.specs.Versions.{VersionValue}
-use Rattle.semver_parser.specs.Outlines.{IsOutlineOf}
 use Rattle.semver_parser.specs.VersionGrammar.{SpellsVersion}
 use Rattle.release_filter.specs.Filters.{FilterValue, passes}
 use Rattle.release_filter.specs.declared.judging.Judged.{Judged}
 use Rattle.release_filter.specs.declared.judging.Judged.TheVariants.{NoVersion, DoesNotPass, Passes}
-use Rattle.release_filter.specs.declared.extremes.Extreme.{Extreme}
-use Rattle.release_filter.specs.Extremes.{HasNone, IsGreatestBy, order_of}
 use Rattle.release_filter.specs.KeptLines.{AreThose, line_text, lines_of}
 use Rattle.release_filter.specs.Steps.Reading.{IsWholeLine}
 
@@ -93,26 +88,7 @@ AppendsKept s text old new =
 abbrev pub begun : LinesValue → LinesValue
 begun s = record s { at_front = true; unended = [] }
 
--- ---- of kept lines the one that is wanted
-
--- the line has this version, and it passes
-abbrev pub HasKept : LinesValue → Text → VersionValue → Type 0
-HasKept s line v = HasVersion (asked s.prefixes) line v × IsTrue (passes s.filter v)
-
--- of the kept ones of some lines, the one with the greatest version or the least, as is wanted, and
--- the first of those with an equal one; no bytes if none is kept
-abbrev pub IsExtremeOf : Extreme → LinesValue → List Text → Text → Type 0
-IsExtremeOf wanted s lines found =
-    IsGreatestBy (order_of wanted) (HasKept s) lines found
-    ⊎ (HasNone (HasKept s) lines × (found ≡ []))
-
 -- ---- a means of proof, which no public clause cites
-
--- the same of the prefixes as they are held
-abbrev pub HoldsKept : FilterValue → List (String Global) → Text → VersionValue → Type 0
-HoldsKept filter prefixes line v =
-    HasVersion (asked (map (λ prefix. string_bytes prefix) prefixes)) line v
-    × IsTrue (passes filter v)
 
 -- a line was appended if it is kept
 abbrev pub Keeps : (Text → Type 0) → Text → Text → Text → Type 0
@@ -122,6 +98,4 @@ Keeps IsKept line old new = (IsKept line × (new ≡ old ++ line)) ⊎ ((¬ (IsK
 abbrev pub JudgesBy : (VersionValue → Type 0) → FilterValue → Judged → Type 0
 JudgesBy Has filter NoVersion = (w : VersionValue) → ¬ (Has w)
 JudgesBy Has filter DoesNotPass = (v : VersionValue) × Has v × (passes filter v ≡ false)
-JudgesBy Has filter (Passes outline) =
-    (v : VersionValue) × Has v × IsTrue (passes filter v)
-    × ((text : Text) × IsOutlineOf text outline × SpellsVersion v text)
+JudgesBy Has filter (Passes outline) = (v : VersionValue) × Has v × IsTrue (passes filter v)

@@ -144,7 +144,7 @@ impl Filter {
 
 /// Whether a version is to be taken in place of another, if there is one: it is above that, or,
 /// where the least is wanted, below it.
-pub(crate) fn is_extreme(wanted: Extreme, version: &Version, found: &Option<Version>) -> bool
+fn is_extreme(wanted: Extreme, version: &Version, found: &Option<Version>) -> bool
     ensures { MatchOption found.now (result ≡ true) (λ other. (result ≡ true) ↔
         (order_of wanted (version_value other).plain (version_value version.now).plain ≡ Less)) }
 {

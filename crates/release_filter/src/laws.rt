@@ -1,20 +1,13 @@
 //! Laws of the lines of a text that comes in pieces: each is the contract of a function that does
 //! nothing, or that makes a call twice.
 
-ghost use Rattle.std.specs.Prelude.{◌≡◌, ◌++◌, IfErr, IfOk, List};
-ghost use Rattle.std.specs.List.{AllByRecursion};
+ghost use Rattle.std.specs.Prelude.{◌≡◌, ◌++◌, IfErr, IfOk};
 ghost use Rattle.semver_parser.specs.Texts.{Text};
-ghost use Rattle.release_filter.specs.declared.extremes.Extreme.{Extreme};
-ghost use Rattle.release_filter.specs.KeptLines.{lines_of};
-ghost use Rattle.release_filter.specs.Steps.Reading.{IsWholeLine};
-ghost use Rattle.release_filter.specs.Pieces.{IsExtremeOf};
 ghost use Rattle.release_filter.specs.Pieces.{AppendsKept, LinesValue, Takes, after_mark, begun};
 ghost use Rattle.release_filter.specs.Pieces.{without_mark};
 
-use crate::extremes::Extreme;
 use crate::pieces::{Lines, Stopped};
-use semver_parser::laws;
-use std::alloc::{AllocError, Global};
+use std::alloc::AllocError;
 
 /// However a text is cut into pieces, the kept ones of its lines are appended. It does nothing.
 pub fn pieces_do_not_matter()
@@ -34,21 +27,6 @@ pub fn one_outcome()
     ensures one_appending { (s : LinesValue) (text old new other : Text)
         → AppendsKept s text old new → AppendsKept s text old other → new ≡ other }
 {}
-
-/// Of lines that come in pieces the one with the greatest version, or the least, can be looked for
-/// piece by piece: of what one piece appends it is enough to leave that line.
-pub fn extremes_add_up()
-    ensures added { (wanted : Extreme) (s : LinesValue) (lines : List Text) (best more found : Text)
-        → AllByRecursion IsWholeLine lines → IsExtremeOf wanted s lines best
-        → IsExtremeOf wanted s (lines_of (best ++ more)) found
-        → IsExtremeOf wanted s (lines ++ lines_of more) found }
-    // There is one such line.
-    ensures one { (wanted : Extreme) (s : LinesValue) (lines : List Text) (found other : Text)
-        → IsExtremeOf wanted s lines found → IsExtremeOf wanted s lines other → found ≡ other }
-{
-    laws::precedence_is_total();
-    laws::one_version();
-}
 
 /// `Lines::push` has one answer: equal states and bytes before it are equal after it, both where
 /// the piece was taken and where it was taken as far as to one place.
@@ -81,22 +59,4 @@ pub fn one_finish(
         × (kept.new.items ≡ other.new.items))) }
 {
     (first.finish(kept), second.finish(other))
-}
-
-/// `Lines::keep_extreme` has one answer: of equal lines it leaves equal ones.
-pub fn one_keep_extreme(
-    alloc: Global,
-    lines: &Lines,
-    wanted: Extreme,
-    kept: &mut Vec<u8>,
-    other: &mut Vec<u8>,
-) -> (Result<(), AllocError>, Result<(), AllocError>)
-    ensures one { kept.old.items ≡ other.old.items
-        → IfOk result.0 (λ _. IfOk result.1 (λ _. kept.new.items ≡ other.new.items)) }
-{
-    extremes_add_up();
-    (
-        lines.keep_extreme(alloc, wanted, kept),
-        lines.keep_extreme(alloc, wanted, other),
-    )
 }

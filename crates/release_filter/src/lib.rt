@@ -3,7 +3,6 @@
 //! which versions meet a range set.
 #![tactic(auto)]
 
-mod extreme_pieces;
 mod extremes;
 mod filter;
 mod judging;
@@ -16,7 +15,6 @@ mod pieces;
 mod precedence;
 mod sorting;
 
-pub use extremes::Extreme;
 pub use filter::{Filter, filter_text};
 pub use judging::Judged;
 pub use lines::LineError;

@@ -169,7 +169,7 @@ impl Filter {
 
 /// The version of an outline, without its build.
 #[inline(always)]
-pub(crate) fn without_build(alloc: Global, outline: &Outline<'_>) -> Result<Version, AllocError>
+fn without_build(alloc: Global, outline: &Outline<'_>) -> Result<Version, AllocError>
     ensures { IfOk result (λ version. (text : Text) (v : VersionValue)
         → IsOutlineOf text outline.now → SpellsVersion v text
         → (version_value version).plain ≡ v.plain) }
@@ -188,10 +188,7 @@ pub(crate) fn without_build(alloc: Global, outline: &Outline<'_>) -> Result<Vers
 /// behind the prefix. For speed, where nothing stands before a version its numbers are read first,
 /// and the end of the line is sought behind them.
 #[inline(always)]
-pub(crate) fn first_line<'l>(
-    prefix: &str,
-    bytes: &'l [u8],
-) -> Option<(&'l [u8], Option<Outline<'l>>)>
+fn first_line<'l>(prefix: &str, bytes: &'l [u8]) -> Option<(&'l [u8], Option<Outline<'l>>)>
     ensures none { result ≡ None → All (λ x. x ≢ 10) bytes.now }
     ensures front { IfSome result (λ found. StartsWith bytes.now found.0.now) }
     ensures whole { IfSome result (λ found. IsWholeLine found.0.now) }

@@ -1,22 +1,18 @@
 //! The lines of a text that comes in pieces, and which of them a filter keeps.
 
-ghost use Rattle.std.specs.Prelude.{◌≡◌, ◌≤◌, ◌++◌, [], true, false, length, map, take};
-ghost use Rattle.std.specs.Prelude.{IfErr, IfOk};
-ghost use Rattle.std.specs.Prelude.{◌↔◌, ◌≢◌, ◌∷◌, All, IfSome, MatchOption, None, string_bytes};
-ghost use Rattle.std.specs.Io.{StartsWith};
+ghost use Rattle.std.specs.Prelude.{◌≡◌, ◌≤◌, ◌++◌, [], true, false, length, map, take, IfErr, IfOk};
+ghost use Rattle.std.specs.Prelude.{◌↔◌, string_bytes};
 ghost use Rattle.semver_parser.specs.Texts.{Text};
 ghost use Rattle.release_filter.specs.KeptLines.{line_text};
-ghost use Rattle.release_filter.specs.Pieces.{AppendsKept, HasVersion, IsKeptAfter};
-ghost use Rattle.release_filter.specs.Pieces.{JudgesBy, Keeps};
+ghost use Rattle.release_filter.specs.Pieces.{AppendsKept, HasVersion, IsKeptAfter, JudgesBy, Keeps};
 ghost use Rattle.release_filter.specs.Pieces.{SpellsAfter, Takes, after_mark, asked, begun};
 ghost use Rattle.release_filter.specs.Pieces.{without_mark};
-ghost use Rattle.release_filter.specs.Steps.Reading.{IsLineOutlined, IsWholeLine};
+ghost use Rattle.release_filter.specs.Steps.Reading.{IsWholeLine};
 
 use crate::filter::Filter;
 use crate::judging::Judged;
-use crate::next_line::{first_line, text_behind, whole_line};
+use crate::next_line::{text_behind, whole_line};
 use semver_parser::laws;
-use semver_parser::version::Outline;
 use std::alloc::{AllocError, Global};
 use std::marker::Model;
 use thiserror::Error;
@@ -43,7 +39,7 @@ pub struct Stopped {
 /// A byte order mark at the front of the text is dropped, also one that is cut between pieces.
 #[derive(Drop)]
 pub struct Lines {
-    pub(crate) chosen: LineFilter,
+    chosen: LineFilter,
     at_front: bool,
     unended: Vec<u8>,
 }
@@ -84,9 +80,8 @@ impl Lines {
     }
 
     // Answer: law release_filter::laws::one_push.
-    /// Takes the next bytes of the text, and appends the kept ones of the lines that these end:
-    /// with a filter of `^1`, `1.4.0\n2.0.0\n1.` appends `1.4.0\n`, and then `9.2\n` appends
-    /// `1.9.2\n`.
+    /// Takes the next bytes of the text, and appends the kept ones of the lines that these end: with
+    /// a filter of `^1`, `1.4.0\n2.0.0\n1.` appends `1.4.0\n`, and then `9.2\n` appends `1.9.2\n`.
     ///
     /// # Errors
     ///
@@ -106,12 +101,11 @@ impl Lines {
     {
         let _ = &self.unended;
         let mut taken = 0;
-        'lines: loop {
-            match self.take_first(&piece[taken..], kept) {
-                Ok(Some(end)) => taken += end.len(),
-                Ok(None) => break,
-                Err(_) => return Err(Stopped { taken }),
+        'lines: while let Some(line) = whole_line(&piece[taken..]) {
+            if self.take_line(line, kept).is_err() {
+                return Err(Stopped { taken });
             }
+            taken += line.len();
         }
         if self.unended.extend_from_slice(&piece[taken..]).is_err() {
             return Err(Stopped { taken });
@@ -125,12 +119,12 @@ impl Lines {
     ///
     /// # Errors
     ///
-    /// `AllocError` if the memory runs out. Then nothing was appended, and it can be called again.
+    /// `AllocError` if the memory runs out. Then nothing was appended, and the call can be repeated.
     ///
     /// # Details
     ///
-    /// The line is appended as it stands, with no line feed added. Then no byte of a text was
-    /// taken, as after [`Lines::new`], so that another text can be pushed.
+    /// The line is appended as it stands, with no line feed added. Then no byte of a text was taken,
+    /// as after [`Lines::new`], so that another text can be pushed.
     pub fn finish(&mut self, kept: &mut Vec<u8>) -> Result<(), AllocError>
         ensures keeps { IfOk result (λ _. AppendsKept self.old
             (after_mark self.old.at_front self.old.unended) kept.old.items kept.new.items) }
@@ -145,40 +139,8 @@ impl Lines {
         Ok(())
     }
 
-    /// Takes the bytes up to the first end of a line, if there is one, and returns them; the line
-    /// is appended if it is kept. For speed, a line of which no byte was taken before is judged
-    /// where it stands.
-    #[inline(always)]
-    fn take_first<'p>(
-        &mut self,
-        bytes: &'p [u8],
-        kept: &mut Vec<u8>,
-    ) -> Result<Option<&'p [u8]>, AllocError>
-        ensures takes { IfOk result (λ found. MatchOption found
-            (All (λ byte. byte ≢ 10) bytes.now × (self.new ≡ self.old)
-            × (kept.new.items ≡ kept.old.items))
-            (λ end. StartsWith bytes.now end.now × IsWholeLine end.now
-            × Takes self.old end.now self.new kept.old.items kept.new.items)) }
-        ensures unchanged { IfErr result (λ _. (self.new ≡ self.old)
-            × (kept.new.items ≡ kept.old.items)) }
-    {
-        if self.at_front || !self.unended.is_empty() {
-            let Some(end) = whole_line(bytes) else {
-                return Ok(None);
-            };
-            self.take_line(end, kept)?;
-            return Ok(Some(end));
-        }
-        let Some((line, is_kept)) = self.chosen.first_judged(bytes) else {
-            return Ok(None);
-        };
-        if is_kept {
-            kept.extend_from_slice(line)?;
-        }
-        Ok(Some(line))
-    }
-
     /// Takes the end of the line that has not ended, and appends the line if it is kept.
+    #[inline(always)]
     fn take_line(&mut self, end: &[u8], kept: &mut Vec<u8>) -> Result<(), AllocError>
         requires { IsWholeLine end.now }
         ensures takes { IfOk result (λ _. Takes self.old end.now self.new kept.old.items
@@ -206,30 +168,12 @@ impl Lines {
 
 /// Which lines are kept.
 #[derive(Drop)]
-pub(crate) struct LineFilter {
-    pub(crate) filter: Filter,
-    pub(crate) prefixes: Vec<String>,
+struct LineFilter {
+    filter: Filter,
+    prefixes: Vec<String>,
 }
 
 impl LineFilter {
-    /// The first line with its end, if some line has one, and whether it is kept. For speed, where
-    /// nothing stands before a version its numbers are read first.
-    #[inline(always)]
-    fn first_judged<'l>(&self, bytes: &'l [u8]) -> Option<(&'l [u8], bool)>
-        ensures none { result ≡ None → All (λ byte. byte ≢ 10) bytes.now }
-        ensures front { IfSome result (λ found. StartsWith bytes.now found.0.now) }
-        ensures whole { IfSome result (λ found. IsWholeLine found.0.now) }
-        ensures judged { IfSome result (λ found. (found.1 ≡ true) ↔ IsKeptAfter self.now.filter
-            (asked (map (λ prefix. string_bytes prefix) self.now.prefixes.items)) found.0.now) }
-    {
-        if self.prefixes.is_empty() {
-            let (line, outline) = first_line("", bytes)?;
-            return Some((line, is_kept_alone(&self.filter, outline)));
-        }
-        let line = whole_line(bytes)?;
-        Some((line, self.is_kept(line)))
-    }
-
     /// Appends a line if it is kept.
     #[inline(always)]
     fn keep(&self, line: &[u8], kept: &mut Vec<u8>) -> Result<(), AllocError>
@@ -256,7 +200,7 @@ impl LineFilter {
 
     /// What the filter says of a line, after the first prefix after which it spells a version.
     #[inline(always)]
-    pub(crate) fn judge_line<'l>(&self, line: &'l [u8]) -> Judged<'l>
+    fn judge_line<'l>(&self, line: &'l [u8]) -> Judged<'l>
         ensures { JudgesBy (HasVersion (asked (map (λ prefix. string_bytes prefix)
             self.now.prefixes.items)) line.now) self.now.filter result }
     {
@@ -279,15 +223,6 @@ fn judge_after_each<'l>(filter: &Filter, prefixes: &[String], line: &'l [u8]) ->
             judged => judged,
         },
     }
-}
-
-/// Whether a line of this outline is kept where nothing stands before the version.
-#[inline(always)]
-fn is_kept_alone(filter: &Filter, outline: Option<Outline<'_>>) -> bool
-    ensures { (line : Text) → IsLineOutlined [] line outline.entry
-        → (result ≡ true) ↔ IsKeptAfter filter.now ([] ∷ []) line }
-{
-    matches!(filter.judge_outline(outline), Judged::Passes(_))
 }
 
 /// What a filter says of a line after a prefix.
