@@ -1,6 +1,7 @@
 //! Laws on tokens, parsers, versions and outlines.
 
-ghost use Rattle.std.specs.Prelude.{◌≡◌, ◌+◌, ◌<◌, ◌^◌, IsOk, alloc_error, length, option_map};
+ghost use Rattle.std.specs.Prelude.{◌≡◌, ℕ, ◌+◌, ◌<◌, ◌^◌, IsOk, alloc_error, length};
+ghost use Rattle.std.specs.Prelude.{option_map};
 ghost use Rattle.semver_texts.specs.Texts.{BeginsWithNumbers, Text};
 ghost use Rattle.semver_texts.specs.VersionViews.{identifier_value, version_value};
 ghost use Rattle.semver_tokens.specs.ParserState.{OutOfMemory};
@@ -116,7 +117,7 @@ pub fn one_outline_bytes(input: &[u8]) -> (Option<Outline<'_>>, Option<Outline<'
     (version::outline_bytes(input), version::outline_bytes(input))
 }
 
-/// What is outlined after its numbers has one outline, or none, if a text begins with them.
+/// What is outlined after its numbers has one outline, or none, if some text begins with them.
 pub fn one_outline_behind_numbers(
     major: u64,
     minor: u64,
@@ -125,8 +126,8 @@ pub fn one_outline_behind_numbers(
     rest: &[u8],
 ) -> (Option<Outline<'_>>, Option<Outline<'_>>)
     requires fits { numbers_end + length rest.now < 2 ^ 64 }
-    ensures one { (text : Text) → BeginsWithNumbers text major minor patch rest.now
-        → length text ≡ numbers_end + length rest.now → result.0 ≡ result.1 }
+    ensures one { (text : Text) (before : ℕ) → BeginsWithNumbers text major minor patch rest.now
+        → numbers_end + length rest.now ≡ before + length text → result.0 ≡ result.1 }
 {
     (
         version::outline_behind_numbers(major, minor, patch, numbers_end, rest),

@@ -1,6 +1,6 @@
-//! Tests of the library that need more than data, on what its calls write and read: printed values,
-//! whole writes, the report and filters of lines, at readers and writers that fail. It writes what
-//! it found. What that has to be is in the file beside this crate: it comes from the written rules.
+//! Tests of the library that need more than data, on what its calls write and append: printed
+//! values, whole writes and the report, at writers that fail, and the lines of a text in pieces. It
+//! writes what it found. What that has to be is in the file beside this crate: it comes from the written rules.
 #![tactic(auto)]
 
 mod lines;
@@ -17,7 +17,8 @@ fn main(rt: HostRuntime) -> io::Result<()> {
     printing::write_errors(&rt, rt.alloc())?;
     writes::write_writes(&rt, rt.alloc())?;
     reports::write_report(&rt, rt.alloc())?;
-    lines::write_lines(&rt, rt.alloc())?;
-    lines::write_halts(&rt, rt.alloc())?;
-    lines::write_faulty_lines(&rt, rt.alloc())
+    lines::write_cuts(&rt, rt.alloc())?;
+    lines::write_strict_lines(&rt, rt.alloc())?;
+    lines::write_invalid_lines(&rt, rt.alloc())?;
+    lines::write_prefixes(&rt, rt.alloc())
 }

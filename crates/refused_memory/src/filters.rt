@@ -1,8 +1,7 @@
 //! The filter.
 
 use super::Ending;
-use super::fixed::Fixed;
-use release_filter::{Filter, LineError, PreReleases, filter_text, write_lines};
+use release_filter::{Filter, Lines, PreReleases, Wanted, filter_text};
 use semver_parser::version::Version;
 use semver_parser::{Compat, RangeError, parser, version};
 use std::alloc::Global;
@@ -36,7 +35,7 @@ fn is_wanted(version: &Version) -> bool {
 }
 
 /// The filter of the calls below: `>=1.2.0-rc <1.10.0`, as stated.
-pub fn of_lines(alloc: Global) -> Result<Filter, Ending> {
+pub fn as_stated(alloc: Global) -> Result<Filter, Ending> {
     match Filter::new(
         alloc,
         ">=1.2.0-rc <1.10.0",
@@ -101,115 +100,89 @@ pub fn read_without_requests(alloc: Global) -> Ending {
     }
 }
 
-/// The lines that are filtered. The pre-releases of 1.3.0 and 2.0.0 aren't kept, and take nothing.
-const LINES: &[u8] = b"1.2.0-rc.b\n1.3.0-rc.a\n2.0.0-rc.a\n1.9.0+build\n";
-
-/// What `>=1.2.0-rc <1.10.0` keeps of them, as stated.
-const KEPT_LINES: &[u8] = b"1.2.0-rc.b\n1.9.0+build\n";
-
-/// The first line, and the last.
-const FIRST_LINE: &[u8] = b"1.2.0-rc.b\n";
-
-const LAST_LINE: &[u8] = b"1.9.0+build\n";
-
-/// Two of the lines are copied. A refusal loses none: what was written before it and what is kept
-/// of the lines that are left is what is kept of all.
-pub fn copied_lines(alloc: Global, filter: &Filter) -> Ending {
-    let mut input = LINES;
-    let mut out = Fixed::new();
-    let ran = filter.copy_lines(alloc, &mut input, &mut out);
-    let written = out.as_bytes();
-    match ran {
-        Ok(true) => Ending::full_if(written == KEPT_LINES && input.is_empty()),
-        Err(LineError::OutOfMemory) if written.is_empty() => Ending::refused_if(input == LINES),
-        Err(LineError::OutOfMemory) => {
-            Ending::refused_if(written == FIRST_LINE && input == LAST_LINE)
-        }
-        _ => Ending::Wrong,
-    }
+/// Two of the lines are kept, and appended as they are.
+pub fn copied_lines(alloc: Global) -> Ending {
+    let wanted = "1.2.0-rc.b\n1.9.0+build\n";
+    ends(alloc, Wanted::Each, LINES, wanted)
 }
 
-/// The last of the lines is the greatest. A refusal leaves the line that it met, and all behind it.
-///
-pub fn greatest_line(alloc: Global, filter: &Filter) -> Ending {
-    let mut input = LINES;
-    match filter.greatest_line(alloc, &mut input) {
-        Ok(Some(line)) => Ending::full_if(line.as_slice() == LAST_LINE && input.is_empty()),
-        Err(LineError::OutOfMemory) => { Ending::refused_if(input == LINES || input == LAST_LINE) }
-        _ => Ending::Wrong,
-    }
+/// The last of the lines is the greatest.
+pub fn greatest_line(alloc: Global) -> Ending {
+    ends(alloc, Wanted::Greatest, LINES, "1.9.0+build\n")
 }
 
-/// The first of the lines is the least. A refusal leaves the line that it met, and all behind it.
-pub fn least_line(alloc: Global, filter: &Filter) -> Ending {
-    let mut input = LINES;
-    match filter.least_line(alloc, &mut input) {
-        Ok(Some(line)) => Ending::full_if(line.as_slice() == FIRST_LINE && input.is_empty()),
-        Err(LineError::OutOfMemory) => { Ending::refused_if(input == LINES || input == LAST_LINE) }
-        _ => Ending::Wrong,
-    }
+/// The first of the lines is the least.
+pub fn least_line(alloc: Global) -> Ending {
+    ends(alloc, Wanted::Least, LINES, "1.2.0-rc.b\n")
 }
 
-/// The lines are sorted, of which the last has no end and comes in front. Nothing is written before
-/// all are sorted. A refusal leaves a line that it met, or what is behind it.
-pub fn sorted_lines(alloc: Global, filter: &Filter) -> Ending {
-    let lines: &[u8] = b"1.9.0+build\n1.2.0-rc.b";
-    let mut input = lines;
-    let mut out = Fixed::new();
-    match filter.sorted_lines(alloc, &mut input) {
-        Ok(sorted) => {
-            let has_written = write_lines(&mut out, &sorted).is_ok();
-            Ending::full_if(has_written && out.as_bytes() == KEPT_LINES && input.is_empty())
-        }
-        Err(LineError::OutOfMemory) => {
-            Ending::refused_if(
-                input == lines || input == "1.2.0-rc.b".as_bytes() || input.is_empty(),
-            )
-        }
-        _ => Ending::Wrong,
-    }
+/// The lines are sorted: the last has no end, and comes first.
+pub fn sorted_lines(alloc: Global) -> Ending {
+    let sorted = "1.2.0-rc.b\n1.9.0+build\n";
+    ends(alloc, Wanted::Sorted, "1.9.0+build\n1.2.0-rc.b", sorted)
 }
 
 /// More than 20 lines, which are sorted with a buffer. The least of them is the last.
-pub fn many_sorted_lines(alloc: Global, filter: &Filter) -> Ending {
-    let mut input =
+pub fn many_sorted_lines(alloc: Global) -> Ending {
+    ends(
+        alloc,
+        Wanted::Sorted,
         "1.3.0\n1.3.1\n1.3.2\n1.3.3\n1.3.4\n1.3.5\n1.3.6\n1.3.7\n1.3.8\n1.3.9\n1.4.0\n1.4.1\n\
-        1.4.2\n1.4.3\n1.4.4\n1.4.5\n1.4.6\n1.4.7\n1.4.8\n1.4.9\n1.2.0\n"
-            .as_bytes();
-    match filter.sorted_lines(alloc, &mut input) {
-        Ok(sorted) => Ending::full_if(
-            sorted.len() == 21 && sorted.first().is_some_and(|line| is_least_of_many(line)),
-        ),
-        Err(LineError::OutOfMemory) => Ending::refused_if(input.len() % 6 == 0),
-        _ => Ending::Wrong,
+        1.4.2\n1.4.3\n1.4.4\n1.4.5\n1.4.6\n1.4.7\n1.4.8\n1.4.9\n1.2.0\n",
+        "1.2.0\n1.3.0\n1.3.1\n1.3.2\n1.3.3\n1.3.4\n1.3.5\n1.3.6\n1.3.7\n1.3.8\n1.3.9\n1.4.0\n\
+        1.4.1\n1.4.2\n1.4.3\n1.4.4\n1.4.5\n1.4.6\n1.4.7\n1.4.8\n1.4.9\n",
+    )
+}
+
+/// A line without an end is held, and appended at the end of the text.
+pub fn line_without_an_end(alloc: Global) -> Ending {
+    ends(alloc, Wanted::Each, "1.2.0-rc.b", "1.2.0-rc.b")
+}
+
+/// Lines that aren't kept are judged where they are, and take nothing; of lines without a version
+/// the front of the first is held.
+pub fn lines_passed_over(alloc: Global) -> Ending {
+    ends(alloc, Wanted::Each, "2.1.0-a\n\nx\n1.2\n2.1.0\n", "")
+}
+
+/// The lines that are filtered. Those of 2.0.0 and above are not kept.
+const LINES: &str = "1.2.0-rc.b\n2.1.0-rc.a\n2.0.0\n1.9.0+build\n";
+
+/// How the lines of a text end that `<2` filters, with its pre-releases, if this is what they
+/// append. After a refusal the call is repeated, with the bytes that are left: nothing is lost.
+fn ends(alloc: Global, wanted: Wanted, text: &str, appended: &str) -> Ending {
+    let filter = match Filter::new(alloc, "<2", Compat::Cargo, PreReleases::Included) {
+        Ok(filter) => filter,
+        Err(RangeError::OutOfMemory) => return Ending::Refused,
+        Err(_) => return Ending::Wrong,
+    };
+    let mut lines = Lines::new(alloc, filter, Vec::new(alloc), wanted, false);
+    let mut kept = Vec::new(alloc);
+    let piece = text.as_bytes();
+    let mut is_refused = false;
+    if let Err(stopped) = lines.push(alloc, piece, &mut kept) {
+        is_refused = true;
+        if !appended.as_bytes().starts_with(kept.as_slice())
+            || lines
+                .push(alloc, &piece[stopped.taken..], &mut kept)
+                .is_err()
+        {
+            return Ending::Wrong;
+        }
     }
-}
-
-/// Whether it is the last of the many lines.
-fn is_least_of_many(line: &Vec<u8>) -> bool {
-    line.as_slice() == "1.2.0\n".as_bytes()
-}
-
-/// A line without an end isn't shown whole, so it is copied to be judged. What was written before
-/// a refusal is nothing.
-pub fn line_without_an_end(alloc: Global, filter: &Filter) -> Ending {
-    let line = "1.2.0-rc.b".as_bytes();
-    let mut input = line;
-    let mut out = Fixed::new();
-    match filter.copy_lines(alloc, &mut input, &mut out) {
-        Ok(true) => Ending::full_if(out.as_bytes() == line),
-        Err(LineError::OutOfMemory) => Ending::refused_if(out.as_bytes().is_empty()),
-        _ => Ending::Wrong,
+    if lines.finish(alloc, &mut kept).is_err() {
+        if is_refused || lines.finish(alloc, &mut kept).is_err() {
+            return Ending::Wrong;
+        }
+        is_refused = true;
     }
-}
-
-/// Lines that aren't kept are judged where they stand: without a request.
-pub fn lines_passed_over(alloc: Global, filter: &Filter) -> Ending {
-    let mut input = "x\n1.2\n2.0.0-a\n1.10.0\n".as_bytes();
-    let mut out = Fixed::new();
-    match filter.copy_lines(alloc, &mut input, &mut out) {
-        Ok(false) => Ending::full_if(input.is_empty()),
-        _ => Ending::Wrong,
+    if kept.as_slice() != appended.as_bytes() {
+        return Ending::Wrong;
+    }
+    if is_refused {
+        Ending::Refused
+    } else {
+        Ending::Full
     }
 }
 

@@ -60,10 +60,11 @@ fn main(rt: HostRuntime) -> io::Result<()> {
     }
     tell(&rt, &of_versions(rt.alloc()))?;
     tell(&rt, &of_ranges(rt.alloc()))?;
-    match filters::of_lines(rt.alloc()) {
-        Ok(filter) => tell(&rt, &of_lines(rt.alloc(), &filter))?,
-        Err(ending) => tell(&rt, &[("filter_of_lines", ending)])?,
+    match filters::as_stated(rt.alloc()) {
+        Ok(filter) => tell(&rt, &of_filter(rt.alloc(), &filter))?,
+        Err(ending) => tell(&rt, &[("filter_as_stated", ending)])?,
     }
+    tell(&rt, &of_lines(rt.alloc()))?;
     match sets::of_texts(rt.alloc()) {
         Ok((first, second)) => tell(&rt, &of_sets(rt.alloc(), &first, &second))?,
         Err(ending) => tell(&rt, &[("sets_of_texts", ending)])?,
@@ -194,28 +195,25 @@ fn of_ranges(alloc: Global) -> [(&'static str, Ending); 26] {
     ]
 }
 
-/// How each call on versions and lines ends of a filter.
-fn of_lines(alloc: Global, filter: &Filter) -> [(&'static str, Ending); 10] {
+/// How each call on versions ends of a filter.
+fn of_filter(alloc: Global, filter: &Filter) -> [(&'static str, Ending); 3] {
     [
         ("kept_versions", filters::kept_versions(alloc, filter)),
         ("read_version", filters::read_version(alloc, filter)),
         ("no_version_kept", filters::no_version_kept(alloc, filter)),
-        ("copied_lines", filters::copied_lines(alloc, filter)),
-        ("greatest_line", filters::greatest_line(alloc, filter)),
-        ("least_line", filters::least_line(alloc, filter)),
-        ("sorted_lines", filters::sorted_lines(alloc, filter)),
-        (
-            "many_sorted_lines",
-            filters::many_sorted_lines(alloc, filter),
-        ),
-        (
-            "line_without_an_end",
-            filters::line_without_an_end(alloc, filter),
-        ),
-        (
-            "lines_passed_over",
-            filters::lines_passed_over(alloc, filter),
-        ),
+    ]
+}
+
+/// How each filter of lines ends.
+fn of_lines(alloc: Global) -> [(&'static str, Ending); 7] {
+    [
+        ("copied_lines", filters::copied_lines(alloc)),
+        ("greatest_line", filters::greatest_line(alloc)),
+        ("least_line", filters::least_line(alloc)),
+        ("sorted_lines", filters::sorted_lines(alloc)),
+        ("many_sorted_lines", filters::many_sorted_lines(alloc)),
+        ("line_without_an_end", filters::line_without_an_end(alloc)),
+        ("lines_passed_over", filters::lines_passed_over(alloc)),
     ]
 }
 

@@ -2,13 +2,14 @@ mod ExtremeSteps
 mod Tests
 pub mod Passing
 mod KeptVersions
-mod LineReading
-mod ShownLines
 mod NumberedLines
-mod LineSteps
-mod ExtremeLines
-mod SortedSteps
-mod SortedLineSteps
-mod KeptAfter
+mod Prefixes
+mod JudgedLines
+mod Holding
+mod HeldLines
+mod SortedLines
+mod NotedLines
+mod Sorting
 mod TakenPieces
+mod Endings
 mod PieceLaws

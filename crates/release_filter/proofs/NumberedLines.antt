@@ -19,8 +19,8 @@ use Rattle.semver_texts.proofs.Lists.{Passes, passes_append, all_more, by_test}
 use Rattle.semver_texts.proofs.Numerals.{own}
 use Rattle.semver_parser.specs.Outlines.{OutlineValue, IsOutlineOf}
 use Rattle.semver_parser.specs.VersionGrammar.{IsVersionText}
-use Rattle.release_filter.specs.KeptLines.{line_text}
-use Rattle.release_filter.specs.Steps.Reading.{IsWholeLine, IsLineOutlined}
+use Rattle.release_filter.specs.LineTexts.{IsWholeLine, line_text}
+use Rattle.release_filter.specs.Steps.Outlined.{IsOutlined}
 use Rattle.release_filter.proofs.Passing.{not_both}
 
 -- ---- the bytes of numbers, which are no line feed and no carriage return
@@ -156,8 +156,6 @@ module _ (bytes rest back : List ℕ) {major minor patch : ℕ} (n : BeginsWithN
         → length text ≡ length bytes - length rest + length stripped → (found ≡ Some o) ↔ IsOutlineOf text o)
         → ((text : Text) → BeginsWithNumbers text major minor patch stripped
         → length text ≡ length bytes - length rest + length stripped → (found ≡ None) ↔ ¬ (IsVersionText text))
-        → (prefix : Text) → prefix ≡ [] → IsLineOutlined prefix line found
-    outlined None told none prefix empty = λ text e.
-        subst (λ t. ¬ (IsVersionText t)) (e ∙ ap (λ p. p ++ text) empty) ((none (line_text line) text_begins text_len).0 refl)
-    outlined (Some o) told none prefix empty =
-        (line_text line, sym (ap (λ p. p ++ line_text line) empty), (told (line_text line) o text_begins text_len).0 refl)
+        → IsOutlined (line_text line) found
+    outlined None told none = (none (line_text line) text_begins text_len).0 refl
+    outlined (Some o) told none = (told (line_text line) o text_begins text_len).0 refl

@@ -12,7 +12,7 @@ use Rattle.semver_parser.specs.RangeTree.{SetTree}
 use Rattle.semver_parser.specs.declared.Compat.{Compat}
 use Rattle.version_sets.specs.PreReleaseRules.{meant_with, numbers_fit}
 use Rattle.release_filter.specs.declared.judging.Judged.TheVariants.{DoesNotPass, Passes}
-use Rattle.release_filter.specs.Steps.Reading.{IsOutlined}
+use Rattle.release_filter.specs.Steps.Outlined.{IsOutlined}
 use Rattle.version_sets.specs.VersionSets.{has, Fits}
 use Rattle.version_sets.specs.declared.PreReleases.TheVariants.{Excluded}
 use Rattle.release_filter.specs.Filters.{FilterValue, passes}

@@ -1,23 +1,36 @@
 -- That a piece of a text does one thing, and what all of a text does.
-use Rattle.std.proofs.Common.{◌≡◌, ◌≢◌, ◌∙◌, ◌++◌, ◌∷◌, ◌<◌, ◌-◌, ◌&&◌, ◌==◌, [], List, ℕ, Bool, true, false, refl, sym, inl, inr, subst}
-use Rattle.std.proofs.Common.{All, ap, ap₂, append_assoc, arith, cond, get_or, length, length-append, suc, take}
+use Rattle.std.proofs.Common.{◌≡◌, ◌≢◌, ◌∙◌, ◌++◌, ◌∷◌, ◌<◌, ◌≤◌, ◌-◌, ◌&&◌, ◌==◌, [], List, ◌⊎◌, ℕ, Bool, true, false, refl, sym, subst, inl, inr}
+use Rattle.std.proofs.Common.{All, ap, ap₂, append_assoc, append-nil, arith, cond, get_or, length, length-append, length-drop, length-take, suc, take, drop, map, eqb, zero}
 use Rattle.std.proofs.Common.{Result, Ok, Err, IfOk, IfErr}
+use Rattle.std.specs.Cmp.{IsTotalOrder}
 use Rattle.std.specs.List.{AllByRecursion, concat}
 use Rattle.std.specs.Io.BufRead.{take_through, drop_through}
+use Rattle.std.specs.Prelude.{IsTrue, ◌||◌, None}
 use Rattle.std.proofs.BufReadLemmas.{through_part}
 use Rattle.std.proofs.Math.Bool.{and-false}
+use Rattle.std.proofs.Math.Seq.{take-add}
+use Rattle.std.proofs.lemmas.Bool.{cases_lt}
 use Rattle.std.proofs.lemmas.Grind.{common_steps}
-use Rattle.std.proofs.lemmas.List.Folds.{concat-append}
+use Rattle.std.proofs.lemmas.List.{append_cancel_left, take-append-drop}
 use Rattle.std.proofs.lemmas.List.Elements.{All-same, All-tail}
+use Rattle.semver_parser.specs.Precedence.{precedence}
 use Rattle.semver_parser.specs.Texts.{Text, is_empty}
-use Rattle.release_filter.specs.KeptLines.{AreThose, lines_of}
-use Rattle.release_filter.specs.Pieces.{AppendsKept, IsKept, LinesValue, Takes, after_mark, begun, marked_off, without_mark}
-use Rattle.release_filter.specs.Steps.Reading.{IsWholeLine}
-use Rattle.release_filter.proofs.LineSteps.{first_line, those_append}
+use Rattle.release_filter.specs.Counting.{counted}
+use Rattle.release_filter.specs.LineTexts.{AreCut, IsWholeLine, onto_first, after_mark, lines_of, marked_off, without_mark}
+use Rattle.release_filter.specs.Pieces.{Completes, Finishes, LinesValue, RefusesEnd, StopsAs, Takes, begun}
+use Rattle.release_filter.specs.declared.lines.LinesError.{LinesError}
+use Rattle.release_filter.specs.declared.lines.LinesError.TheVariants.{OutOfMemory, NoVersion}
+use Rattle.release_filter.specs.declared.lines.Stopped.{Stopped}
+use Rattle.release_filter.specs.Filters.{FilterValue}
+use Rattle.release_filter.specs.Verdicts.{AreJudged, JudgedLine, has_invalid, invalid, is_invalid}
+use Rattle.release_filter.specs.Wanted.{Answers, Holds, emptied, kept_of}
+use Rattle.release_filter.proofs.Holding.{holds_more, kept_append, one_holding, same_wanted}
+use Rattle.release_filter.proofs.JudgedLines.{OneVersion, judged_more, judged_none, one_judging}
 use Rattle.release_filter.proofs.Passing.{not_both}
-use Rattle.release_filter.proofs.TakenPieces.{NoEnd, as_asked}
+use Rattle.release_filter.proofs.Sorting.{one_answer}
+use Rattle.release_filter.proofs.TakenPieces.{NoEnd, as_chosen, counted_append, marked_append}
 
--- ---- one outcome
+-- ---- one cut
 
 through : (line rest : Text) → IsWholeLine line → (take_through 10 (line ++ rest) ≡ line) × (drop_through 10 (line ++ rest) ≡ rest)
 through line rest (some, stops, ends) = through_part 10 line rest stops ends (λ none. absurd (omega (arith, some, none)))
@@ -41,39 +54,181 @@ same_lines (x ∷ xs) (y ∷ ys) a b f g n m e =
     let later = same_lines xs ys a b f.1 g.1 n m (sym first.1 ∙ ap (drop_through 10) both ∙ other.1) in
     (ap₂ (λ l ls. l ∷ ls) (sym first.0 ∙ ap (take_through 10) both ∙ other.0) later.0, later.1)
 
-same_kept : (IsKept : Text → Type 0) (lines kept other : List Text) → AreThose IsKept lines kept → AreThose IsKept lines other → kept ≡ other
-same_kept IsKept [] kept other a b = a ∙ sym b
-same_kept IsKept (line ∷ lines) kept other (inl (rest, is, whole, those)) (inl (rest', is', whole', those')) =
-    whole ∙ ap (λ l. line ∷ l) (same_kept IsKept lines rest rest' those those') ∙ sym whole'
-same_kept IsKept (line ∷ lines) kept other (inl (rest, is, whole, those)) (inr (isnt, those')) = absurd (isnt is)
-same_kept IsKept (line ∷ lines) kept other (inr (isnt, those)) (inl (rest, is, whole, those')) = absurd (isnt is)
-same_kept IsKept (line ∷ lines) kept other (inr (isnt, those)) (inr (isnt', those')) = same_kept IsKept lines kept other those those'
-
-same_state : (t u : LinesValue) → t.filter ≡ u.filter → t.prefixes ≡ u.prefixes → t.at_front ≡ u.at_front → t.unended ≡ u.unended → t ≡ u
-same_state t u filter prefixes at_front unended =
-    λ i. record { filter = filter i; prefixes = prefixes i; at_front = at_front i; unended = unended i }
-
--- what a piece does is fixed
-pub one_taking : (s t u : LinesValue) (piece old new other : Text) → Takes s piece t old new → Takes s piece u old other
-    → (t ≡ u) × (new ≡ other)
-one_taking s t u piece old new other a b =
-    let cut = same_lines a.lines b.lines t.unended u.unended a.cut.each b.cut.each a.cut.no_end b.cut.no_end
-    (sym a.cut.whole ∙ b.cut.whole) in
-    let those = subst (λ l. AreThose (IsKept s) (marked_off s.at_front l) b.kept) (sym cut.0) b.keeps in
-    let kept = same_kept (IsKept s) (marked_off s.at_front a.lines) a.kept b.kept a.keeps those in
-    let front = a.at_front ∙ ap (λ l. s.at_front && is_empty l) cut.0 ∙ sym b.at_front in (
-      same_state t u (a.filter ∙ sym b.filter) (a.prefixes ∙ sym b.prefixes) front cut.1,
-      a.appended ∙ ap (λ l. old ++ concat l) kept ∙ sym b.appended,
+-- the lines of a front are the first lines of the whole
+more_lines : (xs ys : List Text) (m b : Text) → AllByRecursion IsWholeLine xs → AllByRecursion IsWholeLine ys → NoEnd b
+    → concat xs ++ m ≡ concat ys ++ b → (zs : List Text) × (ys ≡ xs ++ zs) × (m ≡ concat zs ++ b)
+more_lines [] ys m b f g n e = (ys, refl, e)
+more_lines (x ∷ xs) [] m b f g n e = absurd (no_line x (concat xs ++ m) b f.0 n (sym e ∙ append_assoc x (concat xs) m))
+more_lines (x ∷ xs) (y ∷ ys) m b f g n e =
+    let both = sym (append_assoc x (concat xs) m) ∙ e ∙ append_assoc y (concat ys) b in
+    let first = through x (concat xs ++ m) f.0 in
+    let other = through y (concat ys ++ b) g.0 in
+    let later = more_lines xs ys m b f.1 g.1 n (sym first.1 ∙ ap (drop_through 10) both ∙ other.1) in (
+      later.0,
+      ap₂ (λ l ls. l ∷ ls) (sym other.0 ∙ ap (take_through 10) (sym both) ∙ first.0) later.1,
+      later.2,
     )
 
--- what is appended of a text is fixed
-pub one_appending : (s : LinesValue) (text old new other : Text) → AppendsKept s text old new → AppendsKept s text old other → new ≡ other
-one_appending s text old new other (kept, those, appended) (kept', those', appended') =
-    appended ∙ ap (λ l. old ++ concat l) (same_kept (IsKept s) (lines_of text) kept kept' those those') ∙ sym appended'
+-- ---- judged lines
+
+append_nil_of : (xs ys : Text) → ys ≡ [] → xs ++ ys ≡ xs
+append_nil_of xs ys none = ap (λ l. xs ++ l) none ∙ append-nil xs
+
+no_marked : (front : Bool) (lines : List Text) → marked_off front lines ≡ [] → lines ≡ []
+no_marked front [] e = refl
+no_marked front (line ∷ lines) e = cc
+
+split_judged : (filter : FilterValue) (prefixes : List Text) (xs ys : List Text) (ks : List JudgedLine) → AreJudged filter prefixes (xs ++ ys) ks
+    → (js : List JudgedLine) × (zs : List JudgedLine) × (ks ≡ js ++ zs) × AreJudged filter prefixes xs js × AreJudged filter prefixes ys zs
+split_judged filter prefixes [] ys ks a = ([], ks, refl, judged_none filter prefixes, a)
+split_judged filter prefixes (x ∷ xs) ys [] a = absurd (let e = a.all in cc)
+split_judged filter prefixes (x ∷ xs) ys (k ∷ ks) a =
+    let e = a.all in
+    let rest = split_judged filter prefixes xs ys ks (record { all = cc; each = a.each.1 }) in
+    let first : k.line ≡ x = cc in (
+      k ∷ rest.0,
+      rest.1,
+      ap (λ l. k ∷ l) rest.2,
+      record { all = ap₂ (λ l ls. l ∷ ls) first rest.3.all; each = (a.each.0, rest.3.each) },
+      rest.4,
+    )
+
+or_true : (a b : Bool) → a ≡ true → (a || b) ≡ true
+or_true true b e = refl
+or_true false b e = absurd (not_both e refl)
+
+or_left : (a b : Bool) → (a || b) ≡ false → a ≡ false
+or_left true b e = e
+or_left false b e = refl
+
+or_right : (a b : Bool) → (a || b) ≡ false → b ≡ false
+or_right true b e = absurd (not_both refl e)
+or_right false b e = e
+
+has_front : (js zs : List JudgedLine) (x : JudgedLine) → x.verdict ≡ invalid → has_invalid ((js ++ x ∷ []) ++ zs) ≡ true
+has_front [] zs x is = or_true _ (has_invalid zs) (ap is_invalid is)
+has_front (j ∷ js) zs x is = ap (λ b. is_invalid j.verdict || b) (has_front js zs x is) ∙ or-true (is_invalid j.verdict)
+  where
+    or-true : (b : Bool) → (b || true) ≡ true
+    or-true true = refl
+    or-true false = refl
+
+-- before the last of some lines none is invalid, so an invalid one is the last
+in_front : (js ks zs : List JudgedLine) (x y : JudgedLine) → (js ++ x ∷ []) ++ zs ≡ ks ++ y ∷ [] → x.verdict ≡ invalid
+    → has_invalid ks ≡ false → zs ≡ []
+in_front [] [] zs x y e is valid = cc
+in_front [] (k ∷ ks) zs x y e is valid =
+    let same : x ≡ k = cc in
+    absurd (not_both (ap (λ (j : JudgedLine). is_invalid j.verdict) (sym same) ∙ ap is_invalid is) (or_left (is_invalid k.verdict) (has_invalid ks) valid))
+in_front (j ∷ js) [] zs x y e is valid = absurd (some js (cc))
+  where
+    some : (js : List JudgedLine) → ¬ ((js ++ x ∷ []) ++ zs ≡ [])
+    some [] e = cc
+    some (j ∷ js) e = cc
+in_front (j ∷ js) (k ∷ ks) zs x y e is valid = in_front js ks zs x y (cc) is (or_right (is_invalid k.verdict) (has_invalid ks) valid)
+
+-- ---- one outcome
+
+module _ (same : OneVersion) (total : IsTotalOrder precedence) where
+  -- what a piece does is fixed
+  pub one_taking : (s t u : LinesValue) (piece : Text) (js ks : List JudgedLine) (old new other : Text) → Takes s piece js t old new
+      → Takes s piece ks u old other → (js ≡ ks) × (t ≡ u) × (new ≡ other)
+  one_taking s t u piece js ks old new other a b =
+      let cut = same_lines a.lines b.lines t.unended u.unended a.cut.each b.cut.each a.cut.no_end b.cut.no_end
+      (sym a.cut.whole ∙ b.cut.whole) in
+      let judged = one_judging s.filter s.prefixes same (marked_off s.at_front a.lines) js ks a.judges
+      (subst (λ l. AreJudged s.filter s.prefixes (marked_off s.at_front l) ks) (sym cut.0) b.judges) in
+      let held = one_holding total s.held t.held u.held (kept_of js) a.added b.added a.holds
+      (subst (λ l. Holds s.held (kept_of l) u.held b.added) (sym judged) b.holds) in (
+        judged,
+        a.state
+            ∙ (λ i. record s {
+              at_front = s.at_front && is_empty (cut.0 i);
+              unended = cut.1 i;
+              held = held.0 i;
+              counts = counted s.counts (judged i);
+            })
+            ∙ sym b.state,
+        a.appended ∙ ap (λ l. old ++ l) held.1 ∙ sym b.appended,
+      )
+
+  -- what the end of a text does is fixed
+  pub one_completion : (s t u : LinesValue) (text : Text) (js ks : List JudgedLine) (old new other : Text) → Completes s text js t old new
+      → Completes s text ks u old other → (js ≡ ks) × (t ≡ u) × (new ≡ other)
+  one_completion s t u text js ks old new other a b =
+      let judged = one_judging s.filter s.prefixes same (lines_of text) js ks a.judges b.judges in
+      let held = one_holding total s.held a.held b.held (kept_of js) a.added b.added a.holds
+      (subst (λ l. Holds s.held (kept_of l) b.held b.added) (sym judged) b.holds) in
+      let rest = one_answer total a.held a.rest b.rest a.answers (subst (λ h. Answers h b.rest) (sym held.0) b.answers) in (
+        judged,
+        a.state ∙ ap (λ l. record s { at_front = true; unended = []; held = emptied s.held; counts = counted s.counts l }) judged ∙ sym b.state,
+        a.appended ∙ ap₂ (λ l m. old ++ (l ++ m)) held.1 rest ∙ sym b.appended,
+      )
+
+  -- ---- the first invalid line
+
+  -- of a piece and what follows it the first lines are those of the piece, if it ends with a line
+  front_judged : (s t u : LinesValue) (p q : Text) (js ks : List JudgedLine) (old mid other new : Text) → Takes s p js t old mid
+      → t.unended ≡ [] → Takes s (p ++ q) ks u other new
+      → (zs : List JudgedLine) × (ks ≡ js ++ zs) × (zs ≡ [] → u.unended ≡ [] → q ≡ [])
+  front_judged s t u p q js ks old mid other new a none b =
+      let whole = sym (append_nil_of (concat a.lines) t.unended none) ∙ sym a.cut.whole in
+      let cut = more_lines a.lines b.lines q u.unended a.cut.each b.cut.each b.cut.no_end
+      (ap (λ l. l ++ q) whole ∙ append_assoc s.unended p q ∙ b.cut.whole) in
+      let marks = ap (marked_off s.at_front) cut.1 ∙ marked_append s.at_front a.lines cut.0 in
+      let parts = split_judged s.filter s.prefixes (marked_off s.at_front a.lines) (marked_off (s.at_front && is_empty a.lines) cut.0) ks
+      (subst (λ l. AreJudged s.filter s.prefixes l ks) marks b.judges) in
+      let first = one_judging s.filter s.prefixes same (marked_off s.at_front a.lines) parts.0 js parts.3 a.judges in (
+        parts.1,
+        parts.2 ∙ ap (λ l. l ++ parts.1) first,
+        λ nothing ended.
+            let no_marks = sym parts.4.all ∙ ap (map (λ (j : JudgedLine). j.line)) nothing in
+            let no_lines = no_marked (s.at_front && is_empty a.lines) cut.0 no_marks in
+            cut.2 ∙ ap₂ (λ l m. concat l ++ m) no_lines ended,
+      )
+
+  module _ (s t u : LinesValue) (piece : Text) (js ks : List JudgedLine) (x y : JudgedLine) (old mid other new : Text) (a b : ℕ)
+      (first : Takes s (take a piece) (js ++ x ∷ []) t old mid) (is : x.verdict ≡ invalid) (ended : t.unended ≡ []) where
+    -- where a piece stops at its first invalid line, it stops at one place
+    pub not_later : a ≤ b → b ≤ length piece → Takes s (take b piece) (ks ++ y ∷ []) u other new → has_invalid ks ≡ false → u.unended ≡ []
+        → a ≡ b
+    not_later before within second valid ended' =
+        let more = take (b - a) (drop a piece) in
+        let cut : take b piece ≡ take a piece ++ more = ap (λ n. take n piece) (let le = before in omega arith) ∙ take-add a (b - a) piece in
+        let parts = front_judged s t u (take a piece) more (js ++ x ∷ []) (ks ++ y ∷ []) old mid other new first ended
+        (subst (λ l. Takes s l (ks ++ y ∷ []) u other new) cut second) in
+        let none = parts.2 (in_front js ks parts.0 x y (sym parts.1) is valid) ended' in
+        omega (arith, ap length none, length-take (b - a) (drop a piece), length-drop a piece)
+
+    -- and isn't taken whole
+    pub not_whole : Takes s piece ks u other new → has_invalid ks ≡ false → ⊥
+    not_whole second valid =
+        let parts = front_judged s t u (take a piece) (drop a piece) (js ++ x ∷ []) ks old mid other new first ended
+        (subst (λ l. Takes s l ks u other new) (sym (take-append-drop a piece)) second) in
+        not_both (ap has_invalid parts.1 ∙ has_front js parts.0 x is) valid
 
 -- ---- a whole text
 
-lines_before : (line rest : Text) → IsWholeLine line → lines_of (line ++ rest) ≡ line ∷ lines_of rest
+-- the first line, and the lines behind it
+lines_from : (x : ℕ) (xs : List ℕ) → lines_of (x ∷ xs) ≡ take_through 10 (x ∷ xs) ∷ lines_of (drop_through 10 (x ∷ xs))
+lines_from x [] = at (eqb x 10)
+  where
+    at : (b : Bool) → cond b ((x ∷ []) ∷ []) ((x ∷ []) ∷ []) ≡ cond b (x ∷ []) (x ∷ []) ∷ lines_of (cond b [] [])
+    at true = refl
+    at false = refl
+lines_from x (y ∷ ys) = at (eqb x 10) (lines_from y ys)
+  where
+    at : (b : Bool) → lines_of (y ∷ ys) ≡ take_through 10 (y ∷ ys) ∷ lines_of (drop_through 10 (y ∷ ys))
+        → cond b ((x ∷ []) ∷ lines_of (y ∷ ys)) (onto_first x (lines_of (y ∷ ys)))
+        ≡ cond b (x ∷ []) (x ∷ take_through 10 (y ∷ ys)) ∷ lines_of (cond b (y ∷ ys) (drop_through 10 (y ∷ ys)))
+    at true later = refl
+    at false later = ap (onto_first x) later
+
+first_line : (xs : List ℕ) → 0 < length xs → lines_of xs ≡ take_through 10 xs ∷ lines_of (drop_through 10 xs)
+first_line [] some = absurd (omega arith)
+first_line (x ∷ xs) some = lines_from x xs
+
+pub lines_before : (line rest : Text) → IsWholeLine line → lines_of (line ++ rest) ≡ line ∷ lines_of rest
 lines_before line rest whole =
     let first = through line rest whole in
     let some : 0 < length (line ++ rest) = omega (arith, whole.0, length-append line rest) in
@@ -140,28 +295,39 @@ marked_lines (line ∷ lines) rest each =
     ∙ lines_before (without_mark line) (concat lines ++ rest) first.1 ∙ ap (λ l. without_mark line ∷ l) (cut_lines lines rest each.1)
 
 -- all of a text was taken, and its end
-pub took_text : (s t : LinesValue) (text old mid new : Text) → Takes (begun s) text t old mid
-    → AppendsKept t (after_mark t.at_front t.unended) mid new → AppendsKept s (without_mark text) old new
-took_text s t text old mid new a (kept, those, appended) =
+pub took_text : IsTotalOrder precedence → (s t u : LinesValue) (text : Text) (js ks : List JudgedLine) (old mid new : Text)
+    → Takes (begun s) text js t old mid → Finishes t ks u mid new → Completes (begun s) (without_mark text) (js ++ ks) u old new
+took_text total s t u text js ks old mid new a b =
+    let filter = ap (λ (v : LinesValue). v.filter) a.state in
+    let prefixes = ap (λ (v : LinesValue). v.prefixes) a.state in
+    let front = ap (λ (v : LinesValue). v.at_front) a.state in
     let last = lines_of (after_mark (is_empty a.lines) t.unended) in
-    let front = subst (λ f. AreThose (IsKept t) (lines_of (after_mark f t.unended)) kept) a.at_front those in
-    let asked = as_asked s t last kept a.filter a.prefixes front in
-    let all = those_append (IsKept s) (marked_off true a.lines) last a.kept kept a.keeps asked in
-    let lines = ap (λ l. lines_of (without_mark l)) a.cut.whole ∙ marked_lines a.lines t.unended a.cut.each in (
-      a.kept ++ kept,
-      subst (λ l. AreThose (IsKept s) l (a.kept ++ kept)) (sym lines) all,
-      appended ∙ ap (λ l. l ++ concat kept) a.appended ∙ append_assoc old (concat a.kept) (concat kept)
-          ∙ ap (λ l. old ++ l) (sym (concat-append a.kept kept)),
-    )
+    let later = subst (λ f. AreJudged s.filter s.prefixes (lines_of (after_mark f t.unended)) ks) front
+    (as_chosen s t (lines_of (after_mark t.at_front t.unended)) ks filter prefixes b.judges) in
+    let lines = ap (λ l. lines_of (without_mark l)) a.cut.whole ∙ marked_lines a.lines t.unended a.cut.each in
+    let wanted = same_wanted (begun s).held.wanted (begun s).held t.held (kept_of js) a.added a.holds in
+    record {
+      judges = subst (λ l. AreJudged s.filter s.prefixes l (js ++ ks)) (sym lines)
+          (judged_more s.filter s.prefixes (marked_off true a.lines) last js ks a.judges later);
+      held = b.held;
+      added = a.added ++ b.added;
+      rest = b.rest;
+      holds = subst (λ l. Holds (begun s).held l b.held (a.added ++ b.added)) (sym (kept_append js ks))
+          (holds_more total (begun s).held t.held b.held (kept_of js) (kept_of ks) a.added b.added a.holds b.holds);
+      answers = b.answers;
+      appended = b.appended ∙ ap (λ l. l ++ (b.added ++ b.rest)) a.appended ∙ append_assoc old a.added (b.added ++ b.rest)
+          ∙ ap (λ l. old ++ l) (sym (append_assoc a.added b.added b.rest));
+      state = b.state
+          ∙ ap (λ (v : LinesValue). record v { at_front = true; unended = []; held = emptied t.held; counts = counted v.counts ks }) a.state
+          ∙ (λ i. record (begun s) {
+            at_front = true;
+            unended = [];
+            held = record { wanted = wanted i; best = None; sorted = [] };
+            counts = sym (counted_append s.counts js ks) i;
+          });
+    }
 
 -- ---- of two calls
-
-pub two_taken : (s r t u : LinesValue) (piece next old before new other : Text) → s ≡ r → old ≡ before → piece ≡ next
-    → Takes s piece t old new → Takes r next u before other → (t ≡ u) × (new ≡ other)
-two_taken s r t u piece next old before new other states bytes pieces a b =
-    let on_state = subst (λ x. Takes x next u before other) (sym states) b in
-    let on_bytes = subst (λ x. Takes s next u x other) (sym bytes) on_state in
-    one_taking s t u piece old new other a (subst (λ x. Takes s x u old other) (sym pieces) on_bytes)
 
 pub both_ok : {T U E F : Type 0} (r : Result T E) (q : Result U F) (A B C : Type 0) → (A → B → C) → IfOk r (λ _. A)
     → IfOk q (λ _. B) → IfOk r (λ _. IfOk q (λ _. C))
@@ -175,17 +341,89 @@ both_err (Err e) (Err f) A B C both a b = both e f a b
 both_err (Err e) (Ok y) A B C both a b = tt
 both_err (Ok x) q A B C both a b = tt
 
-pub ok_both : {T E : Type 0} (r : Result T E) (A B : Type 0) → IfOk r (λ _. A) → IfOk r (λ _. B) → IfOk r (λ _. A × B)
-ok_both (Ok x) A B a b = (a, b)
-ok_both (Err e) A B a b = tt
+pub ok_err : {T U E F : Type 0} (r : Result T E) (q : Result U F) (A : Type 0) (B C : F → Type 0) → ((f : F) → A → B f → C f)
+    → IfOk r (λ _. A) → IfErr q B → IfOk r (λ _. IfErr q C)
+ok_err (Ok x) (Err f) A B C both a b = both f a b
+ok_err (Ok x) (Ok y) A B C both a b = tt
+ok_err (Err e) q A B C both a b = tt
 
--- the end of a text was taken
-abbrev pub Finishes : LinesValue → LinesValue → Text → Text → Type 0
-Finishes s t old new = AppendsKept s (after_mark s.at_front s.unended) old new × (t ≡ begun s)
+-- what a call of `push` gave
+abbrev pub Stops : LinesValue → LinesValue → Text → Text → Text → Stopped → Type 0
+Stops s t piece old new e = (e.taken ≤ length piece) × StopsAs e.error s (take e.taken piece) t old new
 
-pub two_finished : (s r t u : LinesValue) (old before new other : Text) → s ≡ r → old ≡ before → Finishes s t old new
-    → Finishes r u before other → (t ≡ u) × (new ≡ other)
-two_finished s r t u old before new other states bytes (a, is) (b, so) =
-    let on_state = subst (λ x. AppendsKept x (after_mark x.at_front x.unended) before other) (sym states) b in
-    let on_bytes = subst (λ x. AppendsKept s (after_mark s.at_front s.unended) x other) (sym bytes) on_state in
-    (is ∙ ap begun states ∙ sym so, one_appending s (after_mark s.at_front s.unended) old new other a on_bytes)
+abbrev pub TakesAll : LinesValue → LinesValue → Text → Text → Text → Type 0
+TakesAll s t piece old new = (judged : List JudgedLine) × Takes s piece judged t old new × (IsTrue s.is_strict → has_invalid judged ≡ false)
+
+stopped_taking : (e : LinesError) (s t : LinesValue) (piece old new : Text) → StopsAs e s piece t old new
+    → (judged : List JudgedLine) × Takes s piece judged t old new
+stopped_taking OutOfMemory s t piece old new stops = (stops.0, stops.1)
+stopped_taking (NoVersion n) s t piece old new stops = (stops.1 ++ stops.2 ∷ [], stops.3)
+
+module _ (same : OneVersion) (total : IsTotalOrder precedence) (s r t u : LinesValue) (piece old before new other : Text) (states : s ≡ r)
+    (bytes : old ≡ before) where
+  on_first : (P : LinesValue → Text → Type 0) → P r before → P s old
+  on_first P p = subst (λ (x : LinesValue). P x old) (sym states) (subst (P r) (sym bytes) p)
+
+  pub two_taken : TakesAll s t piece old new → TakesAll r u piece before other → (t ≡ u) × (new ≡ other)
+  two_taken (js, a, _) b =
+      let b' = on_first (λ (x : LinesValue) (l : Text). TakesAll x u piece l other) b in
+      let one = one_taking same total s t u piece js b'.0 old new other a b'.1 in (one.1, one.2)
+
+  pub two_stopped : (e f : Stopped) → Stops s t piece old new e → Stops r u piece before other f → e.taken ≡ f.taken
+      → (t ≡ u) × (new ≡ other)
+  two_stopped e f a b at =
+      let b' = on_first (λ (x : LinesValue) (l : Text). Stops x u piece l other f) b in
+      let first = stopped_taking e.error s t (take e.taken piece) old new a.1 in
+      let second = stopped_taking f.error s u (take f.taken piece) old other b'.1 in
+      let here = subst (λ n. Takes s (take n piece) second.0 u old other) (sym at) second.1 in
+      let one = one_taking same total s t u (take e.taken piece) first.0 second.0 old new other first.1 here in (one.1, one.2)
+
+  pub one_line : (e f : Stopped) → Stops s t piece old new e → Stops r u piece before other f → (n m : ℕ) → e.error ≡ NoVersion n
+      → f.error ≡ NoVersion m → (e.taken ≡ f.taken) × (n ≡ m)
+  one_line e f a b n m is so =
+      let b' = on_first (λ (x : LinesValue) (l : Text). Stops x u piece l other f) b in
+      let first = subst (λ x. StopsAs x s (take e.taken piece) t old new) is a.1 in
+      let second = subst (λ x. StopsAs x s (take f.taken piece) u old other) so b'.1 in
+      let at = same_place (cases_lt e.taken f.taken) first second a.0 b'.0 in
+      let states = two_stopped e f a b at in
+      (at, first.7 ∙ ap (λ (v : LinesValue). v.counts.lines) states.0 ∙ sym second.7)
+    where
+      same_place : (e.taken < f.taken) ⊎ (f.taken ≤ e.taken) → StopsAs (NoVersion n) s (take e.taken piece) t old new
+          → StopsAs (NoVersion m) s (take f.taken piece) u old other → e.taken ≤ length piece → f.taken ≤ length piece → e.taken ≡ f.taken
+      same_place (inl before) x y p q =
+          not_later same total s t u piece x.1 y.1 x.2 y.2 old new old other e.taken f.taken x.3 x.5 x.6 (omega arith) q y.3 y.4 y.6
+      same_place (inr after) x y p q =
+          sym (not_later same total s u t piece y.1 x.1 y.2 x.2 old other old new f.taken e.taken y.3 y.5 y.6 after p x.3 x.4 x.6)
+
+  pub no_bad_line : (f : Stopped) → TakesAll s t piece old new → Stops r u piece before other f → (n : ℕ) → ¬ (f.error ≡ NoVersion n)
+  no_bad_line f (js, a, valid) b n is =
+      let b' = on_first (λ (x : LinesValue) (l : Text). Stops x u piece l other f) b in
+      let second = subst (λ x. StopsAs x s (take f.taken piece) u old other) is b'.1 in
+      not_whole same total s u t piece second.1 js second.2 second.2 old other old new f.taken f.taken second.3 second.5 second.6 a
+      (valid second.0)
+
+-- what a call of `finish` gave
+abbrev pub Ends : LinesValue → LinesValue → Text → Text → Type 0
+Ends s t old new = (judged : List JudgedLine) × Finishes s judged t old new × (IsTrue s.is_strict → has_invalid judged ≡ false)
+
+module _ (same : OneVersion) (total : IsTotalOrder precedence) (s r t u : LinesValue) (states : s ≡ r) where
+  pub two_finished : (old before new other : Text) → old ≡ before → Ends s t old new → Ends r u before other → (t ≡ u) × (new ≡ other)
+  two_finished old before new other bytes (js, a, _) b =
+      let on_state = subst (λ (x : LinesValue). Ends x u before other) (sym states) b in
+      let b' = subst (λ l. Ends s u l other) (sym bytes) on_state in
+      let one = one_completion same total s t u (after_mark s.at_front s.unended) js b'.0 old new other a b'.1 in (one.1, one.2)
+
+  one_error_by : (e f : LinesError) → RefusesEnd s e → RefusesEnd s f → e ≡ f
+  one_error_by OutOfMemory OutOfMemory a b = refl
+  one_error_by OutOfMemory (NoVersion m) a b = absurd (a b.0 b.1)
+  one_error_by (NoVersion n) OutOfMemory a b = absurd (b a.0 a.1)
+  one_error_by (NoVersion n) (NoVersion m) a b = ap NoVersion (a.2 ∙ sym b.2)
+
+  pub one_error : (e f : LinesError) → RefusesEnd s e → RefusesEnd r f → e ≡ f
+  one_error e f a b = one_error_by e f a (subst (λ (x : LinesValue). RefusesEnd x f) (sym states) b)
+
+  pub no_bad_end : (old new : Text) (f : LinesError) → Ends s t old new → RefusesEnd r f → (n : ℕ) → ¬ (f ≡ NoVersion n)
+  no_bad_end old new f (js, a, valid) b n is =
+      let bad = subst (λ x. RefusesEnd s x) is (subst (λ (x : LinesValue). RefusesEnd x f) (sym states) b) in
+      let those = one_judging s.filter s.prefixes same (lines_of (after_mark s.at_front s.unended)) js bad.1.0 a.judges bad.1.1 in
+      not_both (ap has_invalid those ∙ bad.1.2) (valid bad.0)

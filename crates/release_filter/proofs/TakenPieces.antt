@@ -1,6 +1,7 @@
 -- What a piece of a text does, line by line.
-use Rattle.std.proofs.Common.{◌≡◌, ◌≢◌, ◌∙◌, ◌++◌, ◌∷◌, ◌≤◌, ◌<◌, ◌+◌, ◌-◌, ◌&&◌, [], List, ℕ, Bool, true, false, refl, sym, inl, inr, subst, arith}
+use Rattle.std.proofs.Common.{◌≡◌, ◌≢◌, ◌∙◌, ◌++◌, ◌∷◌, ◌≤◌, ◌<◌, ◌+◌, ◌-◌, ◌&&◌, [], List, ℕ, Bool, true, false, refl, sym, subst, arith}
 use Rattle.std.proofs.Common.{length, take, drop, ap, append_assoc, append-nil, All, length-append, length-take, length-drop, get_or, cond, ne_eqb, ◌==◌}
+use Rattle.std.specs.Cmp.{IsTotalOrder}
 use Rattle.std.specs.List.{AllByRecursion, concat}
 use Rattle.std.specs.Io.{StartsWith}
 use Rattle.std.proofs.lemmas.Grind.{common_steps}
@@ -9,11 +10,16 @@ use Rattle.std.proofs.Math.Bool.{and-false, and-true}
 use Rattle.std.proofs.Math.Seq.{take-add, take-append-add}
 use Rattle.std.proofs.lemmas.List.{take-append-drop, take_rest}
 use Rattle.std.proofs.lemmas.List.Elements.{All-append, All-drop, All-head, All-tail, All-same, All-nil}
+use Rattle.semver_parser.specs.Precedence.{precedence}
 use Rattle.semver_parser.specs.Texts.{Text, is_empty}
-use Rattle.release_filter.specs.KeptLines.{AreThose, lines_of, onto_first}
-use Rattle.release_filter.specs.Pieces.{AppendsKept, AreCut, IsKept, IsKeptAfter, Keeps, LinesValue, Takes, after_mark, asked, marked_off}
-use Rattle.release_filter.specs.Steps.Reading.{IsWholeLine}
-use Rattle.release_filter.proofs.LineSteps.{those_append}
+use Rattle.release_filter.specs.Counting.{CountsValue, counted, counted_as}
+use Rattle.release_filter.specs.LineTexts.{AreCut, IsWholeLine, after_mark, lines_of, marked_off, onto_first}
+use Rattle.release_filter.specs.Pieces.{LinesValue, Takes}
+use Rattle.release_filter.specs.Steps.Taking.{TakesLine}
+use Rattle.release_filter.specs.Verdicts.{AreJudged, IsVerdictOn, JudgedLine, Verdict}
+use Rattle.release_filter.specs.Wanted.{HeldValue, Holds, kept_of}
+use Rattle.release_filter.proofs.Holding.{holds_more, holds_none, kept_append, kept_one}
+use Rattle.release_filter.proofs.JudgedLines.{judged_more, judged_none, judged_one}
 
 abbrev pub NoEnd : Text → Type 0
 NoEnd bytes = All (λ b. b ≢ 10) bytes
@@ -39,70 +45,69 @@ whole_after begun end none (some, stops, ends) = (
   λ more. last_after begun end some ∙ ends some,
 )
 
--- whether one line is kept
-pub keeps_one : (IsKept : Text → Type 0) (line old new : Text) → Keeps IsKept line old new
-    → (kept : List Text) × AreThose IsKept (line ∷ []) kept × (new ≡ old ++ concat kept)
-keeps_one IsKept line old new (inl (is, appended)) =
-    (line ∷ [], inl ([], is, refl, refl), appended ∙ ap (λ l. old ++ l) (sym (append-nil line)))
-keeps_one IsKept line old new (inr (isnt, same)) = ([], inr (isnt, refl), same ∙ sym (append-nil old))
+-- the line that this ends
+abbrev pub line_with : LinesValue → Text → Text
+line_with s end = after_mark s.at_front (s.unended ++ end)
+
+abbrev pub judged_as : LinesValue → Text → Verdict → JudgedLine
+judged_as s end verdict = record { line = line_with s end; verdict = verdict }
 
 -- the end of a line was taken
-pub took_line : (s : LinesValue) (end left old new : Text) → IsWholeLine end → NoEnd s.unended
-    → Keeps (IsKept s) (after_mark s.at_front (s.unended ++ end)) old new → left ≡ []
-    → Takes s end (record s { at_front = false; unended = left }) old new
-took_line s end left old new whole none k is =
+pub took_line : (s : LinesValue) (end left : Text) (verdict : Verdict) (g : HeldValue) (d : CountsValue) (old new : Text) → IsWholeLine end
+    → NoEnd s.unended → IsVerdictOn s.filter s.prefixes (line_with s end) verdict
+    → TakesLine s.held s.counts (line_with s end) verdict g d old new → left ≡ []
+    → Takes s end (judged_as s end verdict ∷ []) (record s { at_front = false; unended = left; held = g; counts = d }) old new
+took_line s end left verdict g d old new whole none is takes none_left =
     let line = s.unended ++ end in
-    let kept = keeps_one (IsKept s) (after_mark s.at_front line) old new k in
     record {
       lines = line ∷ [];
-      kept = kept.0;
       cut = record {
         each = (whole_after s.unended end none whole, tt);
-        no_end = All-same (λ b. b ≢ 10) left [] is (All-nil (λ b. b ≢ 10));
-        whole = sym (ap (λ l. (line ++ []) ++ l) is ∙ append-nil (line ++ []) ∙ append-nil line);
+        no_end = All-same (λ b. b ≢ 10) left [] none_left (All-nil (λ b. b ≢ 10));
+        whole = sym (ap (λ l. (line ++ []) ++ l) none_left ∙ append-nil (line ++ []) ∙ append-nil line);
       };
-      keeps = kept.1;
-      appended = kept.2;
-      at_front = sym (and-false s.at_front);
-      filter = refl;
-      prefixes = refl;
+      judges = judged_one s.filter s.prefixes (line_with s end) verdict is;
+      added = takes.added;
+      holds = subst (λ l. Holds s.held l g takes.added) (sym (kept_one (judged_as s end verdict))) takes.holds;
+      appended = takes.appended;
+      state = λ i. record s { at_front = sym (and-false s.at_front) i; unended = left; held = g; counts = takes.counted i };
     }
 
 -- what ends no line was taken
 pub took_rest : (s : LinesValue) (rest left old : Text) → NoEnd s.unended → NoEnd rest → left ≡ s.unended ++ rest
-    → Takes s rest (record s { unended = left }) old old
+    → Takes s rest [] (record s { unended = left }) old old
 took_rest s rest left old none more is =
     record {
       lines = [];
-      kept = [];
       cut = record {
         each = tt;
         no_end = All-same (λ b. b ≢ 10) left (s.unended ++ rest) is (All-append (λ b. b ≢ 10) s.unended rest none more);
         whole = sym is;
       };
-      keeps = refl;
+      judges = judged_none s.filter s.prefixes;
+      added = [];
+      holds = holds_none s.held;
       appended = sym (append-nil old);
-      at_front = sym (and-true s.at_front);
-      filter = refl;
-      prefixes = refl;
+      state = λ i. record s { at_front = sym (and-true s.at_front) i; unended = left };
     }
 
-pub took_nothing : (s : LinesValue) (old : Text) → NoEnd s.unended → Takes s [] s old old
+pub took_nothing : (s : LinesValue) (old : Text) → NoEnd s.unended → Takes s [] [] s old old
 took_nothing s old none = took_rest s [] s.unended old none (All-nil (λ b. b ≢ 10)) (sym (append-nil s.unended))
 
 -- a value with private fields is seen as this
-pub seen : (inside s t : LinesValue) (piece old new : Text) → inside ≡ s → Takes inside piece t old new → Takes s piece t old new
-seen inside s t piece old new is takes = subst (λ x. Takes x piece t old new) is takes
+pub seen : (inside s t : LinesValue) (piece : Text) (judged : List JudgedLine) (old new : Text) → inside ≡ s
+    → Takes inside piece judged t old new → Takes s piece judged t old new
+seen inside s t piece judged old new is takes = subst (λ x. Takes x piece judged t old new) is takes
 
 -- ---- what is left at the end
 
-one_left : (x : ℕ) (xs : Text) → NoEnd (x ∷ xs) → lines_of (x ∷ xs) ≡ (x ∷ xs) ∷ []
+pub one_left : (x : ℕ) (xs : Text) → NoEnd (x ∷ xs) → lines_of (x ∷ xs) ≡ (x ∷ xs) ∷ []
 one_left x [] none = ap (λ b. cond b ((x ∷ []) ∷ []) ((x ∷ []) ∷ [])) (ne_eqb x 10 (All-head (λ y. y ≢ 10) x [] none))
 one_left x (y ∷ ys) none =
     ap (λ b. cond b ((x ∷ []) ∷ lines_of (y ∷ ys)) (onto_first x (lines_of (y ∷ ys)))) (ne_eqb x 10 (All-head (λ z. z ≢ 10) x (y ∷ ys) none))
     ∙ ap (onto_first x) (one_left y ys (All-tail (λ z. z ≢ 10) x (y ∷ ys) none))
 
-no_end_marked : (front : Bool) (line : Text) → NoEnd line → NoEnd (after_mark front line)
+pub no_end_marked : (front : Bool) (line : Text) → NoEnd line → NoEnd (after_mark front line)
 no_end_marked false line none = none
 no_end_marked true [] none = none
 no_end_marked true (a ∷ []) none = none
@@ -112,19 +117,6 @@ no_end_marked true (a ∷ b ∷ c ∷ text) none = by_mark ((a == 0xEF) && ((b =
     by_mark : (is : Bool) → NoEnd (cond is text (a ∷ b ∷ c ∷ text))
     by_mark true = All-drop (λ x. x ≢ 10) 3 (a ∷ b ∷ c ∷ text) none
     by_mark false = none
-
-kept_last : (IsKept : Text → Type 0) (line old new : Text) → NoEnd line → Keeps IsKept line old new
-    → (kept : List Text) × AreThose IsKept (lines_of line) kept × (new ≡ old ++ concat kept)
-kept_last IsKept [] old new none (inl (is, appended)) = ([], refl, appended)
-kept_last IsKept [] old new none (inr (isnt, same)) = ([], refl, same ∙ sym (append-nil old))
-kept_last IsKept (x ∷ xs) old new none k =
-    subst (λ lines. (kept : List Text) × AreThose IsKept lines kept × (new ≡ old ++ concat kept)) (sym (one_left x xs none))
-    (keeps_one IsKept (x ∷ xs) old new k)
-
--- the end of the text was taken
-pub took_last : (s : LinesValue) (old new : Text) → NoEnd s.unended → Keeps (IsKept s) (after_mark s.at_front s.unended) old new
-    → AppendsKept s (after_mark s.at_front s.unended) old new
-took_last s old new none k = kept_last (IsKept s) (after_mark s.at_front s.unended) old new (no_end_marked s.at_front s.unended none) k
 
 -- ---- one piece after another
 
@@ -136,7 +128,7 @@ marked_later : (lines : List Text) → marked_off false lines ≡ lines
 marked_later [] = refl
 marked_later (line ∷ lines) = refl
 
-marked_append : (front : Bool) (xs ys : List Text) → marked_off front (xs ++ ys) ≡ marked_off front xs ++ marked_off (front && is_empty xs) ys
+pub marked_append : (front : Bool) (xs ys : List Text) → marked_off front (xs ++ ys) ≡ marked_off front xs ++ marked_off (front && is_empty xs) ys
 marked_append front [] ys = ap (λ f. marked_off f ys) (sym (and-true front))
 marked_append front (x ∷ xs) ys =
     ap (λ l. after_mark front x ∷ (xs ++ l)) (sym (marked_later ys) ∙ ap (λ f. marked_off f ys) (sym (and-false front)))
@@ -156,34 +148,6 @@ cut_append begun middle end p q xs ys a b =
           ∙ ap (λ l. l ++ end) (sym (concat-append xs ys));
     }
 
--- what one state keeps of some lines, another does that has its filter and its prefixes
-pub as_asked : (s t : LinesValue) (lines kept : List Text) → t.filter ≡ s.filter → t.prefixes ≡ s.prefixes
-    → AreThose (IsKept t) lines kept → AreThose (IsKept s) lines kept
-as_asked s t lines kept filter prefixes those =
-    let filtered = subst (λ f. AreThose (IsKeptAfter f (asked t.prefixes)) lines kept) filter those in
-    subst (λ ps. AreThose (IsKeptAfter s.filter (asked ps)) lines kept) prefixes filtered
-
--- pieces that are taken one after another do what they do as one
-pub took_both : (s t u : LinesValue) (p q old mid new : Text) → Takes s p t old mid → Takes t q u mid new → Takes s (p ++ q) u old new
-took_both s t u p q old mid new a b =
-    let later = subst (λ f. AreThose (IsKept s) (marked_off f b.lines) b.kept) a.at_front
-    (as_asked s t (marked_off t.at_front b.lines) b.kept a.filter a.prefixes b.keeps) in
-    record {
-      lines = a.lines ++ b.lines;
-      kept = a.kept ++ b.kept;
-      cut = cut_append s.unended t.unended u.unended p q a.lines b.lines a.cut b.cut;
-      keeps = subst (λ l. AreThose (IsKept s) l (a.kept ++ b.kept)) (sym (marked_append s.at_front a.lines b.lines))
-          (those_append (IsKept s) (marked_off s.at_front a.lines) (marked_off (s.at_front && is_empty a.lines) b.lines) a.kept b.kept
-          a.keeps later);
-      appended = b.appended ∙ ap (λ l. l ++ concat b.kept) a.appended ∙ append_assoc old (concat a.kept) (concat b.kept)
-          ∙ ap (λ l. old ++ l) (sym (concat-append a.kept b.kept));
-      at_front = b.at_front ∙ ap (λ f. f && is_empty b.lines) a.at_front ∙ front_append s.at_front a.lines b.lines;
-      filter = b.filter ∙ a.filter;
-      prefixes = b.prefixes ∙ a.prefixes;
-    }
-
--- ---- line after line in a piece
-
 -- what is left of a piece of which so many bytes were taken
 abbrev pub left_of : Text → ℕ → Text
 left_of piece taken = take (length piece - taken) (drop taken piece)
@@ -195,18 +159,69 @@ line_within piece line taken within begins =
     let left = length-take (length piece - taken) (drop taken piece) in
     omega (arith, ap length begins, part, left, length-drop taken piece)
 
--- a line was taken after those before it
-pub took_next : (s t u : LinesValue) (piece line old mid new : Text) (taken : ℕ) → taken ≤ length piece
-    → StartsWith (left_of piece taken) line → Takes s (take taken piece) t old mid → Takes t line u mid new
-    → (taken + length line ≤ length piece) × Takes s (take (taken + length line) piece) u old new
-took_next s t u piece line old mid new taken within begins a b =
-    let front = ap (take (length line)) (take_rest piece taken) in
-    let is = take-add taken (length line) piece ∙ ap (λ l. take taken piece ++ l) (sym front ∙ begins) in
-    (line_within piece line taken within begins, subst (λ l. Takes s l u old new) (sym is) (took_both s t u (take taken piece) line old mid new a b))
+-- what one state says of lines, another does that has its filter and its prefixes
+pub as_chosen : (s t : LinesValue) (lines : List Text) (judged : List JudgedLine) → t.filter ≡ s.filter → t.prefixes ≡ s.prefixes
+    → AreJudged t.filter t.prefixes lines judged → AreJudged s.filter s.prefixes lines judged
+as_chosen s t lines judged filter prefixes those =
+    subst (λ ps. AreJudged s.filter ps lines judged) prefixes (subst (λ f. AreJudged f t.prefixes lines judged) filter those)
 
--- and what is left of the piece
-pub took_all : (s t u : LinesValue) (piece old mid new : Text) (taken : ℕ) → Takes s (take taken piece) t old mid
-    → Takes t (left_of piece taken) u mid new → Takes s piece u old new
-took_all s t u piece old mid new taken a b =
-    let is = ap (λ l. take taken piece ++ l) (take_rest piece taken) ∙ take-append-drop taken piece in
-    subst (λ l. Takes s l u old new) is (took_both s t u (take taken piece) (left_of piece taken) old mid new a b)
+pub counted_append : (c : CountsValue) (js ks : List JudgedLine) → counted c (js ++ ks) ≡ counted (counted c js) ks
+counted_append c [] ks = refl
+counted_append c (j ∷ js) ks = counted_append (counted_as j.verdict c j.line) js ks
+
+module _ (total : IsTotalOrder precedence) where
+  -- pieces that are taken one after another do what they do as one
+  pub took_both : (s t u : LinesValue) (p q : Text) (js ks : List JudgedLine) (old mid new : Text) → Takes s p js t old mid
+      → Takes t q ks u mid new → Takes s (p ++ q) (js ++ ks) u old new
+  took_both s t u p q js ks old mid new a b =
+      let filter = ap (λ (v : LinesValue). v.filter) a.state in
+      let prefixes = ap (λ (v : LinesValue). v.prefixes) a.state in
+      let front = ap (λ (v : LinesValue). v.at_front) a.state in
+      let later = subst (λ f. AreJudged s.filter s.prefixes (marked_off f b.lines) ks) front
+      (as_chosen s t (marked_off t.at_front b.lines) ks filter prefixes b.judges) in
+      record {
+        lines = a.lines ++ b.lines;
+        cut = cut_append s.unended t.unended u.unended p q a.lines b.lines a.cut b.cut;
+        judges = subst (λ l. AreJudged s.filter s.prefixes l (js ++ ks)) (sym (marked_append s.at_front a.lines b.lines))
+            (judged_more s.filter s.prefixes (marked_off s.at_front a.lines) (marked_off (s.at_front && is_empty a.lines) b.lines) js ks
+            a.judges later);
+        added = a.added ++ b.added;
+        holds = subst (λ l. Holds s.held l u.held (a.added ++ b.added)) (sym (kept_append js ks))
+            (holds_more total s.held t.held u.held (kept_of js) (kept_of ks) a.added b.added a.holds b.holds);
+        appended = b.appended ∙ ap (λ l. l ++ b.added) a.appended ∙ append_assoc old a.added b.added;
+        state = b.state
+            ∙ ap (λ (v : LinesValue). record v {
+              at_front = v.at_front && is_empty b.lines;
+              unended = u.unended;
+              held = u.held;
+              counts = counted v.counts ks;
+            }) a.state
+            ∙ (λ i. record s {
+              at_front = front_append s.at_front a.lines b.lines i;
+              unended = u.unended;
+              held = u.held;
+              counts = sym (counted_append s.counts js ks) i;
+            });
+      }
+
+  -- ---- line after line in a piece
+
+  -- a line was taken after those before it
+  pub took_next : (s t u : LinesValue) (piece line : Text) (js ks : List JudgedLine) (old mid new : Text) (taken : ℕ) → taken ≤ length piece
+      → StartsWith (left_of piece taken) line → Takes s (take taken piece) js t old mid → Takes t line ks u mid new
+      → (taken + length line ≤ length piece) × Takes s (take (taken + length line) piece) (js ++ ks) u old new
+  took_next s t u piece line js ks old mid new taken within begins a b =
+      let front = ap (take (length line)) (take_rest piece taken) in
+      let is = take-add taken (length line) piece ∙ ap (λ l. take taken piece ++ l) (sym front ∙ begins) in (
+        line_within piece line taken within begins,
+        subst (λ l. Takes s l (js ++ ks) u old new) (sym is) (took_both s t u (take taken piece) line js ks old mid new a b),
+      )
+
+  -- and what is left of the piece
+  pub took_all : (s t u : LinesValue) (piece : Text) (js : List JudgedLine) (old mid new : Text) (taken : ℕ) → Takes s (take taken piece) js t old mid
+      → Takes t (left_of piece taken) [] u mid new → Takes s piece js u old new
+  took_all s t u piece js old mid new taken a b =
+      let is = ap (λ l. take taken piece ++ l) (take_rest piece taken) ∙ take-append-drop taken piece in
+      subst (λ l. Takes s l js u old new) is
+      (subst (λ l. Takes s (take taken piece ++ left_of piece taken) l u old new) (append-nil js)
+      (took_both s t u (take taken piece) (left_of piece taken) js [] old mid new a b))

@@ -1,15 +1,12 @@
--- The greatest and the least of those items of a list that have a version which passes.
+-- The greatest of those items of a list that have a version which passes.
 use Rattle.std.specs.Prelude.{◌≡◌, ◌≢◌, List, ◌∷◌, ◌++◌, IsTrue, Bool}
 use Rattle.std.specs.List.{AllByRecursion}
-use Rattle.std.specs.Ordering.{flip_args}
 use Rattle.std.specs.declared.cmp.Ordering.{Ordering}
 use Rattle.std.specs.declared.cmp.Ordering.TheVariants.{Less, Greater}
 use Rattle.semver_parser.specs.Versions.{PlainVersion, VersionValue}
 use Rattle.semver_parser.specs.VersionViews.{version_value}
 use Rattle.semver_parser.specs.declared.version.Version.{Version}
 use Rattle.semver_parser.specs.Precedence.{precedence}
-use Rattle.release_filter.specs.declared.extremes.Extreme.{Extreme}
-use Rattle.release_filter.specs.declared.extremes.Extreme.TheVariants.{Greatest, Least}
 
 module _ {X : Type 0} (order : PlainVersion → PlainVersion → Ordering)
     (Has : X → VersionValue → Type 0) where
@@ -33,18 +30,13 @@ module _ {X : Type 0} (order : PlainVersion → PlainVersion → Ordering)
     pub later : AllByRecursion (IsNotAbove version) after
 
 module _ {X : Type 0} (Has : X → VersionValue → Type 0) where
-  -- the greatest by precedence, and the least: the greatest by precedence the other way round
+  -- the greatest by precedence
   abbrev pub IsGreatest : List X → X → Type 0
   IsGreatest items item = IsGreatestBy precedence Has items item
 
   -- no item has one
   abbrev pub HasNone : List X → Type 0
   HasNone items = AllByRecursion (λ x. (w : VersionValue) → ¬ (Has x w)) items
-
--- the order by which the one that is wanted is the greatest
-abbrev pub order_of : Extreme → PlainVersion → PlainVersion → Ordering
-order_of Greatest = precedence
-order_of Least = flip_args precedence
 
 -- the version is this value, and passes a test
 abbrev pub IsOneThat : (VersionValue → Bool) → Version → VersionValue → Type 0

@@ -2,8 +2,10 @@ pub mod KeptReleases
 pub mod Filters
 pub mod Judging
 pub mod Extremes
-pub mod Steps
-pub mod KeptLines
+pub mod LineTexts
+pub mod Verdicts
+pub mod Counting
+pub mod Wanted
 pub mod Pieces
-pub mod SortedLines
+pub mod Steps
 pub use Rattle.version_sets.specs.PreReleaseRules

@@ -1,101 +1,87 @@
--- Lines that come in pieces: what a piece ends, what is kept of that, and what is left.
-use Rattle.std.specs.Prelude.{◌≡◌, ◌≢◌, ◌⊎◌, ◌&&◌, ℕ, Bool, true, false, List, [], ◌∷◌, ◌++◌}
-use Rattle.std.specs.Prelude.{All, IsTrue, ◌==◌, if◌then◌else◌}
-use Rattle.std.specs.List.{AllByRecursion, concat}
+-- A text that comes in pieces: what a piece does, what the end of the text does, and what is left.
+use Rattle.std.specs.Prelude.{◌≡◌, ◌&&◌, Bool, true, false, List, [], ◌∷◌, ◌++◌, IsTrue}
 use Rattle.semver_parser.specs.Texts.{Text, is_empty}
-use Rattle.semver_parser.specs.Versions.{VersionValue}
-use Rattle.semver_parser.specs.VersionGrammar.{SpellsVersion}
-use Rattle.release_filter.specs.Filters.{FilterValue, passes}
-use Rattle.release_filter.specs.declared.judging.Judged.{Judged}
-use Rattle.release_filter.specs.declared.judging.Judged.TheVariants.{NoVersion, DoesNotPass, Passes}
-use Rattle.release_filter.specs.KeptLines.{AreThose, line_text, lines_of}
-use Rattle.release_filter.specs.Steps.Reading.{IsWholeLine}
+use Rattle.release_filter.specs.Counting.{CountsValue, counted, one_more}
+use Rattle.release_filter.specs.Filters.{FilterValue}
+use Rattle.release_filter.specs.LineTexts.{AreCut, after_mark, lines_of, marked_off, without_mark}
+use Rattle.release_filter.specs.Verdicts.{AreJudged, JudgedLine, has_invalid, invalid}
+use Rattle.release_filter.specs.Wanted.{Answers, HeldValue, Holds, emptied, kept_of}
+use Rattle.release_filter.specs.declared.lines.LinesError.{LinesError}
+use Rattle.release_filter.specs.declared.lines.LinesError.TheVariants.{OutOfMemory, NoVersion}
 
--- what holds the lines of a text: the filter, the prefixes, whether no line has ended yet, and the
--- bytes of the line that has not
+-- what holds the lines of a text: the filter, the prefixes, whether a line without a version is an
+-- error, whether no line has ended yet, the bytes of the line that hasn't, what is held for the end
+-- of the text, and the counts of the lines
 pub record LinesValue : Type 0 where
   pub filter : FilterValue
   pub prefixes : List Text
+  pub is_strict : Bool
   pub at_front : Bool
   pub unended : Text
+  pub held : HeldValue
+  pub counts : CountsValue
 
--- ---- which lines are kept
-
--- the text of the line is the prefix and then the text of a version
-abbrev pub SpellsAfter : Text → List ℕ → VersionValue → Type 0
-SpellsAfter prefix line v = (text : Text) × (line_text line ≡ prefix ++ text) × SpellsVersion v text
-
--- the first of the prefixes after which the line spells a version decides, and it is this version
-abbrev pub HasVersion : List Text → List ℕ → VersionValue → Type 0
-HasVersion [] line v = ⊥
-HasVersion (prefix ∷ prefixes) line v = SpellsAfter prefix line v
-    ⊎ (((w : VersionValue) → ¬ (SpellsAfter prefix line w)) × HasVersion prefixes line v)
-
--- without a prefix it is as with the empty one
-abbrev pub asked : List Text → List Text
-asked [] = [] ∷ []
-asked (prefix ∷ prefixes) = prefix ∷ prefixes
-
--- a line to be kept after one of these prefixes: its version passes
-abbrev pub IsKeptAfter : FilterValue → List Text → List ℕ → Type 0
-IsKeptAfter filter prefixes line =
-    (v : VersionValue) × HasVersion prefixes line v × IsTrue (passes filter v)
-
-abbrev pub IsKept : LinesValue → List ℕ → Type 0
-IsKept s line = IsKeptAfter s.filter (asked s.prefixes) line
-
--- ---- what a piece ends
-
--- the bytes are these lines, each with the line feed that ends it, and the beginning of another
-pub record AreCut (bytes : Text) (lines : List Text) (unended : Text) : Type 0 where
-  pub each : AllByRecursion IsWholeLine lines
-  pub no_end : All (λ b. b ≢ 10) unended
-  pub whole : bytes ≡ concat lines ++ unended
-
--- the text after a byte order mark, if it begins with one
-abbrev pub without_mark : Text → Text
-without_mark (a ∷ b ∷ c ∷ text) =
-    if (a == 0xEF) && ((b == 0xBB) && (c == 0xBF)) then text else a ∷ b ∷ c ∷ text
-without_mark text = text
-
--- a line, the first one of a text after a mark
-abbrev pub after_mark : Bool → Text → Text
-after_mark at_front line = if at_front then without_mark line else line
-
--- the lines of a text, of which the first begins after a mark
-abbrev pub marked_off : Bool → List Text → List Text
-marked_off at_front [] = []
-marked_off at_front (line ∷ lines) = after_mark at_front line ∷ lines
-
--- a piece was taken: the kept ones of the lines that it ends were appended, in their order and as
--- they stand, and the line that it does not end is left
-pub record Takes (s : LinesValue) (piece : Text) (t : LinesValue) (old new : Text) : Type 0 where
+-- a piece was taken. These are the lines that it ends, each judged; what is wanted of the kept ones
+-- was appended, and the line that it does not end is left
+pub record Takes (s : LinesValue) (piece : Text) (judged : List JudgedLine) (t : LinesValue)
+    (old new : Text) : Type 0 where
   pub lines : List Text
-  pub kept : List Text
   pub cut : AreCut (s.unended ++ piece) lines t.unended
-  pub keeps : AreThose (IsKept s) (marked_off s.at_front lines) kept
-  pub appended : new ≡ old ++ concat kept
-  pub at_front : t.at_front ≡ (s.at_front && is_empty lines)
-  pub filter : t.filter ≡ s.filter
-  pub prefixes : t.prefixes ≡ s.prefixes
+  pub judges : AreJudged s.filter s.prefixes (marked_off s.at_front lines) judged
+  pub added : Text
+  pub holds : Holds s.held (kept_of judged) t.held added
+  pub appended : new ≡ old ++ added
+  pub state : t ≡ record s {
+    at_front = s.at_front && is_empty lines;
+    unended = t.unended;
+    held = t.held;
+    counts = counted s.counts judged;
+  }
 
--- the kept ones of the lines of a text were appended, in their order and as they stand
-abbrev pub AppendsKept : LinesValue → Text → Text → Text → Type 0
-AppendsKept s text old new =
-    (kept : List Text) × AreThose (IsKept s) (lines_of text) kept × (new ≡ old ++ concat kept)
+-- all lines of a text were taken, and the rest of the answer was appended. Then no byte of a text
+-- was taken and nothing is held; the counts stay
+pub record Completes (s : LinesValue) (text : Text) (judged : List JudgedLine) (t : LinesValue)
+    (old new : Text) : Type 0 where
+  pub judges : AreJudged s.filter s.prefixes (lines_of text) judged
+  pub held : HeldValue
+  pub added : Text
+  pub rest : Text
+  pub holds : Holds s.held (kept_of judged) held added
+  pub answers : Answers held rest
+  pub appended : new ≡ old ++ (added ++ rest)
+  pub state : t ≡ record s {
+    at_front = true;
+    unended = [];
+    held = emptied s.held;
+    counts = counted s.counts judged;
+  }
+
+-- the end of the text was taken, with the line that no line feed ends
+abbrev pub Finishes : LinesValue → List JudgedLine → LinesValue → Text → Text → Type 0
+Finishes s judged t old new = Completes s (after_mark s.at_front s.unended) judged t old new
 
 -- the state before the first byte of a text
 abbrev pub begun : LinesValue → LinesValue
-begun s = record s { at_front = true; unended = [] }
+begun s = record s { at_front = true; unended = []; held = emptied s.held }
 
--- ---- a means of proof, which no public clause cites
+-- a piece was taken up to an error. The memory ran out; or the last line that was taken is the first
+-- one that has a text and no version, and this is its number
+abbrev pub StopsAs : LinesError → LinesValue → Text → LinesValue → Text → Text → Type 0
+StopsAs OutOfMemory s piece t old new = (judged : List JudgedLine) × Takes s piece judged t old new
+    × (IsTrue s.is_strict → has_invalid judged ≡ false)
+StopsAs (NoVersion number) s piece t old new =
+    IsTrue s.is_strict × (judged : List JudgedLine) × (last : JudgedLine)
+    × Takes s piece (judged ++ last ∷ []) t old new × (has_invalid judged ≡ false)
+    × (last.verdict ≡ invalid) × (t.unended ≡ []) × (number ≡ t.counts.lines)
 
--- a line was appended if it is kept
-abbrev pub Keeps : (Text → Type 0) → Text → Text → Text → Type 0
-Keeps IsKept line old new = (IsKept line × (new ≡ old ++ line)) ⊎ ((¬ (IsKept line)) × (new ≡ old))
+-- the line that no line feed ends has a text and no version
+abbrev pub EndsInvalid : LinesValue → Type 0
+EndsInvalid s = (judged : List JudgedLine)
+    × AreJudged s.filter s.prefixes (lines_of (after_mark s.at_front s.unended)) judged
+    × (has_invalid judged ≡ true)
 
--- what a filter says of a line that has such versions
-abbrev pub JudgesBy : (VersionValue → Type 0) → FilterValue → Judged → Type 0
-JudgesBy Has filter NoVersion = (w : VersionValue) → ¬ (Has w)
-JudgesBy Has filter DoesNotPass = (v : VersionValue) × Has v × (passes filter v ≡ false)
-JudgesBy Has filter (Passes outline) = (v : VersionValue) × Has v × IsTrue (passes filter v)
+-- the end of the text was not taken
+abbrev pub RefusesEnd : LinesValue → LinesError → Type 0
+RefusesEnd s OutOfMemory = IsTrue s.is_strict → ¬ (EndsInvalid s)
+RefusesEnd s (NoVersion number) =
+    IsTrue s.is_strict × EndsInvalid s × (number ≡ one_more s.counts.lines)

@@ -1,3 +1,4 @@
-pub mod Reading
-pub mod Sorting
+pub mod Outlined
 pub mod Rules
+pub mod Taking
+pub mod Noting

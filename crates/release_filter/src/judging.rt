@@ -8,7 +8,7 @@ ghost use Rattle.semver_parser.specs.VersionGrammar.{SpellsVersion};
 ghost use Rattle.semver_parser.specs.VersionViews.{version_value};
 ghost use Rattle.release_filter.specs.Filters.{passes};
 ghost use Rattle.release_filter.specs.Judging.{IsJudged};
-ghost use Rattle.release_filter.specs.Steps.Reading.{IsOutlined};
+ghost use Rattle.release_filter.specs.Steps.Outlined.{IsOutlined};
 
 use crate::filter::Filter;
 use semver_parser::laws;

@@ -1,36 +1,49 @@
 //! Laws of the lines of a text that comes in pieces: each is the contract of a function that does
 //! nothing, or that makes a call twice.
 
-ghost use Rattle.std.specs.Prelude.{◌≡◌, ◌++◌, IfErr, IfOk};
+ghost use Rattle.std.specs.Prelude.{◌≡◌, ◌++◌, ℕ, List, IfErr, IfOk};
 ghost use Rattle.semver_parser.specs.Texts.{Text};
-ghost use Rattle.release_filter.specs.Pieces.{AppendsKept, LinesValue, Takes, after_mark, begun};
-ghost use Rattle.release_filter.specs.Pieces.{without_mark};
+ghost use Rattle.release_filter.specs.LineTexts.{without_mark};
+ghost use Rattle.release_filter.specs.Pieces.{Completes, Finishes, LinesValue, Takes, begun};
+ghost use Rattle.release_filter.specs.Verdicts.{JudgedLine};
+ghost use Rattle.release_filter.specs.declared.lines.LinesError.TheVariants.{NoVersion};
 
-use crate::pieces::{Lines, Stopped};
-use std::alloc::AllocError;
+use crate::lines::{Lines, LinesError, Stopped};
+use semver_parser::laws;
+use std::alloc::Global;
 
-/// However a text is cut into pieces, the kept ones of its lines are appended. It does nothing.
+/// However a text is cut into pieces, what is appended is the same. It does nothing.
 pub fn pieces_do_not_matter()
     // Pieces that are taken one after another do what they do as one piece.
-    ensures composed { (s t u : LinesValue) (piece next old mid new : Text)
-        → Takes s piece t old mid → Takes t next u mid new → Takes s (piece ++ next) u old new }
-    ensures whole { (s t : LinesValue) (text old mid new : Text)
-        → Takes (begun s) text t old mid
-        → AppendsKept t (after_mark t.at_front t.unended) mid new
-        → AppendsKept s (without_mark text) old new }
-{}
+    ensures composed { (s t u : LinesValue) (piece next : Text) (judged more : List JudgedLine)
+        (old mid new : Text) → Takes s piece judged t old mid → Takes t next more u mid new
+        → Takes s (piece ++ next) (judged ++ more) u old new }
+    // And the end of the text does what the whole text does.
+    ensures whole { (s t u : LinesValue) (text : Text) (judged more : List JudgedLine)
+        (old mid new : Text) → Takes (begun s) text judged t old mid → Finishes t more u mid new
+        → Completes (begun s) (without_mark text) (judged ++ more) u old new }
+{
+    laws::precedence_is_total();
+}
 
-/// One state comes of a piece, and one text is appended. It does nothing.
+/// One state comes of a piece and of the end of a text, and one text is appended. It does nothing.
 pub fn one_outcome()
-    ensures one_taking { (s t u : LinesValue) (piece old new other : Text)
-        → Takes s piece t old new → Takes s piece u old other → (t ≡ u) × (new ≡ other) }
-    ensures one_appending { (s : LinesValue) (text old new other : Text)
-        → AppendsKept s text old new → AppendsKept s text old other → new ≡ other }
-{}
+    ensures taking { (s t u : LinesValue) (piece : Text) (judged others : List JudgedLine)
+        (old new other : Text) → Takes s piece judged t old new → Takes s piece others u old other
+        → (judged ≡ others) × (t ≡ u) × (new ≡ other) }
+    ensures completion { (s t u : LinesValue) (text : Text) (judged others : List JudgedLine)
+        (old new other : Text) → Completes s text judged t old new
+        → Completes s text others u old other → (judged ≡ others) × (t ≡ u) × (new ≡ other) }
+{
+    laws::precedence_is_total();
+    laws::one_version();
+}
 
-/// `Lines::push` has one answer: equal states and bytes before it are equal after it, both where
-/// the piece was taken and where it was taken as far as to one place.
+/// `Lines::push` has one answer: equal states and bytes before it are equal after it, if the piece
+/// was taken, and if it was taken as far as to one place; and where there is a line that it has to
+/// stop at, it stops there, or is out of memory.
 pub fn one_push(
+    alloc: Global,
     first: &mut Lines,
     second: &mut Lines,
     piece: &[u8],
@@ -43,20 +56,37 @@ pub fn one_push(
     ensures one_stop { first.old ≡ second.old → kept.old.items ≡ other.old.items
         → IfErr result.0 (λ a. IfErr result.1 (λ b. a.taken ≡ b.taken
         → (first.new ≡ second.new) × (kept.new.items ≡ other.new.items))) }
+    ensures one_line { first.old ≡ second.old → kept.old.items ≡ other.old.items
+        → IfErr result.0 (λ a. IfErr result.1 (λ b. (n m : ℕ) → a.error ≡ NoVersion n
+        → b.error ≡ NoVersion m → (a.taken ≡ b.taken) × (n ≡ m))) }
+    ensures no_line { first.old ≡ second.old → kept.old.items ≡ other.old.items
+        → IfOk result.0 (λ _. IfErr result.1 (λ b. (n : ℕ) → ¬ (b.error ≡ NoVersion n))) }
 {
-    (first.push(piece, kept), second.push(piece, other))
+    laws::precedence_is_total();
+    laws::one_version();
+    (
+        first.push(alloc, piece, kept),
+        second.push(alloc, piece, other),
+    )
 }
 
-/// `Lines::finish` has one answer: equal states and bytes before it are equal after it.
+/// `Lines::finish` has one answer: equal states and bytes before it are equal after it, its errors
+/// are equal, and if one call takes the end of the text, the other does or is out of memory.
 pub fn one_finish(
+    alloc: Global,
     first: &mut Lines,
     second: &mut Lines,
     kept: &mut Vec<u8>,
     other: &mut Vec<u8>,
-) -> (Result<(), AllocError>, Result<(), AllocError>)
+) -> (Result<(), LinesError>, Result<(), LinesError>)
     ensures one { first.old ≡ second.old → kept.old.items ≡ other.old.items
         → IfOk result.0 (λ _. IfOk result.1 (λ _. (first.new ≡ second.new)
         × (kept.new.items ≡ other.new.items))) }
+    ensures one_error { first.old ≡ second.old → IfErr result.0 (λ a. IfErr result.1 (λ b. a ≡ b)) }
+    ensures no_line { first.old ≡ second.old → IfOk result.0 (λ _. IfErr result.1 (λ b.
+        (n : ℕ) → ¬ (b ≡ NoVersion n))) }
 {
-    (first.finish(kept), second.finish(other))
+    laws::precedence_is_total();
+    laws::one_version();
+    (first.finish(alloc, kept), second.finish(alloc, other))
 }

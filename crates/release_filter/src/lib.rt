@@ -1,24 +1,24 @@
 //! Which versions a range text means, by one of three rules for pre-releases: a filter of versions
-//! and of the lines of a stream, the greatest of them, the least line and the lines sorted; and
-//! which versions meet a range set.
+//! and of the lines of a text that comes in pieces, the greatest version, the line of the greatest
+//! or the least, and the lines sorted; and which versions meet a range set.
 #![tactic(auto)]
 
-mod extremes;
+mod counts;
 mod filter;
 mod judging;
 mod kept;
 pub mod laws;
+mod line_filter;
+mod line_texts;
 mod lines;
 mod meeting;
-mod next_line;
-mod pieces;
 mod precedence;
-mod sorting;
+mod wanted;
 
+pub use counts::{Counts, InvalidLine};
 pub use filter::{Filter, filter_text};
 pub use judging::Judged;
-pub use lines::LineError;
+pub use lines::{Lines, LinesError, Stopped};
 pub use meeting::{release_meets, version_meets, version_meets_as_stated};
-pub use pieces::{Lines, Stopped};
-pub use sorting::write_lines;
 pub use version_sets::PreReleases;
+pub use wanted::Wanted;

@@ -1,106 +1,340 @@
-//! A filter over the lines of a stream.
+//! The lines of a text that comes in pieces, and which of them a filter keeps.
 
-ghost use Rattle.std.specs.Prelude.{[], IfSome};
-ghost use Rattle.release_filter.specs.Filters.{passes};
-ghost use Rattle.release_filter.specs.KeptLines.{IsKeptLine, CopiesLines};
+ghost use Rattle.std.specs.Prelude.{◌≡◌, ◌≤◌, ◌≢◌, [], true, false, length, map};
+ghost use Rattle.std.specs.Prelude.{All, IfErr, IfOk, IfSome, IsTrue, List, MatchOption, None, not};
+ghost use Rattle.std.specs.Prelude.{string_bytes, take};
+ghost use Rattle.std.specs.Io.{StartsWith};
+ghost use Rattle.semver_parser.specs.Texts.{Text};
+ghost use Rattle.semver_parser.specs.Versions.{PlainVersion};
+ghost use Rattle.release_filter.specs.Counting.{counts_value, no_counts};
+ghost use Rattle.release_filter.specs.LineTexts.{IsWholeLine, after_mark};
+ghost use Rattle.release_filter.specs.Pieces.{Finishes, RefusesEnd, StopsAs, Takes, begun};
+ghost use Rattle.release_filter.specs.Steps.Taking.{PassesAs, TakesLine, TakesWhole, held_value};
+ghost use Rattle.release_filter.specs.Steps.Taking.{verdict_of};
+ghost use Rattle.release_filter.specs.Verdicts.{JudgedLine, has_invalid, is_invalid};
 
+use crate::counts::{Counts, is_invalid};
 use crate::filter::Filter;
-use semver_parser::writing::write_whole;
-use std::alloc::Global;
-use std::io::{self, BufRead, Write};
+use crate::judging::Judged;
+use crate::line_filter::LineFilter;
+use crate::line_texts::{after_mark, whole_line};
+use crate::wanted::{Held, Wanted};
+use semver_parser::laws;
+use std::alloc::{AllocError, Global};
+use std::marker::Model;
 use thiserror::Error;
 
-/// Why a filter of lines ended before the end of its input.
+/// Why lines were not taken to the end.
 #[derive(Debug, Error, Drop)]
-pub enum LineError {
-    /// A growth was refused: for a line, or for the identifiers of its version. Or the reader told
-    /// a fault of this kind.
+pub enum LinesError {
+    /// An allocation failed.
     #[error("out of memory")]
     OutOfMemory,
-    /// Reading failed, for the reason given.
-    #[error("cannot read input: {0}")]
-    Read(io::Error),
-    /// Writing failed, was interrupted, or took no byte.
-    #[error("cannot write output: {0}")]
-    Write(io::Error),
-    /// At least 2^64 - 1 lines were read.
-    #[error("too many lines")]
-    TooManyLines,
+    /// The line of this number is not empty and has no version. The first line is line 1.
+    #[error("line {0} is no version")]
+    NoVersion(u64),
 }
 
-impl Filter {
-    // Answer: free, errors of the streams: must-fail/fault_of_writing_is_one_of_reading.edit.
-    /// Copies those lines of `input` to `out` that spell a version which passes, and tells whether
-    /// there was one.
+/// A piece was not taken to its end.
+#[derive(Debug, Error, Drop)]
+#[error("{error}")]
+pub struct Stopped {
+    /// How many bytes of the piece were taken. The rest can be pushed again.
+    pub taken: usize,
+    /// Why.
+    pub error: LinesError,
+}
+
+/// The lines of a text that comes in pieces of any length, and which of them a filter keeps.
+///
+/// A line ends with a line feed, and the last one may have none. Its text is the line without that
+/// line feed, and then without one carriage return at its end. A line is kept if its text is one
+/// of the prefixes and then spells a version that passes, as `version::read` reads it
+/// (docs/GRAMMAR.md): spaces and tabs may stand around the version. The first prefix after which it
+/// spells a version decides. Without a prefix it is as with the empty one.
+///
+/// A byte order mark at the front of the text is dropped, also one that is cut between pieces.
+#[derive(Drop)]
+pub struct Lines {
+    chosen: LineFilter,
+    is_strict: bool,
+    at_front: bool,
+    unended: Vec<u8>,
+    held: Held,
+    counts: Counts,
+}
+
+impl Model for Lines {
+    ghost use Rattle.std.specs.Prelude.{◌≢◌, All, map, string_bytes};
+    ghost use Rattle.release_filter.specs.Counting.{counts_value};
+    ghost use Rattle.release_filter.specs.Pieces.{LinesValue};
+    ghost use Rattle.release_filter.specs.Steps.Taking.{held_value};
+
+    ghost Value = { LinesValue };
+
+    ghost view = { λ l. record {
+      filter = l.chosen.filter;
+      prefixes = map (λ prefix. string_bytes prefix) l.chosen.prefixes.items;
+      is_strict = l.is_strict;
+      at_front = l.at_front;
+      unended = l.unended.items;
+      held = held_value l.held;
+      counts = counts_value l.counts;
+    } };
+
+    ghost invariant = { λ l. All (λ byte. byte ≢ 10) l.unended.items };
+}
+
+impl Lines {
+    // Answer: equation.
+    /// Returns the lines of a text of which no byte was taken yet. With a filter of `^1`, the prefix
+    /// `v` and `Wanted::Each`, those that are kept are `v1.4.0` and `v1.9.2`, and not `v2.0.0` or
+    /// `1.4.0`.
     ///
-    /// A line ends with a line feed, and the last one may have none. Its text is the line without
-    /// that line feed, and then without one carriage return at its end. It is kept where its text
-    /// spells a version as `version::read` reads it (docs/GRAMMAR.md), and that version passes:
-    /// spaces and tabs may stand round the version, and each number is at most 2^64 - 1. Kept lines
-    /// are written as they stand, with their end, in their order and with repeats. Any other line
-    /// is passed over, also one that is no UTF-8. A filter of `^1.2` in Cargo mode, releases alone,
-    /// writes of the input `"1.2.0\r\nx\n1.3.0-rc\n2.0.0\n1.9.0"` the output `"1.2.0\r\n1.9.0"`,
-    /// and answers true.
-    ///
-    /// A line that `input` shows whole isn't copied unless it is kept. One copy is held at a time,
-    /// and where the line spells a version the identifiers of that. Flush `out` where it holds back
-    /// what it is given.
+    /// Where `is_strict` is true, a line that isn't empty and has no version is an error.
+    pub fn new(
+        alloc: Global,
+        filter: Filter,
+        prefixes: Vec<String>,
+        wanted: Wanted,
+        is_strict: bool,
+    ) -> Lines
+        ensures { result ≡ record {
+          filter = filter;
+          prefixes = map (λ prefix. string_bytes prefix) prefixes.items;
+          is_strict = is_strict;
+          at_front = true;
+          unended = [];
+          held = record { wanted = wanted; best = None; sorted = [] };
+          counts = no_counts;
+        } }
+    {
+        Lines {
+            chosen: LineFilter { filter, prefixes },
+            is_strict,
+            at_front: true,
+            unended: Vec::new(alloc),
+            held: Held::new(alloc, wanted),
+            counts: Counts::new(),
+        }
+    }
+
+    // Answer: law release_filter::laws::one_push.
+    /// Takes the next bytes of the text, and appends of the lines that these end the kept ones that
+    /// are wanted at once: with a filter of `^1` and `Wanted::Each`, `1.4.0\n2.0.0\n1.` appends
+    /// `1.4.0\n`, and then `9.2\n` appends `1.9.2\n`.
     ///
     /// # Errors
     ///
-    /// Each ends the copy, and nothing is read after it. `Read` has the reader's own fault; one of
-    /// `ErrorKind::OutOfMemory` is told as `OutOfMemory`. `TooManyLines` comes behind 2^64 - 1
-    /// lines at least.
+    /// [`Stopped`] has how many bytes of the piece were taken: what was appended is what these end,
+    /// and pushing the rest goes on. `OutOfMemory` if an allocation fails. `NoVersion`, only where
+    /// the lines are strict, if a line of the piece isn't empty and has no version: the piece was
+    /// taken up to the end of the first such line.
     ///
-    /// Where writing failed, `input` stands behind the kept line that was being written, and `out`
-    /// got a beginning of that. Else `out` has the kept ones of the lines that are done with, and
-    /// `input` stands behind these, or in the next line, of which it may have read all: want of
-    /// memory leaves a line that `input` shows whole, and one that had to be copied to be judged is
-    /// read then.
-    pub fn copy_lines<R: BufRead, W: Write>(
-        &self,
+    /// # Details
+    ///
+    /// A kept line is appended as it is, with the line feed that ends it, but for a byte order mark
+    /// at the front of the text. What a text appends doesn't depend on how it is cut into pieces
+    /// ([`pieces_do_not_matter`](crate::laws::pieces_do_not_matter)).
+    pub fn push(
+        &mut self,
         alloc: Global,
-        input: &mut R,
-        out: &mut W,
-    ) -> Result<bool, LineError>
-        // From a reader that tells its bytes to a writer that tells its own, the kept lines are
-        // copied, and the reader has left what stands behind the lines that were read.
-        ensures copies { IfSome (R.remaining input.old) (λ bytes.
-            CopiesLines (IsKeptLine (passes self.now) []) bytes (R.remaining input.new)
-            (W.contents out.old) (W.contents out.new) result) }
+        piece: &[u8],
+        kept: &mut Vec<u8>,
+    ) -> Result<(), Stopped>
+        ensures takes { IfOk result (λ _. (judged : List JudgedLine) × Takes self.old piece.now
+            judged self.new kept.old.items kept.new.items
+            × (IsTrue self.old.is_strict → has_invalid judged ≡ false)) }
+        ensures stops { IfErr result (λ stopped. (stopped.taken ≤ length piece.now)
+            × StopsAs stopped.error self.old (take stopped.taken piece.now) self.new
+            kept.old.items kept.new.items) }
     {
-        self.copy_lines_behind(alloc, "", input, out)
+        laws::precedence_is_total();
+        let _ = &self.unended;
+        let mut taken = 0;
+        'lines: loop {
+            match self.take_first(alloc, &piece[taken..], kept) {
+                Ok(Some((end, is_valid))) => {
+                    taken += end.len();
+                    if self.is_strict && !is_valid {
+                        let error = LinesError::NoVersion(self.counts.lines);
+                        return Err(Stopped { taken, error });
+                    }
+                }
+                Ok(None) => break,
+                Err(_) => return Err(out_of_memory(taken)),
+            }
+        }
+        if self.unended.extend_from_slice(&piece[taken..]).is_err() {
+            return Err(out_of_memory(taken));
+        }
+        Ok(())
     }
 
-    // Answer: free, errors of the streams: must-fail/fault_of_writing_is_one_of_reading.edit.
-    /// What [`Filter::copy_lines`] does, of lines that begin with a prefix: a line is kept where
-    /// its text is the prefix and then the text of a version that passes. It is written as it
-    /// stands, with the prefix. With the prefix `v`, `v1.2.0` is kept by `^1.2`, and `1.2.0` is
-    /// passed over.
-    pub fn copy_lines_behind<R: BufRead, W: Write>(
-        &self,
-        alloc: Global,
-        prefix: &str,
-        input: &mut R,
-        out: &mut W,
-    ) -> Result<bool, LineError>
-        ensures copies { IfSome (R.remaining input.old) (λ bytes.
-            CopiesLines (IsKeptLine (passes self.now) prefix.now) bytes (R.remaining input.new)
-            (W.contents out.old) (W.contents out.new) result) }
+    // Answer: law release_filter::laws::one_finish.
+    /// Takes the end of the text, with the last line if no line feed ends it, and appends the rest
+    /// of the answer: with a filter of `^1`, after `2.0.0\n1.4.0` it appends `1.4.0`, and with
+    /// `Wanted::Sorted`, after `1.9.0\n1.4.0`, `1.4.0\n1.9.0\n`.
+    ///
+    /// # Errors
+    ///
+    /// `OutOfMemory` if an allocation fails. `NoVersion`, exactly where the lines are strict and the
+    /// last line isn't empty and has no version. Then nothing was appended, the lines are as they
+    /// were, and the call can be repeated.
+    ///
+    /// # Details
+    ///
+    /// But for `Wanted::Sorted` a line is appended as it is, with no line feed added. Then no byte
+    /// of a text was taken, as after [`Lines::new`], so that another text can be pushed; the lines
+    /// of both are counted.
+    pub fn finish(&mut self, alloc: Global, kept: &mut Vec<u8>) -> Result<(), LinesError>
+        ensures finishes { IfOk result (λ _. (judged : List JudgedLine) × Finishes self.old judged
+            self.new kept.old.items kept.new.items
+            × (IsTrue self.old.is_strict → has_invalid judged ≡ false)) }
+        ensures same_state { IfErr result (λ _. self.new ≡ self.old) }
+        ensures same_kept { IfErr result (λ _. kept.new.items ≡ kept.old.items) }
+        ensures refuses { IfErr result (RefusesEnd self.old) }
     {
-        let mut line = Vec::new(alloc);
-        let mut has_kept = false;
-        'lines: for _kept in 0..u64::MAX {
-            match self.next_kept(alloc, prefix, input, &mut line) {
-                Ok(Some(_)) => {}
-                Ok(None) => return Ok(has_kept),
-                Err(error) => return Err(error),
-            }
-            if let Err(error) = write_whole(out, line.as_slice()) {
-                return Err(LineError::Write(error));
-            }
-            has_kept = true;
+        laws::one_version();
+        let line = after_mark(self.at_front, self.unended.as_slice());
+        if line.is_empty() {
+            let Ok(_) = self.held.finish(alloc, line, &Judged::NoVersion, kept) else {
+                return Err(LinesError::OutOfMemory);
+            };
+            self.begin();
+            return Ok(());
         }
-        Err(LineError::TooManyLines)
+        let judged = self.chosen.judge_line(line);
+        let is_bad = is_invalid(line, &judged);
+        if self.is_strict && is_bad {
+            return Err(LinesError::NoVersion(self.counts.lines.saturating_add(1)));
+        }
+        let Ok(noted) = self.counts.noted(alloc, line, &judged) else {
+            return Err(LinesError::OutOfMemory);
+        };
+        let Ok(_) = self.held.finish(alloc, line, &judged, kept) else {
+            return Err(LinesError::OutOfMemory);
+        };
+        self.counts.add(noted);
+        self.begin();
+        Ok(())
+    }
+
+    // Answer: equation.
+    /// Returns the counts of the lines so far: after `v1.2.0\n\n1.4.0\n` three lines, of which one
+    /// is empty and one is invalid, the first, `v1.2.0`. It does not allocate.
+    pub fn counts(&self) -> &Counts
+        ensures { counts_value result.now ≡ self.now.counts }
+    {
+        &self.counts
+    }
+
+    /// Makes this the state before the first byte of a text.
+    fn begin(&mut self)
+        ensures { self.new ≡ begun self.old }
+    {
+        self.held.clear();
+        self.at_front = true;
+        self.unended.clear();
+    }
+
+    /// Takes the bytes up to the first end of a line, if there is one: these bytes, and whether the
+    /// line is no invalid one. For speed, a line of which no byte was taken before is judged where
+    /// it is.
+    #[inline(always)]
+    fn take_first<'p>(
+        &mut self,
+        alloc: Global,
+        bytes: &'p [u8],
+        kept: &mut Vec<u8>,
+    ) -> Result<Option<(&'p [u8], bool)>, AllocError>
+        ensures takes { IfOk result (λ found. MatchOption found
+            (All (λ byte. byte ≢ 10) bytes.now × (self.new ≡ self.old)
+            × (kept.new.items ≡ kept.old.items))
+            (λ end. StartsWith bytes.now end.0.now × IsWholeLine end.0.now
+            × TakesWhole self.old end.0.now self.new kept.old.items kept.new.items end.1)) }
+        ensures unchanged { IfErr result (λ _. (self.new ≡ self.old)
+            × (kept.new.items ≡ kept.old.items)) }
+    {
+        if self.at_front || !self.unended.is_empty() {
+            let Some(end) = whole_line(bytes) else {
+                return Ok(None);
+            };
+            let is_valid = self.take_line(alloc, end, kept)?;
+            return Ok(Some((end, is_valid)));
+        }
+        let Some((line, judged)) = self.chosen.first_judged(bytes) else {
+            return Ok(None);
+        };
+        let is_valid = take(alloc, line, &judged, &mut self.held, &mut self.counts, kept)?;
+        Ok(Some((line, is_valid)))
+    }
+
+    /// Takes the end of the line that has not ended, and tells whether the line is no invalid one.
+    fn take_line(
+        &mut self,
+        alloc: Global,
+        end: &[u8],
+        kept: &mut Vec<u8>,
+    ) -> Result<bool, AllocError>
+        requires { IsWholeLine end.now }
+        ensures takes { IfOk result (λ is_valid. TakesWhole self.old end.now self.new
+            kept.old.items kept.new.items is_valid) }
+        ensures unchanged { IfErr result (λ _. (self.new ≡ self.old)
+            × (kept.new.items ≡ kept.old.items)) }
+    {
+        let begun = self.unended.len();
+        self.unended.extend_from_slice(end)?;
+        let line = after_mark(self.at_front, self.unended.as_slice());
+        let judged = self.chosen.judge_line(line);
+        match take(alloc, line, &judged, &mut self.held, &mut self.counts, kept) {
+            Ok(is_valid) => {
+                self.unended.clear();
+                self.at_front = false;
+                Ok(is_valid)
+            }
+            Err(error) => {
+                self.unended.truncate(begun);
+                Err(error)
+            }
+        }
+    }
+}
+
+/// Takes a line of which a filter says this, and tells whether it is no invalid one.
+#[inline(always)]
+fn take(
+    alloc: Global,
+    line: &[u8],
+    judged: &Judged<'_>,
+    held: &mut Held,
+    counts: &mut Counts,
+    kept: &mut Vec<u8>,
+) -> Result<bool, AllocError>
+    ensures takes { (plain : PlainVersion) → PassesAs judged.now plain → IfOk result (λ is_valid.
+        TakesLine (held_value held.old) (counts_value counts.old) line.now
+        (verdict_of judged.now plain line.now) (held_value held.new) (counts_value counts.new)
+        kept.old.items kept.new.items
+        × (is_valid ≡ not (is_invalid (verdict_of judged.now plain line.now)))) }
+    ensures unchanged { IfErr result (λ _. (held_value held.new ≡ held_value held.old)
+        × (counts_value counts.new ≡ counts_value counts.old)
+        × (kept.new.items ≡ kept.old.items)) }
+{
+    let noted = counts.noted(alloc, line, judged)?;
+    if let Judged::Passes(outline) = judged {
+        held.keep(alloc, outline, line, kept)?;
+    }
+    counts.add(noted);
+    Ok(!is_invalid(line, judged))
+}
+
+/// The memory ran out after so many bytes of a piece.
+fn out_of_memory(taken: usize) -> Stopped
+    ensures taken { result.taken ≡ taken }
+    ensures error { result.error ≡ LinesError.OutOfMemory }
+{
+    Stopped {
+        taken,
+        error: LinesError::OutOfMemory,
     }
 }

@@ -1,6 +1,8 @@
 //! What the arguments ask for.
 
 use reading_options::{OptionError, ReadingOptions};
+use release_filter::{Filter, Lines, Wanted};
+use std::alloc::Global;
 use std::env;
 use std::rt::Env;
 use tool_ranges::meaning::Meaning;
@@ -9,7 +11,7 @@ use tool_ranges::meaning::Meaning;
 #[derive(Drop)]
 pub enum Request {
     /// To filter.
-    Filter(Wanted),
+    Filter(Filtering),
     /// To tell the usage.
     Help,
     /// To tell the version of the program.
@@ -18,7 +20,7 @@ pub enum Request {
 
 /// The filter that the arguments ask for, and what it is to do.
 #[derive(Drop)]
-pub struct Wanted {
+pub struct Filtering {
     /// The range text.
     pub range: String,
     /// How it is read.
@@ -27,37 +29,19 @@ pub struct Wanted {
     pub options: Options,
 }
 
-/// Which of the kept lines are wanted, where not all are, as they come.
-#[derive(Clone, Copy, PartialEq)]
-pub enum Selection {
-    /// The line of the greatest version.
-    Greatest,
-    /// The line of the least version.
-    Least,
-    /// All, from the least to the greatest.
-    Sorted,
-}
-
-impl Selection {
-    /// The option that asks for it.
-    fn option(self) -> &'static str {
-        match self {
-            Selection::Greatest => "--greatest",
-            Selection::Least => "--least",
-            Selection::Sorted => "--sort",
-        }
-    }
-}
-
 /// What the options ask to be done with the lines.
 #[derive(Drop)]
 pub struct Options {
-    /// What stands in front of each version, if something does.
-    pub prefix: Option<String>,
-    /// Which lines are wanted, if not all as they come.
-    pub selection: Option<Selection>,
-    /// Whether each line is written at once.
-    pub is_line_buffered: bool,
+    /// The texts that may be before a version: the first after which there is one decides.
+    prefixes: Vec<String>,
+    /// Which of the kept lines are wanted.
+    wanted: Wanted,
+    /// The option that asked for them, if one did.
+    asked: Option<&'static str>,
+    /// Whether a line without a version is an error.
+    is_strict: bool,
+    /// Whether `--line-buffered` was given, which changes nothing.
+    is_line_buffered: bool,
     /// Whether the next argument is the prefix.
     wants_prefix: bool,
     /// Whether options may follow.
@@ -66,71 +50,77 @@ pub struct Options {
 
 impl Options {
     /// What is done without an option.
-    fn new() -> Options {
+    fn new(alloc: Global) -> Options {
         Options {
-            prefix: None,
-            selection: None,
+            prefixes: Vec::new(alloc),
+            wanted: Wanted::Each,
+            asked: None,
+            is_strict: false,
             is_line_buffered: false,
             wants_prefix: false,
             has_more: true,
         }
     }
 
+    /// The lines that these options ask for, of which no byte was taken yet.
+    pub fn lines(self, alloc: Global, filter: Filter) -> Lines {
+        Lines::new(alloc, filter, self.prefixes, self.wanted, self.is_strict)
+    }
+
     /// Takes an option, and tells whether it is known. It is refused where an earlier one has
     /// settled the same.
     fn take(&mut self, rt: &impl AllocGlobal, option: &str) -> Result<bool, Refusal> {
         if let Some(prefix) = option.strip_prefix("--prefix=") {
-            self.want_prefix()?;
-            self.wants_prefix = false;
             let Ok(prefix) = prefix.to_string(rt.alloc()) else {
                 return Err(Refusal::Unreadable);
             };
-            self.prefix = Some(prefix);
+            self.take_prefix(prefix)?;
             return Ok(true);
         }
         match option {
             "--" => self.has_more = false,
-            "--greatest" => self.select(Selection::Greatest)?,
-            "--least" => self.select(Selection::Least)?,
-            "--sort" => self.select(Selection::Sorted)?,
-            "--line-buffered" => self.buffer_lines()?,
-            "--prefix" => self.want_prefix()?,
+            "--greatest" => self.select("--greatest", Wanted::Greatest)?,
+            "--least" => self.select("--least", Wanted::Least)?,
+            "--sort" => self.select("--sort", Wanted::Sorted)?,
+            "--strict" => given_once("--strict", &mut self.is_strict)?,
+            "--line-buffered" => given_once("--line-buffered", &mut self.is_line_buffered)?,
+            "--prefix" => self.wants_prefix = true,
             _ => return Ok(false),
         }
         Ok(true)
     }
 
-    /// Takes which lines are wanted.
-    fn select(&mut self, selection: Selection) -> Result<(), OptionError> {
-        let option = selection.option();
-        let earlier = self.selection;
+    /// Takes which lines are wanted, and the option that asks for them.
+    fn select(&mut self, option: &'static str, wanted: Wanted) -> Result<(), OptionError> {
+        let earlier = self.asked;
         match earlier {
-            Some(earlier) if earlier == selection => Err(OptionError::GivenTwice(option)),
-            Some(earlier) => Err(OptionError::Contradiction(option, earlier.option())),
+            Some(_) if self.wanted == wanted => Err(OptionError::GivenTwice(option)),
+            Some(earlier) => Err(OptionError::Contradiction(option, earlier)),
             None => {
-                self.selection = Some(selection);
+                self.wanted = wanted;
+                self.asked = Some(option);
                 Ok(())
             }
         }
     }
 
-    /// Takes that each line is written at once.
-    fn buffer_lines(&mut self) -> Result<(), OptionError> {
-        if self.is_line_buffered {
-            return Err(OptionError::GivenTwice("--line-buffered"));
+    /// Takes a prefix.
+    fn take_prefix(&mut self, prefix: String) -> Result<(), Refusal> {
+        self.wants_prefix = false;
+        match self.prefixes.push(prefix) {
+            Ok(()) => Ok(()),
+            Err(_) => Err(Refusal::Unreadable),
         }
-        self.is_line_buffered = true;
-        Ok(())
     }
+}
 
-    /// Takes that a prefix follows.
-    fn want_prefix(&mut self) -> Result<(), OptionError> {
-        if self.prefix.is_some() {
-            return Err(OptionError::GivenTwice("--prefix"));
-        }
-        self.wants_prefix = true;
-        Ok(())
+/// Takes an option that has no value.
+fn given_once(option: &'static str, is_given: &mut bool) -> Result<(), OptionError> {
+    if *is_given {
+        return Err(OptionError::GivenTwice(option));
     }
+    *is_given = true;
+    Ok(())
 }
 
 /// Why the arguments ask for nothing.
@@ -165,11 +155,10 @@ pub fn requested(rt: &(impl Env + AllocGlobal)) -> Result<Request, Refusal> {
     let _program = arguments.next();
     let mut range = None;
     let mut reading = ReadingOptions::new();
-    let mut options = Options::new();
+    let mut options = Options::new(rt.alloc());
     for argument in arguments {
         if options.wants_prefix {
-            options.wants_prefix = false;
-            options.prefix = Some(argument);
+            options.take_prefix(argument)?;
             continue;
         }
         if options.has_more && reading.take(rt.alloc(), argument.as_str())? {
@@ -201,7 +190,7 @@ fn request_of(
     }
     let meaning = reading.finish()?;
     match range {
-        Some(range) => Ok(Request::Filter(Wanted {
+        Some(range) => Ok(Request::Filter(Filtering {
             range,
             meaning,
             options,

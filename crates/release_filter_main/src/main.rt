@@ -1,28 +1,27 @@
 //! The program `release-filter`: arguments, standard input and output, and exit status, nothing
-//! else. Its filter is of the versions that `meaning::read` answers. What it does with that is
-//! `copy_lines_behind`, `greatest_line_behind`, `least_line_behind`, and `sorted_lines_behind` with
-//! `write_lines` of the library, on the input behind a byte order mark.
+//! else. Its filter is of the versions that `meaning::read` returns, and `Lines` of the library
+//! says what is written: this program alone reads and writes.
 #![tactic(auto)]
 
 mod arguments;
-mod mark;
 
-use arguments::{Refusal, Request, Selection, Wanted};
+use arguments::{Filtering, Options, Refusal, Request};
 use reading_options::OptionError;
 use refused_ranges::told;
-use release_filter::{Filter, LineError, write_lines};
+use release_filter::{Counts, Filter, Lines, LinesError};
 use semver_parser::RangeError;
 use semver_parser::writing::write_whole;
-use std::io::{self, BufReader, BufWriter, ErrorKind, LineWriter, Write};
+use std::io::{self, ErrorKind, Read, Write};
 use std::process::ExitCode;
-use tool_ranges::meaning;
+use tool_ranges::meaning::{self, Meaning};
+use tool_ranges::reading::Reading;
 
 /// How the program is called.
 const USAGE: &str = "\
 usage: release-filter [--as READING | --npm]
                       [--releases | --pre | --pre-stated]
                       [--greatest | --least | --sort]
-                      [--prefix TEXT] [--line-buffered] RANGE";
+                      [--prefix TEXT]... [--strict] RANGE";
 
 /// What the program does.
 const HELP: &str = "
@@ -40,137 +39,176 @@ that spell a version which RANGE means.
     --pre-stated     copy pre-releases that RANGE means, and of which a term
                      of the same range states the three numbers and a
                      pre-release
-    --greatest       write the one line of the greatest version alone, by
-                     precedence, and the first of those that are equal
-    --least          write the one line of the least version alone, and the
-                     first of those that are equal
-    --sort           write the lines from the least version to the greatest,
-                     those of equal versions in their order, once all are
-                     read; a last line without a line feed gets one
-    --prefix TEXT    read a line without TEXT in front, and pass over lines
-                     that don't begin with it
-    --line-buffered  write each line at once
+    --greatest       print only the line with the greatest version, by
+                     precedence (the first, if several are equal)
+    --least          print only the line with the least version (the first,
+                     if several are equal)
+    --sort           print the lines from the least version to the greatest,
+                     equal versions in their order; a last line without a
+                     line feed gets one
+    --prefix TEXT    match lines that begin with TEXT and then have a version;
+                     if given more than once, with any of the texts
+    --strict         fail at the first line that is not empty and has no
+                     version
+    --line-buffered  accepted, and changes nothing: each line is written
+                     before more input is read
     --               end the options
     -h, --help       write this, and read no input
     --version        write the version of this program, and read no input
 
 As cargo and npm read it, RANGE means those pre-releases that the tool takes.
 As crate-cargo and crate-npm do, releases alone are copied without --pre and
---pre-stated, which belong to these two. The status is 0 where a line was
-written, 1 where none was, and 2 after a fault, which standard error tells.";
+--pre-stated, which belong to these two. The status is 0 if a line was
+written, 1 if none was, and 2 after an error, which standard error describes.";
 
 /// The version of this program, as the file VERSION has it.
 const VERSION: &str = "release-filter 0.3.1";
 
-/// Why a run ended by a fault.
+/// So many bytes of the input are read at once.
+const AT_ONCE: usize = 65536;
+
+/// So many bytes of a line without a version are shown.
+const SHOWN: usize = 80;
+
+/// Why a run ended by an error.
 #[derive(Drop)]
 enum Fault {
     /// The range text was refused.
     Range(RangeError),
-    /// The lines were not read and written to the end.
-    Lines(LineError),
+    /// The lines were not taken to the end.
+    Lines(LinesError),
+    /// Reading failed.
+    Read(io::Error),
+    /// Writing failed.
+    Write(io::Error),
 }
 
 fn main(rt: HostRuntime) -> ExitCode {
     match arguments::requested(&rt) {
-        Ok(Request::Filter(wanted)) => run(&rt, &wanted),
+        Ok(Request::Filter(filtering)) => run(&rt, filtering),
         Ok(Request::Help) => write_text(&rt, &[USAGE, HELP]),
         Ok(Request::Version) => write_text(&rt, &[VERSION]),
         Err(refusal) => refused(&rt, &refusal),
     }
 }
 
-/// Filters, and tells a fault. A reader of the output that wants no more is none.
-fn run(rt: &HostRuntime, wanted: &Wanted) -> ExitCode {
-    match filtered(rt, wanted) {
+/// Filters, and reports an error. A reader of the output that wants no more is none.
+fn run(rt: &HostRuntime, filtering: Filtering) -> ExitCode {
+    let Filtering {
+        range,
+        meaning,
+        options,
+    } = filtering;
+    match filtered(rt, meaning, range.as_str(), options) {
         Ok(true) => ExitCode::SUCCESS,
         Ok(false) => ExitCode::from(1),
-        Err(Fault::Lines(LineError::Write(error))) if error.kind() == ErrorKind::BrokenPipe => {
-            ExitCode::SUCCESS
-        }
+        Err(Fault::Write(error)) if error.kind() == ErrorKind::BrokenPipe => ExitCode::SUCCESS,
         Err(fault) => {
-            tell(rt, &fault, wanted);
+            tell(rt, &fault, meaning.reading(), range.as_str());
             ExitCode::from(2)
         }
     }
 }
 
-/// Filters, and tells whether a line was written.
-fn filtered(rt: &HostRuntime, wanted: &Wanted) -> Result<bool, Fault> {
-    let versions = meaning::read(rt.alloc(), wanted.meaning, wanted.range.as_str());
-    let filter = Filter::of_versions(versions.map_err(Fault::Range)?);
-    let Ok(input) = BufReader::new(rt.alloc(), rt.reader()) else {
-        return Err(Fault::Lines(LineError::OutOfMemory));
-    };
-    let mut input = mark::without_mark(rt.alloc(), input).map_err(Fault::Lines)?;
-    if wanted.options.is_line_buffered {
-        let Ok(mut output) = LineWriter::new(rt.alloc(), io::writer(rt)) else {
-            return Err(Fault::Lines(LineError::OutOfMemory));
-        };
-        write_wanted(rt, wanted, &filter, &mut input, &mut output).map_err(Fault::Lines)
-    } else {
-        let Ok(mut output) = BufWriter::new(rt.alloc(), io::writer(rt)) else {
-            return Err(Fault::Lines(LineError::OutOfMemory));
-        };
-        write_wanted(rt, wanted, &filter, &mut input, &mut output).map_err(Fault::Lines)
-    }
-}
-
-/// Writes the lines that are wanted, and tells whether there was one.
-fn write_wanted<R: io::BufRead, W: Write>(
+/// Filters, and returns whether a line was written. If none was, lines without a version are
+/// reported.
+fn filtered(
     rt: &HostRuntime,
-    wanted: &Wanted,
-    filter: &Filter,
-    input: &mut R,
-    output: &mut W,
-) -> Result<bool, LineError> {
-    let prefix = wanted
-        .options
-        .prefix
-        .as_ref()
-        .map_or("", |prefix| prefix.as_str());
-    let has_written = match wanted.options.selection {
-        None => filter.copy_lines_behind(rt.alloc(), prefix, input, output)?,
-        Some(Selection::Greatest) => {
-            let line = filter.greatest_line_behind(rt.alloc(), prefix, input)?;
-            write_found(output, &line).map_err(LineError::Write)?
-        }
-        Some(Selection::Least) => {
-            let line = filter.least_line_behind(rt.alloc(), prefix, input)?;
-            write_found(output, &line).map_err(LineError::Write)?
-        }
-        Some(Selection::Sorted) => {
-            let lines = filter.sorted_lines_behind(rt.alloc(), prefix, input)?;
-            write_lines(output, &lines).map_err(LineError::Write)?;
-            !lines.is_empty()
-        }
-    };
-    output.flush().map_err(LineError::Write)?;
+    meaning: Meaning,
+    range: &str,
+    options: Options,
+) -> Result<bool, Fault> {
+    let versions = meaning::read(rt.alloc(), meaning, range).map_err(Fault::Range)?;
+    let filter = Filter::of_versions(versions);
+    let mut lines = options.lines(rt.alloc(), filter);
+    let has_written = copy_lines(rt, &mut lines)?;
+    if !has_written {
+        report_invalid(rt, lines.counts());
+    }
     Ok(has_written)
 }
 
-/// Writes a line if one was found, and tells whether it was.
-fn write_found<W: Write>(output: &mut W, found: &Option<Vec<u8>>) -> io::Result<bool> {
-    match found {
-        Some(line) => {
-            write_whole(output, line.as_slice())?;
-            Ok(true)
+/// Takes the lines of standard input, and writes what they append before more is read. Returns
+/// whether anything was written.
+fn copy_lines(rt: &HostRuntime, lines: &mut Lines) -> Result<bool, Fault> {
+    let mut input = rt.reader();
+    let mut output = io::writer(rt);
+    let Ok(mut buffer) = vec![in rt.alloc(); 0; AT_ONCE] else {
+        return Err(Fault::Lines(LinesError::OutOfMemory));
+    };
+    let mut kept = Vec::new(rt.alloc());
+    let mut has_written = false;
+    for _ in 0..u64::MAX {
+        let count = read(&mut input, &mut buffer).map_err(Fault::Read)?;
+        if count == 0 {
+            break;
         }
-        None => Ok(false),
+        let piece = buffer.get(..count).unwrap_or_default();
+        let pushed = lines.push(rt.alloc(), piece, &mut kept);
+        has_written |= write(&mut output, &mut kept).map_err(Fault::Write)?;
+        pushed.map_err(|stopped| Fault::Lines(stopped.error))?;
+    }
+    lines.finish(rt.alloc(), &mut kept).map_err(Fault::Lines)?;
+    has_written |= write(&mut output, &mut kept).map_err(Fault::Write)?;
+    Ok(has_written)
+}
+
+/// Reads the next bytes: how many.
+fn read<R: Read>(input: &mut R, buffer: &mut [u8]) -> io::Result<usize> {
+    for _ in 0..u64::MAX {
+        match input.read(buffer) {
+            Err(error) if error.kind() == ErrorKind::Interrupted => {}
+            read => return read,
+        }
+    }
+    Ok(0)
+}
+
+/// Writes and drops what was kept, and returns whether that was anything.
+fn write<W: Write>(output: &mut W, kept: &mut Vec<u8>) -> io::Result<bool> {
+    if kept.is_empty() {
+        return Ok(false);
+    }
+    write_whole(output, kept.as_slice())?;
+    output.flush()?;
+    kept.clear();
+    Ok(true)
+}
+
+/// Reports on standard error how many lines have no version, and the first.
+fn report_invalid(rt: &impl Eprint, counts: &Counts) {
+    let Some(first) = &counts.first_invalid else {
+        return;
+    };
+    let all = counts.lines.saturating_sub(counts.empty);
+    let are = if counts.invalid == 1 { "is" } else { "are" };
+    let (shown, more) = shown(first.front.as_slice());
+    let _ = eprintln!(rt;
+        "release-filter: {} of {all} lines {are} no version; the first, line {}: {}{more}",
+        counts.invalid,
+        first.number,
+        shown.escape_ascii()
+    );
+}
+
+/// The first 80 bytes of the front of a line, and dots if there are more.
+fn shown(front: &[u8]) -> (&[u8], &'static str) {
+    match front.get(..SHOWN) {
+        Some(shown) if front.len() > SHOWN => (shown, "..."),
+        _ => (front, ""),
     }
 }
 
-/// Says on standard error what the fault is, of a range text with the text and the place.
-fn tell(rt: &HostRuntime, fault: &Fault, wanted: &Wanted) {
+/// Reports on standard error what the error is, of a range text with the text and the place.
+fn tell(rt: &HostRuntime, fault: &Fault, reading: Reading, range: &str) {
     let _ = match fault {
-        Fault::Range(error) => {
-            let range = wanted.range.as_str();
-            match told(rt.alloc(), wanted.meaning.reading(), error, range) {
-                Ok(told) => eprintln!(rt; "release-filter: {told}"),
-                Err(_) => eprintln!(rt; "release-filter: {error}: {range:?}"),
-            }
-        }
+        Fault::Range(error) => match told(rt.alloc(), reading, error, range) {
+            Ok(told) => eprintln!(rt; "release-filter: {told}"),
+            Err(_) => eprintln!(rt; "release-filter: {error}: {range:?}"),
+        },
         Fault::Lines(error) => eprintln!(rt; "release-filter: {error}"),
+        Fault::Read(error) => eprintln!(rt; "release-filter: cannot read input: {error}"),
+        Fault::Write(error) => eprintln!(rt; "release-filter: cannot write output: {error}"),
     };
 }
 

@@ -11,8 +11,8 @@ use Rattle.semver_texts.specs.Texts.{Text, marked, BeginsWithNumbers, is_empty, 
 use Rattle.semver_texts.specs.Versions.{IdentifierValue, VersionValue, numbers}
 use Rattle.semver_texts.specs.PrintedText.{identifier_text}
 use Rattle.semver_texts.specs.VersionGrammar.{SpellsIdentifier, SpellsPart, SpellsVersion, IsVersionText}
-use Rattle.semver_versions.specs.Outlines.{OutlineValue, dotted_text, behind_mark, outline_behind, IsOutlineOf, StandsAt}
-use Rattle.semver_versions.specs.Steps.Cutting.{AreParts, AreSpaces, IsOutlineBehind, IsOutlined}
+use Rattle.semver_versions.specs.Outlines.{OutlineValue, dotted_text, behind_mark, outline_behind, IsOutlineAfter, IsOutlineOf, StandsAt}
+use Rattle.semver_versions.specs.Steps.Cutting.{AreParts, AreSpaces, IsOutlined}
 use Rattle.semver_texts.specs.Texts.{cut_at_dots}
 use Rattle.semver_versions.proofs.CutIdentifiers.{cut_texts, marked_cut}
 use Rattle.semver_versions.proofs.OneVersion.{one_version, numbers_first, identifiers_bytes, joined_some, same_identifiers}
@@ -89,7 +89,7 @@ rest_fits text rest major minor patch n =
 pub has_outline : (before : ℕ) (text rest pre build : Text) (major minor patch : ℕ) → BeginsWithNumbers text major minor patch rest
     → AreParts rest pre build → (numbers_end pre_end : ℕ) → numbers_end + length rest ≡ before + length text
     → pre_end ≡ numbers_end + length (marked (codes "-") (cut_at_dots pre))
-    → IsOutlineBehind before text (record {
+    → IsOutlineAfter before text (record {
       major = major;
       minor = minor;
       patch = patch;
@@ -128,7 +128,7 @@ has_outline before text rest pre build major minor patch n w numbers_end pre_end
 -- without identifiers
 pub has_plain_outline : (before : ℕ) (text rest : Text) (major minor patch : ℕ) → BeginsWithNumbers text major minor patch rest
     → AreSpaces rest
-    → IsOutlineBehind before text
+    → IsOutlineAfter before text
     (record { major = major; minor = minor; patch = patch; pre = []; build = []; pre_offset = 0; build_offset = 0 })
 has_plain_outline before text rest major minor patch n spaces =
     let front : Text = join_with_byte 46 (map decimal (major ∷ minor ∷ patch ∷ [])) in
@@ -139,7 +139,7 @@ has_plain_outline before text rest major minor patch n spaces =
 -- ---- white space before it
 
 module _ (text : Text) where
-  pub outline_spaced : (o : OutlineValue) → IsOutlineBehind (prefix_len is_space text) (drop (prefix_len is_space text) text) o
+  pub outline_spaced : (o : OutlineValue) → IsOutlineAfter (prefix_len is_space text) (drop (prefix_len is_space text) text) o
       → IsOutlineOf text o
   outline_spaced o w = (w.0, spaced w.0 text w.1, w.2)
 
@@ -150,16 +150,20 @@ module _ (text : Text) where
 
   -- ---- what is answered
 
-  pub exactly_outlined : (found : Option OutlineValue) → IsOutlined (prefix_len is_space text) text found → (o : OutlineValue)
-      → (found ≡ Some o) ↔ IsOutlineOf text o
-  exactly_outlined None none o = (λ e. cc, λ w. absurd (none (w.0, w.1)))
-  exactly_outlined (Some found) is o = (
-    λ e. subst (IsOutlineOf text) (same e) is,
+  pub exactly_after : (before : ℕ) (found : Option OutlineValue) → IsOutlined before text found → (o : OutlineValue)
+      → (found ≡ Some o) ↔ IsOutlineAfter before text o
+  exactly_after before None none o = (λ e. cc, λ w. absurd (none (w.0, w.1)))
+  exactly_after before (Some found) is o = (
+    λ e. subst (IsOutlineAfter before text) (same e) is,
     λ w. rw (is.2 ∙ ap (outline_behind _) (one_version is.0 w.0 text is.1 w.1) ∙ sym w.2),
   )
     where
       same : {x y : OutlineValue} → Some x ≡ Some y → x ≡ y
       same e = cc
+
+  pub exactly_outlined : (found : Option OutlineValue) → IsOutlined (prefix_len is_space text) text found → (o : OutlineValue)
+      → (found ≡ Some o) ↔ IsOutlineOf text o
+  exactly_outlined found is o = exactly_after (prefix_len is_space text) found is o
 
 -- ---- no white space before it, as numbers stand there
 

@@ -43,10 +43,14 @@ outline_behind before v = record {
   build_offset = behind_mark (before + length (plain_text v.plain)) (dotted_text v.build);
 }
 
--- it is the outline of a version that the text spells, which stands behind the white space
+-- it is the outline of a version that the text spells and that is after so many bytes
+abbrev pub IsOutlineAfter : ℕ → Text → OutlineValue → Type 0
+IsOutlineAfter before text o =
+    (v : VersionValue) × SpellsVersion v text × (o ≡ outline_behind before v)
+
+-- it is the outline of a version that the text spells, after the white space at its front
 abbrev pub IsOutlineOf : Text → OutlineValue → Type 0
-IsOutlineOf text o = (v : VersionValue) × SpellsVersion v text
-    × (o ≡ outline_behind (prefix_len is_space text) v)
+IsOutlineOf text o = IsOutlineAfter (prefix_len is_space text) text o
 
 -- the part stands in the text at the offset
 abbrev pub StandsAt : ℕ → Text → Text → Type 0

@@ -7,14 +7,14 @@
 //! 18446744073709551615. An identifier is one or more runs of ASCII letters and digits joined by
 //! single hyphens; there is no limit on runs, identifiers or the length of a text.
 ghost use Rattle.std.specs.Prelude.{◌≡◌, ◌↔◌, ◌<◌, ◌⊎◌, ◌+◌, ◌^◌, [], length, Some, None};
-ghost use Rattle.std.specs.Prelude.{IfOk, IfErr, IfSome, option_map};
+ghost use Rattle.std.specs.Prelude.{ℕ, IfOk, IfErr, IfSome, option_map};
 ghost use Rattle.semver_texts.specs.Texts.{Text, BeginsWithNumbers};
 ghost use Rattle.semver_texts.specs.Versions.{VersionValue};
 ghost use Rattle.semver_texts.specs.PrintedText.{version_text};
 ghost use Rattle.semver_texts.specs.VersionViews.{version_value};
 ghost use Rattle.semver_texts.specs.VersionGrammar.{SpellsVersion, IsVersionText, IsTrimmed};
 ghost use Rattle.semver_texts.specs.VersionGrammar.{IsPrintableVersion};
-ghost use Rattle.semver_versions.specs.Outlines.{OutlineValue, IsOutlineOf, StandsAt};
+ghost use Rattle.semver_versions.specs.Outlines.{OutlineValue, IsOutlineOf, IsOutlineAfter, StandsAt};
 ghost use Rattle.semver_steps.specs.VersionReading.{IsOutcomeOf, TextMayRunOut};
 ghost use Rattle.semver_steps.specs.ParserViews.{answer_of, UnlessOutOfMemory, IfOutOfMemory};
 
@@ -122,9 +122,14 @@ pub fn outline_bytes(input: &[u8]) -> Option<Outline<'_>>
 }
 
 // Answer: law answer_laws::versions::one_outline_behind_numbers.
-/// What [`outline_bytes`] answers of a text that begins with three numbers, for who has read these:
-/// 1, 2 and 3, the 5 bytes up to their end, and `-rc.4` behind them give the outline of
-/// `1.2.3-rc.4`, and with `.4` behind them `None`. It takes no memory.
+/// Returns what [`outline_bytes`] does of a text that begins with three numbers, if these are read
+/// already: 1, 2 and 3, the 5 bytes up to their end, and the rest `-rc.4` give the outline of
+/// `1.2.3-rc.4`, and the rest `.4` gives `None`. It does not allocate.
+///
+/// Two conditions have to hold, or the result is not specified: `numbers_end` is at least the
+/// length of the three numbers with two dots, and the rest does not begin with a digit. If
+/// `numbers_end` is greater, other bytes are before the numbers, and places are counted from the
+/// first of these: 6 gives the outline of ` 1.2.3-rc.4`.
 #[inline(always)]
 pub fn outline_behind_numbers(
     major: u64,
@@ -142,6 +147,11 @@ pub fn outline_behind_numbers(
     ensures none { (text : Text) → BeginsWithNumbers text major minor patch rest.now
         → length text ≡ numbers_end + length rest.now
         → (result ≡ None) ↔ ¬ (IsVersionText text) }
+    // So it is where other bytes are before the numbers, from which places are counted.
+    ensures after { (text : Text) (before : ℕ) (o : OutlineValue)
+        → BeginsWithNumbers text major minor patch rest.now
+        → numbers_end + length rest.now ≡ before + length text
+        → (result ≡ Some o) ↔ IsOutlineAfter before text o }
 {
     from_bytes::behind_numbers(major, minor, patch, numbers_end, rest)
 }

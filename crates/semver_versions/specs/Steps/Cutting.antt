@@ -4,9 +4,8 @@ use Rattle.std.specs.Prelude.{◌≡◌, ◌<◌, false, ◌==◌, ℕ, [], ◌�
 use Rattle.std.specs.Prelude.{take, slice_index, IsTrue, Option, Some, None, codes}
 use Rattle.std.specs.List.{AllByRecursion, prefix_len}
 use Rattle.semver_texts.specs.Texts.{Text, marked, cut_at_dots, is_dotted_byte, is_space}
-use Rattle.semver_texts.specs.Versions.{VersionValue}
-use Rattle.semver_texts.specs.VersionGrammar.{IsIdentifierText, SpellsVersion, IsVersionText}
-use Rattle.semver_versions.specs.Outlines.{OutlineValue, outline_behind}
+use Rattle.semver_texts.specs.VersionGrammar.{IsIdentifierText, IsVersionText}
+use Rattle.semver_versions.specs.Outlines.{OutlineValue, IsOutlineAfter}
 
 -- each text between the dots is that of an identifier
 abbrev pub AreIdentifiers : Text → Type 0
@@ -38,12 +37,7 @@ pub record AreParts (text pre build : Text) : Type 0 where
   pub split : text
       ≡ marked (codes "-") (cut_at_dots pre) ++ (marked (codes "+") (cut_at_dots build) ++ after)
 
--- the outline of a version that the text spells behind so many bytes
-abbrev pub IsOutlineBehind : ℕ → Text → OutlineValue → Type 0
-IsOutlineBehind before text o =
-    (v : VersionValue) × SpellsVersion v text × (o ≡ outline_behind before v)
-
--- the same, or none where the text spells none
+-- the outline of a version that the text spells after so many bytes, or none where the text spells none
 abbrev pub IsOutlined : ℕ → Text → Option OutlineValue → Type 0
 IsOutlined before text None = ¬ (IsVersionText text)
-IsOutlined before text (Some o) = IsOutlineBehind before text o
+IsOutlined before text (Some o) = IsOutlineAfter before text o

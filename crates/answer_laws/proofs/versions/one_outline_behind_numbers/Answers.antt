@@ -3,7 +3,7 @@ use Rattle.answer_laws.proofs.versions.one_outline_behind_numbers.Goals as goal
 
 pub returns : goal.returns
 returns c = record {
-  one = λ text begins ends. one_found _ _ _
-      (λ o. c.outline_behind_numbers.ensures.outlined text o begins ends)
-      (λ o. c.outline_behind_numbers-2.ensures.outlined text o begins ends);
+  one = λ text before begins ends. one_found _ _ _
+      (λ o. c.outline_behind_numbers.ensures.after text before o begins ends)
+      (λ o. c.outline_behind_numbers-2.ensures.after text before o begins ends);
 }

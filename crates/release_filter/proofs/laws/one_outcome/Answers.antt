@@ -1,5 +1,8 @@
-use Rattle.release_filter.proofs.PieceLaws.{one_appending, one_taking}
+use Rattle.release_filter.proofs.PieceLaws.{one_completion, one_taking}
 use Rattle.release_filter.proofs.laws.one_outcome.Goals as goal
 
 pub returns : goal.returns
-returns c = record { one_taking = one_taking; one_appending = one_appending }
+returns c =
+    let total = c.precedence_is_total.ensures.total in
+    let same = c.one_version.ensures.same_version in
+    record { taking = one_taking same total; completion = one_completion same total }

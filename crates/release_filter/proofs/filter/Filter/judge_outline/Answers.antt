@@ -5,7 +5,7 @@ use Rattle.semver_parser.specs.VersionGrammar.{SpellsVersion}
 use Rattle.semver_parser.specs.Versions.{VersionValue}
 use Rattle.version_sets.specs.VersionSets.{has}
 use Rattle.release_filter.specs.Filters.{FilterValue, passes}
-use Rattle.release_filter.specs.Steps.Reading.{IsOutlined}
+use Rattle.release_filter.specs.Steps.Outlined.{IsOutlined}
 use Rattle.release_filter.specs.Steps.Rules.{HeedsRule}
 use Rattle.release_filter.proofs.Passing.{as_outlined, excluded_fails, not_both, spelled_fit}
 use Rattle.release_filter.proofs.filter.Filter.judge_outline.Goals as goal

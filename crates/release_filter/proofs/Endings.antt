@@ -1,0 +1,219 @@
+-- What one line does to the state, and what the line that no line feed ends does.
+use Rattle.std.proofs.Common.{◌≡◌, ◌≢◌, ◌∙◌, ◌⊎◌, ◌++◌, ◌∷◌, ◌&&◌, [], List, ℕ, Bool, true, false, not, refl, sym, ap, cond, subst, inl, inr, IsTrue, Option, Some}
+use Rattle.std.proofs.Common.{append-nil, length, map, ◌==◌}
+use Rattle.std.specs.Prelude.{◌||◌}
+use Rattle.semver_parser.specs.Outlines.{OutlineValue}
+use Rattle.semver_parser.specs.Texts.{Text, is_empty}
+use Rattle.semver_parser.specs.Versions.{PlainVersion}
+use Rattle.release_filter.specs.Counting.{CountsValue, counted, counted_as}
+use Rattle.release_filter.specs.Filters.{FilterValue}
+use Rattle.release_filter.specs.LineTexts.{IsWholeLine, after_mark, line_text, lines_of}
+use Rattle.release_filter.specs.Pieces.{Completes, EndsInvalid, LinesValue, Takes}
+use Rattle.release_filter.specs.Steps.Outlined.{JudgesBy}
+use Rattle.release_filter.specs.Steps.Taking.{Concludes, Outlines, PassesAs, TakesLine, TakesWhole, verdict_of}
+use Rattle.release_filter.specs.Verdicts.{AreJudged, HasVersion, IsVerdictOn, JudgedLine, Verdict, asked, has_invalid, is_invalid, kept, dropped}
+use Rattle.release_filter.specs.Verdicts.{empty, invalid}
+use Rattle.release_filter.specs.Wanted.{HeldValue, Holds, KeptValue, emptied, kept_as, kept_of, text_of}
+use Rattle.release_filter.specs.declared.judging.Judged.{Judged}
+use Rattle.release_filter.specs.declared.judging.Judged.TheVariants.{NoVersion, DoesNotPass, Passes}
+use Rattle.release_filter.proofs.Holding.{holds_none, kept_one}
+use Rattle.release_filter.proofs.JudgedLines.{OneVersion, judged_none, judged_one, one_judging, verdict}
+use Rattle.release_filter.proofs.Passing.{not_both}
+use Rattle.release_filter.proofs.TakenPieces.{NoEnd, judged_as, line_with, no_end_marked, one_left, took_line}
+
+-- ---- one line
+
+-- of a line that is kept this is held
+pub takes_kept : (h g : HeldValue) (c d : CountsValue) (line : Text) (said : Judged) (o : OutlineValue) (plain : PlainVersion) (old new : Text)
+    → said ≡ Passes o
+    → (Outlines o plain → (added : Text) × Holds h (record { version = plain; line = line } ∷ []) g added × (new ≡ old ++ added))
+    → PassesAs said plain → d ≡ counted_as (verdict_of said plain line) c line
+    → TakesLine h c line (verdict_of said plain line) g d old new
+takes_kept h g c d line said o plain old new is holds passes counts =
+    let held = holds (subst (λ s. PassesAs s plain) is passes) in
+    record {
+      added = held.0;
+      holds = subst (λ s. Holds h (kept_as (verdict_of s plain line) line) g held.0) (sym is) held.1;
+      appended = held.2;
+      counted = counts;
+    }
+
+pub none_kept : (said : Judged) (plain : PlainVersion) (line : Text) → ((o : OutlineValue) → said ≡ Passes o → ⊥)
+    → kept_as (verdict_of said plain line) line ≡ []
+none_kept NoVersion plain line isnt = by_text (is_empty (line_text line))
+  where
+    by_text : (b : Bool) → kept_as (cond b empty invalid) line ≡ []
+    by_text true = refl
+    by_text false = refl
+none_kept DoesNotPass plain line isnt = refl
+none_kept (Passes o) plain line isnt = absurd (isnt o refl)
+
+pub fails_kept : (said : Judged) (plain : PlainVersion) (line : Text) → (said ≡ NoVersion) ⊎ (said ≡ DoesNotPass)
+    → kept_as (verdict_of said plain line) line ≡ []
+fails_kept NoVersion plain line either = none_kept NoVersion plain line (λ o e. cc)
+fails_kept DoesNotPass plain line either = refl
+fails_kept (Passes o) plain line (inl e) = cc
+fails_kept (Passes o) plain line (inr e) = cc
+
+-- the text of a line that is kept
+pub text_kept : (said : Judged) (o : OutlineValue) (plain : PlainVersion) (line : Text) → said ≡ Passes o
+    → text_of (kept_as (verdict_of said plain line) line) ≡ line
+text_kept said o plain line is = ap (λ s. text_of (kept_as (verdict_of s plain line) line)) is ∙ append-nil line
+
+-- the last line of a text, if it is kept
+pub last_kept : (said : Judged) (o : OutlineValue) (plain : PlainVersion) (line : Text) (k : KeptValue) → said ≡ Passes o
+    → (Outlines o plain → k ≡ record { version = plain; line = line }) → PassesAs said plain
+    → k ∷ [] ≡ kept_as (verdict_of said plain line) line
+last_kept said o plain line k is made passes =
+    ap (λ x. x ∷ []) (made (subst (λ s. PassesAs s plain) is passes)) ∙ ap (λ s. kept_as (verdict_of s plain line) line) (sym is)
+
+-- and of another one nothing
+pub takes_other : (h : HeldValue) (c d : CountsValue) (line : Text) (said : Judged) (plain : PlainVersion) (old : Text)
+    → ((o : OutlineValue) → said ≡ Passes o → ⊥) → d ≡ counted_as (verdict_of said plain line) c line
+    → TakesLine h c line (verdict_of said plain line) h d old old
+takes_other h c d line said plain old isnt counts = record {
+  added = [];
+  holds = subst (λ l. Holds h l h []) (sym (none_kept said plain line isnt)) (holds_none h);
+  appended = sym (append-nil old);
+  counted = counts;
+}
+
+-- a line was taken of which a filter says this
+pub took_judged : (s : LinesValue) (end left line : Text) (said : Judged) (front : Bool) (g : HeldValue) (d : CountsValue) (old new : Text)
+    (valid : Bool) → IsWholeLine end → NoEnd s.unended → line ≡ line_with s end
+    → JudgesBy (HasVersion (asked s.prefixes) line) s.filter said
+    → ((plain : PlainVersion) → PassesAs said plain → TakesLine s.held s.counts line (verdict_of said plain line) g d old new
+    × (valid ≡ not (is_invalid (verdict_of said plain line)))) → left ≡ [] → front ≡ false
+    → TakesWhole s end (record s { at_front = front; unended = left; held = g; counts = d }) old new valid
+took_judged s end left line said front g d old new valid whole none is judges takes none_left later =
+    let told = verdict s.filter s.prefixes line said judges in
+    let one = takes told.0 told.1 in
+    let v = verdict_of said told.0 line in
+    let on = subst (λ l. IsVerdictOn s.filter s.prefixes l v) is told.2 in
+    let taken = subst (λ l. TakesLine s.held s.counts l v g d old new) is one.0 in (
+      judged_as s end v,
+      subst (λ b. Takes s end (judged_as s end v ∷ []) (record s { at_front = b; unended = left; held = g; counts = d }) old new) (sym later)
+          (took_line s end left v g d old new whole none on taken none_left),
+      none_left,
+      one.1,
+    )
+
+-- ---- lines that are no invalid ones
+
+pub one_more_valid : (js : List JudgedLine) (j : JudgedLine) → has_invalid js ≡ false → is_invalid j.verdict ≡ false
+    → has_invalid (js ++ j ∷ []) ≡ false
+one_more_valid [] j valid is = ap (λ b. b || false) is
+one_more_valid (x ∷ xs) j valid is = at (is_invalid x.verdict) valid (λ e. one_more_valid xs j e is)
+  where
+    at : (b : Bool) → (b || has_invalid xs) ≡ false → (has_invalid xs ≡ false → has_invalid (xs ++ j ∷ []) ≡ false)
+        → (b || has_invalid (xs ++ j ∷ [])) ≡ false
+    at true e rest = e
+    at false e rest = rest e
+
+pub bad_verdict : (v : Verdict) → is_invalid v ≡ true → v ≡ invalid
+bad_verdict (kept p) e = absurd (not_both e refl)
+bad_verdict dropped e = absurd (not_both e refl)
+bad_verdict invalid e = refl
+bad_verdict empty e = absurd (not_both e refl)
+
+-- what a test and its opposite say
+pub opposite : (told bad : Bool) → told ≡ not bad → told ≡ true → bad ≡ false
+opposite told true is e = absurd (not_both e is)
+opposite told false is e = refl
+
+pub opposite_bad : (told bad : Bool) → told ≡ not bad → told ≡ false → bad ≡ true
+opposite_bad told true is e = refl
+opposite_bad told false is e = absurd (not_both is e)
+
+-- ---- the line that no line feed ends
+
+pub some_line : (line : Text) → (length line == 0) ≡ false → line ≡ [] → ⊥
+some_line line some none = not_both (ap (λ l. length l == 0) none) some
+
+-- a value with private fields is seen as this
+pub seen_end : (value now t u : LinesValue) (judged : List JudgedLine) (old new : Text) → value ≡ now → t ≡ u
+    → Completes value (after_mark value.at_front value.unended) judged u old new
+    → Completes now (after_mark now.at_front now.unended) judged t old new
+seen_end value now t u judged old new is so completes =
+    subst (λ (v : LinesValue). Completes v (after_mark v.at_front v.unended) judged t old new) is
+    (subst (λ (x : LinesValue). Completes value (after_mark value.at_front value.unended) judged x old new) (sym so) completes)
+
+module _ (s : LinesValue) (line : Text) (is : line ≡ after_mark s.at_front s.unended) where
+  abbrev Ended : HeldValue → CountsValue → LinesValue
+  Ended h d = record s { at_front = true; unended = []; held = emptied h; counts = d }
+
+  no_lines : line ≡ [] → lines_of (after_mark s.at_front s.unended) ≡ []
+  no_lines none = ap lines_of (sym is ∙ none)
+
+  pub finished_none : line ≡ [] → (old new : Text) → Concludes s.held [] old new
+      → Completes s (after_mark s.at_front s.unended) [] (Ended s.held s.counts) old new
+  finished_none none old new (held, added, rest, holds, answers, appended) = record {
+    judges = subst (λ l. AreJudged s.filter s.prefixes l []) (sym (no_lines none)) (judged_none s.filter s.prefixes);
+    held = held;
+    added = added;
+    rest = rest;
+    holds = holds;
+    answers = answers;
+    appended = appended;
+    state = refl;
+  }
+
+  pub ends_valid_none : OneVersion → line ≡ [] → ¬ (EndsInvalid s)
+  ends_valid_none same none (judged, judges, bad) =
+      let those = one_judging s.filter s.prefixes same (lines_of (after_mark s.at_front s.unended)) [] judged
+      (subst (λ l. AreJudged s.filter s.prefixes l []) (sym (no_lines none)) (judged_none s.filter s.prefixes)) judges in
+      not_both (ap has_invalid those ∙ bad) refl
+
+  module _ (some : line ≡ [] → ⊥) (none : NoEnd s.unended) (said : Judged) (judges : JudgesBy (HasVersion (asked s.prefixes) line) s.filter said)
+      where
+    one_line : (l : Text) → (l ≡ [] → ⊥) → NoEnd l → lines_of l ≡ l ∷ []
+    one_line [] some none = absurd (some refl)
+    one_line (x ∷ xs) some none = one_left x xs none
+
+    told : (plain : PlainVersion) × PassesAs said plain × IsVerdictOn s.filter s.prefixes line (verdict_of said plain line)
+    told = verdict s.filter s.prefixes line said judges
+
+    abbrev last : JudgedLine
+    last = record { line = line; verdict = verdict_of said told.0 line }
+
+    last_judged : AreJudged s.filter s.prefixes (lines_of (after_mark s.at_front s.unended)) (last ∷ [])
+    last_judged =
+        subst (λ l. AreJudged s.filter s.prefixes (lines_of l) (last ∷ [])) is
+        (subst (λ l. AreJudged s.filter s.prefixes l (last ∷ []))
+        (sym (one_line line some (subst NoEnd (sym is) (no_end_marked s.at_front s.unended none))))
+        (judged_one s.filter s.prefixes line (verdict_of said told.0 line) told.2))
+
+    pub finished_one : (d : CountsValue) (old new : Text)
+        → ((plain : PlainVersion) → PassesAs said plain → Concludes s.held (kept_as (verdict_of said plain line) line) old new)
+        → ((plain : PlainVersion) → d ≡ counted_as (verdict_of said plain line) s.counts line) → (bad : Bool)
+        → ((plain : PlainVersion) → bad ≡ is_invalid (verdict_of said plain line)) → (IsTrue s.is_strict → bad ≡ false)
+        → (judged : List JudgedLine) × Completes s (after_mark s.at_front s.unended) judged (Ended s.held d) old new
+        × (IsTrue s.is_strict → has_invalid judged ≡ false)
+    finished_one d old new concludes counts bad so valid =
+        let end = concludes told.0 told.1 in (
+          last ∷ [],
+          record {
+            judges = last_judged;
+            held = end.0;
+            added = end.1;
+            rest = end.2;
+            holds = subst (λ l. Holds s.held l end.0 end.1) (sym (kept_one last)) end.3;
+            answers = end.4;
+            appended = end.5;
+            state = λ i. record (Ended s.held d) { counts = counts told.0 i };
+          },
+          λ strict. or_false (is_invalid (verdict_of said told.0 line)) (sym (so told.0) ∙ valid strict),
+        )
+      where
+        or_false : (b : Bool) → b ≡ false → (b || false) ≡ false
+        or_false true e = e
+        or_false false e = refl
+
+    pub ends_invalid : (bad : Bool) → ((plain : PlainVersion) → bad ≡ is_invalid (verdict_of said plain line)) → bad ≡ true → EndsInvalid s
+    ends_invalid bad so e = (last ∷ [], last_judged, ap (λ b. b || false) (sym (so told.0) ∙ e))
+
+    pub ends_valid : OneVersion → (bad : Bool) → ((plain : PlainVersion) → bad ≡ is_invalid (verdict_of said plain line)) → bad ≡ false
+        → ¬ (EndsInvalid s)
+    ends_valid same bad so e (judged, judges, isnt) =
+        let those = one_judging s.filter s.prefixes same (lines_of (after_mark s.at_front s.unended)) (last ∷ []) judged last_judged judges in
+        not_both (ap has_invalid those ∙ isnt) (ap (λ b. b || false) (sym (so told.0) ∙ e))

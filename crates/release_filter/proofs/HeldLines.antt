@@ -1,0 +1,179 @@
+-- What holding a kept line does, and what is appended at the end of a text.
+use Rattle.std.proofs.Common.{◌≡◌, ◌∙◌, ◌⊎◌, ◌↔◌, ◌++◌, ◌∷◌, ◌<◌, ◌+◌, [], List, ℕ, Bool, true, false, refl, sym, ap, ap₂, subst, inl, inr}
+use Rattle.std.proofs.Common.{Option, Some, None, MatchOption, Vec, Global, Bor, append_assoc, append-nil, arith, drop, get_or, length, map, take, Less}
+use Rattle.std.proofs.Math.Seq.{take-append_seam}
+use Rattle.std.proofs.lemmas.List.{drop_more, map-append}
+use Rattle.std.specs.Cmp.{IsTotalOrder}
+use Rattle.std.specs.Option.{option_map}
+use Rattle.std.specs.Prelude.{option_to_list}
+use Rattle.semver_parser.specs.Precedence.{precedence}
+use Rattle.semver_parser.specs.Texts.{Text}
+use Rattle.semver_parser.specs.Versions.{PlainVersion}
+use Rattle.semver_parser.specs.VersionViews.{version_value}
+use Rattle.semver_parser.specs.declared.version.Version.{Version}
+use Rattle.release_filter.specs.Steps.Taking.{Concludes, kept_value}
+use Rattle.release_filter.specs.Wanted.{AnswersBy, HeldValue, HoldsBy, IsBest, IsStableSort, KeptValue, ended, ended_text, order_of, text_of}
+use Rattle.release_filter.specs.declared.wanted.KeptLine.{KeptLine}
+use Rattle.release_filter.specs.declared.wanted.Wanted.{Wanted}
+use Rattle.release_filter.specs.declared.wanted.Wanted.TheVariants.{Each, Greatest, Least, Sorted}
+use Rattle.release_filter.proofs.Holding.{best_of_none, better_one, isnt_over, not_better, total_of}
+use Rattle.release_filter.proofs.Passing.{not_both}
+
+-- ---- the best line
+
+-- whether a version is better than the best so far, as it is told
+abbrev pub Tells : Wanted → Option KeptLine → PlainVersion → Bool → Type 0
+Tells w best v told = MatchOption best (told ≡ true) (λ b. (told ≡ true) ↔ (order_of w (version_value b.version).plain v ≡ Less))
+
+abbrev pub best_list : Option KeptLine → List KeptValue
+best_list best = option_to_list (option_map kept_value best)
+
+pub stays : IsTotalOrder precedence → (w : Wanted) (best : Option KeptLine) (k : KeptValue) (told : Bool) → Tells w best k.version told
+    → told ≡ false → IsBest (order_of w) (best_list best ++ k ∷ []) (option_map kept_value best)
+stays total w None k told tells e = absurd (not_both tells e)
+stays total w (Some b) k told tells e =
+    not_better (order_of w) (kept_value b) k
+    (isnt_over (order_of w) (total_of w total) k.version (version_value b.version).plain (λ less. not_both (tells.1 less) e))
+
+pub replaces : (w : Wanted) (best : Option KeptLine) (k : KeptValue) (told : Bool) → Tells w best k.version told → told ≡ true
+    → IsBest (order_of w) (best_list best ++ k ∷ []) (Some k)
+replaces w None k told tells e = better_one (order_of w) None k tt
+replaces w (Some b) k told tells e = better_one (order_of w) (Some (kept_value b)) k (tells.0 e, tt)
+
+-- the line that is held then
+pub made_best : (dest : Option KeptLine) (version : Version) (bytes : Vec ℕ Global) (line : Text)
+    → dest ≡ Some (record { version = version; bytes = bytes }) → bytes.items ≡ line
+    → option_map kept_value dest ≡ Some (record { version = (version_value version).plain; line = line })
+made_best dest version bytes line is items =
+    ap (option_map kept_value) is ∙ ap (λ l. Some (record { version = (version_value version).plain; line = l })) items
+
+-- ---- what is held
+
+pub holds_best : (w : Wanted) → (w ≡ Greatest) ⊎ (w ≡ Least) → (h g : HeldValue) (lines : List KeptValue) (best : Option KeptValue)
+    → IsBest (order_of w) (option_to_list h.best ++ lines) best → g ≡ record h { best = best } → HoldsBy w h lines g []
+holds_best Greatest either h g lines best is so = (best, is, so, refl)
+holds_best Least either h g lines best is so = (best, is, so, refl)
+holds_best Each (inl e) h g lines best is so = cc
+holds_best Each (inr e) h g lines best is so = cc
+holds_best Sorted (inl e) h g lines best is so = cc
+holds_best Sorted (inr e) h g lines best is so = cc
+
+-- ---- lines with a line feed at their end
+
+pub ended_append : (xs ys : List KeptValue) → ended_text (xs ++ ys) ≡ ended_text xs ++ ended_text ys
+ended_append [] ys = refl
+ended_append (x ∷ xs) ys = ap (λ l. ended x.line ++ l) (ended_append xs ys) ∙ sym (append_assoc (ended x.line) (ended_text xs) (ended_text ys))
+
+abbrev pub seen_lines : List (Bor KeptLine) → List KeptValue
+seen_lines lines = map (λ (line : Bor KeptLine). kept_value line.now) lines
+
+-- so many of the lines were appended
+abbrev pub AppendsSome : List (Bor KeptLine) → ℕ → Text → Text → Type 0
+AppendsSome lines count old new =
+    (done : Text) × (new ≡ old ++ done) × (done ++ ended_text (seen_lines (drop count lines)) ≡ ended_text (seen_lines lines))
+
+pub appends_next : (lines : List (Bor KeptLine)) (count : ℕ) (line : Bor KeptLine) (old mid new : Text) → count < length lines
+    → line ≡ get_or lines count line → AppendsSome lines count old mid → new ≡ mid ++ ended line.now.bytes.items
+    → AppendsSome lines (count + 1) old new
+appends_next lines count line old mid new inside is (done, so_far, rest) next =
+    let more = ended_text (seen_lines (drop (count + 1) lines)) in (
+      done ++ ended line.now.bytes.items,
+      next ∙ ap (λ l. l ++ ended line.now.bytes.items) so_far ∙ append_assoc old done (ended line.now.bytes.items),
+      append_assoc done (ended line.now.bytes.items) more
+          ∙ sym (ap (λ ls. done ++ ended_text (seen_lines ls)) (drop_more lines count line inside
+          ∙ ap (λ (l : Bor KeptLine). l ∷ drop (count + 1) lines) (sym is)))
+          ∙ rest,
+    )
+
+pub taken_back : (lines : List (Bor KeptLine)) (count : ℕ) (old mid new : Text) → AppendsSome lines count old mid
+    → ((part : Text) × (new ≡ mid ++ part)) → take (length old) new ≡ old
+taken_back lines count old mid new (done, so_far, rest) (part, more) =
+    ap (take (length old)) (more ∙ ap (λ l. l ++ part) so_far ∙ append_assoc old done part) ∙ take-append_seam old (done ++ part)
+
+-- ---- the best of two
+
+pub stays_with : IsTotalOrder precedence → (w : Wanted) (best last : Option KeptLine) (k : KeptLine) (told : Bool) → last ≡ Some k
+    → Tells w best (version_value k.version).plain told → told ≡ false
+    → IsBest (order_of w) (best_list best ++ best_list last) (option_map kept_value best)
+stays_with total w best last k told is tells e =
+    subst (λ (l : Option KeptLine). IsBest (order_of w) (best_list best ++ best_list l) (option_map kept_value best)) (sym is)
+    (stays total w best (kept_value k) told tells e)
+
+pub replaced_with : (w : Wanted) (best last : Option KeptLine) (k : KeptLine) (told : Bool) → last ≡ Some k
+    → Tells w best (version_value k.version).plain told → told ≡ true
+    → IsBest (order_of w) (best_list best ++ best_list last) (option_map kept_value last)
+replaced_with w best last k told is tells e =
+    subst (λ (l : Option KeptLine). IsBest (order_of w) (best_list best ++ best_list l) (option_map kept_value l)) (sym is)
+    (replaces w best (kept_value k) told tells e)
+
+pub stays_alone : (w : Wanted) (best last : Option KeptLine) → last ≡ None
+    → IsBest (order_of w) (best_list best ++ best_list last) (option_map kept_value best)
+stays_alone w best last is =
+    subst (λ (l : Option KeptLine). IsBest (order_of w) (best_list best ++ best_list l) (option_map kept_value best)) (sym is)
+    (best_of_none (order_of w) (option_map kept_value best))
+
+-- ---- the end of a text
+
+pub concludes_each : (h : HeldValue) → h.wanted ≡ Each → (lines : List KeptValue) (old new : Text) → new ≡ old ++ text_of lines
+    → Concludes h lines old new
+concludes_each h is lines old new appended = (
+  h,
+  text_of lines,
+  [],
+  subst (λ w. HoldsBy w h lines h (text_of lines)) (sym is) (refl, refl),
+  subst (λ w. AnswersBy w h []) (sym is) refl,
+  appended ∙ ap (λ l. old ++ l) (sym (append-nil (text_of lines))),
+)
+
+best_answer : (w : Wanted) → (w ≡ Greatest) ⊎ (w ≡ Least) → (h : HeldValue) → AnswersBy w h (text_of (option_to_list h.best))
+best_answer Greatest either h = refl
+best_answer Least either h = refl
+best_answer Each (inl e) h = cc
+best_answer Each (inr e) h = cc
+best_answer Sorted (inl e) h = cc
+best_answer Sorted (inr e) h = cc
+
+pub concludes_best : (h : HeldValue) → (h.wanted ≡ Greatest) ⊎ (h.wanted ≡ Least) → (lines : List KeptValue) (best : Option KeptValue)
+    (old new : Text) → IsBest (order_of h.wanted) (option_to_list h.best ++ lines) best → new ≡ old ++ text_of (option_to_list best)
+    → Concludes h lines old new
+concludes_best h either lines best old new is appended = (
+  record h { best = best },
+  [],
+  text_of (option_to_list best),
+  holds_best h.wanted either h (record h { best = best }) lines best is refl,
+  best_answer h.wanted either (record h { best = best }),
+  appended,
+)
+
+pub concludes_sorted : (h : HeldValue) → h.wanted ≡ Sorted → (lines sorted : List KeptValue) (old new : Text)
+    → IsStableSort (h.sorted ++ lines) sorted → new ≡ old ++ ended_text sorted → Concludes h lines old new
+concludes_sorted h is lines sorted old new sort appended = (
+  record h { sorted = h.sorted ++ lines },
+  [],
+  ended_text sorted,
+  subst (λ w. HoldsBy w h lines (record h { sorted = h.sorted ++ lines }) []) (sym is) (refl, refl),
+  subst (λ w. AnswersBy w (record h { sorted = h.sorted ++ lines }) (ended_text sorted)) (sym is) (sorted, sort, refl),
+  appended,
+)
+
+-- ---- the lines that are sorted
+
+pub sees_next : (lines : List KeptLine) (count : ℕ) (line : KeptLine) (old new : List (Bor KeptLine)) (added : Bor KeptLine)
+    → count < length lines → line ≡ get_or lines count line → seen_lines old ++ map kept_value (drop count lines) ≡ map kept_value lines
+    → new ≡ old ++ added ∷ [] → added.now ≡ line → seen_lines new ++ map kept_value (drop (count + 1) lines) ≡ map kept_value lines
+sees_next lines count line old new added inside is so_far next same =
+    ap (λ l. seen_lines l ++ map kept_value (drop (count + 1) lines)) next
+    ∙ ap (λ l. l ++ map kept_value (drop (count + 1) lines)) (map-append (λ (r : Bor KeptLine). kept_value r.now) old (added ∷ []))
+    ∙ append_assoc (seen_lines old) (kept_value added.now ∷ []) (map kept_value (drop (count + 1) lines))
+    ∙ ap (λ k. seen_lines old ++ kept_value k ∷ map kept_value (drop (count + 1) lines)) (same ∙ is)
+    ∙ ap (λ l. seen_lines old ++ map kept_value l) (sym (drop_more lines count line inside)) ∙ so_far
+
+pub with_last : (lines new : List (Bor KeptLine)) (all : List KeptValue) (last : Option KeptLine) (line : KeptLine) (added : Bor KeptLine)
+    → seen_lines lines ≡ all → last ≡ Some line → new ≡ lines ++ added ∷ [] → added.now ≡ line → seen_lines new ≡ all ++ best_list last
+with_last lines new all last line added so_far is next same =
+    ap seen_lines next ∙ map-append (λ (r : Bor KeptLine). kept_value r.now) lines (added ∷ [])
+    ∙ ap₂ (λ l k. l ++ kept_value k ∷ []) so_far same ∙ ap (λ (l : Option KeptLine). all ++ best_list l) (sym is)
+
+pub without_last : (lines : List (Bor KeptLine)) (all : List KeptValue) (last : Option KeptLine) → seen_lines lines ≡ all → last ≡ None
+    → seen_lines lines ≡ all ++ best_list last
+without_last lines all last so_far is = so_far ∙ sym (append-nil all) ∙ ap (λ (l : Option KeptLine). all ++ best_list l) (sym is)

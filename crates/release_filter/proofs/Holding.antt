@@ -1,0 +1,205 @@
+-- What is held of kept lines: of none, of some and of more, and that it is one thing.
+use Rattle.std.proofs.Common.{◌≡◌, ◌≢◌, ◌∙◌, ◌++◌, ◌∷◌, ◌<◌, ◌-◌, [], List, ℕ, Bool, true, false, cond, refl, sym, ap, ap₂, subst, arith}
+use Rattle.std.proofs.Common.{append_assoc, append-nil, filter, get_or, length, map, Option, Some, None, suc, Less, Equal, Greater}
+use Rattle.std.proofs.lemmas.List.{map-append}
+use Rattle.std.proofs.lemmas.List.Folds.{concat-append}
+use Rattle.std.specs.Cmp.{IsTotalOrder, Equal-is, back_total}
+use Rattle.std.specs.List.{AllByRecursion, AllPairs, concat}
+use Rattle.std.specs.Ordering.{is_eq, ordering_reverse}
+use Rattle.std.specs.Prelude.{option_to_list}
+use Rattle.std.specs.declared.cmp.Ordering.{Ordering}
+use Rattle.semver_parser.specs.Precedence.{precedence}
+use Rattle.semver_parser.specs.Texts.{Text}
+use Rattle.semver_parser.specs.Versions.{PlainVersion}
+use Rattle.release_filter.specs.Verdicts.{JudgedLine, kept, dropped, invalid, empty}
+use Rattle.release_filter.specs.Wanted.{Answers, AnswersBy, HeldValue, Holds, HoldsBy, IsBest, IsFirstGreatest, IsStableSort, KeptValue}
+use Rattle.release_filter.specs.Wanted.{ended_text, kept_as, kept_of, order_of, text_of}
+use Rattle.release_filter.specs.declared.wanted.Wanted.{Wanted}
+use Rattle.release_filter.specs.declared.wanted.Wanted.TheVariants.{Each, Greatest, Least, Sorted}
+use Rattle.release_filter.proofs.ExtremeSteps.{all_append, all_map}
+use Rattle.release_filter.proofs.Passing.{not_both}
+
+-- ---- the kept ones of lines
+
+pub kept_append : (xs ys : List JudgedLine) → kept_of (xs ++ ys) ≡ kept_of xs ++ kept_of ys
+kept_append [] ys = refl
+kept_append (x ∷ xs) ys =
+    ap (λ l. kept_as x.verdict x.line ++ l) (kept_append xs ys) ∙ sym (append_assoc (kept_as x.verdict x.line) (kept_of xs) (kept_of ys))
+
+pub kept_one : (j : JudgedLine) → kept_of (j ∷ []) ≡ kept_as j.verdict j.line
+kept_one j = append-nil (kept_as j.verdict j.line)
+
+text_append : (xs ys : List KeptValue) → text_of (xs ++ ys) ≡ text_of xs ++ text_of ys
+text_append xs ys = ap concat (map-append (λ k. k.line) xs ys) ∙ concat-append (map (λ k. k.line) xs) (map (λ k. k.line) ys)
+
+-- ---- the greatest by an order
+
+-- by precedence the other way round versions are as well ordered
+pub total_of : (wanted : Wanted) → IsTotalOrder precedence → IsTotalOrder (order_of wanted)
+total_of Each total = total
+total_of Greatest total = total
+total_of Least total = back_total total
+total_of Sorted total = total
+
+module _ (order : PlainVersion → PlainVersion → Ordering) where
+  abbrev IsUnder : KeptValue → KeptValue → Type 0
+  IsUnder best k = order k.version best.version ≡ Less
+
+  abbrev IsNotOver : KeptValue → KeptValue → Type 0
+  IsNotOver best k = order k.version best.version ≢ Greater
+
+  pub best_of_none : (best : Option KeptValue) → IsBest order (option_to_list best ++ []) best
+  best_of_none None = refl
+  best_of_none (Some best) = record { before = []; after = []; split = refl; earlier = tt; later = tt }
+
+  -- one more line, which is better or isn't
+  pub better_one : (best : Option KeptValue) (k : KeptValue) → AllByRecursion (IsUnder k) (option_to_list best)
+      → IsBest order (option_to_list best ++ k ∷ []) (Some k)
+  better_one best k under = record { before = option_to_list best; after = []; split = refl; earlier = under; later = tt }
+
+  pub not_better : (best k : KeptValue) → IsNotOver best k → IsBest order (best ∷ k ∷ []) (Some best)
+  not_better best k under = record { before = []; after = k ∷ []; split = refl; earlier = tt; later = (under, tt) }
+
+  module _ (total : IsTotalOrder order) where
+    pub isnt_over : (v w : PlainVersion) → ¬ (order w v ≡ Less) → order v w ≢ Greater
+    isnt_over v w low = λ e. low (total.antisymm w v ∙ ap ordering_reverse e)
+
+    -- what isn't over one that is under another is under that
+    under_both : (best c k : KeptValue) → IsUnder c best → IsNotOver best k → IsUnder c k
+    under_both best c k under low = at (order k.version best.version) refl low
+      where
+        at : (o : Ordering) → o ≡ order k.version best.version → o ≢ Greater → order k.version c.version ≡ Less
+        at Less e low = total.trans k.version best.version c.version (sym e) under
+        at Equal e low = total.congr k.version best.version c.version (sym e) ∙ under
+        at Greater e low = absurd (low refl)
+
+    not_none : (xs ys : List KeptValue) (k : KeptValue) → ¬ (xs ++ k ∷ ys ≡ [])
+    not_none [] ys k e = cc
+    not_none (x ∷ xs) ys k e = cc
+
+    -- the best of the best of some lines and of more
+    pub best_added : (xs ys : List KeptValue) (m n : Option KeptValue) → IsBest order xs m → IsBest order (option_to_list m ++ ys) n
+        → IsBest order (xs ++ ys) n
+    best_added xs ys None n none b = subst (λ l. IsBest order (l ++ ys) n) (sym none) b
+    best_added xs ys (Some best) None a none = absurd (not_none [] ys best none)
+    best_added xs ys (Some best) (Some c) a b = at b.before b.split b.earlier
+      where
+        at : (before : List KeptValue) → best ∷ ys ≡ before ++ c ∷ b.after → AllByRecursion (IsUnder c) before
+            → IsFirstGreatest order (xs ++ ys) c
+        at [] e earlier =
+            let same : best ≡ c = cc in
+            let rest : b.after ≡ ys = cc in
+            subst (IsFirstGreatest order (xs ++ ys)) same (record {
+              before = a.before;
+              after = a.after ++ ys;
+              split = ap (λ l. l ++ ys) a.split ∙ append_assoc a.before (best ∷ a.after) ys;
+              earlier = a.earlier;
+              later = all_append (IsNotOver best) a.after ys a.later
+                  (subst (λ k. AllByRecursion (IsNotOver k) ys) (sym same) (subst (AllByRecursion (IsNotOver c)) rest b.later));
+            })
+        at (z ∷ before) e earlier =
+            let same : z ≡ best = cc in
+            let rest : ys ≡ before ++ c ∷ b.after = cc in
+            let under = subst (IsUnder c) same earlier.0 in record {
+              before = xs ++ before;
+              after = b.after;
+              split = ap (λ l. xs ++ l) rest ∙ sym (append_assoc xs before (c ∷ b.after));
+              earlier = all_append (IsUnder c) xs before
+                  (subst (AllByRecursion (IsUnder c)) (sym a.split)
+                  (all_append (IsUnder c) a.before (best ∷ a.after)
+                  (all_map (IsUnder best) (IsUnder c) (λ k low. total.trans k.version best.version c.version low under) a.before a.earlier)
+                  (under, all_map (IsNotOver best) (IsUnder c) (λ k low. under_both best c k under low) a.after a.later)))
+                  earlier.1;
+              later = b.later;
+            }
+
+    -- a later line isn't above one that is below it
+    before_it : (x y : KeptValue) → IsUnder y x → (front back : List KeptValue) → AllByRecursion (IsNotOver x) (front ++ y ∷ back) → ⊥
+    before_it x y under [] back p = p.0 (total.antisymm y.version x.version ∙ ap ordering_reverse under)
+    before_it x y under (z ∷ front) back p = before_it x y under front back p.1
+
+    same_place : (x y : KeptValue) (front front' back back' : List KeptValue) → front ++ x ∷ back ≡ front' ++ y ∷ back'
+        → AllByRecursion (IsUnder x) front → AllByRecursion (IsUnder y) front' → AllByRecursion (IsNotOver x) back
+        → AllByRecursion (IsNotOver y) back' → x ≡ y
+    same_place x y [] [] back back' e p q p' q' = cc
+    same_place x y [] (z ∷ front) back back' e p q p' q' =
+        let same : z ≡ x = cc in
+        let rest : back ≡ front ++ y ∷ back' = cc in
+        absurd (before_it x y (subst (IsUnder y) same q.0) front back' (subst (AllByRecursion (IsNotOver x)) rest p'))
+    same_place x y (z ∷ front) [] back back' e p q p' q' =
+        let same : z ≡ y = cc in
+        let rest : back' ≡ front ++ x ∷ back = cc in
+        absurd (before_it y x (subst (IsUnder x) same p.0) front back (subst (AllByRecursion (IsNotOver y)) rest q'))
+    same_place x y (z ∷ front) (z' ∷ front') back back' e p q p' q' = same_place x y front front' back back' (cc) p.1 q.1 p' q'
+
+    pub one_best : (xs : List KeptValue) (m n : Option KeptValue) → IsBest order xs m → IsBest order xs n → m ≡ n
+    one_best xs None None a b = refl
+    one_best xs None (Some y) none b = absurd (not_none b.before b.after y (sym b.split ∙ none))
+    one_best xs (Some x) None a none = absurd (not_none a.before a.after x (sym a.split ∙ none))
+    one_best xs (Some x) (Some y) a b =
+        ap Some (same_place x y a.before b.before a.after b.after (sym a.split ∙ b.split) a.earlier b.earlier a.later b.later)
+
+-- ---- what is held
+
+pub same_wanted : (w : Wanted) (h g : HeldValue) (xs : List KeptValue) (a : Text) → HoldsBy w h xs g a → g.wanted ≡ h.wanted
+same_wanted Each h g xs a p = ap (λ (v : HeldValue). v.wanted) p.0
+same_wanted Sorted h g xs a p = ap (λ (v : HeldValue). v.wanted) p.0
+same_wanted Greatest h g xs a p = ap (λ (v : HeldValue). v.wanted) p.2
+same_wanted Least h g xs a p = ap (λ (v : HeldValue). v.wanted) p.2
+
+holds_none_by : (w : Wanted) (h : HeldValue) → HoldsBy w h [] h []
+holds_none_by Each h = (refl, refl)
+holds_none_by Sorted h = ((λ i. record h { sorted = sym (append-nil h.sorted) i }), refl)
+holds_none_by Greatest h = (h.best, best_of_none (order_of Greatest) h.best, refl, refl)
+holds_none_by Least h = (h.best, best_of_none (order_of Least) h.best, refl, refl)
+
+pub holds_none : (h : HeldValue) → Holds h [] h []
+holds_none h = holds_none_by h.wanted h
+
+both_none : (a b : Text) → a ≡ [] → b ≡ [] → a ++ b ≡ []
+both_none a b p q = ap₂ (λ x y. x ++ y) p q
+
+best_both : IsTotalOrder precedence → (w : Wanted) (h g k : HeldValue) (xs ys : List KeptValue) (m n : Option KeptValue)
+    → IsBest (order_of w) (option_to_list h.best ++ xs) m → g ≡ record h { best = m }
+    → IsBest (order_of w) (option_to_list g.best ++ ys) n → k ≡ record g { best = n }
+    → IsBest (order_of w) (option_to_list h.best ++ (xs ++ ys)) n × (k ≡ record h { best = n })
+best_both total w h g k xs ys m n a is b so =
+    let more = subst (λ (v : HeldValue). IsBest (order_of w) (option_to_list v.best ++ ys) n) is b in (
+      subst (λ l. IsBest (order_of w) l n) (append_assoc (option_to_list h.best) xs ys)
+          (best_added (order_of w) (total_of w total) (option_to_list h.best ++ xs) ys m n a more),
+      so ∙ ap (λ (v : HeldValue). record v { best = n }) is,
+    )
+
+holds_more_by : IsTotalOrder precedence → (w : Wanted) (h g k : HeldValue) (xs ys : List KeptValue) (a b : Text) → HoldsBy w h xs g a
+    → HoldsBy w g ys k b → HoldsBy w h (xs ++ ys) k (a ++ b)
+holds_more_by total Each h g k xs ys a b p q = (q.0 ∙ p.0, ap₂ (λ x y. x ++ y) p.1 q.1 ∙ sym (text_append xs ys))
+holds_more_by total Sorted h g k xs ys a b p q = (
+  q.0 ∙ ap (λ (v : HeldValue). record v { sorted = v.sorted ++ ys }) p.0
+      ∙ ap (λ l. record h { sorted = l }) (append_assoc h.sorted xs ys),
+  both_none a b p.1 q.1,
+)
+holds_more_by total Greatest h g k xs ys a b (m, best, is, none) (n, best', so, none') =
+    let both = best_both total Greatest h g k xs ys m n best is best' so in (n, both.0, both.1, both_none a b none none')
+holds_more_by total Least h g k xs ys a b (m, best, is, none) (n, best', so, none') =
+    let both = best_both total Least h g k xs ys m n best is best' so in (n, both.0, both.1, both_none a b none none')
+
+-- of some lines and then of more
+pub holds_more : IsTotalOrder precedence → (h g k : HeldValue) (xs ys : List KeptValue) (a b : Text) → Holds h xs g a → Holds g ys k b
+    → Holds h (xs ++ ys) k (a ++ b)
+holds_more total h g k xs ys a b p q =
+    holds_more_by total h.wanted h g k xs ys a b p (subst (λ w. HoldsBy w g ys k b) (same_wanted h.wanted h g xs a p) q)
+
+one_holding_by : IsTotalOrder precedence → (w : Wanted) (h g k : HeldValue) (xs : List KeptValue) (a b : Text) → HoldsBy w h xs g a
+    → HoldsBy w h xs k b → (g ≡ k) × (a ≡ b)
+one_holding_by total Each h g k xs a b p q = (p.0 ∙ sym q.0, p.1 ∙ sym q.1)
+one_holding_by total Sorted h g k xs a b p q = (p.0 ∙ sym q.0, p.1 ∙ sym q.1)
+one_holding_by total Greatest h g k xs a b (m, best, is, none) (n, best', so, none') =
+    let same = one_best (order_of Greatest) total (option_to_list h.best ++ xs) m n best best' in
+    (is ∙ ap (λ l. record h { best = l }) same ∙ sym so, none ∙ sym none')
+one_holding_by total Least h g k xs a b (m, best, is, none) (n, best', so, none') =
+    let same = one_best (order_of Least) (total_of Least total) (option_to_list h.best ++ xs) m n best best' in
+    (is ∙ ap (λ l. record h { best = l }) same ∙ sym so, none ∙ sym none')
+
+pub one_holding : IsTotalOrder precedence → (h g k : HeldValue) (xs : List KeptValue) (a b : Text) → Holds h xs g a → Holds h xs k b
+    → (g ≡ k) × (a ≡ b)
+one_holding total h g k xs a b p q = one_holding_by total h.wanted h g k xs a b p q

@@ -1,0 +1,174 @@
+-- What a line is, prefix by prefix.
+use Rattle.std.proofs.Common.{◌≡◌, ◌∙◌, ◌++◌, ◌∷◌, ◌≤◌, ◌<◌, ◌-◌, [], List, ℕ, Bool, true, false, cond, refl, sym, ap, ap₂, inl, inr, subst, arith}
+use Rattle.std.proofs.Common.{String, Global, string_bytes, length, get_or, take, drop, Option, Some, None, map}
+use Rattle.std.proofs.lemmas.Grind.{common_steps}
+use Rattle.std.proofs.lemmas.List.{append_cancel_left, map-append}
+use Rattle.std.specs.List.{AllByRecursion}
+use Rattle.std.specs.Prelude.{IsTrue}
+use Rattle.semver_parser.specs.Texts.{Text, is_empty}
+use Rattle.semver_parser.specs.Versions.{PlainVersion, VersionValue}
+use Rattle.semver_parser.specs.VersionGrammar.{SpellsVersion}
+use Rattle.semver_parser.specs.Outlines.{OutlineValue}
+use Rattle.release_filter.specs.Filters.{FilterValue, passes}
+use Rattle.release_filter.specs.Judging.{IsJudged}
+use Rattle.release_filter.specs.LineTexts.{line_text}
+use Rattle.release_filter.specs.Steps.Outlined.{IsOutlined, JudgesBy}
+use Rattle.release_filter.specs.Steps.Taking.{PassesAs, texts, verdict_of}
+use Rattle.release_filter.specs.Verdicts.{AreJudged, HasNoVersion, HasVersion, IsVerdictOn, JudgedLine, SpellsAfter, Verdict, asked}
+use Rattle.release_filter.specs.Verdicts.{kept, dropped, invalid, empty}
+use Rattle.release_filter.specs.declared.judging.Judged.{Judged}
+use Rattle.release_filter.specs.declared.judging.Judged.TheVariants.{NoVersion, DoesNotPass, Passes}
+use Rattle.release_filter.proofs.ExtremeSteps.{all_append}
+use Rattle.release_filter.proofs.Passing.{not_both}
+
+abbrev pub OneVersion : Type 0
+OneVersion = (v w : VersionValue) (text : Text) → SpellsVersion v text → SpellsVersion w text → v ≡ w
+
+one_after : OneVersion → (prefix : Text) (line : Text) (v w : VersionValue) → SpellsAfter prefix line v → SpellsAfter prefix line w → v ≡ w
+one_after same prefix line v w a b =
+    let text = append_cancel_left prefix a.0 b.0 (sym a.1 ∙ b.1) in
+    same v w b.0 (subst (λ t. SpellsVersion v t) text a.2) b.2
+
+pub one_had : OneVersion → (prefixes : List Text) (line : Text) (v w : VersionValue) → HasVersion prefixes line v → HasVersion prefixes line w → v ≡ w
+one_had same [] line v w a b = absurd a
+one_had same (prefix ∷ prefixes) line v w (inl a) (inl b) = one_after same prefix line v w a b
+one_had same (prefix ∷ prefixes) line v w (inl a) (inr (none, b)) = absurd (none v a)
+one_had same (prefix ∷ prefixes) line v w (inr (none, a)) (inl b) = absurd (none w b)
+one_had same (prefix ∷ prefixes) line v w (inr (none, a)) (inr (other, b)) = one_had same prefixes line v w a b
+
+-- what the filter says of the text after a prefix, it says of the line
+pub judged_after : (filter : FilterValue) (prefix : Text) (line : Text) (text : Text) (r : Judged) → line_text line ≡ prefix ++ text
+    → IsJudged (passes filter) text r → JudgesBy (SpellsAfter prefix line) filter r
+judged_after filter prefix line text NoVersion e none =
+    λ w s. none (w, subst (λ t. SpellsVersion w t) (append_cancel_left prefix s.0 text (sym s.1 ∙ e)) s.2)
+judged_after filter prefix line text DoesNotPass e j = (j.0.0, (text, e, j.0.1), j.1 j.0.0 j.0.1)
+judged_after filter prefix line text (Passes o) e j = (j.0.0, (text, e, j.0.1), j.1 j.0.0 j.0.1, (text, j.0, j.0.1))
+
+pub no_text : (prefix : Text) (line : Text) → ((text : Text) → ¬ (line_text line ≡ prefix ++ text)) → (w : VersionValue) → ¬ (SpellsAfter prefix line w)
+no_text prefix line none w s = none s.0 s.1
+
+-- a prefix after which there is a version decides
+pub decided : (filter : FilterValue) (prefix : Text) (prefixes : List Text) (line : Text) (r : Judged) → ¬ (r ≡ NoVersion)
+    → JudgesBy (SpellsAfter prefix line) filter r → JudgesBy (HasVersion (prefix ∷ prefixes) line) filter r
+decided filter prefix prefixes line NoVersion some j = absurd (some refl)
+decided filter prefix prefixes line DoesNotPass some j = (j.0, inl j.1, j.2)
+decided filter prefix prefixes line (Passes o) some j = (j.0, inl j.1, j.2, j.3)
+
+-- after another one the next prefix is asked
+pub next : (filter : FilterValue) (prefix : Text) (prefixes : List Text) (line : Text) (r : Judged)
+    → ((w : VersionValue) → ¬ (SpellsAfter prefix line w)) → JudgesBy (HasVersion prefixes line) filter r
+    → JudgesBy (HasVersion (prefix ∷ prefixes) line) filter r
+next filter prefix prefixes line NoVersion none j = no_version
+  where
+    no_version : (w : VersionValue) → ¬ (HasVersion (prefix ∷ prefixes) line w)
+    no_version w (inl a) = none w a
+    no_version w (inr (other, a)) = j w a
+next filter prefix prefixes line DoesNotPass none j = (j.0, inr (none, j.1), j.2)
+next filter prefix prefixes line (Passes o) none j = (j.0, inr (none, j.1), j.2, j.3)
+
+pub only : (filter : FilterValue) (prefix : Text) (line : Text) (r : Judged) → JudgesBy (SpellsAfter prefix line) filter r
+    → JudgesBy (HasVersion (prefix ∷ []) line) filter r
+only filter prefix line NoVersion j = next filter prefix [] line NoVersion j (λ w a. a)
+only filter prefix line DoesNotPass j = (j.0, inl j.1, j.2)
+only filter prefix line (Passes o) j = (j.0, inl j.1, j.2, j.3)
+
+-- ---- prefixes as a list of texts
+
+pub first_and_rest : (prefixes : List (String Global)) (first : String Global) → 1 ≤ length prefixes → first ≡ get_or prefixes 0 first
+    → texts prefixes ≡ string_bytes first ∷ texts (take (length prefixes - 1) (drop 1 prefixes))
+first_and_rest [] first some is = absurd (omega arith)
+first_and_rest (prefix ∷ prefixes) first some is =
+    let rest : take (length (prefix ∷ prefixes) - 1) (drop 1 (prefix ∷ prefixes)) ≡ prefixes = grind (arith, common_steps) in
+    ap₂ (λ x xs. string_bytes x ∷ texts xs) (sym is) (sym rest)
+
+pub none_asked : (filter : FilterValue) (prefixes : List (String Global)) (line : List ℕ) (r : Judged) → length prefixes < 1
+    → JudgesBy (SpellsAfter [] line) filter r → JudgesBy (HasVersion (asked (texts prefixes)) line) filter r
+none_asked filter [] line r none j = only filter [] line r j
+none_asked filter (prefix ∷ prefixes) line r none j = absurd (omega arith)
+
+pub some_asked : (filter : FilterValue) (prefixes : List (String Global)) (line : List ℕ) (r : Judged) → 1 ≤ length prefixes
+    → JudgesBy (HasVersion (texts prefixes) line) filter r → JudgesBy (HasVersion (asked (texts prefixes)) line) filter r
+some_asked filter [] line r some j = absurd (omega arith)
+some_asked filter (prefix ∷ prefixes) line r some j = j
+
+-- ---- what a filter says of a line, and what the line is
+
+no_plain : PlainVersion
+no_plain = record { major = 0; minor = 0; patch = 0; pre = [] }
+
+pub verdict : (filter : FilterValue) (prefixes : List Text) (line : Text) (said : Judged)
+    → JudgesBy (HasVersion (asked prefixes) line) filter said
+    → (plain : PlainVersion) × PassesAs said plain × IsVerdictOn filter prefixes line (verdict_of said plain line)
+verdict filter prefixes line NoVersion j = (no_plain, tt, by_text (is_empty (line_text line)) refl)
+  where
+    by_text : (b : Bool) → is_empty (line_text line) ≡ b → IsVerdictOn filter prefixes line (cond b empty invalid)
+    by_text true e = (j, e)
+    by_text false e = (j, e)
+verdict filter prefixes line DoesNotPass j = (no_plain, tt, (j.0, j.1, j.2))
+verdict filter prefixes line (Passes o) j = (j.0.plain, (j.3.0, j.0, j.3.1, j.3.2, refl), (j.0, j.1, j.2, refl))
+
+-- a line is one thing
+one_verdict : OneVersion → (filter : FilterValue) (prefixes : List Text) (line : Text) (v w : Verdict) → IsVerdictOn filter prefixes line v
+    → IsVerdictOn filter prefixes line w → v ≡ w
+one_verdict same filter prefixes line (kept a) (kept b) p q =
+    ap kept (p.3 ∙ ap (λ (v : VersionValue). v.plain) (one_had same (asked prefixes) line p.0 q.0 p.1 q.1) ∙ sym q.3)
+one_verdict same filter prefixes line (kept a) dropped p q =
+    absurd (not_both (subst (λ v. passes filter v ≡ true) (one_had same (asked prefixes) line p.0 q.0 p.1 q.1) p.2) q.2)
+one_verdict same filter prefixes line (kept a) invalid p q = absurd (q.0 p.0 p.1)
+one_verdict same filter prefixes line (kept a) empty p q = absurd (q.0 p.0 p.1)
+one_verdict same filter prefixes line dropped (kept b) p q =
+    absurd (not_both (subst (λ v. passes filter v ≡ true) (one_had same (asked prefixes) line q.0 p.0 q.1 p.1) q.2) p.2)
+one_verdict same filter prefixes line dropped dropped p q = refl
+one_verdict same filter prefixes line dropped invalid p q = absurd (q.0 p.0 p.1)
+one_verdict same filter prefixes line dropped empty p q = absurd (q.0 p.0 p.1)
+one_verdict same filter prefixes line invalid (kept b) p q = absurd (p.0 q.0 q.1)
+one_verdict same filter prefixes line invalid dropped p q = absurd (p.0 q.0 q.1)
+one_verdict same filter prefixes line invalid invalid p q = refl
+one_verdict same filter prefixes line invalid empty p q = absurd (not_both q.1 p.1)
+one_verdict same filter prefixes line empty (kept b) p q = absurd (p.0 q.0 q.1)
+one_verdict same filter prefixes line empty dropped p q = absurd (p.0 q.0 q.1)
+one_verdict same filter prefixes line empty invalid p q = absurd (not_both p.1 q.1)
+one_verdict same filter prefixes line empty empty p q = refl
+
+module _ (filter : FilterValue) (prefixes : List Text) where
+  abbrev Each : List JudgedLine → Type 0
+  Each judged = AllByRecursion (λ (j : JudgedLine). IsVerdictOn filter prefixes j.line j.verdict) judged
+
+  pub judged_none : AreJudged filter prefixes [] []
+  judged_none = record { all = refl; each = tt }
+
+  pub judged_one : (line : Text) (verdict : Verdict) → IsVerdictOn filter prefixes line verdict
+      → AreJudged filter prefixes (line ∷ []) (record { line = line; verdict = verdict } ∷ [])
+  judged_one line verdict is = record { all = refl; each = (is, tt) }
+
+  pub judged_more : (xs ys : List Text) (js ks : List JudgedLine) → AreJudged filter prefixes xs js → AreJudged filter prefixes ys ks
+      → AreJudged filter prefixes (xs ++ ys) (js ++ ks)
+  judged_more xs ys js ks a b = record {
+    all = map-append (λ (j : JudgedLine). j.line) js ks ∙ ap₂ (λ l m. l ++ m) a.all b.all;
+    each = all_append (λ (j : JudgedLine). IsVerdictOn filter prefixes j.line j.verdict) js ks a.each b.each;
+  }
+
+  -- lines are judged in one way
+  module _ (same : OneVersion) where
+    same_judged : (js ks : List JudgedLine) → map (λ (j : JudgedLine). j.line) js ≡ map (λ (j : JudgedLine). j.line) ks → Each js → Each ks
+        → js ≡ ks
+    same_judged [] [] e p q = refl
+    same_judged [] (k ∷ ks) e p q = cc
+    same_judged (j ∷ js) [] e p q = cc
+    same_judged (j ∷ js) (k ∷ ks) e p q =
+        let line : j.line ≡ k.line = cc in
+        let is = one_verdict same filter prefixes j.line j.verdict k.verdict p.0
+        (subst (λ l. IsVerdictOn filter prefixes l k.verdict) (sym line) q.0) in
+        let first : j ≡ k = λ i. record { line = line i; verdict = is i } in
+        ap₂ (λ x xs. x ∷ xs) first (same_judged js ks (cc) p.1 q.1)
+
+    pub one_judging : (xs : List Text) (js ks : List JudgedLine) → AreJudged filter prefixes xs js → AreJudged filter prefixes xs ks → js ≡ ks
+    one_judging xs js ks a b = same_judged js ks (a.all ∙ sym b.all) a.each b.each
+
+-- ---- a line that is judged by its outline
+
+pub outlined_line : (filter : FilterValue) (line : Text) (found : Option OutlineValue) (said : Judged)
+    → ((text : Text) → IsOutlined text found → IsJudged (passes filter) text said) → IsOutlined (line_text line) found
+    → JudgesBy (HasVersion ([] ∷ []) line) filter said
+outlined_line filter line found said told is =
+    only filter [] line said (judged_after filter [] line (line_text line) said refl (told (line_text line) is))

@@ -1,0 +1,24 @@
+-- What is after a prefix.
+use Rattle.std.proofs.Common.{Bor, ◌+◌, Option, Some, None, MatchOption, ◌≡◌, ℕ, ◌++◌}
+use Rattle.std.proofs.Common.{true, false, List, ap, sym, ◌∙◌, take, drop, length, eqb}
+use Rattle.std.specs.Cmp.Lexicographic.{pointwise, bytes_decides}
+use Rattle.std.proofs.Math.Seq.{take-append_seam}
+use Rattle.std.proofs.lemmas.List.{take-append-drop}
+use Rattle.release_filter.proofs.Passing.{not_both}
+
+-- what `strip_prefix` tells of bytes
+abbrev pub Strips : List ℕ → List ℕ → Option (Bor (List ℕ)) → Type 0
+Strips prefix bytes found =
+    MatchOption found (pointwise eqb (take (length prefix) bytes) prefix ≡ false)
+    (λ x. (pointwise eqb (take (length prefix) bytes) prefix ≡ true) × (x.now ≡ drop (length prefix) bytes)
+    × (length x.now + length prefix ≡ length bytes))
+
+-- what stands behind the prefix, if the bytes begin with it
+pub behind : (prefix bytes : List ℕ) (found : Option (Bor (List ℕ))) → Strips prefix bytes found
+    → MatchOption found ((t : List ℕ) → ¬ (bytes ≡ prefix ++ t)) (λ x. bytes ≡ prefix ++ x.now)
+behind prefix bytes None other = λ t e. not_both ((bytes_decides (take (length prefix) bytes) prefix).1
+    (ap (take (length prefix)) e ∙ take-append_seam prefix t)) other
+behind prefix bytes (Some x) (same, rest, len) =
+    sym (take-append-drop (length prefix) bytes)
+    ∙ ap (λ l. l ++ drop (length prefix) bytes) ((bytes_decides (take (length prefix) bytes) prefix).0 same)
+    ∙ ap (λ l. prefix ++ l) (sym rest)

@@ -1,0 +1,16 @@
+use Rattle.std.proofs.Common.{subst, sym, ◌≡◌, [], List, String, Global, arith}
+use Rattle.std.proofs.lemmas.Grind.{common_steps}
+use Rattle.release_filter.specs.Steps.Outlined.{JudgesBy}
+use Rattle.release_filter.specs.Steps.Taking.{texts}
+use Rattle.release_filter.specs.Verdicts.{HasVersion, asked}
+use Rattle.release_filter.proofs.JudgedLines.{outlined_line}
+use Rattle.release_filter.proofs.line_filter.LineFilter.first_judged.Goals as goal
+
+pub returns-then-is_empty-clause-judged : goal.returns-then-is_empty-clause-judged
+returns-then-is_empty-clause-judged c =
+    let none : c.args.self.now.prefixes.items ≡ [] = grind (arith, common_steps) in
+    let filter = c.args.self.now.filter in
+    let line = c.in_ok-line.line.now in
+    let said = c.judge_outline.result in
+    subst (λ (l : List (String Global)). JudgesBy (HasVersion (asked (texts l)) line) filter said) (sym none)
+    (outlined_line filter line c.in_ok-line.outline said c.judge_outline.ensures.judged c.in_ok-line.ensures.outlined)

@@ -1,0 +1,25 @@
+use Rattle.std.proofs.Common.{refl, subst}
+use Rattle.release_filter.specs.Steps.Outlined.{IsOutlined}
+use Rattle.release_filter.proofs.NumberedLines.{is_whole, none_before, outlined}
+use Rattle.release_filter.proofs.Passing.{outlined_as}
+use Rattle.release_filter.proofs.line_filter.first_outlined.Goals as goal
+
+pub returns-in_err-behind-clause-none : goal.returns-in_err-behind-clause-none
+returns-in_err-behind-clause-none c = λ _. none_before c.in-Some.ensures (c.in_err-behind.ensures.none refl)
+
+pub returns-in-Some-clause-whole : goal.returns-in-Some-clause-whole
+returns-in-Some-clause-whole c =
+    is_whole c.args.bytes.now c.in-Some.rest.now c.in_ok-behind.behind.now c.in-Some.ensures c.in_ok-behind.ensures.front
+    c.in_ok-behind.ensures.whole
+
+pub returns-in-Some-clause-outlined : goal.returns-in-Some-clause-outlined
+returns-in-Some-clause-outlined c =
+    outlined c.args.bytes.now c.in-Some.rest.now c.in_ok-behind.behind.now c.in-Some.ensures c.in_ok-behind.ensures.front
+    c.in_ok-behind.ensures.whole c.text_of-text.result.now c.text_of-text.ensures c.outline_behind_numbers-outline.result
+    c.outline_behind_numbers-outline.ensures.outlined c.outline_behind_numbers-outline.ensures.none
+
+pub returns-clause-outlined : goal.returns-clause-outlined
+returns-clause-outlined c =
+    let found = c.outline_bytes.result in
+    subst (λ text. IsOutlined text found) c.text_of.ensures
+    (outlined_as c.text_of.result.now found c.outline_bytes.ensures.outlined c.outline_bytes.ensures.none)

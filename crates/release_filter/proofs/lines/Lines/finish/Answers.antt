@@ -1,0 +1,154 @@
+use Rattle.std.proofs.Common.{◌≡◌, ◌∙◌, [], Bool, List, false, true, ap, inl, length, refl, subst, sym}
+use Rattle.semver_parser.specs.Versions.{PlainVersion}
+use Rattle.release_filter.specs.Wanted.{KeptValue}
+use Rattle.release_filter.specs.declared.judging.Judged.TheVariants as judged
+use Rattle.std.specs.Prelude.{IsTrue}
+use Rattle.release_filter.specs.Counting.{counts_value}
+use Rattle.release_filter.specs.LineTexts.{after_mark}
+use Rattle.release_filter.specs.Pieces.{Completes, EndsInvalid, Finishes, LinesValue, RefusesEnd, begun}
+use Rattle.release_filter.specs.Steps.Taking.{Concludes, held_value, texts}
+use Rattle.release_filter.specs.Verdicts.{JudgedLine, has_invalid}
+use Rattle.release_filter.specs.declared.lines.LinesError.TheVariants.{NoVersion}
+use Rattle.release_filter.proofs.Endings.{fails_kept, ends_invalid, ends_valid, ends_valid_none, finished_none, finished_one, seen_end, some_line}
+use Rattle.release_filter.proofs.Passing.{no_length, not_both}
+use Rattle.release_filter.proofs.lines.Lines.finish.Goals as goal
+use Rattle.release_filter.proofs.lines.Lines.finish.Goals.{else-self-via-then-self+else-is_bad, else-self-via-else-self}
+
+pub returns-in_default-clause-refuses : goal.returns-in_default-clause-refuses
+returns-in_default-clause-refuses c =
+    let s = c.self.inside in
+    let value : LinesValue = record {
+      filter = s.chosen.filter;
+      prefixes = texts s.chosen.prefixes.items;
+      is_strict = s.is_strict;
+      at_front = s.at_front;
+      unended = s.unended.items;
+      held = held_value s.held;
+      counts = counts_value s.counts;
+    } in
+    let line = c.after_mark-line.result.now in
+    let is = c.after_mark-line.ensures ∙ ap (after_mark s.at_front) c.as_slice.ensures.value in
+    let none = no_length line (sym c.is_empty.ensures ∙ c.if-is_empty.true) in
+    subst (λ (x : LinesValue). IsTrue x.is_strict → ¬ (EndsInvalid x)) c.self.view_is
+    (λ strict. ends_valid_none value line is c.one_version.ensures.same_version none)
+
+pub returns-then-is_bad-clause-refuses : goal.returns-then-is_bad-clause-refuses
+returns-then-is_bad-clause-refuses c =
+    let s = c.self.inside in
+    let value : LinesValue = record {
+      filter = s.chosen.filter;
+      prefixes = texts s.chosen.prefixes.items;
+      is_strict = s.is_strict;
+      at_front = s.at_front;
+      unended = s.unended.items;
+      held = held_value s.held;
+      counts = counts_value s.counts;
+    } in
+    let line = c.after_mark-line.result.now in
+    let is = c.after_mark-line.ensures ∙ ap (after_mark s.at_front) c.as_slice.ensures.value in
+    let some = some_line line (sym c.is_empty.ensures ∙ c.if-is_empty.false) in
+    let ends = ends_invalid value line is some c.self.invariant c.judge_line-judged.result c.judge_line-judged.ensures
+    c.is_invalid-is_bad.result c.is_invalid-is_bad.ensures c.if-is_bad.true in
+    subst (λ (x : LinesValue). RefusesEnd x (NoVersion c.saturating_add.result)) c.self.view_is
+    (c.if-self.true, ends, c.saturating_add.ensures)
+
+pub returns-in_default-noted-clause-refuses : goal.returns-in_default-noted-clause-refuses
+returns-in_default-noted-clause-refuses c =
+    let s = c.self.inside in
+    let value : LinesValue = record {
+      filter = s.chosen.filter;
+      prefixes = texts s.chosen.prefixes.items;
+      is_strict = s.is_strict;
+      at_front = s.at_front;
+      unended = s.unended.items;
+      held = held_value s.held;
+      counts = counts_value s.counts;
+    } in
+    let line = c.after_mark-line.result.now in
+    let is = c.after_mark-line.ensures ∙ ap (after_mark s.at_front) c.as_slice.ensures.value in
+    let some = some_line line (sym c.is_empty.ensures ∙ c.if-is_empty.false) in
+    subst (λ (x : LinesValue). IsTrue x.is_strict → ¬ (EndsInvalid x)) c.self.view_is
+    (λ strict. elim c.else-self.branch [
+      | else-self-via-then-self+else-is_bad w ↦
+          ends_valid value line is some c.self.invariant c.judge_line-judged.result c.judge_line-judged.ensures c.one_version.ensures.same_version
+          c.is_invalid-is_bad.result c.is_invalid-is_bad.ensures w.if-is_bad.false
+      | else-self-via-else-self w ↦ absurd (not_both strict w.if-self.false)
+    ])
+
+pub returns-in_default-finish-clause-refuses : goal.returns-in_default-finish-clause-refuses
+returns-in_default-finish-clause-refuses c =
+    let s = c.self.inside in
+    let value : LinesValue = record {
+      filter = s.chosen.filter;
+      prefixes = texts s.chosen.prefixes.items;
+      is_strict = s.is_strict;
+      at_front = s.at_front;
+      unended = s.unended.items;
+      held = held_value s.held;
+      counts = counts_value s.counts;
+    } in
+    let line = c.after_mark-line.result.now in
+    let is = c.after_mark-line.ensures ∙ ap (after_mark s.at_front) c.as_slice.ensures.value in
+    let some = some_line line (sym c.is_empty.ensures ∙ c.if-is_empty.false) in
+    subst (λ (x : LinesValue). IsTrue x.is_strict → ¬ (EndsInvalid x)) c.self.view_is
+    (λ strict. elim c.else-self.branch [
+      | else-self-via-then-self+else-is_bad w ↦
+          ends_valid value line is some c.self.invariant c.judge_line-judged.result c.judge_line-judged.ensures c.one_version.ensures.same_version
+          c.is_invalid-is_bad.result c.is_invalid-is_bad.ensures w.if-is_bad.false
+      | else-self-via-else-self w ↦ absurd (not_both strict w.if-self.false)
+    ])
+
+pub returns-then-is_empty-clause-finishes : goal.returns-then-is_empty-clause-finishes
+returns-then-is_empty-clause-finishes c =
+    let s = c.self.inside in
+    let value : LinesValue = record {
+      filter = s.chosen.filter;
+      prefixes = texts s.chosen.prefixes.items;
+      is_strict = s.is_strict;
+      at_front = s.at_front;
+      unended = s.unended.items;
+      held = held_value s.held;
+      counts = counts_value s.counts;
+    } in
+    let line = c.after_mark-line.result.now in
+    let is = c.after_mark-line.ensures ∙ ap (after_mark s.at_front) c.as_slice.ensures.value in
+    let none = no_length line (sym c.is_empty.ensures ∙ c.if-is_empty.true) in
+    let old = c.args.kept.now.items in
+    let new = c.finish.new.kept.items in
+    let plain : PlainVersion = record { major = 0; minor = 0; patch = 0; pre = [] } in
+    let end = subst (λ (l : List KeptValue). Concludes value.held l old new) (fails_kept judged.NoVersion plain line (inl refl))
+    (c.in-Ok.ensures.answers plain tt) in
+    let ended = finished_none value line is none old new end in
+    let begins = c.begin.ensures ∙ sym (ap begun c.self.view_is) in
+    ([], seen_end value _ _ _ [] old new c.self.view_is begins ended, λ strict. refl)
+
+pub returns-clause-finishes : goal.returns-clause-finishes
+returns-clause-finishes c =
+    let s = c.self.inside in
+    let value : LinesValue = record {
+      filter = s.chosen.filter;
+      prefixes = texts s.chosen.prefixes.items;
+      is_strict = s.is_strict;
+      at_front = s.at_front;
+      unended = s.unended.items;
+      held = held_value s.held;
+      counts = counts_value s.counts;
+    } in
+    let line = c.after_mark-line.result.now in
+    let is = c.after_mark-line.ensures ∙ ap (after_mark s.at_front) c.as_slice.ensures.value in
+    let some = some_line line (sym c.is_empty.ensures ∙ c.if-is_empty.false) in
+    let old = c.args.kept.now.items in
+    let new = c.finish-2.new.kept.items in
+    let valid : IsTrue value.is_strict → c.is_invalid-is_bad.result ≡ false =
+    λ strict. elim c.else-self.branch [
+      | else-self-via-then-self+else-is_bad w ↦ w.if-is_bad.false
+      | else-self-via-else-self w ↦ absurd (not_both strict w.if-self.false)
+    ] in
+    let ended = finished_one value line is some c.self.invariant c.judge_line-judged.result c.judge_line-judged.ensures
+    (counts_value c.add.new.self) old new c.in-Ok-finish.ensures.answers (λ plain. c.add.ensures ∙ c.in-Ok-noted.ensures plain)
+    c.is_invalid-is_bad.result c.is_invalid-is_bad.ensures valid in
+    (
+      ended.0,
+      seen_end value _ _ _ ended.0 old new c.self.view_is c.begin-2.ensures ended.1,
+      λ strict. ended.2 (ap (λ (v : LinesValue). v.is_strict) c.self.view_is ∙ strict),
+    )

@@ -1,0 +1,36 @@
+use Rattle.std.proofs.Common.{◌≡◌, ◌∙◌, ◌++◌, [], ap, ap₂, arith, sym}
+use Rattle.std.proofs.lemmas.Grind.{common_steps}
+use Rattle.release_filter.specs.Counting.{counts_value}
+use Rattle.release_filter.specs.LineTexts.{after_mark}
+use Rattle.release_filter.specs.Pieces.{LinesValue}
+use Rattle.release_filter.specs.Steps.Taking.{held_value, texts}
+use Rattle.release_filter.proofs.Endings.{took_judged}
+use Rattle.release_filter.proofs.TakenPieces.{seen}
+use Rattle.release_filter.proofs.lines.Lines.take_first.Goals as goal
+
+pub returns-clause-takes : goal.returns-clause-takes
+returns-clause-takes c =
+    let s = c.self-2.inside in
+    let value : LinesValue = record {
+      filter = s.chosen.filter;
+      prefixes = texts s.chosen.prefixes.items;
+      is_strict = s.is_strict;
+      at_front = s.at_front;
+      unended = s.unended.items;
+      held = held_value s.held;
+      counts = counts_value s.counts;
+    } in
+    let found = c.in-Some-first_judged in
+    let line = found.line.now in
+    let same = c.self-2.view_is ∙ sym c.self.view_is in
+    let none : c.self.inside.unended.items ≡ [] = grind (arith, common_steps) in
+    let later = ap (λ (v : LinesValue). v.at_front) same ∙ c.if-self.false in
+    let nothing = ap (λ (v : LinesValue). v.unended) same ∙ none in
+    let whole = took_judged value line s.unended.items line found.judged s.at_front (held_value c.take.new.held)
+    (counts_value c.take.new.counts) c.args.kept.now.items c.take.new.kept.items c.in_ok-is_valid-2.is_valid found.ensures.whole
+    c.self-2.invariant (sym (ap₂ (λ b l. after_mark b (l ++ line)) later nothing)) found.ensures.judged c.in_ok-is_valid-2.ensures.takes nothing
+    later in (
+      found.ensures.front,
+      found.ensures.whole,
+      (whole.0, seen _ _ _ _ _ _ _ c.self-2.view_is whole.1, whole.2, whole.3),
+    )

@@ -1,0 +1,27 @@
+use Rattle.std.proofs.Common.{◌≡◌, ◌++◌, false, refl}
+use Rattle.release_filter.specs.Counting.{counts_value}
+use Rattle.release_filter.specs.LineTexts.{after_mark}
+use Rattle.release_filter.specs.Pieces.{LinesValue}
+use Rattle.release_filter.specs.Steps.Taking.{held_value, texts}
+use Rattle.release_filter.proofs.Endings.{took_judged}
+use Rattle.release_filter.proofs.TakenPieces.{seen}
+use Rattle.release_filter.proofs.lines.Lines.take_line.Goals as goal
+
+pub returns-in-Ok-clause-takes : goal.returns-in-Ok-clause-takes
+returns-in-Ok-clause-takes c =
+    let s = c.self.inside in
+    let value : LinesValue = record {
+      filter = s.chosen.filter;
+      prefixes = texts s.chosen.prefixes.items;
+      is_strict = s.is_strict;
+      at_front = s.at_front;
+      unended = s.unended.items;
+      held = held_value s.held;
+      counts = counts_value s.counts;
+    } in
+    let line : c.after_mark-line.result.now ≡ after_mark s.at_front (s.unended.items ++ c.args.end.now) =
+    cc c.in_ok-extend_from_slice.ensures.items in
+    let whole = took_judged value c.args.end.now c.clear.new.self.items c.after_mark-line.result.now c.judge_line-judged.result false
+    (held_value c.take.new.held) (counts_value c.take.new.counts) c.args.kept.now.items c.take.new.kept.items c.in-Ok.is_valid c.requires
+    c.self.invariant line c.judge_line-judged.ensures c.in-Ok.ensures.takes c.clear.ensures.items refl in
+    (whole.0, seen _ _ _ _ _ _ _ c.self.view_is whole.1, whole.2, whole.3)

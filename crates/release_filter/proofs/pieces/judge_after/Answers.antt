@@ -1,6 +1,0 @@
-use Rattle.release_filter.proofs.KeptAfter.{judged_after}
-use Rattle.release_filter.proofs.pieces.judge_after.Goals as goal
-
-pub returns-in-Some : goal.returns-in-Some
-returns-in-Some c =
-    judged_after c.args.filter.now c.args.prefix.now c.args.line.now c.in-Some.text.now c.judge.result c.in-Some.ensures c.judge.ensures.judged

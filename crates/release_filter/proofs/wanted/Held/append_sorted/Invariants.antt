@@ -1,0 +1,8 @@
+-- So many of the held lines are among those that are sorted.
+use Rattle.std.proofs.Common.{◌≡◌, ◌++◌, drop, map}
+use Rattle.release_filter.specs.Steps.Taking.{kept_value}
+use Rattle.release_filter.proofs.HeldLines.{seen_lines}
+use Rattle.release_filter.proofs.wanted.Held.append_sorted.Given as goal
+
+abbrev pub invariant-loop-line : goal.invariant-loop-line
+invariant-loop-line l = seen_lines l.lines.items ++ map kept_value (drop l.line-index l.line-items) ≡ map kept_value l.line-items

@@ -1,0 +1,59 @@
+-- How many lines a text has, how many of these have no version, and the first of those.
+use Rattle.std.specs.Prelude.{ℕ, ◌+◌, ◌-◌, ◌^◌, min, List, [], ◌∷◌, take, Option, Some, None, Vec}
+use Rattle.std.specs.Option.{option_map}
+use Rattle.semver_parser.specs.Texts.{Text}
+use Rattle.release_filter.specs.LineTexts.{line_text}
+use Rattle.release_filter.specs.Verdicts.{JudgedLine, Verdict, kept, dropped, invalid, empty}
+use Rattle.release_filter.specs.declared.counts.Counts.{Counts}
+use Rattle.release_filter.specs.declared.counts.InvalidLine.{InvalidLine}
+
+-- a line that has a text and no version: its number, and the front of its text
+pub record InvalidValue : Type 0 where
+  pub number : ℕ
+  pub front : Text
+
+pub record CountsValue : Type 0 where
+  pub lines : ℕ
+  pub empty : ℕ
+  pub invalid : ℕ
+  pub first_invalid : Option InvalidValue
+
+abbrev pub invalid_value : InvalidLine → InvalidValue
+invalid_value line = record { number = line.number; front = line.front.items }
+
+abbrev pub counts_value : Counts → CountsValue
+counts_value c = record {
+  lines = c.lines;
+  empty = c.empty;
+  invalid = c.invalid;
+  first_invalid = option_map invalid_value c.first_invalid;
+}
+
+-- before any line
+abbrev pub no_counts : CountsValue
+no_counts = record { lines = 0; empty = 0; invalid = 0; first_invalid = None }
+
+-- one more, up to 2^64 - 1
+abbrev pub one_more : ℕ → ℕ
+one_more n = min (n + 1) (2 ^ 64 - 1)
+
+abbrev pub first_of : Option InvalidValue → InvalidValue → Option InvalidValue
+first_of None line = Some line
+first_of (Some first) line = Some first
+
+-- the counts after one more line
+abbrev pub counted_as : Verdict → CountsValue → Text → CountsValue
+counted_as (kept version) c line = record c { lines = one_more c.lines }
+counted_as dropped c line = record c { lines = one_more c.lines }
+counted_as empty c line = record c { lines = one_more c.lines; empty = one_more c.empty }
+counted_as invalid c line = record c {
+  lines = one_more c.lines;
+  invalid = one_more c.invalid;
+  first_invalid = first_of c.first_invalid
+      (record { number = one_more c.lines; front = take 81 (line_text line) });
+}
+
+-- the counts after some more lines
+abbrev pub counted : CountsValue → List JudgedLine → CountsValue
+counted c [] = c
+counted c (j ∷ js) = counted (counted_as j.verdict c j.line) js

@@ -1,0 +1,70 @@
+-- What one line does: a means of proof.
+use Rattle.std.specs.Prelude.{◌≡◌, ◌++◌, Bool, not, List, [], ◌∷◌, map, String, string_bytes, if◌then◌else◌}
+use Rattle.std.specs.Global.{Global}
+use Rattle.std.specs.Option.{option_map}
+use Rattle.semver_parser.specs.Outlines.{OutlineValue, IsOutlineOf}
+use Rattle.semver_parser.specs.Texts.{Text, is_empty}
+use Rattle.semver_parser.specs.VersionGrammar.{SpellsVersion}
+use Rattle.semver_parser.specs.VersionViews.{version_value}
+use Rattle.semver_parser.specs.Versions.{PlainVersion, VersionValue}
+use Rattle.release_filter.specs.LineTexts.{line_text}
+use Rattle.release_filter.specs.Pieces.{LinesValue, Takes}
+use Rattle.release_filter.specs.Verdicts.{JudgedLine, Verdict, is_invalid, kept, dropped, invalid}
+use Rattle.release_filter.specs.Verdicts.{empty}
+use Rattle.release_filter.specs.Counting.{CountsValue, counted_as}
+use Rattle.release_filter.specs.Wanted.{Answers, HeldValue, Holds, KeptValue, kept_as}
+use Rattle.release_filter.specs.declared.judging.Judged.{Judged}
+use Rattle.release_filter.specs.declared.judging.Judged.TheVariants.{NoVersion, DoesNotPass, Passes}
+use Rattle.release_filter.specs.declared.wanted.Held.{Held}
+use Rattle.release_filter.specs.declared.wanted.KeptLine.{KeptLine}
+
+abbrev pub texts : List (String Global) → List Text
+texts prefixes = map (λ prefix. string_bytes prefix) prefixes
+
+abbrev pub kept_value : KeptLine → KeptValue
+kept_value k = record { version = (version_value k.version).plain; line = k.bytes.items }
+
+abbrev pub held_value : Held → HeldValue
+held_value h = record {
+  wanted = h.wanted;
+  best = option_map kept_value h.best;
+  sorted = map kept_value h.sorted.items;
+}
+
+-- what a line is that has no version
+abbrev pub without_version : Text → Verdict
+without_version line = if is_empty (line_text line) then empty else invalid
+
+-- what a line is of which a filter says this; if its version passes, it is this one
+abbrev pub verdict_of : Judged → PlainVersion → Text → Verdict
+verdict_of NoVersion plain line = without_version line
+verdict_of DoesNotPass plain line = dropped
+verdict_of (Passes outline) plain line = kept plain
+
+-- the outline is that of a version which is this one but for its build
+abbrev pub Outlines : OutlineValue → PlainVersion → Type 0
+Outlines outline plain = (text : Text) × (v : VersionValue) × IsOutlineOf text outline
+    × SpellsVersion v text × (plain ≡ v.plain)
+
+abbrev pub PassesAs : Judged → PlainVersion → Type 0
+PassesAs NoVersion plain = Unit {0}
+PassesAs DoesNotPass plain = Unit {0}
+PassesAs (Passes outline) plain = Outlines outline plain
+
+-- some kept lines were the last, and what is wanted at the end of the text was appended
+abbrev pub Concludes : HeldValue → List KeptValue → Text → Text → Type 0
+Concludes h lines old new = (held : HeldValue) × (added rest : Text) × Holds h lines held added
+    × Answers held rest × (new ≡ old ++ (added ++ rest))
+
+-- one line was taken, and it is this
+pub record TakesLine (h : HeldValue) (c : CountsValue) (line : Text) (verdict : Verdict)
+    (g : HeldValue) (d : CountsValue) (old new : Text) : Type 0 where
+  pub added : Text
+  pub holds : Holds h (kept_as verdict line) g added
+  pub appended : new ≡ old ++ added
+  pub counted : d ≡ counted_as verdict c line
+
+-- the end of a line was taken, and this says whether the line is no invalid one
+abbrev pub TakesWhole : LinesValue → Text → LinesValue → Text → Text → Bool → Type 0
+TakesWhole s end t old new is_valid = (judged : JudgedLine) × Takes s end (judged ∷ []) t old new
+    × (t.unended ≡ []) × (is_valid ≡ not (is_invalid judged.verdict))

@@ -1,0 +1,126 @@
+//! How many lines a text has, how many of these have no version, and the first of those.
+
+ghost use Rattle.std.specs.Prelude.{◌≡◌, IfOk};
+ghost use Rattle.semver_parser.specs.Versions.{PlainVersion};
+ghost use Rattle.release_filter.specs.Counting.{counted_as, counts_value, no_counts};
+ghost use Rattle.release_filter.specs.Steps.Noting.{added};
+ghost use Rattle.release_filter.specs.Steps.Taking.{verdict_of, without_version};
+ghost use Rattle.release_filter.specs.Verdicts.{is_invalid};
+
+use crate::judging::Judged;
+use crate::line_texts::text_of;
+use std::alloc::{AllocError, Global};
+
+/// So many bytes of the first line that is invalid are kept.
+const FRONT: usize = 81;
+
+/// How many lines a text has, and how many of these have no version. Each count stops at 2^64 - 1.
+#[derive(Debug, Drop)]
+pub struct Counts {
+    /// The lines that have ended, and the last one, once the end of the text was taken.
+    pub lines: u64,
+    /// Those of them that are empty: a line feed, after a carriage return or not.
+    pub empty: u64,
+    /// Those of them that are invalid: they aren't empty, and have no version.
+    pub invalid: u64,
+    /// The first invalid one.
+    pub first_invalid: Option<InvalidLine>,
+}
+
+/// A line that is not empty and has no version.
+#[derive(Debug, Drop)]
+pub struct InvalidLine {
+    /// Its number: that of the first line is 1.
+    pub number: u64,
+    /// The first 81 bytes of it, without the line feed that ends it and a carriage return before
+    /// that; fewer if it is shorter.
+    pub front: Vec<u8>,
+}
+
+/// What is to be counted of a line.
+#[derive(Drop)]
+pub(crate) enum Noted {
+    /// It has a version.
+    Version,
+    /// It is empty.
+    Empty,
+    /// It is invalid, and an earlier one is.
+    Invalid,
+    /// It is invalid, and the first such line.
+    FirstInvalid(InvalidLine),
+}
+
+impl Counts {
+    /// Counts no line.
+    pub(crate) fn new() -> Counts
+        ensures { counts_value result ≡ no_counts }
+    {
+        Counts {
+            lines: 0,
+            empty: 0,
+            invalid: 0,
+            first_invalid: None,
+        }
+    }
+
+    /// What is to be counted of a line of which a filter says this.
+    #[inline(always)]
+    pub(crate) fn noted(
+        &self,
+        alloc: Global,
+        line: &[u8],
+        judged: &Judged<'_>,
+    ) -> Result<Noted, AllocError>
+        ensures { (plain : PlainVersion) → IfOk result (λ noted.
+            added (counts_value self.now) noted ≡ counted_as
+            (verdict_of judged.now plain line.now) (counts_value self.now) line.now) }
+    {
+        match judged {
+            Judged::NoVersion => self.noted_without_version(alloc, line),
+            Judged::DoesNotPass | Judged::Passes(_) => Ok(Noted::Version),
+        }
+    }
+
+    /// What is to be counted of a line that has no version.
+    fn noted_without_version(&self, alloc: Global, line: &[u8]) -> Result<Noted, AllocError>
+        ensures { IfOk result (λ noted. added (counts_value self.now) noted
+            ≡ counted_as (without_version line.now) (counts_value self.now) line.now) }
+    {
+        let text = text_of(line);
+        if text.is_empty() {
+            return Ok(Noted::Empty);
+        }
+        if self.first_invalid.is_some() {
+            return Ok(Noted::Invalid);
+        }
+        let number = self.lines.saturating_add(1);
+        let front = Vec::from_slice(alloc, &text[..text.len().min(FRONT)])?;
+        Ok(Noted::FirstInvalid(InvalidLine { number, front }))
+    }
+
+    /// Counts a line of which this was noted.
+    #[inline(always)]
+    pub(crate) fn add(&mut self, noted: Noted)
+        ensures { counts_value self.new ≡ added (counts_value self.old) noted }
+    {
+        self.lines = self.lines.saturating_add(1);
+        match noted {
+            Noted::Version => {}
+            Noted::Empty => self.empty = self.empty.saturating_add(1),
+            Noted::Invalid => self.invalid = self.invalid.saturating_add(1),
+            Noted::FirstInvalid(line) => {
+                self.invalid = self.invalid.saturating_add(1);
+                self.first_invalid = Some(line);
+            }
+        }
+    }
+}
+
+/// Whether a line of which a filter says this is not empty, and has no version.
+#[inline(always)]
+pub(crate) fn is_invalid(line: &[u8], judged: &Judged<'_>) -> bool
+    ensures { (plain : PlainVersion)
+        → result ≡ is_invalid (verdict_of judged.now plain line.now) }
+{
+    matches!(judged, Judged::NoVersion) && !text_of(line).is_empty()
+}

@@ -1,0 +1,100 @@
+//! What a filter says of a line, after one of some prefixes.
+
+ghost use Rattle.std.specs.Prelude.{◌≡◌, ◌≢◌, None, [], ◌∷◌, map, string_bytes, All, IfSome};
+ghost use Rattle.std.specs.Io.{StartsWith};
+ghost use Rattle.semver_parser.specs.Texts.{Text};
+ghost use Rattle.release_filter.specs.LineTexts.{IsWholeLine, line_text};
+ghost use Rattle.release_filter.specs.Steps.Outlined.{IsOutlined, JudgesBy};
+ghost use Rattle.release_filter.specs.Steps.Taking.{texts};
+ghost use Rattle.release_filter.specs.Verdicts.{HasVersion, SpellsAfter, asked};
+
+use crate::filter::Filter;
+use crate::judging::Judged;
+use crate::line_texts::{text_after, text_of, whole_line};
+use semver_parser::version::{Outline, outline_behind_numbers, outline_bytes};
+use semver_texts::decimals::numbers;
+
+/// Which lines are kept.
+#[derive(Drop)]
+pub(crate) struct LineFilter {
+    pub(crate) filter: Filter,
+    pub(crate) prefixes: Vec<String>,
+}
+
+impl LineFilter {
+    /// The first line with its end, if some line has one, and what the filter says of it. For
+    /// speed, where nothing is before a version its numbers are read first.
+    #[inline(always)]
+    pub(crate) fn first_judged<'l>(&self, bytes: &'l [u8]) -> Option<(&'l [u8], Judged<'l>)>
+        ensures none { result ≡ None → All (λ byte. byte ≢ 10) bytes.now }
+        ensures front { IfSome result (λ found. StartsWith bytes.now found.0.now) }
+        ensures whole { IfSome result (λ found. IsWholeLine found.0.now) }
+        ensures judged { IfSome result (λ found. JudgesBy
+            (HasVersion (asked (texts self.now.prefixes.items)) found.0.now) self.now.filter
+            found.1) }
+    {
+        if self.prefixes.is_empty() {
+            let (line, outline) = first_outlined(bytes)?;
+            return Some((line, self.filter.judge_outline(outline)));
+        }
+        let line = whole_line(bytes)?;
+        Some((line, self.judge_line(line)))
+    }
+
+    /// What the filter says of a line, after the first prefix after which it spells a version.
+    #[inline(always)]
+    pub(crate) fn judge_line<'l>(&self, line: &'l [u8]) -> Judged<'l>
+        ensures { JudgesBy (HasVersion (asked (texts self.now.prefixes.items)) line.now)
+            self.now.filter result }
+    {
+        match self.prefixes.as_slice() {
+            [] => judge_after(&self.filter, "", line),
+            prefixes => judge_after_each(&self.filter, prefixes, line),
+        }
+    }
+}
+
+/// What a filter says of a line, after the first of the prefixes after which it spells a version.
+fn judge_after_each<'l>(filter: &Filter, prefixes: &[String], line: &'l [u8]) -> Judged<'l>
+    ensures { JudgesBy (HasVersion (texts prefixes.now) line.now) filter.now result }
+{
+    match prefixes {
+        [] => Judged::NoVersion,
+        [prefix, prefixes @ ..] => match judge_after(filter, prefix.as_str(), line) {
+            Judged::NoVersion => judge_after_each(filter, prefixes, line),
+            judged => judged,
+        },
+    }
+}
+
+/// What a filter says of a line after a prefix.
+#[inline(always)]
+fn judge_after<'l>(filter: &Filter, prefix: &str, line: &'l [u8]) -> Judged<'l>
+    ensures { JudgesBy (SpellsAfter prefix.now line.now) filter.now result }
+{
+    match text_after(prefix, line) {
+        Some(text) => filter.judge(text),
+        None => Judged::NoVersion,
+    }
+}
+
+/// The first line with its end, if some line has one, and the outline of the version that it
+/// spells. The numbers at its front are read first, and the end of the line is sought after them.
+#[inline(always)]
+fn first_outlined(bytes: &[u8]) -> Option<(&[u8], Option<Outline<'_>>)>
+    ensures none { result ≡ None → All (λ x. x ≢ 10) bytes.now }
+    ensures front { IfSome result (λ found. StartsWith bytes.now found.0.now) }
+    ensures whole { IfSome result (λ found. IsWholeLine found.0.now) }
+    ensures outlined { IfSome result (λ found. IsOutlined (line_text found.0.now) found.1) }
+{
+    if let Some((major, minor, patch, rest)) = numbers(bytes) {
+        let behind = whole_line(rest)?;
+        let numbers_end = bytes.len() - rest.len();
+        let line = &bytes[..numbers_end + behind.len()];
+        let text = text_of(behind);
+        let outline = outline_behind_numbers(major, minor, patch, numbers_end, text);
+        return Some((line, outline));
+    }
+    let line = whole_line(bytes)?;
+    Some((line, outline_bytes(text_of(line))))
+}

@@ -1,0 +1,307 @@
+//! Which of the kept lines are wanted, and those that are held until the end of the text.
+
+ghost use Rattle.std.specs.Prelude.{◌≡◌, ◌↔◌, ◌++◌, [], ◌∷◌, true, IfErr, IfOk, MatchOption, map};
+ghost use Rattle.std.specs.Prelude.{List, Option, option_to_list};
+ghost use Rattle.std.specs.Option.{option_map};
+ghost use Rattle.std.specs.declared.cmp.Ordering.TheVariants.{Less};
+ghost use Rattle.semver_parser.specs.Texts.{Text};
+ghost use Rattle.semver_parser.specs.Versions.{PlainVersion};
+ghost use Rattle.semver_parser.specs.VersionViews.{version_value};
+ghost use Rattle.release_filter.specs.Steps.Taking.{Concludes, Outlines, PassesAs, held_value};
+ghost use Rattle.release_filter.specs.Steps.Taking.{kept_value, verdict_of};
+ghost use Rattle.release_filter.specs.Wanted.{Holds, IsBest, IsStableSort, KeptValue, emptied};
+ghost use Rattle.release_filter.specs.Wanted.{ended, ended_text, kept_as, order_of, text_of};
+
+use crate::judging::Judged;
+use crate::line_texts::without_last;
+use crate::precedence;
+use semver_parser::laws;
+use semver_parser::version::{self, Outline, Version};
+use std::alloc::{AllocError, Global};
+use std::mem;
+
+/// Which of the kept lines are wanted.
+#[derive(Clone, Copy, Debug, PartialEq, Eq)]
+pub enum Wanted {
+    /// Each, as soon as it has ended.
+    Each,
+    /// The one with the greatest version by precedence (SemVer 2.0.0, section 11), and the first of
+    /// those with an equal one; builds don't count.
+    Greatest,
+    /// The one with the least version, and the first of those with an equal one.
+    Least,
+    /// All, from the least version to the greatest, and those of equal versions in their order. A
+    /// line without a line feed gets one.
+    Sorted,
+}
+
+/// A kept line, and its version without the build.
+#[derive(Drop)]
+pub(crate) struct KeptLine {
+    pub(crate) version: Version,
+    pub(crate) bytes: Vec<u8>,
+}
+
+/// What is wanted, and the kept lines that are held for it.
+#[derive(Drop)]
+pub(crate) struct Held {
+    pub(crate) wanted: Wanted,
+    /// The greatest line so far, or the least.
+    pub(crate) best: Option<KeptLine>,
+    /// All lines so far.
+    pub(crate) sorted: Vec<KeptLine>,
+    /// Memory for the next best line.
+    pub(crate) spare: Vec<u8>,
+}
+
+impl Held {
+    /// Holds no line.
+    pub(crate) fn new(alloc: Global, wanted: Wanted) -> Held
+        ensures { held_value result ≡ record { wanted = wanted; best = Option.None; sorted = [] } }
+    {
+        Held {
+            wanted,
+            best: None,
+            sorted: Vec::new(alloc),
+            spare: Vec::new(alloc),
+        }
+    }
+
+    /// Holds or appends a kept line of this outline.
+    #[inline(always)]
+    pub(crate) fn keep(
+        &mut self,
+        alloc: Global,
+        outline: &Outline<'_>,
+        line: &[u8],
+        kept: &mut Vec<u8>,
+    ) -> Result<(), AllocError>
+        ensures holds { (plain : PlainVersion) → Outlines outline.now plain → IfOk result (λ _.
+            (added : Text) × Holds (held_value self.old)
+            (record { version = plain; line = line.now } ∷ []) (held_value self.new) added
+            × (kept.new.items ≡ kept.old.items ++ added)) }
+        ensures unchanged { IfErr result (λ _. (held_value self.new ≡ held_value self.old)
+            × (kept.new.items ≡ kept.old.items)) }
+    {
+        match self.wanted {
+            Wanted::Each => kept.extend_from_slice(line),
+            Wanted::Greatest | Wanted::Least => {
+                let version = without_build(alloc, outline)?;
+                self.hold_best(alloc, version, line)?;
+                Ok(())
+            }
+            Wanted::Sorted => {
+                self.sorted.push(kept_line(alloc, outline, line)?)?;
+                Ok(())
+            }
+        }
+    }
+
+    /// Holds a line if it is better than the best so far.
+    fn hold_best(&mut self, alloc: Global, version: Version, line: &[u8]) -> Result<(), AllocError>
+        ensures best { IfOk result (λ _. (best : Option KeptValue) × IsBest (order_of self.old.wanted)
+            (option_to_list (option_map kept_value self.old.best)
+            ++ record { version = (version_value version).plain; line = line.now } ∷ []) best
+            × (held_value self.new ≡ record (held_value self.old) { best = best })) }
+        ensures unchanged { IfErr result (λ _. held_value self.new ≡ held_value self.old) }
+    {
+        laws::precedence_is_total();
+        if !is_better(self.wanted, &version, &self.best) {
+            return Ok(());
+        }
+        self.spare.clear();
+        self.spare.extend_from_slice(line)?;
+        let bytes = mem::replace(&mut self.spare, Vec::new(alloc));
+        if let Some(former) = mem::replace(&mut self.best, Some(KeptLine { version, bytes })) {
+            self.spare = former.bytes;
+        }
+        Ok(())
+    }
+
+    /// Appends the rest of the answer at the end of a text, of which this is the last line.
+    pub(crate) fn finish(
+        &self,
+        alloc: Global,
+        line: &[u8],
+        judged: &Judged<'_>,
+        kept: &mut Vec<u8>,
+    ) -> Result<(), AllocError>
+        ensures answers { (plain : PlainVersion) → PassesAs judged.now plain → IfOk result (λ _.
+            Concludes (held_value self.now) (kept_as (verdict_of judged.now plain line.now) line.now)
+            kept.old.items kept.new.items) }
+        ensures unchanged { IfErr result (λ _. kept.new.items ≡ kept.old.items) }
+    {
+        match self.wanted {
+            Wanted::Each => match judged {
+                Judged::Passes(_) => {
+                    kept.extend_from_slice(line)?;
+                    Ok(())
+                }
+                Judged::NoVersion | Judged::DoesNotPass => Ok(()),
+            },
+            Wanted::Greatest | Wanted::Least => {
+                let last = last_line(alloc, line, judged)?;
+                self.append_best(&last, kept)?;
+                Ok(())
+            }
+            Wanted::Sorted => {
+                let last = last_line(alloc, line, judged)?;
+                self.append_sorted(alloc, &last, kept)?;
+                Ok(())
+            }
+        }
+    }
+
+    /// Appends the best line, this last one among them.
+    fn append_best(&self, last: &Option<KeptLine>, kept: &mut Vec<u8>) -> Result<(), AllocError>
+        ensures best { IfOk result (λ _. (best : Option KeptValue)
+            × IsBest (order_of self.now.wanted)
+            (option_to_list (option_map kept_value self.now.best)
+            ++ option_to_list (option_map kept_value last.now)) best
+            × (kept.new.items ≡ kept.old.items ++ text_of (option_to_list best))) }
+        ensures unchanged { IfErr result (λ _. kept.new.items ≡ kept.old.items) }
+    {
+        match better_of(self.wanted, &self.best, last) {
+            Some(best) => kept.extend_from_slice(best.bytes.as_slice()),
+            None => Ok(()),
+        }
+    }
+
+    /// Appends all lines, sorted, this last one among them.
+    fn append_sorted(
+        &self,
+        alloc: Global,
+        last: &Option<KeptLine>,
+        kept: &mut Vec<u8>,
+    ) -> Result<(), AllocError>
+        ensures sorts { IfOk result (λ _. (sorted : List KeptValue)
+            × IsStableSort (map kept_value self.now.sorted.items
+            ++ option_to_list (option_map kept_value last.now)) sorted
+            × (kept.new.items ≡ kept.old.items ++ ended_text sorted)) }
+        ensures unchanged { IfErr result (λ _. kept.new.items ≡ kept.old.items) }
+    {
+        laws::precedence_is_total();
+        let mut lines = Vec::new(alloc);
+        for line in &self.sorted {
+            lines.push(line)?;
+        }
+        if let Some(last) = last {
+            lines.push(last)?;
+        }
+        lines.sort_by(|line, other| version::cmp_precedence(&line.version, &other.version))?;
+        append_ended(lines.as_slice(), kept)?;
+        Ok(())
+    }
+
+    /// Holds no line any more.
+    pub(crate) fn clear(&mut self)
+        ensures { held_value self.new ≡ emptied (held_value self.old) }
+    {
+        self.best = None;
+        self.sorted.clear();
+    }
+}
+
+/// Whether a version is to be taken in place of the best so far: it is above that, or, if the least
+/// is wanted, below it.
+fn is_better(wanted: Wanted, version: &Version, best: &Option<KeptLine>) -> bool
+    ensures { MatchOption best.now (result ≡ true) (λ best. (result ≡ true)
+        ↔ (order_of wanted (version_value best.version).plain (version_value version.now).plain
+        ≡ Less)) }
+{
+    match (best, wanted) {
+        (None, _) => true,
+        (Some(best), Wanted::Least) => precedence::is_above(&best.version, version),
+        (Some(best), _) => precedence::is_above(version, &best.version),
+    }
+}
+
+/// The better one of the best line so far and the last one.
+fn better_of<'k>(
+    wanted: Wanted,
+    best: &'k Option<KeptLine>,
+    last: &'k Option<KeptLine>,
+) -> &'k Option<KeptLine>
+    ensures { IsBest (order_of wanted) (option_to_list (option_map kept_value best.now)
+        ++ option_to_list (option_map kept_value last.now)) (option_map kept_value result.now) }
+{
+    laws::precedence_is_total();
+    match last {
+        Some(line) => {
+            if is_better(wanted, &line.version, best) {
+                last
+            } else {
+                best
+            }
+        }
+        None => best,
+    }
+}
+
+/// The last line of a text, if it is kept.
+fn last_line(
+    alloc: Global,
+    line: &[u8],
+    judged: &Judged<'_>,
+) -> Result<Option<KeptLine>, AllocError>
+    ensures { (plain : PlainVersion) → PassesAs judged.now plain → IfOk result (λ last.
+        option_to_list (option_map kept_value last)
+        ≡ kept_as (verdict_of judged.now plain line.now) line.now) }
+{
+    match judged {
+        Judged::Passes(outline) => Ok(Some(kept_line(alloc, outline, line)?)),
+        Judged::NoVersion | Judged::DoesNotPass => Ok(None),
+    }
+}
+
+/// A kept line of this outline.
+fn kept_line(alloc: Global, outline: &Outline<'_>, line: &[u8]) -> Result<KeptLine, AllocError>
+    ensures { (plain : PlainVersion) → Outlines outline.now plain → IfOk result (λ k. kept_value k
+        ≡ record { version = plain; line = line.now }) }
+{
+    let version = without_build(alloc, outline)?;
+    let bytes = Vec::from_slice(alloc, line)?;
+    Ok(KeptLine { version, bytes })
+}
+
+/// The version of an outline, without its build.
+#[inline(always)]
+fn without_build(alloc: Global, outline: &Outline<'_>) -> Result<Version, AllocError>
+    ensures { (plain : PlainVersion) → Outlines outline.now plain → IfOk result (λ version.
+        (version_value version).plain ≡ plain) }
+{
+    laws::one_version();
+    Ok(Version {
+        major: outline.major(),
+        minor: outline.minor(),
+        patch: outline.patch(),
+        pre: outline.pre_identifiers(alloc)?,
+        build: Vec::new(alloc),
+    })
+}
+
+/// Appends lines, each with a line feed at its end.
+fn append_ended(lines: &[&KeptLine], kept: &mut Vec<u8>) -> Result<(), AllocError>
+    ensures appends { IfOk result (λ _. kept.new.items ≡ kept.old.items
+        ++ ended_text (map (λ line. kept_value line.now) lines.now)) }
+    ensures unchanged { IfErr result (λ _. kept.new.items ≡ kept.old.items) }
+{
+    let begun = kept.len();
+    for line in lines {
+        if let Err(error) = append_ended_line(line.bytes.as_slice(), kept) {
+            kept.truncate(begun);
+            return Err(error);
+        }
+    }
+    Ok(())
+}
+
+/// Appends a line with a line feed at its end, or a beginning of that.
+fn append_ended_line(line: &[u8], kept: &mut Vec<u8>) -> Result<(), AllocError>
+    ensures appends { IfOk result (λ _. kept.new.items ≡ kept.old.items ++ ended line.now) }
+    ensures begins { IfErr result (λ _. (part : Text) × (kept.new.items ≡ kept.old.items ++ part)) }
+{
+    kept.extend_from_slice(without_last(line, b'\n'))?;
+    kept.push(b'\n')?;
+    Ok(())
+}
