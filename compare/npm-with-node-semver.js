@@ -4,7 +4,8 @@
 // changed at a place, and all texts of a few characters. It asks whether each is read, and of those
 // that are which versions each means, releases and pre-releases at and round the numbers that it
 // states. `node npm-with-node-semver.js PROGRAM --texts TEXTS VERSIONS` asks the same of the lines of
-// two files. Both print the first difference, and then end with status 1.
+// two files. Both print the first difference, and then end with status 1. Each text is asked by npm's
+// own rule for pre-releases, and by that of `includePrerelease`.
 //
 // What node-semver reads by accident of how it replaces texts is counted by kind, and each such text
 // has to be of one. Numbers stay small, so that none is too large.
@@ -30,6 +31,11 @@ const ACCIDENTS = [
   ['a comparison behind `~` or `^`', /[~^]>?\s*[<>=]/],
   ['an operator at a side of a hyphen range', /[<>=~^][^|]*\s-\s|\s-\s[^|]*[<>=~^]/],
   ['`*` beside what it replaces', /\*[^\s|.]|[^\s|.<>=~^v]\*|[<>=~^v]\s*\*\S|[^\s|<>][<>]?=\s*\*/]
+]
+
+// What it doesn't read although its pages have it, by the same accident.
+const REFUSALS = [
+  ['`=` between white space behind a part of digits and `v`', /[-.]\d+v\s+=\s/]
 ]
 
 function simple (random) {
@@ -88,13 +94,19 @@ function asked (random, of) {
 }
 
 // `>=0.0.0` with a build or a `v` asks nothing here, and is a comparator there, also as the left side
-// of a hyphen range. So node-semver is asked of the text without both.
-const isOfZero = (of) => /0\.0\.0\+|v0\.0\.0/.test(of)
+// of a hyphen range. And with `includePrerelease` the left side `1.2.3+b` begins with 1.2.3 there, since
+// `-0` is put behind the build. So node-semver is asked of the text without both.
 const plain = (of) => of.replace(/\+[0-9A-Za-z.-]+/g, '').replace(/v0\.0\.0/g, '0.0.0')
 
-function rangeOf (of) {
+// The rules for pre-releases: the word before a line of the program, and what node-semver is asked by.
+const RULES = [
+  { word: 'npm ', options: {}, name: '', isKnown: (of) => /0\.0\.0\+|v0\.0\.0/.test(of) },
+  { word: 'npm-pre ', options: { includePrerelease: true }, name: ', with includePrerelease', isKnown: (of) => /\+\S*\s+-\s/.test(of) }
+]
+
+function rangeOf (of, options) {
   try {
-    return new semver.Range(of)
+    return new semver.Range(of, options)
   } catch {
     return null
   }
@@ -105,15 +117,21 @@ function differ (of, wanted, answered) {
   process.exit(1)
 }
 
-// Compares all texts, each by the versions that `of` tells, and tells of what they are.
+// Compares all texts by each rule.
 function compare (program, what, all, versionsOf) {
+  for (const rule of RULES) compareBy(program, rule, what + rule.name, all, versionsOf)
+}
+
+// Compares all texts, each by the versions that `of` tells, and tells of what they are.
+function compareBy (program, { word, options, isKnown }, what, all, versionsOf) {
   const counts = { texts: 0, read: 0, pairs: 0, met: 0, preReleases: 0 }
   const accidents = new Map()
+  const refusals = new Map()
   for (let at = 0; at < all.length; at += BATCH) {
     const batch = all.slice(at, at + BATCH).map((of) => ({ of, versions: versionsOf(of) }))
-    const told = answers(program, batch.map(({ of, versions }) => `${of} ? ${versions.join(' ')}`), 'npm ')
+    const told = answers(program, batch.map(({ of, versions }) => `${of} ? ${versions.join(' ')}`), word)
     batch.forEach(({ of, versions }, place) => {
-      const [range, answer] = [rangeOf(of), told[place]]
+      const [range, answer] = [rangeOf(of, options), told[place]]
       counts.texts++
       if (answer === 'not-a-range') {
         if (!range) return
@@ -121,8 +139,12 @@ function compare (program, what, all, versionsOf) {
         if (!kind) differ(of, `read as ${range.range}`, answer)
         return accidents.set(kind[0], (accidents.get(kind[0]) || 0) + 1)
       }
-      if (!range) differ(of, 'not read', answer)
-      const reading = isOfZero(of) ? rangeOf(plain(of)) : range
+      if (!range) {
+        const kind = REFUSALS.find(([, test]) => test.test(of))
+        if (!kind) differ(of, 'not read', answer)
+        return refusals.set(kind[0], (refusals.get(kind[0]) || 0) + 1)
+      }
+      const reading = isKnown(of) ? rangeOf(plain(of), options) : range
       const met = versions.filter((version) => reading.test(version))
       if (answer !== ['means', ...met].join(' ')) differ(of, `means ${met.join(' ')}`, answer)
       counts.read++
@@ -134,6 +156,7 @@ function compare (program, what, all, versionsOf) {
   console.log(`${what}: ${counts.texts} texts, ${counts.read} read, ${counts.pairs} pairs of a text and a version, ${counts.met} met, ` +
     `${counts.preReleases} of them pre-releases: no difference but the known ones`)
   for (const [kind, times] of accidents) console.log(`  ${times} times node-semver reads ${kind}`)
+  for (const [kind, times] of refusals) console.log(`  ${times} times node-semver does not read ${kind}`)
 }
 
 const lines = (file) => fs.readFileSync(file, 'utf8').split('\n').filter((line) => line !== '')

@@ -26,7 +26,7 @@ _BYTES = 64
 
 # The rules for pre-releases that a tool's own reading has, and those of the crate's two: first the
 # one that is taken where none is named.
-_OF_TOOLS = (PreReleases.OF_TOOL, PreReleases.EXCLUDED)
+_OF_TOOLS = (PreReleases.OF_TOOL, PreReleases.EXCLUDED, PreReleases.INCLUDED)
 _OF_CRATE = (PreReleases.STATED, PreReleases.EXCLUDED, PreReleases.INCLUDED)
 
 

@@ -90,9 +90,9 @@ class Reading(enum.Enum):
 class PreReleases(enum.Enum):
     """The rules by which versions with a pre-release meet a range. Others count by each of them.
 
-    Each reading has `EXCLUDED`. A tool's own reading has besides the rule of that tool, `OF_TOOL`,
-    and the crate's readings have `STATED` and `INCLUDED`. Where no rule is named, the first takes
-    `OF_TOOL` and the others `STATED`. A rule that a reading hasn't raises `ValueError`.
+    Each reading has `EXCLUDED` and `INCLUDED`. A tool's own reading has besides the rule of that
+    tool, `OF_TOOL`, and the crate's readings have `STATED`: these two are taken where no rule is
+    named. A rule that a reading hasn't raises `ValueError`.
     """
 
     EXCLUDED = 0
@@ -101,7 +101,8 @@ class PreReleases(enum.Enum):
     """One that meets the range by precedence, and of which a term of that range states the three
     numbers and a pre-release. 1.2.3-rc meets `^1.2.3-beta`, and 1.3.0-rc doesn't."""
     INCLUDED = 2
-    """Each that meets the range by precedence: 1.3.0-rc meets `^1.2.0`, and 2.0.0-rc doesn't."""
+    """Each that meets the range by precedence: 1.3.0-rc meets `^1.2.0`, and 2.0.0-rc doesn't. By a
+    tool's own reading each version meets `*`."""
     OF_TOOL = 3
     """Those that Cargo or npm itself takes. Mostly these are those of `STATED`; docs/MEANING.md has
     the others."""

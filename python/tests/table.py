@@ -102,7 +102,7 @@ def rows() -> Iterator[Row]:
 
 
 def rows_of_tools() -> Iterator[Tuple[str, str, str]]:
-    """All rows of the tools: `cargo` or `npm`, what is asked, and what is wanted."""
+    """All rows of the tools: `cargo`, `npm`, `cargo-pre` or `npm-pre`, what is asked, and what is wanted."""
     lines = (TOOL_CASES / "stdin").read_bytes().decode().split("\n")
     wanted = (TOOL_CASES / "stdout").read_bytes().decode().split("\n")
     assert len(lines) == len(wanted) and lines.pop() == wanted.pop() == ""

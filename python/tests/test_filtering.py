@@ -46,7 +46,7 @@ ORDERED = [
 
 # The rules of the crate's readings, in the order of their numbers, and those of the tools'.
 OF_CRATE = (PreReleases.EXCLUDED, PreReleases.STATED, PreReleases.INCLUDED)
-OF_TOOLS = (PreReleases.EXCLUDED, PreReleases.OF_TOOL)
+OF_TOOLS = (PreReleases.EXCLUDED, PreReleases.INCLUDED, PreReleases.OF_TOOL)
 RULES = [
     (Reading.CARGO, OF_TOOLS),
     (Reading.NPM, OF_TOOLS),

@@ -3,7 +3,7 @@
 import unittest
 from collections import Counter
 from typing import Counter as Counts
-from typing import List, Tuple
+from typing import List, Optional, Tuple
 
 from semver_parser import (
     Filter,
@@ -18,6 +18,8 @@ from tests.table import answer, checksum, rows, rows_of_tools
 
 _SUM = "sum-of-"
 _READINGS_OF_TOOLS = {"cargo": Reading.CARGO, "npm": Reading.NPM}
+_OWN = (None, PreReleases.OF_TOOL)
+_ALL = (PreReleases.INCLUDED,)
 
 
 class Table(unittest.TestCase):
@@ -48,15 +50,18 @@ class Tools(unittest.TestCase):
         for tool, asked, wanted in rows_of_tools():
             text, question, versions = asked.partition(" ? ")
             with self.subTest(tool=tool, asked=asked):
-                reading = _READINGS_OF_TOOLS[tool]
+                name, pre, _ = tool.partition("-pre")
+                reading = _READINGS_OF_TOOLS[name]
                 if question:
-                    self.check_meaning(text, reading, versions.split(" "), wanted)
+                    rules = _ALL if pre else _OWN
+                    self.check_meaning(text, reading, rules, versions.split(" "), wanted)
                 else:
                     self.check_rewriting(text, reading, wanted)
             counts[tool, "meant" if question else "rewritten"] += 1
         for tool in _READINGS_OF_TOOLS:
             self.assertGreater(counts[tool, "rewritten"], 80)
             self.assertGreaterEqual(counts[tool, "meant"], 50)
+            self.assertGreater(counts[tool + "-pre", "meant"], 50)
 
     def check_rewriting(self, text: str, reading: Reading, wanted: str) -> None:
         """By a tool's own reading bounds are exact, whatever is asked for."""
@@ -66,10 +71,17 @@ class Tools(unittest.TestCase):
             except RangeError as error:
                 self.assertEqual(error.name, wanted)
 
-    def check_meaning(self, text: str, reading: Reading, versions: List[str], wanted: str) -> None:
-        """By the tool's own rule, which none stands for too, and of the releases among them."""
+    def check_meaning(
+        self,
+        text: str,
+        reading: Reading,
+        rules: Tuple[Optional[PreReleases], ...],
+        versions: List[str],
+        wanted: str,
+    ) -> None:
+        """By rules that mean the same, and of the releases among them."""
         try:
-            chosen = [Filter(text, reading, rule) for rule in (None, PreReleases.OF_TOOL)]
+            chosen = [Filter(text, reading, rule) for rule in rules]
             releases = Filter(text, reading, PreReleases.EXCLUDED)
         except RangeError as error:
             self.assertEqual(error.name, wanted)
@@ -80,4 +92,4 @@ class Tools(unittest.TestCase):
             self.assertEqual(each.kept(versions), meant)
         self.assertEqual(releases.kept(versions), [it for it in meant if not parse_version(it).pre])
         for version in versions:
-            self.assertIs(meets(text, version, reading), version in meant)
+            self.assertIs(meets(text, version, reading, rules[0]), version in meant)

@@ -272,9 +272,9 @@ static void too_many(const char *range, int32_t rule, int32_t wanted) {
 
 static void too_many_texts(void) {
     bool is_of_tool = reading == SEMVER_PARSER_CARGO || reading == SEMVER_PARSER_NPM;
-    int32_t rule = is_of_tool ? SEMVER_PARSER_PRE_RELEASES_OF_TOOL : SEMVER_PARSER_ALL_PRE_RELEASES;
+    int32_t rule = SEMVER_PARSER_ALL_PRE_RELEASES;
     int32_t no_rule =
-        is_of_tool ? SEMVER_PARSER_ALL_PRE_RELEASES : SEMVER_PARSER_PRE_RELEASES_OF_TOOL;
+        is_of_tool ? SEMVER_PARSER_STATED_PRE_RELEASES : SEMVER_PARSER_PRE_RELEASES_OF_TOOL;
     too_many("^1.2", SEMVER_PARSER_RELEASES_ALONE, SEMVER_PARSER_RANGE_OUT_OF_MEMORY);
     too_many("^1.2", rule, SEMVER_PARSER_RANGE_OUT_OF_MEMORY);
     too_many("^1.2", no_rule, SEMVER_PARSER_NO_SUCH_RULE);

@@ -48,7 +48,7 @@ static bool is_of_tool(int32_t reading) { return reading == CARGO || reading == 
 
 /* The rules that a reading has. */
 static bool has_rule(int32_t reading, int32_t rule) {
-    return rule == ALONE || (is_of_tool(reading) ? rule == OF_TOOL : rule == STATED || rule == ALL);
+    return rule == ALONE || rule == ALL || rule == (is_of_tool(reading) ? OF_TOOL : STATED);
 }
 
 /* The rule by which a reading is asked for pre-releases where a table doesn't say one. */

@@ -98,10 +98,10 @@ static void order_takes(
     }
 }
 
-/* The reading that is asked, and its rule for the most pre-releases. */
+/* The reading that is asked, and one of its rules for pre-releases. */
 static int32_t reading;
 
-static int32_t widest_rule(void) {
+static int32_t rule_of_reading(void) {
     bool is_of_tool = reading == SEMVER_PARSER_CARGO || reading == SEMVER_PARSER_NPM;
     return is_of_tool ? SEMVER_PARSER_PRE_RELEASES_OF_TOOL : SEMVER_PARSER_ALL_PRE_RELEASES;
 }
@@ -149,7 +149,7 @@ static void both_take(const char *range, bool some, const char *version, int ver
         bool met = !meets;
         grant(request);
         int32_t answered =
-            semver_parser_meets((const uint8_t *)range, strlen(range), reading, widest_rule(),
+            semver_parser_meets((const uint8_t *)range, strlen(range), reading, rule_of_reading(),
                                 (const uint8_t *)version, strlen(version), &met);
         bool is_range = answered == SEMVER_PARSER_RANGE_OUT_OF_MEMORY;
         bool is_version = answered == SEMVER_PARSER_VERSION_OUT_OF_MEMORY;
@@ -175,7 +175,7 @@ static void least_takes(const char *range, bool some, int32_t wanted, size_t byt
         size_t length = 777;
         grant(request);
         int32_t answered = semver_parser_least((const uint8_t *)range, strlen(range), reading,
-                                               widest_rule(), out, sizeof out, &length);
+                                               rule_of_reading(), out, sizeof out, &length);
         check(answered == (refused ? (int32_t)SEMVER_PARSER_RANGE_OUT_OF_MEMORY : wanted),
             "another answer of the least", range, request);
         check(length == (answered == SEMVER_PARSER_OK ? bytes : 777), "another length of the least",
@@ -204,7 +204,7 @@ static void comparison_takes(
         grant(request);
         int32_t answered = semver_parser_compare(
             (const uint8_t *)old_range, strlen(old_range), (const uint8_t *)new_range,
-            strlen(new_range), reading, widest_rule(), out, sizeof out, &length, &told);
+            strlen(new_range), reading, rule_of_reading(), out, sizeof out, &length, &told);
         bool runs_out = refused && wanted == SEMVER_PARSER_OK;
         check(answered == (runs_out ? (int32_t)SEMVER_PARSER_NEW_RANGE_OUT_OF_MEMORY : wanted),
             "another answer of a comparison", old_range, request);
@@ -231,7 +231,7 @@ static void many_take(const char *range, bool at_null, int32_t wanted) {
         uint8_t answers[4] = {'x', 'x', 'x', 'x'};
         grant(request);
         int32_t answered = semver_parser_meets_each((const uint8_t *)range, strlen(range), reading,
-                                                    widest_rule(), versions, 4, answers);
+                                                    rule_of_reading(), versions, 4, answers);
         check(answered == wanted || (refused && answered == SEMVER_PARSER_RANGE_OUT_OF_MEMORY),
             "another answer of many", range, request);
         if (answered == SEMVER_PARSER_OK) {

@@ -1,6 +1,7 @@
 /* Replays the table of the tools through the C library: tools STDIN STDOUT, where these are the
  * files of crates/tool_cases. Each line of STDIN begins with `cargo ` or `npm `, which names the
- * reading that it is asked by. Behind that stands a range text, of which STDOUT has what it is
+ * reading that it is asked by, or with `cargo-pre ` or `npm-pre ` where all pre-releases count.
+ * Behind that stands a range text, of which STDOUT has what it is
  * rewritten to, or the word of its fault; or a range text, ` ? ` and versions, of which STDOUT has
  * those that the range means. Ends with status 1 where a line differs or begins otherwise, and
  * where a tool has few lines. */
@@ -10,10 +11,12 @@
 #include <stdio.h>
 #include <string.h>
 
-/* The name that a tool's lines begin with, its reading, and how many of them passed and failed. */
+/* The name that a tool's lines begin with, its reading and its rule for pre-releases, and how many
+ * of them passed and failed. */
 typedef struct {
     const char *name;
     int32_t reading;
+    int32_t rule;
     int rewritten;
     int meant;
     int failed;
@@ -89,20 +92,20 @@ static bool is_answer(const text *answer, const char *expected, const char *line
     return false;
 }
 
-/* Replays a line on what a range means: by the tool's own rule, and among releases alone. */
-static bool replay_meaning(const char *line, const char *versions, int32_t reading,
+/* Replays a line on what a range means: by the rule of the line, and among releases alone. */
+static bool replay_meaning(const char *line, const char *versions, const tool *of,
                            const char *expected) {
     text range = string(line, (size_t)(versions - line));
-    text of_tool = {NULL, 0, 0};
+    text by_rule = {NULL, 0, 0};
     text alone = {NULL, 0, 0};
-    say_meant(&of_tool, &range, reading, SEMVER_PARSER_PRE_RELEASES_OF_TOOL, versions + 3);
-    say_meant(&alone, &range, reading, SEMVER_PARSER_RELEASES_ALONE, versions + 3);
+    say_meant(&by_rule, &range, of->reading, of->rule, versions + 3);
+    say_meant(&alone, &range, of->reading, SEMVER_PARSER_RELEASES_ALONE, versions + 3);
     text releases = releases_of(expected);
-    bool passed = is_answer(&of_tool, expected, line, "by the rule of the tool")
+    bool passed = is_answer(&by_rule, expected, line, "by the rule of the line")
                   && is_answer(&alone, releases.bytes, line, "among releases alone");
     text_free(&releases);
     text_free(&alone);
-    text_free(&of_tool);
+    text_free(&by_rule);
     text_free(&range);
     return passed;
 }
@@ -139,18 +142,20 @@ static tool *tool_of(tool *tools, int count, const char *line) {
 /* Replays what stands behind the name in a tool's line, and counts it. */
 static void replay(tool *of, const char *line, const char *expected) {
     const char *versions = strstr(line, " ? ");
-    bool passed = versions != NULL ? replay_meaning(line, versions, of->reading, expected)
+    bool passed = versions != NULL ? replay_meaning(line, versions, of, expected)
                                    : replay_rewriting(line, of->reading, expected);
     of->rewritten += passed && versions == NULL;
     of->meant += passed && versions != NULL;
     of->failed += !passed;
 }
 
-/* Tells of a tool's lines, and answers whether all passed and there were enough. */
+/* Tells of a tool's lines, and answers whether all passed and there were enough. What a range is
+ * rewritten to goes by no rule. */
 static bool is_whole(const tool *of) {
     printf("%s: %d rewritten, %d meant, %d failed\n", of->name, of->rewritten, of->meant,
            of->failed);
-    return of->failed == 0 && of->rewritten > 80 && of->meant >= 50;
+    bool is_own = of->rule == SEMVER_PARSER_PRE_RELEASES_OF_TOOL;
+    return of->failed == 0 && (!is_own || of->rewritten > 80) && of->meant >= 50;
 }
 
 /* The line at a place, ended by a zero byte, and the place moved behind it. */
@@ -171,7 +176,13 @@ int main(int count, char **arguments) {
         fprintf(stderr, "tools STDIN STDOUT\n");
         return 2;
     }
-    tool tools[] = {{"cargo", SEMVER_PARSER_CARGO, 0, 0, 0}, {"npm", SEMVER_PARSER_NPM, 0, 0, 0}};
+    tool tools[] = {
+        {"cargo", SEMVER_PARSER_CARGO, SEMVER_PARSER_PRE_RELEASES_OF_TOOL, 0, 0, 0},
+        {"npm", SEMVER_PARSER_NPM, SEMVER_PARSER_PRE_RELEASES_OF_TOOL, 0, 0, 0},
+        {"cargo-pre", SEMVER_PARSER_CARGO, SEMVER_PARSER_ALL_PRE_RELEASES, 0, 0, 0},
+        {"npm-pre", SEMVER_PARSER_NPM, SEMVER_PARSER_ALL_PRE_RELEASES, 0, 0, 0},
+    };
+    int tool_count = sizeof tools / sizeof *tools;
     text lines = text_of_file(arguments[1]);
     text answers = text_of_file(arguments[2]);
     char *line_at = lines.bytes;
@@ -180,14 +191,14 @@ int main(int count, char **arguments) {
     while (*line_at != 0 && *answer_at != 0) {
         const char *line = next_line(&line_at);
         const char *expected = next_line(&answer_at);
-        tool *of = tool_of(tools, 2, line);
+        tool *of = tool_of(tools, tool_count, line);
         if (of != NULL) {
             replay(of, line + strlen(of->name) + 1, expected);
         }
         passed &= of != NULL;
     }
     passed &= *line_at == 0 && *answer_at == 0;
-    for (int at = 0; at < 2; at++) {
+    for (int at = 0; at < tool_count; at++) {
         passed &= is_whole(&tools[at]);
     }
     text_free(&lines);

@@ -40,7 +40,8 @@ Of these lines one is written for each that there is:
                        crate-npm    the crate semver-parser's, in npm mode
     --npm            the same as --as npm
     --releases       count releases alone
-    --pre            count each pre-release that a range means, too
+    --pre            count each pre-release within the bounds of a range, too; in
+                     '*' is every version
     --pre-stated     count pre-releases that a range means, and of which a term
                      of the same range states the three numbers and a
                      pre-release
@@ -48,9 +49,9 @@ Of these lines one is written for each that there is:
     -h, --help       write this, and compare nothing
     --version        write the version of this program, and compare nothing
 
-As cargo and npm read it, a range means those pre-releases that the tool takes.
-As crate-cargo and crate-npm do, releases alone count without --pre and
---pre-stated, which belong to these two. The status is 0 where both ranges
+Without --pre, a range means the pre-releases that the tool takes as cargo and
+npm read it, and none as crate-cargo and crate-npm do; --pre-stated belongs to
+these two. The status is 0 where both ranges
 mean the same versions, 1 where they differ, and 2 after a fault, which
 standard error tells.";
 

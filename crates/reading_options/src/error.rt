@@ -19,9 +19,9 @@ pub enum OptionError {
     /// The first option says otherwise than the second, which was given before.
     #[error("{0} contradicts {1}")]
     Contradiction(&'static str, &'static str),
-    /// A rule for pre-releases was given, and a tool's own reading, which has its own rule.
-    #[error("{0} belongs to --as crate-cargo and --as crate-npm")]
-    NoRuleOfTool(&'static str),
+    /// `--pre-stated` was given, and a tool's own reading, which takes its pre-releases without it.
+    #[error("--pre-stated belongs to --as crate-cargo and --as crate-npm")]
+    NoRuleOfTool,
     /// Memory ran out.
     #[error("out of memory")]
     OutOfMemory,

@@ -104,16 +104,18 @@ impl ReadingOptions {
     ///
     /// # Errors
     ///
-    /// `NoReading` where nothing followed `--as`, and `NoRuleOfTool` where `--pre` or
-    /// `--pre-stated` was taken with the reading of a tool, which has a rule of its own.
+    /// `NoReading` where nothing followed `--as`, and `NoRuleOfTool` where `--pre-stated` was taken
+    /// with the reading of a tool.
     pub fn finish(self) -> Result<Meaning, OptionError> {
         if self.wants_name {
             return Err(OptionError::NoReading);
         }
         let named = self.named.map_or(Named::Cargo, |(named, _)| named);
         match named {
-            Named::Cargo => self.of_tool(Meaning::Cargo, Meaning::CargoReleases),
-            Named::Npm => self.of_tool(Meaning::Npm, Meaning::NpmReleases),
+            Named::Cargo => {
+                self.of_tool(Meaning::Cargo, Meaning::CargoAll, Meaning::CargoReleases)
+            }
+            Named::Npm => self.of_tool(Meaning::Npm, Meaning::NpmAll, Meaning::NpmReleases),
             Named::CrateCargo => Ok(self.of_crate(Compat::Cargo)),
             Named::CrateNpm => Ok(self.of_crate(Compat::Npm)),
         }
@@ -154,13 +156,19 @@ impl ReadingOptions {
         }
     }
 
-    /// A tool's own reading, which has a rule of its own for pre-releases: with these, or the
-    /// releases of it.
-    fn of_tool(self, own: Meaning, releases: Meaning) -> Result<Meaning, OptionError> {
+    /// A tool's own reading: with the pre-releases that it takes, with each one within the bounds,
+    /// or the releases of it.
+    fn of_tool(
+        self,
+        own: Meaning,
+        all: Meaning,
+        releases: Meaning,
+    ) -> Result<Meaning, OptionError> {
         match self.rule {
             None => Ok(own),
+            Some(PreReleases::Included) => Ok(all),
             Some(PreReleases::Excluded) => Ok(releases),
-            Some(rule) => Err(OptionError::NoRuleOfTool(option_of(rule))),
+            Some(PreReleases::Stated) => Err(OptionError::NoRuleOfTool),
         }
     }
 

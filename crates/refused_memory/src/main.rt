@@ -112,7 +112,7 @@ fn of_versions(alloc: Global) -> [(&'static str, Ending); 15] {
 }
 
 /// How each call on ranges and above them ends.
-fn of_ranges(alloc: Global) -> [(&'static str, Ending); 26] {
+fn of_ranges(alloc: Global) -> [(&'static str, Ending); 28] {
     [
         (
             "one_simple",
@@ -182,6 +182,8 @@ fn of_ranges(alloc: Global) -> [(&'static str, Ending); 26] {
         ("refused_npm_ranges", ranges::refused_npm_ranges(alloc)),
         ("npm_read", sets::of_npm_ranges(alloc)),
         ("refused_npm_reads", sets::of_refused_npm_ranges(alloc)),
+        ("within_bounds", sets::within_bounds(alloc)),
+        ("refused_bounds", sets::of_refused_bounds(alloc)),
         ("refused_range_texts", ranges::refused_texts(alloc)),
         ("range_set_clone", ranges::clone(alloc)),
         ("filter", filters::filter(alloc)),

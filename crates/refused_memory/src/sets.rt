@@ -3,6 +3,7 @@
 use super::Ending;
 use semver_parser::{Compat, RangeError, RangeSet, version};
 use std::alloc::Global;
+use tool_ranges::meaning::{self, Meaning};
 use tool_ranges::{cargo, npm};
 use version_sets::{PreReleases, VersionSet};
 
@@ -98,6 +99,38 @@ pub fn of_refused_npm_ranges(alloc: Global) -> Ending {
     let too_large = npm::read(alloc, "1.2.3-a || >1.18446744073709551615");
     Ending::full_if(
         matches!(not_a_range, Err(RangeError::NotARange))
+            && matches!(too_large, Err(RangeError::NumberTooLarge)),
+    )
+}
+
+/// The versions within the bounds of a requirement and of a range text of npm: both begin with a
+/// pre-release.
+pub fn within_bounds(alloc: Global) -> Ending {
+    let requirement = match meaning::read(alloc, Meaning::CargoAll, "^1.2, <1.5.0-b") {
+        Ok(set) => set,
+        Err(RangeError::OutOfMemory) => return Ending::Refused,
+        Err(_) => return Ending::Wrong,
+    };
+    let is_begun = has_stated(&requirement, "1.2.0-a") && !has_stated(&requirement, "1.5.0-c");
+    match meaning::read(alloc, Meaning::NpmAll, "1.2.3 - 2 || ~3.1") {
+        Ok(set) => Ending::full_if(
+            is_begun && has_stated(&set, "1.2.3-a") && !has_stated(&set, "3.1.0-a"),
+        ),
+        Err(RangeError::OutOfMemory) => Ending::Refused,
+        Err(_) => Ending::Wrong,
+    }
+}
+
+/// Those that are refused are refused without a request.
+pub fn of_refused_bounds(alloc: Global) -> Ending {
+    let not_a_range = meaning::read(alloc, Meaning::CargoAll, "1.2.3-a, >=1 <2");
+    let no_npm_range = meaning::read(alloc, Meaning::NpmAll, "1.2 || >=1, <2");
+    let bound = meaning::read(alloc, Meaning::CargoAll, "1.2, >1.18446744073709551615");
+    let too_large = meaning::read(alloc, Meaning::NpmAll, "1 - 1.18446744073709551615");
+    Ending::full_if(
+        matches!(not_a_range, Err(RangeError::NotARange))
+            && matches!(no_npm_range, Err(RangeError::NotARange))
+            && matches!(bound, Err(RangeError::NumberTooLarge))
             && matches!(too_large, Err(RangeError::NumberTooLarge)),
     )
 }

@@ -35,7 +35,8 @@ that spell a version which RANGE means.
                        crate-npm    the crate semver-parser's, in npm mode
     --npm            the same as --as npm
     --releases       copy releases alone
-    --pre            copy each pre-release that RANGE means, too
+    --pre            copy each pre-release within the bounds of RANGE, too; with
+                     '*' every version
     --pre-stated     copy pre-releases that RANGE means, and of which a term
                      of the same range states the three numbers and a
                      pre-release
@@ -56,10 +57,10 @@ that spell a version which RANGE means.
     -h, --help       write this, and read no input
     --version        write the version of this program, and read no input
 
-As cargo and npm read it, RANGE means those pre-releases that the tool takes.
-As crate-cargo and crate-npm do, releases alone are copied without --pre and
---pre-stated, which belong to these two. The status is 0 if a line was
-written, 1 if none was, and 2 after an error, which standard error describes.";
+Without --pre, the pre-releases are copied that cargo or npm takes, and none as
+crate-cargo and crate-npm read RANGE; --pre-stated belongs to these two. The
+status is 0 if a line was written, 1 if none was, and 2 after an error, which
+standard error describes.";
 
 /// The version of this program, as the file VERSION has it.
 const VERSION: &str = "release-filter 0.3.1";

@@ -143,10 +143,10 @@ enum {
 };
 
 /* The rules for pre-releases, one of which is passed as `pre_releases`. A version without
- * pre-release counts by each of them. The first is a rule of every reading. The second and the
- * third are rules of the crate's two readings alone, and the last is one of Cargo's own and npm's
- * own alone. docs/MEANING.md tells them under "Three rules for pre-releases", and those of the
- * tools at its end. */
+ * pre-release counts by each of them. The first and the third are rules of every reading, the
+ * second of the crate's two alone, and the last of Cargo's own and npm's own alone.
+ * docs/MEANING.md tells them under "Three rules for pre-releases", and those of the tools at its
+ * end. */
 enum {
     /* No version with a pre-release meets any range. */
     SEMVER_PARSER_RELEASES_ALONE = 0,
@@ -155,7 +155,9 @@ enum {
      * and neither `>=1.2.0` nor `^1.2.0 || =1.2.3-beta`. */
     SEMVER_PARSER_STATED_PRE_RELEASES = 1,
     /* A pre-release meets a range by precedence, as any version does: 2.0.0-alpha meets `>=1.0.0`,
-     * and neither `^1.0.0` nor `>=2.0.0`. */
+     * and neither `^1.0.0` nor `>=2.0.0`. As Cargo and npm read it, a range of fewer than three
+     * numbers begins with the pre-releases of these, but for npm's `~1.2`: 2.0.0-alpha meets `>=2`,
+     * and each version meets `*`. */
     SEMVER_PARSER_ALL_PRE_RELEASES = 2,
     /* A pre-release meets a range where the tool itself takes it: Cargo where the reading is its
      * own, and npm where it is npm's. 1.2.3-rc meets `^1.2.3-beta`, and not `>=1.2.0`. */

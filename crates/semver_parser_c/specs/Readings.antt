@@ -6,8 +6,8 @@ use Rattle.version_sets.specs.declared.PreReleases.TheVariants.{Excluded, Stated
 use Rattle.tool_ranges.specs.declared.reading.Reading.{Reading}
 use Rattle.tool_ranges.specs.declared.reading.Reading.TheVariants as reading
 use Rattle.tool_ranges.specs.declared.meaning.Meaning.{Meaning}
-use Rattle.tool_ranges.specs.declared.meaning.Meaning.TheVariants.{Cargo, CargoReleases}
-use Rattle.tool_ranges.specs.declared.meaning.Meaning.TheVariants.{Npm, NpmReleases, Crate}
+use Rattle.tool_ranges.specs.declared.meaning.Meaning.TheVariants.{Cargo, CargoAll, CargoReleases}
+use Rattle.tool_ranges.specs.declared.meaning.Meaning.TheVariants.{Npm, NpmAll, NpmReleases, Crate}
 use Rattle.tool_ranges.specs.Meanings.{reading_of}
 use Rattle.semver_parser_c.specs.Numbers as number
 
@@ -27,8 +27,10 @@ crate_rule_number Included = number.all_pre_releases
 -- the number of the rule that a meaning has for pre-releases
 abbrev pub rule_number : Meaning → ℤ
 rule_number Cargo = number.pre_releases_of_tool
+rule_number CargoAll = number.all_pre_releases
 rule_number CargoReleases = number.releases_alone
 rule_number Npm = number.pre_releases_of_tool
+rule_number NpmAll = number.all_pre_releases
 rule_number NpmReleases = number.releases_alone
 rule_number (Crate mode rule) = crate_rule_number rule
 

@@ -57,11 +57,13 @@ fn meaning_by(reading: Reading, rule: i32) -> Option<Meaning>
     match reading {
         Reading::Cargo => match rule {
             numbers::PRE_RELEASES_OF_TOOL => Some(Meaning::Cargo),
+            numbers::ALL_PRE_RELEASES => Some(Meaning::CargoAll),
             numbers::RELEASES_ALONE => Some(Meaning::CargoReleases),
             _ => None,
         },
         Reading::Npm => match rule {
             numbers::PRE_RELEASES_OF_TOOL => Some(Meaning::Npm),
+            numbers::ALL_PRE_RELEASES => Some(Meaning::NpmAll),
             numbers::RELEASES_ALONE => Some(Meaning::NpmReleases),
             _ => None,
         },

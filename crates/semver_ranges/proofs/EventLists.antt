@@ -2,28 +2,39 @@
 use Rattle.std.proofs.Common.{◌≡◌, Bool, ◌&&◌, List, [], ◌∷◌, length, refl, sym, arith}
 use Rattle.std.specs.List.{list_all, flat_map}
 use Rattle.std.proofs.lemmas.List.Folds.{list_all-map}
+use Rattle.semver_ranges.specs.declared.partial.LowerBounds.{LowerBounds}
+use Rattle.semver_ranges.specs.declared.partial.LowerBounds.TheVariants.{Stated}
 use Rattle.semver_ranges.specs.declared.range.Compat.{Compat}
 use Rattle.semver_ranges.specs.RangeTree.{Simple, RangeTree, empty, hyphen, simples, SetTree}
-use Rattle.semver_ranges.specs.Partials.{stated}
+use Rattle.semver_ranges.specs.Partials.{stated, states_nothing}
 use Rattle.semver_ranges.specs.Terms.{of_simple, terms}
 use Rattle.semver_ranges.specs.RewritingTable.{PlainComparator, term_fits_by, range_by, fits_by}
 use Rattle.semver_ranges.specs.Steps.RangeEvents.{Event, yielded, in_front, events_of, range_simples, range_others, bars}
 use Rattle.semver_ranges.specs.Steps.RangeEvents.{event_fits}
 use Rattle.semver_ranges.specs.Steps.BoundsViews.{range_of_simples, range_for}
 use Rattle.semver_ranges.proofs.Tables.{IsTable, nothing_is}
+use Rattle.semver_texts.proofs.Lists.{by_test}
 
 module _ {fit : Simple → Bool} {written : Simple → List PlainComparator} (table : IsTable fit written) where
   -- a range fits as the simples that it is yielded as, and has their comparators
   abbrev IsMadeOf : RangeTree → List Simple → Type 0
   IsMadeOf r ss = (list_all fit ss ≡ list_all (term_fits_by fit) (terms r)) × (flat_map written ss ≡ range_by written r)
 
-  made_of : (r : RangeTree) → IsMadeOf r (yielded r)
+  made_of : (r : RangeTree) → IsMadeOf r (yielded Stated r)
   made_of empty = rw (table.empty_fits, table.empty) (refl, refl)
   made_of (hyphen l r) = grind (arith, nothing_is (stated l), nothing_is (stated r), table.fits r, table.left l)
   made_of (simples first others) = (sym (list_all-map (term_fits_by fit) of_simple (first ∷ others)), refl)
 
-  pub range_made : (mode : Compat) (r : RangeTree) → range_of_simples written mode (yielded r) ≡ range_for written mode r
+  pub range_made : (mode : Compat) (r : RangeTree) → range_of_simples written mode (yielded Stated r) ≡ range_for written mode r
   range_made mode r = rw (made_of r).1
+
+  -- it fits so too where its left side begins otherwise
+  begun_fits : (lower : LowerBounds) (r : RangeTree) → list_all fit (yielded lower r) ≡ list_all fit (yielded Stated r)
+  begun_fits lower empty = refl
+  begun_fits lower (hyphen l r) = by_test (states_nothing r)
+      (λ y. rw (y, table.begun lower l) refl)
+      (λ n. by_test (states_nothing l) (λ y. rw (n, y) refl) (λ m. rw (n, m, table.begun lower l) refl))
+  begun_fits lower (simples first others) = refl
 
 -- simples in front of events
 front_fits : (fit : Simple → Bool) (ss : List Simple) (es : List Event)
@@ -44,21 +55,24 @@ front_others [] es = refl
 front_others (s ∷ ss) es = front_others ss es
 
 -- the first range of a set, and the others
-pub first_simples : (r : RangeTree) (others : SetTree) → range_simples (events_of (r ∷ others)) ≡ yielded r
-first_simples r [] = front_simples _ [] refl
-first_simples r (next ∷ others) = front_simples _ _ refl
+pub first_simples : (lower : LowerBounds) (r : RangeTree) (others : SetTree)
+    → range_simples (events_of lower (r ∷ others)) ≡ yielded lower r
+first_simples lower r [] = front_simples _ [] refl
+first_simples lower r (next ∷ others) = front_simples _ _ refl
 
-pub first_others : (r : RangeTree) (others : SetTree) → range_others (events_of (r ∷ others)) ≡ events_of others
-first_others r [] = front_others (yielded r) []
-first_others r (next ∷ others) = front_others (yielded r) _
+pub first_others : (lower : LowerBounds) (r : RangeTree) (others : SetTree)
+    → range_others (events_of lower (r ∷ others)) ≡ events_of lower others
+first_others lower r [] = front_others (yielded lower r) []
+first_others lower r (next ∷ others) = front_others (yielded lower r) _
 
 -- a set fits as its events, and has one range more than they have bars
-pub set_fits : {fit : Simple → Bool} {written : Simple → List PlainComparator} (table : IsTable fit written) (tree : SetTree)
-    → list_all (event_fits fit) (events_of tree) ≡ fits_by fit tree
-set_fits table [] = refl
-set_fits table (r ∷ []) = rw (front_fits, (made_of table r).0)
-set_fits table (r ∷ next ∷ others) = rw (front_fits, (made_of table r).0, set_fits table (next ∷ others))
+pub set_fits : {fit : Simple → Bool} {written : Simple → List PlainComparator} (table : IsTable fit written) (lower : LowerBounds)
+    (tree : SetTree) → list_all (event_fits fit) (events_of lower tree) ≡ fits_by fit tree
+set_fits table lower [] = refl
+set_fits table lower (r ∷ []) = rw (front_fits, begun_fits table lower r, (made_of table r).0)
+set_fits table lower (r ∷ next ∷ others) =
+    rw (front_fits, begun_fits table lower r, (made_of table r).0, set_fits table lower (next ∷ others))
 
-pub set_bars : (r : RangeTree) (others : SetTree) → bars (events_of (r ∷ others)) ≡ length others
-set_bars r [] = front_bars (yielded r) []
+pub set_bars : (r : RangeTree) (others : SetTree) → bars (events_of Stated (r ∷ others)) ≡ length others
+set_bars r [] = front_bars (yielded Stated r) []
 set_bars r (next ∷ others) = rw front_bars (omega (arith, set_bars next others))

@@ -7,6 +7,7 @@ ghost use Rattle.std.specs.Prelude.{IfSome};
 ghost use Rattle.semver_ranges.specs.RangeTree.{Simple as SimpleTree, PartialTree, hyphen};
 ghost use Rattle.semver_ranges.specs.Steps.Reading.{ends_range, simple, right_side};
 ghost use Rattle.semver_ranges.specs.Steps.Reading.{with_right};
+ghost use Rattle.semver_ranges.specs.declared.partial.LowerBounds.TheVariants as lower;
 ghost use Rattle.semver_ranges.specs.Steps.PartialViews.{IsPartialOf};
 ghost use Rattle.semver_ranges.specs.Steps.RangeEvents.{yielded, events};
 ghost use Rattle.semver_ranges.specs.Steps.CursorViews.{AreSides, FindsSides, TakesEvent, HasLeft};
@@ -15,7 +16,7 @@ ghost use Rattle.semver_ranges.specs.Steps.CursorViews.{IsSimpleOf, NextGives, s
 use crate::grammar::{
     Dialect, Form, Simple, behind_bars, behind_blanks, ends_range, read_right_side, read_simple,
 };
-use crate::partial::Partial;
+use crate::partial::{LowerBounds, Partial};
 use crate::range_set::RangeError;
 use semver_texts::dotted::behind_mark;
 
@@ -35,6 +36,7 @@ pub struct Events<'input> {
     rest: &'input [u8],
     begins_range: bool,
     upper: Option<Simple<'input>>,
+    lower: LowerBounds,
 }
 
 impl<'input> Events<'input> {
@@ -42,13 +44,24 @@ impl<'input> Events<'input> {
     /// The events of a text by a dialect.
     #[inline(always)]
     pub fn new(text: &'input [u8], dialect: Dialect) -> Events<'input>
-        ensures all { HasLeft dialect result (events dialect text.now) }
+        ensures all { HasLeft dialect result (events dialect lower.Stated text.now) }
+        ensures short { length result.rest.now ≤ length text.now }
+    {
+        Events::with_lower(text, dialect, LowerBounds::Stated)
+    }
+
+    // Answer: equation.
+    /// The same, where the bound of a left side of three numbers is written so.
+    #[inline(always)]
+    pub fn with_lower(text: &'input [u8], dialect: Dialect, lower: LowerBounds) -> Events<'input>
+        ensures all { HasLeft dialect result (events dialect lower text.now) }
         ensures short { length result.rest.now ≤ length text.now }
     {
         Events {
             rest: behind_blanks(text, dialect),
             begins_range: true,
             upper: None,
+            lower,
         }
     }
 
@@ -81,7 +94,8 @@ impl<'input> Events<'input> {
     fn read_event(&mut self, dialect: Dialect) -> Option<Event<'input>>
         requires alone { self.old.upper ≡ None }
         requires some { self.old.begins_range ≡ false → 0 < length self.old.rest.now }
-        ensures { TakesEvent dialect self.old.begins_range self.old.rest.now result self.new }
+        ensures { TakesEvent dialect self.old.lower self.old.begins_range self.old.rest.now
+            result self.new }
     {
         let begins_range = self.begins_range;
         self.begins_range = false;
@@ -101,7 +115,7 @@ impl<'input> Events<'input> {
         requires begun { self.old.begins_range ≡ false }
         requires some { 0 < length self.old.rest.now }
         requires ends { ends_range self.old.rest.now ≡ true }
-        ensures { TakesEvent dialect false self.old.rest.now result self.new }
+        ensures { TakesEvent dialect self.old.lower false self.old.rest.now result self.new }
     {
         self.rest = behind_blanks(behind_bars(self.rest)?, dialect);
         self.begins_range = true;
@@ -115,7 +129,8 @@ impl<'input> Events<'input> {
         requires alone { self.old.upper ≡ None }
         requires begun { self.old.begins_range ≡ false }
         requires goes_on { ends_range self.old.rest.now ≡ false }
-        ensures { TakesEvent dialect begins_range self.old.rest.now result self.new }
+        ensures { TakesEvent dialect self.old.lower begins_range self.old.rest.now result
+            self.new }
     {
         let (simple, rest) = read_simple(self.rest, dialect)?;
         match behind_mark(rest, b'-') {
@@ -140,9 +155,9 @@ impl<'input> Events<'input> {
         requires goes_on { ends_range self.old.rest.now ≡ false }
         requires left { (s : SimpleTree) × IsSimpleOf s left
             × (simple dialect self.old.rest.now ≡ Some (s, codes "-" ++ behind.now)) }
-        ensures { TakesEvent dialect true self.old.rest.now result self.new }
+        ensures { TakesEvent dialect self.old.lower true self.old.rest.now result self.new }
     {
-        let (lower, upper, rest) = read_hyphen_range(left, behind, dialect)?;
+        let (lower, upper, rest) = read_hyphen_range(left, behind, dialect, self.lower)?;
         self.rest = rest;
         self.upper = upper;
         Some(Event::Simple(lower))
@@ -172,15 +187,16 @@ fn read_hyphen_range<'input>(
     left: Simple<'input>,
     behind: &'input [u8],
     dialect: Dialect,
+    lower: LowerBounds,
 ) -> Option<(Simple<'input>, Option<Simple<'input>>, &'input [u8])>
     ensures { (s : SimpleTree) → IsSimpleOf s left.entry
-        → FindsSides (with_right s (right_side dialect (codes "-" ++ behind.now))) result }
+        → FindsSides lower (with_right s (right_side dialect (codes "-" ++ behind.now))) result }
 {
     let Form::Bare = left.form else {
         return None;
     };
     let (right, rest) = read_right_side(behind, dialect)?;
-    let (lower, upper) = sides(left.partial, right);
+    let (lower, upper) = sides(left.partial, right, lower);
     Some((lower, upper, rest))
 }
 
@@ -190,13 +206,14 @@ fn read_hyphen_range<'input>(
 fn sides<'input>(
     left: Partial<'input>,
     right: Partial<'input>,
+    lower: LowerBounds,
 ) -> (Simple<'input>, Option<Simple<'input>>)
     ensures { (l r : PartialTree) → IsPartialOf l left.entry → IsPartialOf r right.entry
-        → AreSides (yielded (hyphen l r)) result.0 result.1 }
+        → AreSides (yielded lower (hyphen l r)) result.0 result.1 }
 {
     let lower = Simple {
         form: Form::AtLeast,
-        partial: left,
+        partial: left.begun(lower),
     };
     let upper = Simple {
         form: Form::AtMost,

@@ -1,19 +1,20 @@
 //! Partials: the numbers that one states, and its pre-release as a slice of the text.
 
 ghost use Rattle.std.specs.Prelude.{◌≡◌, ◌+◌, ◌-◌, ◌^◌, ◌<◌, ◌≤◌, Some, true, List, [], map};
-ghost use Rattle.std.specs.Prelude.{length, IsTrue, IfOk};
+ghost use Rattle.std.specs.Prelude.{length, IsTrue, IfOk, ◌==◌, not};
 ghost use Rattle.std.specs.List.{count_by, list_all, slice_split};
 ghost use Rattle.std.specs.Str.{IsUtf8};
-ghost use Rattle.semver_texts.specs.Texts.{Text, is_dot};
+ghost use Rattle.semver_texts.specs.Texts.{Text, is_dot, is_empty};
 ghost use Rattle.semver_ranges.specs.RangeTree.{PartialTree, one, two, three, is_part};
 ghost use Rattle.semver_ranges.specs.Partials.{kept, leading_place};
 ghost use Rattle.semver_ranges.specs.RewritingTable.{comparator, up, up_with, bound_fits};
+ghost use Rattle.semver_ranges.specs.ExactBounds.{exact_bound};
 ghost use Rattle.semver_ranges.specs.RangeViews.{comparator_of, identifier_of};
 ghost use Rattle.semver_ranges.specs.Steps.PartialViews.{states_none, stated_of};
 ghost use Rattle.semver_texts.specs.Texts.{cut_at_dots};
 ghost use Rattle.semver_ranges.specs.Steps.PartialViews.{version_of, place_number, pre_of};
 ghost use Rattle.semver_ranges.specs.Steps.PartialViews.{AreComponentsOf, IsPartialOf};
-ghost use Rattle.semver_ranges.specs.Steps.PartialViews.{PartsPass};
+ghost use Rattle.semver_ranges.specs.Steps.PartialViews.{PartsPass, begun_as};
 
 use crate::range::{Comparator, Identifier, Op};
 use semver_texts::dotted::of_parts;
@@ -71,6 +72,15 @@ pub enum RaisedBounds {
     Plain,
     /// With the lowest pre-release, as `<2.0.0-0`.
     Exact,
+}
+
+/// How a bound that begins with a partial is written.
+#[derive(Clone, Copy)]
+pub enum LowerBounds {
+    /// As stated, as `>=1.2.0`.
+    Stated,
+    /// With the lowest pre-release where it states none, as `>=1.2.0-0`.
+    Lowest,
 }
 
 /// The numbers that a partial states, with zeros for the others, and its pre-release behind three,
@@ -181,6 +191,61 @@ impl<'input> Partial<'input> {
             PartialKind::MajorMinorPatch if self.minor > 0 => Place::Minor,
             PartialKind::MajorMinorPatch => Place::Patch,
         }
+    }
+
+    // Answer: equation.
+    /// The same numbers with the lowest pre-release: `0`.
+    #[inline(always)]
+    pub fn lowest(self) -> Partial<'input>
+        ensures stated { stated_of result ≡ stated_of self.entry }
+        ensures kind { result.kind ≡ self.entry.kind }
+        ensures fits { result.fits ≡ self.entry.fits }
+        ensures version { version_of result ≡ exact_bound (version_of self.entry) }
+        ensures parts { PartsPass result }
+    {
+        Partial { pre: b"0", ..self }
+    }
+
+    /// The same as a bound that begins with it is written.
+    #[inline(always)]
+    pub(crate) fn begun(self, lower: LowerBounds) -> Partial<'input>
+        ensures { (t : PartialTree) → IsPartialOf t self.entry
+            → IsPartialOf (begun_as lower t) result }
+    {
+        let LowerBounds::Lowest = lower else {
+            return self;
+        };
+        if self.states_three() && self.pre.is_empty() {
+            return self.lowest();
+        }
+        self
+    }
+
+    // Answer: equation.
+    /// Whether three numbers are stated.
+    #[inline(always)]
+    pub fn states_three(&self) -> bool
+        ensures { result ≡ (length (stated_of self.now) == 3) }
+    {
+        matches!(self.kind, PartialKind::MajorMinorPatch)
+    }
+
+    // Answer: equation.
+    /// The first number, or 0 where none is stated.
+    #[inline(always)]
+    pub fn major(&self) -> u64
+        ensures { result ≡ self.now.major }
+    {
+        self.major
+    }
+
+    // Answer: equation.
+    /// Whether a pre-release is stated behind three numbers.
+    #[inline(always)]
+    pub fn has_pre_release(&self) -> bool
+        ensures { result ≡ not (is_empty (version_of self.now).pre) }
+    {
+        !self.pre.is_empty()
     }
 
     // Answer: equation.

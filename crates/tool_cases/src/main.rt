@@ -1,7 +1,8 @@
 //! Replays a table of range texts as Cargo or npm itself reads them. Each line of standard input
 //! begins with `cargo ` or `npm `, the line of standard output is what that reading rewrites the
 //! rest to, or the word of its refusal. Where versions follow behind ` ? `, it is those that the
-//! text means, pre-releases among them.
+//! text means, pre-releases among them: each that lies within the bounds behind `cargo-pre ` and
+//! `npm-pre `.
 #![tactic(auto)]
 
 use semver_parser::{RangeError, version};
@@ -27,6 +28,8 @@ fn replay<W: Write>(alloc: Global, line: &str, out: &mut W) -> io::Result<()> {
     match line.split_once(' ') {
         Some(("cargo", asked)) => write_answer(alloc, Meaning::Cargo, asked, out),
         Some(("npm", asked)) => write_answer(alloc, Meaning::Npm, asked, out),
+        Some(("cargo-pre", asked)) => write_answer(alloc, Meaning::CargoAll, asked, out),
+        Some(("npm-pre", asked)) => write_answer(alloc, Meaning::NpmAll, asked, out),
         _ => write!(out, "no-reading"),
     }
 }

@@ -12,4 +12,5 @@ mod ToolRows
 mod NpmMeanings
 mod NpmSets
 mod NpmLaws
+mod AllMeanings
 pub mod ReadingLaws

@@ -73,22 +73,22 @@ module _ (v : PlainVersion) where
   released = record v { pre = [] }
 
   -- the order of what isn't stated, against the lowest pre-release
-  abbrev past_patch : Ordering
+  abbrev pub past_patch : Ordering
   past_patch = pre_cmp v.pre lowest_pre_release
 
-  abbrev past_minor : Ordering
+  abbrev pub past_minor : Ordering
   past_minor = ordering_then (nat_cmp v.patch 0) past_patch
 
-  abbrev past_major : Ordering
+  abbrev pub past_major : Ordering
   past_major = ordering_then (nat_cmp v.minor 0) past_minor
 
   pub lowest_ge : is_ge past_patch ≡ true
   lowest_ge = above (floor v.pre)
 
-  minor_ge : is_ge past_minor ≡ true
+  pub minor_ge : is_ge past_minor ≡ true
   minor_ge = not_less v.patch past_patch lowest_ge
 
-  major_ge : is_ge past_major ≡ true
+  pub major_ge : is_ge past_major ≡ true
   major_ge = not_less v.minor past_minor minor_ge
 
   -- what is below an exact bound is so by its numbers
@@ -110,7 +110,7 @@ module _ (v : PlainVersion) where
   abbrev RowMeans : Form → List ℕ → List IdentifierValue → Type 0
   RowMeans form s p = list_all passes (written_by form s p) ≡ meets_by_count form s (filled s p) v
 
-  below_none : (is_lt (precedence v (exact_bound zero_version)) && true) ≡ false
+  pub below_none : (is_lt (precedence v (exact_bound zero_version)) && true) ≡ false
   below_none = and-true _ ∙ no_lower _ (not_less v.major past_major major_ge)
 
   row_none : (form : Form) → RowMeans form [] []

@@ -87,7 +87,7 @@ is_caret Step.level o h q = rw h refl
 is_caret Step.higher o h q = refl
 
 -- at or above the number that is raised
-is_above : (a x : ℕ) (o : Ordering) → is_ge o ≡ true
+pub is_above : (a x : ℕ) (o : Ordering) → is_ge o ≡ true
     → is_ge (ordering_then (nat_cmp a (x + 1)) o) ≡ is_gt (ordering_then (nat_cmp a x) Equal)
 is_above a x o h = elim (cases_order a x) [
   | inl even ↦ rw (even, le-ltb x x (omega arith), eq-eqb x x refl, lt-ltb x (x + 1) (omega arith)) refl
@@ -98,7 +98,7 @@ is_above a x o h = elim (cases_order a x) [
   ]
 ]
 
-is_above_behind : {g : Ordering → Ordering} {e m : Bool} → Step g e m → (o o' : Ordering) → is_ge o ≡ is_gt o'
+pub is_above_behind : {g : Ordering → Ordering} {e m : Bool} → Step g e m → (o o' : Ordering) → is_ge o ≡ is_gt o'
     → is_ge (g o) ≡ is_gt (g o')
 is_above_behind Step.lower o o' h = refl
 is_above_behind Step.level o o' h = h
@@ -198,7 +198,7 @@ bare_only bare e = refl
 bare_only _ e = cc
 
 -- what states no number is `=`
-every_equal : (s : Simple) → is_of_cargo s ≡ true → is_empty (stated s.partial) ≡ true → (as_read s).form ≡ equal
+pub every_equal : (s : Simple) → is_of_cargo s ≡ true → is_empty (stated s.partial) ≡ true → (as_read s).form ≡ equal
 every_equal s e none = elim (or_cases _ (not (states_nothing s.partial)) (and_parts _ _ e).1) [
   | inr some ↦ absurd (true≢false (sym some ∙ ap not none))
   | inl every ↦
@@ -216,18 +216,19 @@ one_meets : (v : PlainVersion) (s : Simple) → v.pre ≡ [] → is_of_cargo s �
 one_meets v s release e = any_row v release (as_read s).form (stated_shape s.partial) (pre_release s.partial) (λ n. rw n refl)
     (never_bare (has_wildcard s.partial) s.form) (every_equal s e)
 
-all_meet : (v : PlainVersion) (tree : List Simple) (t : Text) → v.pre ≡ [] → SpellsComparators tree t
-    → list_all (meets_comparator v) (flat_map written_one tree) ≡ list_all (λ s. meets_one s v) tree
-all_meet v [] t release h = absurd h
-all_meet v (s ∷ []) t release h = list_all-append (meets_comparator v) (written_one s) []
-    ∙ ap (λ b. b && true) (one_meets v s release h.is_read)
-all_meet v (s ∷ next ∷ others) t release (front, back, h, more, text) =
-    list_all-append (meets_comparator v) (written_one s) (flat_map written_one (next ∷ others))
-    ∙ ap (λ b. b && list_all (meets_comparator v) (flat_map written_one (next ∷ others))) (one_meets v s release h.is_read)
-    ∙ ap (λ b. meets_one s v && b) (all_meet v (next ∷ others) back release more)
+module _ (v : PlainVersion) (written : Simple → List PlainComparator) (meets : Simple → Bool)
+    (each : (s : Simple) → is_of_cargo s ≡ true → list_all (meets_comparator v) (written s) ≡ meets s) where
+  pub all_meet : (tree : List Simple) (t : Text) → SpellsComparators tree t
+      → list_all (meets_comparator v) (flat_map written tree) ≡ list_all meets tree
+  all_meet [] t h = absurd h
+  all_meet (s ∷ []) t h = list_all-append (meets_comparator v) (written s) [] ∙ ap (λ b. b && true) (each s h.is_read)
+  all_meet (s ∷ next ∷ others) t (front, back, h, more, text) =
+      list_all-append (meets_comparator v) (written s) (flat_map written (next ∷ others))
+      ∙ (λ i. each s h.is_read i && all_meet (next ∷ others) back more i)
 
 pub requirement_meets : (v : PlainVersion) (tree : List Simple) (t : Text) → v.pre ≡ [] → SpellsComparators tree t
     → meets_set v (rewritten_requirement tree) ≡ meets_requirement tree v
-requirement_meets v tree t release h = or-false _ ∙ all_meet v tree t release h ∙ sym (and-true _)
+requirement_meets v tree t release h =
+    or-false _ ∙ all_meet v written_one (λ s. meets_one s v) (λ s e. one_meets v s release e) tree t h ∙ sym (and-true _)
     ∙ ap (λ b. list_all (λ s. meets_one s v) tree && b) (sym (ap (λ q. is_empty q || list_any
     (λ s. states_pre_release_at (of_simple s) v) tree) release))

@@ -8,7 +8,7 @@ use Rattle.semver_ranges.specs.declared.range.Compat.TheVariants.{Npm}
 use Rattle.semver_ranges.specs.RangeTree.{Simple, HasParts}
 use Rattle.semver_ranges.specs.Partials.{stated, pre_release, fits_u64}
 use Rattle.semver_ranges.specs.ExactBounds.{lowest_pre_release}
-use Rattle.semver_ranges.proofs.Tables.{IsTable}
+use Rattle.semver_ranges.proofs.Tables.{IsTable, begun_stated}
 use Rattle.semver_ranges.proofs.SetMeanings.{stated_shape}
 use Rattle.semver_ranges.proofs.AnsweredLaws.{filled_fits, Prints, port_prints}
 use Rattle.semver_ranges.proofs.PrintedLaws.{are_printable}
@@ -22,6 +22,7 @@ npm_table = record {
   fits = λ p e. rw e refl;
   empty = refl;
   empty_fits = refl;
+  begun = λ lower p. rw (begun_stated lower p) refl;
 }
 
 numbers_fit : (mode : Compat) (s : Simple) → fits_in mode s ≡ true → list_all fits_u64 (stated s.partial) ≡ true

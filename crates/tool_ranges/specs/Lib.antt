@@ -7,6 +7,7 @@ pub mod NpmGrammar
 pub mod NpmMeaning
 pub mod NpmTable
 pub mod NpmTexts
+pub mod AllPreReleases
 pub mod Steps
 pub mod Readings
 pub mod Meanings

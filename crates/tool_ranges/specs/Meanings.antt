@@ -7,8 +7,9 @@ use Rattle.version_sets.specs.VersionSets.{SetValue, has, Fits}
 use Rattle.tool_ranges.specs.declared.reading.Reading.{Reading}
 use Rattle.tool_ranges.specs.declared.reading.Reading.TheVariants as reading
 use Rattle.tool_ranges.specs.declared.meaning.Meaning.{Meaning}
-use Rattle.tool_ranges.specs.declared.meaning.Meaning.TheVariants.{Cargo, CargoReleases}
-use Rattle.tool_ranges.specs.declared.meaning.Meaning.TheVariants.{Npm, NpmReleases, Crate}
+use Rattle.tool_ranges.specs.declared.meaning.Meaning.TheVariants.{Cargo, CargoAll, CargoReleases}
+use Rattle.tool_ranges.specs.declared.meaning.Meaning.TheVariants.{Npm, NpmAll, NpmReleases, Crate}
+use Rattle.tool_ranges.specs.AllPreReleases.{meets_npm_with_all, meets_requirement_with_all}
 use Rattle.tool_ranges.specs.CargoMeaning.{meets_requirement}
 use Rattle.tool_ranges.specs.NpmMeaning.{meets_npm}
 use Rattle.tool_ranges.specs.Readings.{TreeOf, SpellsAs}
@@ -16,16 +17,20 @@ use Rattle.tool_ranges.specs.Readings.{TreeOf, SpellsAs}
 -- whose reading a meaning is by
 abbrev pub reading_of : Meaning → Reading
 reading_of Cargo = reading.Cargo
+reading_of CargoAll = reading.Cargo
 reading_of CargoReleases = reading.Cargo
 reading_of Npm = reading.Npm
+reading_of NpmAll = reading.Npm
 reading_of NpmReleases = reading.Npm
 reading_of (Crate mode rule) = reading.Crate mode
 
 -- whether a tree means a version
 abbrev pub meant_as : (meaning : Meaning) → TreeOf (reading_of meaning) → VersionValue → Bool
 meant_as Cargo tree v = meets_requirement tree v.plain
+meant_as CargoAll tree v = meets_requirement_with_all tree v.plain
 meant_as CargoReleases tree v = is_empty v.plain.pre && meets_requirement tree v.plain
 meant_as Npm tree v = meets_npm tree v.plain
+meant_as NpmAll tree v = meets_npm_with_all tree v.plain
 meant_as NpmReleases tree v = is_empty v.plain.pre && meets_npm tree v.plain
 meant_as (Crate mode rule) tree v = meant_with rule mode tree v
 

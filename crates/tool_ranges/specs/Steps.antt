@@ -2,3 +2,4 @@ pub mod CargoReading
 pub mod CargoPreReleases
 pub mod NpmReading
 pub mod Cells
+pub mod LowerBounds

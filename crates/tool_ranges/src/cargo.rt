@@ -31,6 +31,7 @@ use crate::rows::{self, Cell};
 use grammar::read_comparator;
 use judging::{Judged, push_judging};
 pub use reading::read;
+pub(crate) use reading::read_with_all;
 use semver_ranges::grammar::Simple;
 use semver_ranges::partial::Partial;
 use semver_ranges::{Comparator, Compat, Range, RangeError, RangeSet};
@@ -196,7 +197,7 @@ fn ended(stands_alone: bool, fit: bool, count: usize) -> Result<usize, RangeErro
     Ok(count)
 }
 
-/// The range of a requirement that was surveyed, by which releases or pre-releases are judged.
+/// The range of a requirement that was surveyed, by which some versions are judged.
 fn build(alloc: Global, text: &[u8], count: usize, judged: Judged) -> Result<Vec<Range>, AllocError>
     requires { (tree : List SimpleTree) × SpellsRequirement tree text.now
         × IsTrue (requirement_fits tree) }

@@ -14,15 +14,20 @@ use std::alloc::Global;
 use version_sets::{PreReleases, VersionSet};
 
 /// A reading of a range text, and which pre-releases count by it. A tool has a rule of its own for
-/// them; the crate's reading takes one of three (`docs/MEANING.md`, "Whose reading?").
+/// them, beside which all may count or none; the crate's reading takes one of three
+/// (`docs/MEANING.md`, "Whose reading?").
 #[derive(Clone, Copy, PartialEq, Eq, Debug)]
 pub enum Meaning {
     /// Cargo's own, with the pre-releases that Cargo takes.
     Cargo,
+    /// Cargo's own, with each pre-release within the bounds.
+    CargoAll,
     /// The releases of Cargo's own.
     CargoReleases,
     /// npm's own, with the pre-releases that npm takes.
     Npm,
+    /// npm's own, with each pre-release within the bounds: node-semver's `includePrerelease`.
+    NpmAll,
     /// The releases of npm's own.
     NpmReleases,
     /// The crate's in one of its modes, by a rule for pre-releases.
@@ -37,8 +42,10 @@ impl Meaning {
     {
         match self {
             Meaning::Cargo => Reading::Cargo,
+            Meaning::CargoAll => Reading::Cargo,
             Meaning::CargoReleases => Reading::Cargo,
             Meaning::Npm => Reading::Npm,
+            Meaning::NpmAll => Reading::Npm,
             Meaning::NpmReleases => Reading::Npm,
             Meaning::Crate(compat, _) => Reading::Crate(compat),
         }
@@ -50,7 +57,8 @@ impl Meaning {
 ///
 /// It is [`cargo::read`](crate::cargo::read), [`npm::read`](crate::npm::read) or
 /// `VersionSet::of_text`, of which the releases are taken where these alone are asked for:
-/// `^1.2.0, <1.5` has 1.4.0 as Cargo reads it, and is refused by the others.
+/// `^1.2.0, <1.5` has 1.4.0 as Cargo reads it, and is refused by the others. By `CargoAll` and
+/// `NpmAll` the set of `^1.2` begins with 1.2.0-0, and `*` is every version.
 ///
 /// # Errors
 ///
@@ -65,8 +73,10 @@ pub fn read(alloc: Global, meaning: Meaning, range: &str) -> Result<VersionSet, 
 {
     match meaning {
         Meaning::Cargo => cargo::read(alloc, range),
+        Meaning::CargoAll => cargo::read_with_all(alloc, range),
         Meaning::CargoReleases => releases_of(alloc, cargo::read(alloc, range)),
         Meaning::Npm => npm::read(alloc, range),
+        Meaning::NpmAll => npm::read_with_all(alloc, range),
         Meaning::NpmReleases => releases_of(alloc, npm::read(alloc, range)),
         Meaning::Crate(compat, pre_releases) => {
             VersionSet::of_text(alloc, range, compat, pre_releases)

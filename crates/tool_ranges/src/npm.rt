@@ -16,8 +16,9 @@ ghost use Rattle.semver_ranges.specs.Steps.Reading.{read};
 ghost use Rattle.semver_ranges.specs.Steps.RangeEvents.{Event as EventTree};
 ghost use Rattle.semver_ranges.specs.Steps.RangeEvents.{event_fits, range_simples, range_others};
 ghost use Rattle.semver_ranges.specs.Steps.CursorViews.{HasLeft};
-ghost use Rattle.semver_ranges.specs.Steps.BoundsViews.{range_of_simples, range_for};
-ghost use Rattle.tool_ranges.specs.ToolTable.{written_in, fits_in};
+ghost use Rattle.semver_ranges.specs.Steps.BoundsViews.{range_of_simples};
+ghost use Rattle.tool_ranges.specs.ToolTable.{fits_in};
+ghost use Rattle.tool_ranges.specs.Steps.LowerBounds.{range_begun, set_begun, written_for};
 ghost use Rattle.tool_ranges.specs.NpmGrammar.{is_white_space, may_stand, SpellsNpm};
 ghost use Rattle.tool_ranges.specs.NpmMeaning.{meets_npm};
 ghost use Rattle.tool_ranges.specs.NpmTable.{rewritten_npm};
@@ -28,8 +29,10 @@ mod reading;
 
 use crate::rows;
 pub use reading::read;
+pub(crate) use reading::read_with_all;
 use semver_ranges::events::{Event, Events};
 use semver_ranges::grammar::Dialect;
+use semver_ranges::partial::LowerBounds;
 use semver_ranges::{Compat, Range, RangeError, RangeSet};
 use std::alloc::{AllocError, Global};
 
@@ -70,6 +73,15 @@ pub fn rewrite(alloc: Global, range: &str) -> Result<RangeSet, RangeError>
         × Spells tree (set_text (set_of set)) × IsTrue (fits Npm tree)
         × (rewritten Npm tree ≡ set_of set)) }
 {
+    rewritten(alloc, range, LowerBounds::Stated)
+}
+
+/// The set of a text, with lower bounds as they are asked for.
+fn rewritten(alloc: Global, range: &str, lower: LowerBounds) -> Result<RangeSet, RangeError>
+    ensures refusals { RefusesNpm range.now result }
+    ensures begun { IfOk result (λ set. (tree : SetTree) → SpellsNpm tree range.now
+        → set_of set ≡ set_begun lower tree) }
+{
     if !may_stand(range) {
         return Err(RangeError::NotARange);
     }
@@ -78,7 +90,7 @@ pub fn rewrite(alloc: Global, range: &str) -> Result<RangeSet, RangeError>
         Ok(count) => count,
         Err(refusal) => return Err(refusal),
     };
-    match build(alloc, text, count) {
+    match build(alloc, text, count, lower) {
         Ok(ranges) => Ok(RangeSet {
             ranges,
             compat: Compat::Npm,
@@ -134,33 +146,43 @@ fn survey(text: &[u8]) -> Result<usize, RangeError>
 }
 
 /// The ranges of a text that was surveyed.
-fn build(alloc: Global, text: &[u8], count: usize) -> Result<Vec<Range>, AllocError>
+fn build(
+    alloc: Global,
+    text: &[u8],
+    count: usize,
+    lower: LowerBounds,
+) -> Result<Vec<Range>, AllocError>
     requires { HasRanges text.now count }
     ensures { IfOk result (λ ranges. (tree : SetTree) → read dialect.Npm text.now ≡ Some tree →
-        map range_of ranges.items ≡ map (range_for (written_in Npm) Npm) tree) }
+        map range_of ranges.items ≡ map (range_begun lower) tree) }
 {
-    let mut events = Events::new(text, Dialect::Npm);
+    let mut events = Events::with_lower(text, Dialect::Npm, lower);
     let mut ranges = Vec::with_capacity(alloc, count)?;
     for at in 0..count {
         let comparators = count_ahead(events);
-        ranges.push(build_range(alloc, &mut events, comparators)?)?;
+        ranges.push(build_range(alloc, &mut events, comparators, lower)?)?;
     }
     Ok(ranges)
 }
 
 /// The range up to the next one, its comparators in a vector of their number.
-fn build_range(alloc: Global, events: &mut Events<'_>, count: usize) -> Result<Range, AllocError>
+fn build_range(
+    alloc: Global,
+    events: &mut Events<'_>,
+    count: usize,
+    lower: LowerBounds,
+) -> Result<Range, AllocError>
     requires { (es : List EventTree) × HasLeft dialect.Npm events.old (Some es)
         × IsTrue (list_all (event_fits (fits_in Npm)) es) }
     ensures { IfOk result (λ range. (es : List EventTree)
         → HasLeft dialect.Npm events.old (Some es)
         → IsTrue (list_all (event_fits (fits_in Npm)) es) →
-        (range_of range ≡ range_of_simples (written_in Npm) Npm (range_simples es))
+        (range_of range ≡ range_of_simples (written_for lower Npm) Npm (range_simples es))
         × HasLeft dialect.Npm events.new (Some (range_others es))) }
 {
     let mut comparator_set = Vec::with_capacity(alloc, count)?;
     while let Some(Ok(Event::Simple(simple))) = events.next_in(Dialect::Npm) {
-        rows::push(alloc, &simple, Compat::Npm, &mut comparator_set)?;
+        rows::push(alloc, &simple, Compat::Npm, lower, &mut comparator_set)?;
     }
     Ok(Range {
         comparator_set,

@@ -1,7 +1,7 @@
 //! The cells of the tables of Cargo and npm that have the comparators of a simple. Nothing here
 //! takes memory but `made` and `push`, which come once all is known to fit.
 
-ghost use Rattle.std.specs.Prelude.{◌≡◌, ◌≤◌, ◌++◌, ◌&&◌, true, false, [], Some, length, map};
+ghost use Rattle.std.specs.Prelude.{◌≡◌, ◌≤◌, ◌++◌, ◌&&◌, ◌∷◌, true, false, [], Some, length, map};
 ghost use Rattle.std.specs.Prelude.{IfOk, MatchOption};
 ghost use Rattle.semver_ranges.specs.RangeTree.{Simple as SimpleTree};
 ghost use Rattle.semver_ranges.specs.RangeViews.{comparator_of};
@@ -12,11 +12,14 @@ ghost use Rattle.semver_ranges.specs.RewritingTable.{bound_fits, up, up_with};
 ghost use Rattle.semver_ranges.specs.ExactBounds.{lowest_pre_release};
 ghost use Rattle.semver_ranges.specs.Steps.PartialViews.{version_of, PartsPass};
 ghost use Rattle.tool_ranges.specs.ToolTable.{fits_in, is_greater, states_some, ends_at};
-ghost use Rattle.tool_ranges.specs.ToolTable.{written_in};
 ghost use Rattle.tool_ranges.specs.Steps.Cells.{cell_fits, cell_written, IsBuildableAt, IsCellOf};
+ghost use Rattle.tool_ranges.specs.Steps.LowerBounds.{begins_lowest, begun, lower_where};
+ghost use Rattle.tool_ranges.specs.Steps.LowerBounds.{written_for};
+ghost use Rattle.semver_ranges.specs.declared.partial.RaisedBounds.TheVariants.{Exact};
+ghost use Rattle.semver_ranges.specs.Steps.BoundsViews.{comparators_of};
 
 use semver_ranges::grammar::{Form, Simple};
-use semver_ranges::partial::{Partial, PartialKind, Place, RaisedBounds};
+use semver_ranges::partial::{LowerBounds, Partial, PartialKind, Place, RaisedBounds};
 use semver_ranges::rewriting::{Bounds, alone, rewritten};
 use semver_ranges::{Comparator, Compat, Identifier, Op};
 use std::alloc::{AllocError, Global};
@@ -68,35 +71,45 @@ impl Cell {
             ≡ cell_written self partial.now) }
     {
         match self {
-            Cell::Above(place) => alone(alloc, from_raised(alloc, partial, place)?),
+            Cell::Above(place) => {
+                alone(
+                    alloc,
+                    from_raised(alloc, partial, place, LowerBounds::Stated)?,
+                )
+            }
             Cell::BelowAll => alone(alloc, lowest_below(alloc, partial)?),
             Cell::Shared(bounds) => bounds.made(alloc, partial, RaisedBounds::Exact),
         }
     }
 
-    /// Adds the comparators.
+    /// Adds the comparators, with a lower bound as it is asked for.
     #[inline(always)]
     pub(crate) fn push(
         self,
         alloc: Global,
         partial: &Partial<'_>,
+        lower: LowerBounds,
         comparators: &mut Vec<Comparator>,
     ) -> Result<(), AllocError>
         requires buildable { IsBuildableAt self partial.now }
         requires fits { cell_fits self partial.now ≡ true }
         ensures { IfOk result (λ _. map comparator_of comparators.new.items
-            ≡ map comparator_of comparators.old.items ++ cell_written self partial.now) }
+            ≡ map comparator_of comparators.old.items
+            ++ begun lower (cell_written self partial.now)) }
     {
         match self {
             Cell::Above(place) => {
-                comparators.push(from_raised(alloc, partial, place)?)?;
+                comparators.push(from_raised(alloc, partial, place, lower)?)?;
                 Ok(())
             }
             Cell::BelowAll => {
                 comparators.push(lowest_below(alloc, partial)?)?;
                 Ok(())
             }
-            Cell::Shared(bounds) => bounds.push(alloc, partial, comparators, RaisedBounds::Exact),
+            Cell::Shared(bounds) => {
+                let partial = begun(partial, &bounds, lower);
+                bounds.push(alloc, &partial, comparators, RaisedBounds::Exact)
+            }
         }
     }
 }
@@ -147,13 +160,22 @@ fn ends_below(simple: &Simple<'_>, compat: Compat) -> bool
 
 /// From the bound that is raised at a place on.
 #[inline(always)]
-fn from_raised(alloc: Global, partial: &Partial<'_>, place: Place) -> Result<Comparator, AllocError>
+fn from_raised(
+    alloc: Global,
+    partial: &Partial<'_>,
+    place: Place,
+    lower: LowerBounds,
+) -> Result<Comparator, AllocError>
     requires stated { place_number place ≤ length (stated_of partial.now) }
     requires fits { bound_fits (Some (up (place_number place) (stated_of partial.now))) ≡ true }
-    ensures { IfOk result (λ c. comparator_of c ≡ comparator Op.Gte
-        (up_with [] (place_number place) (stated_of partial.now))) }
+    ensures { IfOk result (λ c. comparator_of c ∷ [] ≡ begun lower (comparator Op.Gte
+        (up_with [] (place_number place) (stated_of partial.now)) ∷ [])) }
 {
-    let bound = partial.raised(alloc, place, RaisedBounds::Plain)?;
+    let raised = match lower {
+        LowerBounds::Stated => RaisedBounds::Plain,
+        LowerBounds::Lowest => RaisedBounds::Exact,
+    };
+    let bound = partial.raised(alloc, place, raised)?;
     Ok(Comparator {
         op: Op::Gte,
         ..bound
@@ -173,18 +195,65 @@ fn lowest_below(alloc: Global, partial: &Partial<'_>) -> Result<Comparator, Allo
     Ok(bound)
 }
 
-/// Adds the comparators of a simple that fits.
+/// A partial that begins what is within bounds as it is asked for.
+#[inline(always)]
+fn begun<'input>(partial: &Partial<'input>, bounds: &Bounds, lower: LowerBounds) -> Partial<'input>
+    requires { PartsPass partial.now }
+    ensures parts { PartsPass result }
+    ensures stated { stated_of result ≡ stated_of partial.now }
+    ensures fits { result.fits ≡ partial.now.fits }
+    ensures written { comparators_of Exact bounds.now result
+        ≡ begun lower (comparators_of Exact bounds.now partial.now) }
+{
+    match (lower, bounds) {
+        (LowerBounds::Lowest, Bounds::Against(Op::Gte) | Bounds::Between(_)) => partial.lowest(),
+        _ => *partial,
+    }
+}
+
+/// Adds the comparators of a simple that fits. Where all pre-releases within its bounds count, it
+/// begins with the lowest one of its numbers if the tool says so.
 #[inline(always)]
 pub(crate) fn push(
     alloc: Global,
     simple: &Simple<'_>,
     compat: Compat,
+    lower: LowerBounds,
     comparators: &mut Vec<Comparator>,
 ) -> Result<(), AllocError>
     requires { (s : SimpleTree) × IsSimpleOf s simple.now × (fits_in compat s ≡ true) }
     ensures { IfOk result (λ _. (s : SimpleTree) → IsSimpleOf s simple.now
         → fits_in compat s ≡ true → map comparator_of comparators.new.items
-        ≡ map comparator_of comparators.old.items ++ written_in compat s) }
+        ≡ map comparator_of comparators.old.items ++ written_for lower compat s) }
 {
-    cell_of(simple, compat).push(alloc, &simple.partial, comparators)
+    let lower = lower_of(simple, compat, lower);
+    cell_of(simple, compat).push(alloc, &simple.partial, lower, comparators)
+}
+
+/// How the lower bound of a simple is written, where it may be so.
+#[inline(always)]
+fn lower_of(simple: &Simple<'_>, compat: Compat, lower: LowerBounds) -> LowerBounds
+    ensures { result ≡ lower_where lower (begins_lowest compat (form_of simple.now.form)
+        (stated_of simple.now.partial) (version_of simple.now.partial)) }
+{
+    match lower {
+        LowerBounds::Lowest if begins_lowest(simple, compat) => LowerBounds::Lowest,
+        _ => LowerBounds::Stated,
+    }
+}
+
+/// Whether a tool begins with the lowest pre-release of the numbers: of fewer than three, but for
+/// npm's `~`, and those of npm's `^` of a first number 0 without pre-release.
+fn begins_lowest(simple: &Simple<'_>, compat: Compat) -> bool
+    ensures { result ≡ begins_lowest compat (form_of simple.now.form)
+        (stated_of simple.now.partial) (version_of simple.now.partial) }
+{
+    let partial = &simple.partial;
+    match (compat, simple.form) {
+        (Compat::Npm, Form::Tilde) => partial.states_nothing(),
+        (Compat::Npm, Form::Caret) => {
+            !partial.states_three() || (partial.major() == 0 && !partial.has_pre_release())
+        }
+        _ => !partial.states_three(),
+    }
 }

@@ -14,6 +14,7 @@ use Rattle.semver_ranges.specs.declared.events.Events.{Events}
 use Rattle.semver_ranges.specs.declared.range_set.RangeError.{RangeError}
 use Rattle.semver_ranges.specs.declared.range_set.RangeError.TheVariants.{NotARange}
 use Rattle.semver_ranges.specs.declared.grammar.Dialect.{Dialect}
+use Rattle.semver_ranges.specs.declared.partial.LowerBounds.{LowerBounds}
 use Rattle.semver_ranges.specs.RangeTree as tree
 use Rattle.semver_ranges.specs.RangeTree.{three, is_part}
 use Rattle.semver_texts.specs.Texts.{Text}
@@ -64,11 +65,11 @@ AreSides (s ∷ next ∷ []) lower (Some upper) = IsSimpleOf s lower × IsSimple
 AreSides _ lower upper = ⊥
 
 -- a hyphen range that was read as its sides, and what follows it
-abbrev pub FindsSides : Option (tree.RangeTree × Text) → Option (Simple × Option Simple × Bor Text)
-    → Type 0
-FindsSides o None = o ≡ None
-FindsSides o (Some found) =
-    (x : tree.RangeTree) × (o ≡ Some (x, found.2.now)) × AreSides (yielded x) found.0 found.1
+abbrev pub FindsSides : LowerBounds → Option (tree.RangeTree × Text)
+    → Option (Simple × Option Simple × Bor Text) → Type 0
+FindsSides lower o None = o ≡ None
+FindsSides lower o (Some found) = (x : tree.RangeTree) × (o ≡ Some (x, found.2.now))
+    × AreSides (yielded lower x) found.0 found.1
 
 -- the event that was read
 abbrev pub IsEventOf : list.Event → Event → Type 0
@@ -84,7 +85,8 @@ HasBehind (Some upper) behind o =
     (s : tree.Simple) × IsSimpleOf s upper × (o ≡ put (one_simple s) behind)
 
 abbrev pub HasLeft : Dialect → Events → Option (List list.Event) → Type 0
-HasLeft d cursor o = HasBehind cursor.upper (events_left d cursor.begins_range cursor.rest.now) o
+HasLeft d cursor o =
+    HasBehind cursor.upper (events_left d cursor.lower cursor.begins_range cursor.rest.now) o
 
 -- the first of the events that are left, and a cursor behind it
 abbrev pub IsFirst : Dialect → Option (List list.Event) → Event → Events → Type 0
@@ -109,10 +111,11 @@ abbrev pub size_left : Events → ℕ
 size_left cursor = size_at cursor.begins_range cursor.rest.now + flag (is_some cursor.upper)
 
 -- the event at the front of a text that is left, and the cursor behind it
-abbrev pub TakesEvent : Dialect → Bool → Text → Option Event → Events → Type 0
-TakesEvent d begins_range t None behind = (events_left d begins_range t ≡ None)
+abbrev pub TakesEvent : Dialect → LowerBounds → Bool → Text → Option Event → Events → Type 0
+TakesEvent d lower begins_range t None behind = (events_left d lower begins_range t ≡ None)
     × (behind.begins_range ≡ false) × (behind.upper ≡ None) × (behind.rest.now ≡ t)
-TakesEvent d begins_range t (Some e) behind = IsFirst d (events_left d begins_range t) e behind
+TakesEvent d lower begins_range t (Some e) behind =
+    IsFirst d (events_left d lower begins_range t) e behind
     × (size_left behind < size_at begins_range t) × (length behind.rest.now + bytes_of e ≤ length t)
 
 -- what `next` gives: the first of the events that are left; a fault where the text isn't in the

@@ -1,7 +1,7 @@
 -- A means of proof, which no public clause cites: what private contracts see of components and
 -- partials.
 use Rattle.std.specs.Prelude.{◌≡◌, ℕ, Bool, true, false, Option, Some, None, List, [], ◌∷◌, map}
-use Rattle.std.specs.Prelude.{length, not}
+use Rattle.std.specs.Prelude.{length, not, codes}
 use Rattle.std.specs.List.{list_all}
 use Rattle.std.specs.Str.Parse.{digits_value}
 use Rattle.semver_ranges.specs.declared.partial.Component.{Component}
@@ -14,6 +14,8 @@ use Rattle.semver_ranges.specs.declared.partial.PartialKind.TheVariants.{MajorMi
 use Rattle.semver_ranges.specs.declared.partial.PartialKind.TheVariants.{MajorMinorPatch}
 use Rattle.semver_ranges.specs.declared.partial.RaisedBounds.{RaisedBounds}
 use Rattle.semver_ranges.specs.declared.partial.RaisedBounds.TheVariants.{Plain, Exact}
+use Rattle.semver_ranges.specs.declared.partial.LowerBounds.{LowerBounds}
+use Rattle.semver_ranges.specs.declared.partial.LowerBounds.TheVariants.{Stated, Lowest}
 use Rattle.semver_ranges.specs.declared.partial.Place.{Place}
 use Rattle.semver_ranges.specs.declared.partial.Place.TheVariants.{Major, Minor, Patch}
 use Rattle.semver_ranges.specs.RangeTree.{PartialTree, one, two, three, is_wildcard}
@@ -53,6 +55,13 @@ place_number Patch = 3
 abbrev pub pre_of : RaisedBounds → List IdentifierValue
 pre_of Plain = []
 pre_of Exact = lowest_pre_release
+
+-- a partial as a bound that begins with it is written: as stated, or with the lowest pre-release
+-- where it has none
+abbrev pub begun_as : LowerBounds → PartialTree → PartialTree
+begun_as Stated t = t
+begun_as Lowest (three a b c [] build) = three a b c (codes "0" ∷ []) build
+begun_as Lowest t = t
 
 -- the value of a number, which is none where it is above 2^64 - 1
 abbrev pub IsValue : ℕ → Option ℕ → Type 0

@@ -3,6 +3,7 @@
 use Rattle.std.specs.Prelude.{ℕ, ◌+◌, Bool, true, false, if◌then◌else◌, Option, Some, None, List}
 use Rattle.std.specs.Prelude.{[], ◌∷◌, codes}
 use Rattle.semver_ranges.specs.declared.grammar.Dialect.{Dialect}
+use Rattle.semver_ranges.specs.declared.partial.LowerBounds.{LowerBounds}
 use Rattle.semver_ranges.specs.RangeTree.{bare, one, Simple, RangeTree, empty, hyphen, simples}
 use Rattle.semver_ranges.specs.RangeTree.{SetTree}
 use Rattle.semver_texts.specs.Texts.{Text}
@@ -10,6 +11,7 @@ use Rattle.semver_ranges.specs.Partials.{states_nothing}
 use Rattle.semver_ranges.specs.Terms.{left_side, right_side}
 use Rattle.semver_ranges.specs.Steps.Reading.{all_simples, range_here, behind_range, behind_bars}
 use Rattle.semver_ranges.specs.Steps.Reading.{read}
+use Rattle.semver_ranges.specs.Steps.PartialViews.{begun_as}
 
 -- an event: a simple of the range, or two bars
 pub data Event : Type 0 where
@@ -23,13 +25,13 @@ wildcard = record { form = bare; partial = one (codes "*") }
 -- the simples that a range is yielded as: a wildcard where it is empty; of a hyphen range the
 -- sides, of which one that states nothing is left out, but for the left where neither states a
 -- number
-abbrev pub yielded : RangeTree → List Simple
-yielded empty = wildcard ∷ []
-yielded (hyphen left right) =
-    if states_nothing right then left_side left ∷ []
+abbrev pub yielded : LowerBounds → RangeTree → List Simple
+yielded lower empty = wildcard ∷ []
+yielded lower (hyphen left right) =
+    if states_nothing right then left_side (begun_as lower left) ∷ []
     else (if states_nothing left then right_side right ∷ []
-    else left_side left ∷ right_side right ∷ [])
-yielded (simples first others) = first ∷ others
+    else left_side (begun_as lower left) ∷ right_side right ∷ [])
+yielded lower (simples first others) = first ∷ others
 
 -- simples in front of events
 abbrev pub in_front : List Simple → List Event → List Event
@@ -37,10 +39,11 @@ in_front [] es = es
 in_front (s ∷ ss) es = one_simple s ∷ in_front ss es
 
 -- the events of a range set: the simples of its ranges, with two bars between each two ranges
-abbrev pub events_of : SetTree → List Event
-events_of [] = []
-events_of (r ∷ []) = in_front (yielded r) []
-events_of (r ∷ next ∷ others) = in_front (yielded r) (next_range ∷ events_of (next ∷ others))
+abbrev pub events_of : LowerBounds → SetTree → List Event
+events_of lower [] = []
+events_of lower (r ∷ []) = in_front (yielded lower r) []
+events_of lower (r ∷ next ∷ others) =
+    in_front (yielded lower r) (next_range ∷ events_of lower (next ∷ others))
 
 -- the simples of the range that events are in, and the events behind the next bars
 abbrev pub range_simples : List Event → List Simple
@@ -74,28 +77,28 @@ put_simples [] o = o
 put_simples (s ∷ ss) o = put (one_simple s) (put_simples ss o)
 
 -- the events of a text: those of its set; none where it isn't in the grammar
-abbrev pub set_events : Option SetTree → Option (List Event)
-set_events None = None
-set_events (Some tree) = Some (events_of tree)
+abbrev pub set_events : LowerBounds → Option SetTree → Option (List Event)
+set_events lower None = None
+set_events lower (Some tree) = Some (events_of lower tree)
 
-abbrev pub events : Dialect → Text → Option (List Event)
-events d t = set_events (read d t)
+abbrev pub events : Dialect → LowerBounds → Text → Option (List Event)
+events d lower t = set_events lower (read d t)
 
 -- what is left behind a range, from its end on
-abbrev pub at_bars : Dialect → Option Text → Option (List Event)
-at_bars d None = None
-at_bars d (Some t) = put next_range (events d t)
+abbrev pub at_bars : Dialect → LowerBounds → Option Text → Option (List Event)
+at_bars d lower None = None
+at_bars d lower (Some t) = put next_range (events d lower t)
 
-abbrev pub others_left : Dialect → Text → Option (List Event)
-others_left d [] = Some []
-others_left d (b ∷ t) = at_bars d (behind_bars (b ∷ t))
+abbrev pub others_left : Dialect → LowerBounds → Text → Option (List Event)
+others_left d lower [] = Some []
+others_left d lower (b ∷ t) = at_bars d lower (behind_bars (b ∷ t))
 
 -- what is left behind simples
-abbrev pub simples_left : Dialect → Option (List Simple × Text) → Option (List Event)
-simples_left d None = None
-simples_left d (Some (ss, end)) = put_simples ss (others_left d end)
+abbrev pub simples_left : Dialect → LowerBounds → Option (List Simple × Text) → Option (List Event)
+simples_left d lower None = None
+simples_left d lower (Some (ss, end)) = put_simples ss (others_left d lower end)
 
 -- what is left at the begin of a range, behind its blanks, and in a range
-abbrev pub events_left : Dialect → Bool → Text → Option (List Event)
-events_left d true t = set_events (behind_range (read d) (range_here d t))
-events_left d false t = simples_left d (all_simples d t)
+abbrev pub events_left : Dialect → LowerBounds → Bool → Text → Option (List Event)
+events_left d lower true t = set_events lower (behind_range (read d) (range_here d t))
+events_left d lower false t = simples_left d lower (all_simples d t)

@@ -2,6 +2,7 @@
 -- requirement does, and the ranges of the pre-releases that count.
 use Rattle.std.specs.Prelude.{◌-◌, ◌^◌, ℕ, if◌then◌else◌, List, [], ◌∷◌}
 use Rattle.std.specs.List.{flat_map}
+use Rattle.semver_ranges.specs.declared.partial.LowerBounds.TheVariants.{Lowest}
 use Rattle.semver_ranges.specs.declared.range.Op.TheVariants.{Lt, Gt, Gte}
 use Rattle.semver_ranges.specs.declared.range.Compat.TheVariants.{Cargo}
 use Rattle.semver_texts.specs.Texts.{is_empty}
@@ -14,9 +15,10 @@ use Rattle.semver_ranges.specs.RewritingTable.{PlainComparator, PlainRange, Plai
 use Rattle.semver_ranges.specs.RewritingTable.{cell, up_with, with_pre_release, written_cell}
 use Rattle.semver_ranges.specs.ExactBounds.{lowest_pre_release}
 use Rattle.tool_ranges.specs.declared.cargo.judging.Judged.{Judged}
-use Rattle.tool_ranges.specs.declared.cargo.judging.Judged.TheVariants.{Releases, PreReleases}
+use Rattle.tool_ranges.specs.declared.cargo.judging.Judged.TheVariants.{Releases, PreReleases, All}
 use Rattle.tool_ranges.specs.CargoMeaning.{as_read}
 use Rattle.tool_ranges.specs.ToolTable.{written_in}
+use Rattle.tool_ranges.specs.Steps.LowerBounds.{written_for}
 
 -- the lowest pre-release of a version's numbers
 abbrev pub lowest : PlainVersion → PlainVersion
@@ -53,10 +55,11 @@ judged_by_count form (a ∷ b ∷ []) z = some_judged form (a ∷ b ∷ []) z
 judged_by_count form (a ∷ b ∷ c ∷ rest) z =
     written_cell lowest_pre_release (cell Cargo form (a ∷ b ∷ c ∷ rest)) (a ∷ b ∷ c ∷ rest) z
 
--- the comparators that judge releases, or pre-releases, of one as it is read
+-- the comparators that judge releases, pre-releases, or all versions, of one as it is read
 abbrev pub judging_read : Judged → Simple → List PlainComparator
 judging_read Releases s = written_in Cargo s
 judging_read PreReleases s = judged_by_count s.form (stated s.partial) (zero_filled s.partial)
+judging_read All s = written_for Lowest Cargo s
 
 abbrev pub judging_one : Judged → Simple → List PlainComparator
 judging_one judged s = judging_read judged (as_read s)

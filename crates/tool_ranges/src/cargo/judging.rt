@@ -11,6 +11,7 @@ ghost use Rattle.tool_ranges.specs.Steps.CargoPreReleases.{judging_read};
 use crate::cargo::pre_releases;
 use crate::rows;
 use semver_ranges::grammar::Simple;
+use semver_ranges::partial::LowerBounds;
 use semver_ranges::{Comparator, Compat};
 use std::alloc::{AllocError, Global};
 
@@ -19,9 +20,11 @@ use std::alloc::{AllocError, Global};
 pub(crate) enum Judged {
     Releases,
     PreReleases,
+    /// All, where each pre-release within the bounds counts.
+    All,
 }
 
-/// Adds the comparators that judge releases, or pre-releases.
+/// Adds the comparators that judge them.
 #[inline(always)]
 pub(crate) fn push_judging(
     alloc: Global,
@@ -35,7 +38,22 @@ pub(crate) fn push_judging(
         ≡ map comparator_of comparators.old.items ++ judging_read judged s) }
 {
     match judged {
-        Judged::Releases => rows::push(alloc, simple, Compat::Cargo, comparators),
+        Judged::Releases => {
+            rows::push(
+                alloc,
+                simple,
+                Compat::Cargo,
+                LowerBounds::Stated,
+                comparators,
+            )
+        }
         Judged::PreReleases => pre_releases::push(alloc, simple, comparators),
+        Judged::All => rows::push(
+            alloc,
+            simple,
+            Compat::Cargo,
+            LowerBounds::Lowest,
+            comparators,
+        ),
     }
 }

@@ -20,7 +20,7 @@ ghost use Rattle.tool_ranges.specs.Steps.CargoPreReleases.{pre_releases_of, some
 
 use crate::rows;
 use semver_ranges::grammar::{Form, Simple};
-use semver_ranges::partial::{Partial, PartialKind, RaisedBounds};
+use semver_ranges::partial::{LowerBounds, Partial, PartialKind, RaisedBounds};
 use semver_ranges::{Comparator, Compat, Identifier, Op, Range};
 use std::alloc::{AllocError, Global};
 
@@ -41,7 +41,15 @@ pub(crate) fn push(
             Ok(())
         }
         PartialKind::MajorOnly | PartialKind::MajorMinor => push_some(alloc, simple, comparators),
-        PartialKind::MajorMinorPatch => rows::push(alloc, simple, Compat::Cargo, comparators),
+        PartialKind::MajorMinorPatch => {
+            rows::push(
+                alloc,
+                simple,
+                Compat::Cargo,
+                LowerBounds::Stated,
+                comparators,
+            )
+        }
     }
 }
 

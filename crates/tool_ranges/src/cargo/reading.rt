@@ -8,6 +8,7 @@ ghost use Rattle.semver_ranges.specs.Meeting.{meets_set};
 ghost use Rattle.semver_ranges.specs.RangeViews.{range_of, set_of};
 ghost use Rattle.version_sets.specs.VersionSets.{has, Fits};
 ghost use Rattle.tool_ranges.specs.CargoGrammar.{SpellsRequirement};
+ghost use Rattle.tool_ranges.specs.AllPreReleases.{meets_requirement_with_all};
 ghost use Rattle.tool_ranges.specs.CargoMeaning.{meets_requirement};
 ghost use Rattle.tool_ranges.specs.CargoTable.{requirement_fits, rewritten_requirement};
 ghost use Rattle.tool_ranges.specs.CargoTexts.{RefusesRequirement};
@@ -15,7 +16,7 @@ ghost use Rattle.tool_ranges.specs.declared.cargo.judging.Judged.TheVariants as 
 ghost use Rattle.tool_ranges.specs.Steps.CargoPreReleases.{counting, counting_one, judging};
 
 use crate::cargo::judging::Judged;
-use crate::cargo::{build, build_counting, rewrite};
+use crate::cargo::{build, build_counting, rewrite, survey};
 use semver_ranges::{Compat, Range, RangeError, RangeSet};
 use std::alloc::{AllocError, Global};
 use version_sets::{PreReleases, VersionSet};
@@ -50,6 +51,44 @@ pub fn read(alloc: Global, requirement: &str) -> Result<VersionSet, RangeError>
         Ok(set) => Ok(set),
         Err(_) => Err(RangeError::OutOfMemory),
     }
+}
+
+/// The same, where each pre-release counts that lies within the bounds of the requirement.
+pub(crate) fn read_with_all(alloc: Global, requirement: &str) -> Result<VersionSet, RangeError>
+    ensures refusals { RefusesRequirement requirement.now result }
+    ensures meaning { IfOk result (λ set. (tree : List SimpleTree) (v : PlainVersion)
+        → SpellsRequirement tree requirement.now → Fits v
+        → has set v ≡ meets_requirement_with_all tree v) }
+{
+    let text = requirement.as_bytes();
+    let count = match survey(text) {
+        Ok(count) => count,
+        Err(refusal) => return Err(refusal),
+    };
+    match judged(alloc, text, count, Judged::All) {
+        Ok(set) => Ok(set),
+        Err(_) => Err(RangeError::OutOfMemory),
+    }
+}
+
+/// The versions that meet the comparators by which some are judged: there is room for so many.
+fn judged(
+    alloc: Global,
+    text: &[u8],
+    count: usize,
+    judged: Judged,
+) -> Result<VersionSet, AllocError>
+    requires { (tree : List SimpleTree) × SpellsRequirement tree text.now
+        × IsTrue (requirement_fits tree) }
+    ensures { IfOk result (λ set. (tree : List SimpleTree) (v : PlainVersion)
+        → SpellsRequirement tree text.now → Fits v
+        → has set v ≡ meets_set v (judging judged tree)) }
+{
+    let judging = RangeSet {
+        ranges: build(alloc, text, count, judged)?,
+        compat: Compat::Cargo,
+    };
+    VersionSet::of_set(alloc, &judging, PreReleases::Included)
 }
 
 /// What a requirement means, of which the set that it is rewritten to tells the releases.
@@ -98,11 +137,7 @@ fn counted(
         ranges,
         compat: Compat::Cargo,
     };
-    let judging = RangeSet {
-        ranges: build(alloc, text, count, Judged::PreReleases)?,
-        compat: Compat::Cargo,
-    };
-    let judged = VersionSet::of_set(alloc, &judging, PreReleases::Included)?;
+    let judged = judged(alloc, text, count, Judged::PreReleases)?;
     judged.intersection(
         alloc,
         &VersionSet::of_set(alloc, &counting, PreReleases::Included)?,

@@ -7,12 +7,14 @@ ghost use Rattle.semver_ranges.specs.RangeViews.{comparator_of, range_of, set_of
 ghost use Rattle.semver_texts.specs.Versions.{PlainVersion};
 ghost use Rattle.version_sets.specs.VersionSets.{has, Fits};
 ghost use Rattle.tool_ranges.specs.NpmGrammar.{SpellsNpm};
+ghost use Rattle.tool_ranges.specs.AllPreReleases.{meets_npm_with_all};
 ghost use Rattle.tool_ranges.specs.NpmMeaning.{meets_npm};
 ghost use Rattle.tool_ranges.specs.NpmTexts.{RefusesNpm};
 ghost use Rattle.tool_ranges.specs.Steps.NpmReading.{has_no_other, is_from_zero};
 ghost use Rattle.tool_ranges.specs.Steps.NpmReading.{is_meant, others_in};
 
-use crate::npm::rewrite;
+use crate::npm::{rewrite, rewritten};
+use semver_ranges::partial::LowerBounds;
 use semver_ranges::{Comparator, Op, Range, RangeError, RangeSet};
 use std::alloc::{AllocError, Global};
 use version_sets::{PreReleases, VersionSet};
@@ -44,6 +46,23 @@ pub fn read(alloc: Global, range: &str) -> Result<VersionSet, RangeError>
         Err(refusal) => return Err(refusal),
     };
     match meant(alloc, rewritten) {
+        Ok(set) => Ok(set),
+        Err(_) => Err(RangeError::OutOfMemory),
+    }
+}
+
+/// The same, where each pre-release counts that lies within the bounds of a range: to npm this is
+/// `includePrerelease`.
+pub(crate) fn read_with_all(alloc: Global, range: &str) -> Result<VersionSet, RangeError>
+    ensures refusals { RefusesNpm range.now result }
+    ensures meaning { IfOk result (λ set. (tree : SetTree) (v : PlainVersion)
+        → SpellsNpm tree range.now → Fits v → has set v ≡ meets_npm_with_all tree v) }
+{
+    let set = match rewritten(alloc, range, LowerBounds::Lowest) {
+        Ok(set) => set,
+        Err(refusal) => return Err(refusal),
+    };
+    match VersionSet::of_set(alloc, &set, PreReleases::Included) {
         Ok(set) => Ok(set),
         Err(_) => Err(RangeError::OutOfMemory),
     }

@@ -4,7 +4,8 @@ use Rattle.semver_ranges.proofs.events.sides.Goals as goal
 
 pub returns-then-states_nothing : goal.returns-then-states_nothing
 returns-then-states_nothing c =
-    λ l r left right. rw (states_kind r c.args.right right ∙ sym c.states_nothing.ensures ∙ c.if-states_nothing.true) (refl, left)
+    λ l r left right. rw (states_kind r c.args.right right ∙ sym c.states_nothing.ensures ∙ c.if-states_nothing.true)
+    (refl, c.begun.ensures l left)
 
 pub returns-then-states_nothing-2 : goal.returns-then-states_nothing-2
 returns-then-states_nothing-2 c = λ l r left right.
@@ -20,4 +21,4 @@ returns-else-states_nothing-2 c = λ l r left right.
       states_kind r c.args.right right ∙ sym c.states_nothing.ensures ∙ c.if-states_nothing.false,
       states_kind l c.args.left left
           ∙ sym c.states_nothing-else-states_nothing.ensures ∙ c.if-states_nothing-2.false,
-    ) ((refl, left), (refl, right))
+    ) ((refl, c.begun.ensures l left), (refl, right))

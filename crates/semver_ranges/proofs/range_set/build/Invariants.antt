@@ -1,6 +1,7 @@
 use Rattle.std.proofs.Common.{◌≡◌, ◌+◌, ◌++◌, length, Some, true}
 use Rattle.std.specs.Prelude.{map}
 use Rattle.semver_ranges.specs.declared.grammar.Dialect.TheVariants.{Crate}
+use Rattle.semver_ranges.specs.declared.partial.LowerBounds.TheVariants.{Stated}
 use Rattle.semver_ranges.specs.RangeTree.{SetTree}
 use Rattle.semver_ranges.specs.RewritingTable.{fits, written_simple}
 use Rattle.semver_ranges.specs.Steps.Reading.{read}
@@ -14,6 +15,6 @@ use Rattle.semver_ranges.proofs.range_set.build.Given as goal
 abbrev pub invariant-loop-at : goal.invariant-loop-at
 invariant-loop-at l =
     (tree : SetTree) × (left : SetTree) × (read Crate l.text ≡ Some tree) × (fits l.compat left ≡ true) × (l.at + length left ≡ length tree)
-    × (l.sizes.ranges ≡ length tree) × HasLeft Crate l.events (Some (events_of left))
+    × (l.sizes.ranges ≡ length tree) × HasLeft Crate l.events (Some (events_of Stated left))
     × (map range_of l.ranges.items ++ map (range_for (written_simple (pre_of l.raised) l.compat) l.compat) left
     ≡ map (range_for (written_simple (pre_of l.raised) l.compat) l.compat) tree)

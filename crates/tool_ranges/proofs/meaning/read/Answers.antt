@@ -22,6 +22,13 @@ returns-in-Cargo c =
     (e.refusals, if_ok c.read.result (λ set means tree v. means tree v.plain) e.meaning) in
     record { refusals = told.0; meaning = told.1 }
 
+pub returns-in-CargoAll : goal.returns-in-CargoAll
+returns-in-CargoAll c =
+    let e = c.read_with_all.ensures in
+    let told = subst (Answers c.args.range.now c.read_with_all.result) (sym c.in-CargoAll.is)
+    (e.refusals, if_ok c.read_with_all.result (λ set means tree v. means tree v.plain) e.meaning) in
+    record { refusals = told.0; meaning = told.1 }
+
 pub returns-in-CargoReleases : goal.returns-in-CargoReleases
 returns-in-CargoReleases c =
     let e = c.read-in-CargoReleases.ensures in
@@ -37,6 +44,13 @@ returns-in-Npm c =
     let e = c.read-in-Npm.ensures in
     let told = subst (Answers c.args.range.now c.read-in-Npm.result) (sym c.in-Npm.is)
     (e.refusals, if_ok c.read-in-Npm.result (λ set means tree v. means tree v.plain) e.meaning) in
+    record { refusals = told.0; meaning = told.1 }
+
+pub returns-in-NpmAll : goal.returns-in-NpmAll
+returns-in-NpmAll c =
+    let e = c.read_with_all-in-NpmAll.ensures in
+    let told = subst (Answers c.args.range.now c.read_with_all-in-NpmAll.result) (sym c.in-NpmAll.is)
+    (e.refusals, if_ok c.read_with_all-in-NpmAll.result (λ set means tree v. means tree v.plain) e.meaning) in
     record { refusals = told.0; meaning = told.1 }
 
 pub returns-in-NpmReleases : goal.returns-in-NpmReleases

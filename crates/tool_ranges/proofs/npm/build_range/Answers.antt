@@ -10,7 +10,8 @@ use Rattle.semver_ranges.specs.RangeViews.{comparator_of}
 use Rattle.semver_ranges.specs.Steps.RangeEvents.{Event, event_fits, range_simples, range_others}
 use Rattle.semver_ranges.specs.Steps.CursorViews.{HasLeft}
 use Rattle.semver_ranges.proofs.FoundEvents.{NextSimple, next_simple, RangeEnd, range_end}
-use Rattle.tool_ranges.specs.ToolTable.{fits_in, written_in}
+use Rattle.tool_ranges.specs.ToolTable.{fits_in}
+use Rattle.tool_ranges.specs.Steps.LowerBounds.{written_for}
 use Rattle.tool_ranges.proofs.npm.build_range.Goals as goal
 use Rattle.tool_ranges.proofs.npm.build_range.Goals.{In-Some-Ok-Simple}
 
@@ -34,15 +35,15 @@ loop-simple-preserved c = λ es has fits.
     let first = taken (goal.at.loop-simple-preserved c).In-Some-Ok-Simple so_far.0 so_far.1 in
     let fit = and_parts (fits_in Npm first.s) _ (sym (ap (list_all (event_fits (fits_in Npm))) first.whole) ∙ so_far.2) in
     let before : List PlainComparator = map comparator_of c.loop-simple.comparator_set.items in
-    let here : List PlainComparator = written_in Npm first.s in
-    let behind : List PlainComparator = flat_map (written_in Npm) (range_simples first.behind) in (
+    let here : List PlainComparator = written_for c.args.lower Npm first.s in
+    let behind : List PlainComparator = flat_map (written_for c.args.lower Npm) (range_simples first.behind) in (
       first.behind,
       first.has,
       fit.1,
       sym (ap range_others first.whole) ∙ so_far.3,
       ap (λ l. l ++ behind) (c.in_ok-push.ensures first.s first.is fit.0)
           ∙ append_assoc before here behind
-          ∙ sym (ap (λ l. before ++ flat_map (written_in Npm) (range_simples l)) first.whole) ∙ so_far.4,
+          ∙ sym (ap (λ l. before ++ flat_map (written_for c.args.lower Npm) (range_simples l)) first.whole) ∙ so_far.4,
     )
 
 pub returns : goal.returns
@@ -50,7 +51,7 @@ returns c = λ es has fits.
     let so_far = c.loop-simple.invariant es has fits in
     let end : RangeEnd dialect.Npm so_far.0 c.next_in.new.self = search (rules, range_end) in
     let items : List PlainComparator = map comparator_of c.loop-simple.comparator_set.items in
-    let made : List Simple → List PlainComparator = flat_map (written_in Npm) in (
+    let made : List Simple → List PlainComparator = flat_map (written_for c.args.lower Npm) in (
       ap (λ (l : List PlainComparator). record { comparators = l; compat = Npm })
           (sym (append-nil items) ∙ ap (λ (ss : List Simple). items ++ made ss) (sym end.simples) ∙ so_far.4),
       subst (λ (l : List Event). HasLeft dialect.Npm c.next_in.new.self (Some l)) so_far.3 end.has,

@@ -1,6 +1,7 @@
-use Rattle.std.proofs.Common.{◌∙◌, ap, ◌++◌, map}
+use Rattle.std.proofs.Common.{◌≡◌, ◌∙◌, ◌++◌, map}
 use Rattle.semver_ranges.specs.RangeViews.{comparator_of}
-use Rattle.tool_ranges.proofs.ReadRows.{if_ok}
+use Rattle.tool_ranges.specs.Steps.LowerBounds.{begins_lowest, begun, lower_of, lower_where}
+use Rattle.tool_ranges.proofs.ReadRows.{fit_numbers, if_ok}
 use Rattle.tool_ranges.proofs.rows.push.Goals as goal
 
 pub push-requires-clause-buildable : goal.push-requires-clause-buildable
@@ -12,5 +13,8 @@ push-requires-clause-fits c = (c.cell_of.ensures c.requires.0 c.requires.1).1 �
 pub returns : goal.returns
 returns c = if_ok c.push.result
     (λ _ pushed s is e. let has = c.cell_of.ensures s is in
-    pushed ∙ ap (λ l. map comparator_of c.args.comparators.now.items ++ l) (has.2 (has.1 ∙ e)))
+    let f = is.1.1 (fit_numbers c.args.compat s c.args.simple.now is e) in
+    let begin : c.lower_of-lower.result ≡ lower_of c.args.lower c.args.compat s = c.lower_of-lower.ensures
+    ∙ (λ i. lower_where c.args.lower (begins_lowest c.args.compat (is.0 i) (f.0 i) (f.1 i))) in
+    pushed ∙ (λ i. map comparator_of c.args.comparators.now.items ++ begun (begin i) (has.2 (has.1 ∙ e) i)))
     c.push.ensures

@@ -16,10 +16,10 @@ returns c =
     rw c.requires.alone (
       (
         next_range,
-        events d u,
+        events d c.args.self.now.lower u,
         tt,
-        begin_left d u c.behind_blanks-self.result.now c.behind_blanks-self.ensures,
-        bars_left d t (Some u) c.requires.some c.requires.ends c.in_ok-behind_bars.ensures,
+        begin_left d c.args.self.now.lower u c.behind_blanks-self.result.now c.behind_blanks-self.ensures,
+        bars_left d c.args.self.now.lower t (Some u) c.requires.some c.requires.ends c.in_ok-behind_bars.ensures,
       ),
       omega (arith, short, less),
       omega (arith, short, less),

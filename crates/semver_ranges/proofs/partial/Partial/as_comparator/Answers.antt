@@ -1,20 +1,16 @@
-use Rattle.std.proofs.Common.{◌≡◌, ◌==◌, true, map, refl, ap, ◌∙◌, sym, length, [], ◌∷◌, arith}
-use Rattle.std.proofs.lemmas.Bool.{eqb-true}
-use Rattle.semver_texts.specs.Texts.{Text, cut_at_dots}
+use Rattle.std.proofs.Common.{◌≡◌, map, refl, ap, ◌∙◌, sym}
+use Rattle.semver_texts.specs.Texts.{cut_at_dots}
 use Rattle.semver_ranges.specs.Partials.{kept}
 use Rattle.semver_ranges.specs.RangeViews.{identifier_of}
+use Rattle.semver_ranges.proofs.StatedNumbers.{none_kept}
 use Rattle.semver_ranges.proofs.partial.Partial.as_comparator.Goals as goal
 use Rattle.semver_ranges.proofs.partial.Partial.as_comparator.Goals.{then-is_empty, else-is_empty+in_ok-pre}
-
-nothing_kept : (t : Text) → true ≡ (length t == 0) → map kept (cut_at_dots t) ≡ []
-nothing_kept [] e = refl
-nothing_kept (b ∷ t) e = absurd (omega (arith, eqb-true (length (b ∷ t)) 0 (sym e)))
 
 pub returns : goal.returns
 returns c = rw pre refl where
   pre : map identifier_of c.if-is_empty.pre.items ≡ map kept (cut_at_dots c.args.self.now.pre.now)
   pre = elim c.if-is_empty.branch [
     | then-is_empty w ↦ ap (λ v. map identifier_of v.items) w.pre-is ∙ ap (map identifier_of) w.new-pre.ensures.items
-        ∙ sym (nothing_kept c.args.self.now.pre.now (sym w.if-is_empty.true ∙ c.is_empty.ensures))
+        ∙ sym (none_kept c.args.self.now.pre.now (sym c.is_empty.ensures ∙ w.if-is_empty.true))
     | else-is_empty+in_ok-pre w ↦ ap (λ v. map identifier_of v.items) w.pre-is ∙ w.in_ok-pre.ensures
   ]

@@ -10,6 +10,12 @@ returns-in-Releases c = if_ok c.push.result
     ∙ ap (λ judged. map comparator_of c.args.comparators.now.items ++ judging_read judged s) (sym c.in-Releases.is))
     c.push.ensures
 
+pub returns-in-All : goal.returns-in-All
+returns-in-All c = if_ok c.push-in-All.result
+    (λ _ pushed s is e. pushed s is e
+    ∙ ap (λ judged. map comparator_of c.args.comparators.now.items ++ judging_read judged s) (sym c.in-All.is))
+    c.push-in-All.ensures
+
 pub returns-in-PreReleases : goal.returns-in-PreReleases
 returns-in-PreReleases c = if_ok c.push-in-PreReleases.result
     (λ _ pushed s is e. pushed s is e

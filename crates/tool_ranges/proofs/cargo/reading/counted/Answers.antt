@@ -12,8 +12,7 @@ pub returns : goal.returns
 returns c =
     if_ok c.intersection-2.result
     (λ set is tree v h small. is v
-    ∙ (λ i. (c.in_ok-judged.ensures.meaning (record { plain = v; build = [] }) small
-    ∙ ap (meets_set v) (c.in_ok-build.ensures tree h)) i
+    ∙ (λ i. c.in_ok-judged.ensures tree v h small i
     && (c.in_ok-of_set.ensures.meaning (record { plain = v; build = [] }) small
     ∙ ap (λ ranges. meets_set v (set_with ranges)) (c.requires.ranges tree h)) i))
     c.intersection-2.ensures.has
