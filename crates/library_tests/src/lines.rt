@@ -7,8 +7,7 @@ use std::io::ErrorKind;
 
 /// The text: a byte order mark, six versions of which `^1.2` means four, an empty line, and the
 /// second line, which is no version.
-const TEXT: &[u8] =
-    b"\xEF\xBB\xBF1.2.0\r\nx\n1.3.0-rc\n\r\n1.9.0+b\n2.0.0\n1.9.0+a\n1.4.0";
+const TEXT: &[u8] = b"\xEF\xBB\xBF1.2.0\r\nx\n1.3.0-rc\n\r\n1.9.0+b\n2.0.0\n1.9.0+a\n1.4.0";
 
 /// What is appended of it, by what is wanted.
 const APPENDED: [(Wanted, &str); 4] = [
@@ -28,8 +27,18 @@ const LENGTHS: [usize; 5] = [1, 2, 3, 7, 64];
 /// Lines with two prefixes, and what `^11` keeps of them: the first prefix after which there is a
 /// version decides.
 const PREFIXES: [(&str, &str, &str, &str); 6] = [
-    ("v", "", "v11.2.0\n11.4.0\nw11.5.0\nvv11.6.0\n", "v11.2.0\n11.4.0\n"),
-    ("", "v", "v11.2.0\n11.4.0\nw11.5.0\nvv11.6.0\n", "v11.2.0\n11.4.0\n"),
+    (
+        "v",
+        "",
+        "v11.2.0\n11.4.0\nw11.5.0\nvv11.6.0\n",
+        "v11.2.0\n11.4.0\n",
+    ),
+    (
+        "",
+        "v",
+        "v11.2.0\n11.4.0\nw11.5.0\nvv11.6.0\n",
+        "v11.2.0\n11.4.0\n",
+    ),
     ("1", "", "11.2.0\n111.2.0\n", "111.2.0\n"),
     ("", "1", "11.2.0\n111.2.0\n", "11.2.0\n"),
     ("v", "vv", "vv11.2.0\nv11.2.0", "vv11.2.0\nv11.2.0"),
@@ -142,10 +151,8 @@ fn are_counted(lines: &Lines) -> bool {
     counts.lines == 8
         && counts.empty == 1
         && counts.invalid == 1
-        && counts
-            .first_invalid
-            .as_ref()
-            .is_some_and(|line| line.number == 2 && line.front.as_slice() == "x".as_bytes())
+        && counts.first_invalid.as_ref().is_some_and(|line| line.number == 2
+            && line.front.as_slice() == "x".as_bytes())
 }
 
 /// Whether pieces of this length append this.
@@ -227,10 +234,8 @@ fn skips(alloc: Global, before: &str, line: &[u8], after: &str) -> Result<bool, 
     let number = if before.is_empty() { 1 } else { 2 };
     let counts = lines.counts();
     let is_counted = counts.invalid == 1
-        && counts
-            .first_invalid
-            .as_ref()
-            .is_some_and(|first| first.number == number && first.front.as_slice() == line);
+        && counts.first_invalid.as_ref().is_some_and(|first| first.number == number
+            && first.front.as_slice() == line);
     Ok(has_ended && is_counted && kept == wanted)
 }
 

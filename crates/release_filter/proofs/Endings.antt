@@ -5,7 +5,7 @@ use Rattle.std.specs.Prelude.{◌||◌}
 use Rattle.semver_parser.specs.Outlines.{OutlineValue}
 use Rattle.semver_parser.specs.Texts.{Text, is_empty}
 use Rattle.semver_parser.specs.Versions.{PlainVersion}
-use Rattle.release_filter.specs.Counting.{CountsValue, counted, counted_as}
+use Rattle.release_filter.specs.Counting.{CountsValue, counted, counted_as, one_more}
 use Rattle.release_filter.specs.Filters.{FilterValue}
 use Rattle.release_filter.specs.LineTexts.{IsWholeLine, after_mark, line_text, lines_of}
 use Rattle.release_filter.specs.Pieces.{Completes, EndsInvalid, LinesValue, Takes}
@@ -13,7 +13,8 @@ use Rattle.release_filter.specs.Steps.Outlined.{JudgesBy}
 use Rattle.release_filter.specs.Steps.Taking.{Concludes, Outlines, PassesAs, TakesLine, TakesWhole, verdict_of}
 use Rattle.release_filter.specs.Verdicts.{AreJudged, HasVersion, IsVerdictOn, JudgedLine, Verdict, asked, has_invalid, is_invalid, kept, dropped}
 use Rattle.release_filter.specs.Verdicts.{empty, invalid}
-use Rattle.release_filter.specs.Wanted.{HeldValue, Holds, KeptValue, emptied, kept_as, kept_of, text_of}
+use Rattle.release_filter.specs.Wanted.{HeldValue, Holds, HoldsBy, KeptValue, emptied, kept_as, kept_of, text_of}
+use Rattle.release_filter.specs.declared.wanted.Wanted.TheVariants as wanted
 use Rattle.release_filter.specs.declared.judging.Judged.{Judged}
 use Rattle.release_filter.specs.declared.judging.Judged.TheVariants.{NoVersion, DoesNotPass, Passes}
 use Rattle.release_filter.proofs.Holding.{holds_none, kept_one}
@@ -77,6 +78,22 @@ takes_other h c d line said plain old isnt counts = record {
   appended = sym (append-nil old);
   counted = counts;
 }
+
+-- of a line that is kept and wanted at once, all is appended
+pub takes_each : (h : HeldValue) (c d : CountsValue) (line : Text) (said : Judged) (o : OutlineValue) (plain : PlainVersion) (old new : Text)
+    → h.wanted ≡ wanted.Each → said ≡ Passes o → old ≡ [] → new ≡ line → d ≡ record c { lines = one_more c.lines }
+    → TakesLine h c line (verdict_of said plain line) h d old new × (true ≡ not (is_invalid (verdict_of said plain line)))
+takes_each h c d line said o plain old new each is none whole counts = (
+  record {
+    added = line;
+    holds =
+        subst (λ s. Holds h (kept_as (verdict_of s plain line) line) h line) (sym is)
+        (subst (λ w. HoldsBy w h (record { version = plain; line = line } ∷ []) h line) (sym each) (refl, sym (append-nil line)));
+    appended = whole ∙ ap (λ l. l ++ line) (sym none);
+    counted = counts ∙ ap (λ s. counted_as (verdict_of s plain line) c line) (sym is);
+  },
+  ap (λ s. not (is_invalid (verdict_of s plain line))) (sym is),
+)
 
 -- a line was taken of which a filter says this
 pub took_judged : (s : LinesValue) (end left line : Text) (said : Judged) (front : Bool) (g : HeldValue) (d : CountsValue) (old new : Text)
@@ -165,55 +182,55 @@ module _ (s : LinesValue) (line : Text) (is : line ≡ after_mark s.at_front s.u
       not_both (ap has_invalid those ∙ bad) refl
 
   module _ (some : line ≡ [] → ⊥) (none : NoEnd s.unended) (said : Judged) (judges : JudgesBy (HasVersion (asked s.prefixes) line) s.filter said)
-      where
-    one_line : (l : Text) → (l ≡ [] → ⊥) → NoEnd l → lines_of l ≡ l ∷ []
-    one_line [] some none = absurd (some refl)
-    one_line (x ∷ xs) some none = one_left x xs none
+    where
+      one_line : (l : Text) → (l ≡ [] → ⊥) → NoEnd l → lines_of l ≡ l ∷ []
+      one_line [] some none = absurd (some refl)
+      one_line (x ∷ xs) some none = one_left x xs none
 
-    told : (plain : PlainVersion) × PassesAs said plain × IsVerdictOn s.filter s.prefixes line (verdict_of said plain line)
-    told = verdict s.filter s.prefixes line said judges
+      told : (plain : PlainVersion) × PassesAs said plain × IsVerdictOn s.filter s.prefixes line (verdict_of said plain line)
+      told = verdict s.filter s.prefixes line said judges
 
-    abbrev last : JudgedLine
-    last = record { line = line; verdict = verdict_of said told.0 line }
+      abbrev last : JudgedLine
+      last = record { line = line; verdict = verdict_of said told.0 line }
 
-    last_judged : AreJudged s.filter s.prefixes (lines_of (after_mark s.at_front s.unended)) (last ∷ [])
-    last_judged =
-        subst (λ l. AreJudged s.filter s.prefixes (lines_of l) (last ∷ [])) is
-        (subst (λ l. AreJudged s.filter s.prefixes l (last ∷ []))
-        (sym (one_line line some (subst NoEnd (sym is) (no_end_marked s.at_front s.unended none))))
-        (judged_one s.filter s.prefixes line (verdict_of said told.0 line) told.2))
+      last_judged : AreJudged s.filter s.prefixes (lines_of (after_mark s.at_front s.unended)) (last ∷ [])
+      last_judged =
+          subst (λ l. AreJudged s.filter s.prefixes (lines_of l) (last ∷ [])) is
+          (subst (λ l. AreJudged s.filter s.prefixes l (last ∷ []))
+          (sym (one_line line some (subst NoEnd (sym is) (no_end_marked s.at_front s.unended none))))
+          (judged_one s.filter s.prefixes line (verdict_of said told.0 line) told.2))
 
-    pub finished_one : (d : CountsValue) (old new : Text)
-        → ((plain : PlainVersion) → PassesAs said plain → Concludes s.held (kept_as (verdict_of said plain line) line) old new)
-        → ((plain : PlainVersion) → d ≡ counted_as (verdict_of said plain line) s.counts line) → (bad : Bool)
-        → ((plain : PlainVersion) → bad ≡ is_invalid (verdict_of said plain line)) → (IsTrue s.is_strict → bad ≡ false)
-        → (judged : List JudgedLine) × Completes s (after_mark s.at_front s.unended) judged (Ended s.held d) old new
-        × (IsTrue s.is_strict → has_invalid judged ≡ false)
-    finished_one d old new concludes counts bad so valid =
-        let end = concludes told.0 told.1 in (
-          last ∷ [],
-          record {
-            judges = last_judged;
-            held = end.0;
-            added = end.1;
-            rest = end.2;
-            holds = subst (λ l. Holds s.held l end.0 end.1) (sym (kept_one last)) end.3;
-            answers = end.4;
-            appended = end.5;
-            state = λ i. record (Ended s.held d) { counts = counts told.0 i };
-          },
-          λ strict. or_false (is_invalid (verdict_of said told.0 line)) (sym (so told.0) ∙ valid strict),
-        )
-      where
-        or_false : (b : Bool) → b ≡ false → (b || false) ≡ false
-        or_false true e = e
-        or_false false e = refl
+      pub finished_one : (d : CountsValue) (old new : Text)
+          → ((plain : PlainVersion) → PassesAs said plain → Concludes s.held (kept_as (verdict_of said plain line) line) old new)
+          → ((plain : PlainVersion) → d ≡ counted_as (verdict_of said plain line) s.counts line) → (bad : Bool)
+          → ((plain : PlainVersion) → bad ≡ is_invalid (verdict_of said plain line)) → (IsTrue s.is_strict → bad ≡ false)
+          → (judged : List JudgedLine) × Completes s (after_mark s.at_front s.unended) judged (Ended s.held d) old new
+          × (IsTrue s.is_strict → has_invalid judged ≡ false)
+      finished_one d old new concludes counts bad so valid =
+          let end = concludes told.0 told.1 in (
+            last ∷ [],
+            record {
+              judges = last_judged;
+              held = end.0;
+              added = end.1;
+              rest = end.2;
+              holds = subst (λ l. Holds s.held l end.0 end.1) (sym (kept_one last)) end.3;
+              answers = end.4;
+              appended = end.5;
+              state = λ i. record (Ended s.held d) { counts = counts told.0 i };
+            },
+            λ strict. or_false (is_invalid (verdict_of said told.0 line)) (sym (so told.0) ∙ valid strict),
+          )
+        where
+          or_false : (b : Bool) → b ≡ false → (b || false) ≡ false
+          or_false true e = e
+          or_false false e = refl
 
-    pub ends_invalid : (bad : Bool) → ((plain : PlainVersion) → bad ≡ is_invalid (verdict_of said plain line)) → bad ≡ true → EndsInvalid s
-    ends_invalid bad so e = (last ∷ [], last_judged, ap (λ b. b || false) (sym (so told.0) ∙ e))
+      pub ends_invalid : (bad : Bool) → ((plain : PlainVersion) → bad ≡ is_invalid (verdict_of said plain line)) → bad ≡ true → EndsInvalid s
+      ends_invalid bad so e = (last ∷ [], last_judged, ap (λ b. b || false) (sym (so told.0) ∙ e))
 
-    pub ends_valid : OneVersion → (bad : Bool) → ((plain : PlainVersion) → bad ≡ is_invalid (verdict_of said plain line)) → bad ≡ false
-        → ¬ (EndsInvalid s)
-    ends_valid same bad so e (judged, judges, isnt) =
-        let those = one_judging s.filter s.prefixes same (lines_of (after_mark s.at_front s.unended)) (last ∷ []) judged last_judged judges in
-        not_both (ap has_invalid those ∙ isnt) (ap (λ b. b || false) (sym (so told.0) ∙ e))
+      pub ends_valid : OneVersion → (bad : Bool) → ((plain : PlainVersion) → bad ≡ is_invalid (verdict_of said plain line)) → bad ≡ false
+          → ¬ (EndsInvalid s)
+      ends_valid same bad so e (judged, judges, isnt) =
+          let those = one_judging s.filter s.prefixes same (lines_of (after_mark s.at_front s.unended)) (last ∷ []) judged last_judged judges in
+          not_both (ap has_invalid those ∙ isnt) (ap (λ b. b || false) (sym (so told.0) ∙ e))

@@ -13,7 +13,7 @@ ghost use Rattle.release_filter.specs.Steps.Taking.{PassesAs, TakesLine, TakesWh
 ghost use Rattle.release_filter.specs.Steps.Taking.{verdict_of};
 ghost use Rattle.release_filter.specs.Verdicts.{JudgedLine, has_invalid, is_invalid};
 
-use crate::counts::{Counts, is_invalid};
+use crate::counts::{Counts, Noted, is_invalid};
 use crate::filter::Filter;
 use crate::judging::Judged;
 use crate::line_filter::LineFilter;
@@ -22,6 +22,7 @@ use crate::wanted::{Held, Wanted};
 use semver_parser::laws;
 use std::alloc::{AllocError, Global};
 use std::marker::Model;
+use std::mem;
 use thiserror::Error;
 
 /// Why lines were not taken to the end.
@@ -136,12 +137,7 @@ impl Lines {
     /// A kept line is appended as it is, with the line feed that ends it, but for a byte order mark
     /// at the front of the text. What a text appends doesn't depend on how it is cut into pieces
     /// ([`pieces_do_not_matter`](crate::laws::pieces_do_not_matter)).
-    pub fn push(
-        &mut self,
-        alloc: Global,
-        piece: &[u8],
-        kept: &mut Vec<u8>,
-    ) -> Result<(), Stopped>
+    pub fn push(&mut self, alloc: Global, piece: &[u8], kept: &mut Vec<u8>) -> Result<(), Stopped>
         ensures takes { IfOk result (λ _. (judged : List JudgedLine) × Takes self.old piece.now
             judged self.new kept.old.items kept.new.items
             × (IsTrue self.old.is_strict → has_invalid judged ≡ false)) }
@@ -271,6 +267,8 @@ impl Lines {
     }
 
     /// Takes the end of the line that has not ended, and tells whether the line is no invalid one.
+    /// So that a long line isn't held twice, one that is kept is handed over if nothing was
+    /// appended before it.
     fn take_line(
         &mut self,
         alloc: Global,
@@ -285,8 +283,16 @@ impl Lines {
     {
         let begun = self.unended.len();
         self.unended.extend_from_slice(end)?;
+        let may_hand_over = may_hand_over(self.held.wanted, self.at_front, kept.as_slice());
         let line = after_mark(self.at_front, self.unended.as_slice());
         let judged = self.chosen.judge_line(line);
+        if let Judged::Passes(_) = judged {
+            if may_hand_over {
+                self.counts.add(Noted::Version);
+                mem::swap(kept, &mut self.unended);
+                return Ok(true);
+            }
+        }
         match take(alloc, line, &judged, &mut self.held, &mut self.counts, kept) {
             Ok(is_valid) => {
                 self.unended.clear();
@@ -298,6 +304,16 @@ impl Lines {
                 Err(error)
             }
         }
+    }
+}
+
+/// Whether a kept line may take the place of what was appended, since it is all that is.
+fn may_hand_over(wanted: Wanted, at_front: bool, kept: &[u8]) -> bool
+    ensures { result ≡ true → (wanted ≡ Wanted.Each) × (at_front ≡ false) × (kept.now ≡ []) }
+{
+    match wanted {
+        Wanted::Each => !at_front && kept.is_empty(),
+        Wanted::Greatest | Wanted::Least | Wanted::Sorted => false,
     }
 }
 

@@ -146,8 +146,7 @@ returns-clause-finishes c =
     ] in
     let ended = finished_one value line is some c.self.invariant c.judge_line-judged.result c.judge_line-judged.ensures
     (counts_value c.add.new.self) old new c.in-Ok-finish.ensures.answers (λ plain. c.add.ensures ∙ c.in-Ok-noted.ensures plain)
-    c.is_invalid-is_bad.result c.is_invalid-is_bad.ensures valid in
-    (
+    c.is_invalid-is_bad.result c.is_invalid-is_bad.ensures valid in (
       ended.0,
       seen_end value _ _ _ ended.0 old new c.self.view_is c.begin-2.ensures ended.1,
       λ strict. ended.2 (ap (λ (v : LinesValue). v.is_strict) c.self.view_is ∙ strict),

@@ -1,9 +1,9 @@
-use Rattle.std.proofs.Common.{◌≡◌, ◌++◌, false, refl}
+use Rattle.std.proofs.Common.{◌≡◌, ◌∙◌, ◌++◌, ℕ, Global, Vec, ap, false, refl, sym, true}
 use Rattle.release_filter.specs.Counting.{counts_value}
 use Rattle.release_filter.specs.LineTexts.{after_mark}
 use Rattle.release_filter.specs.Pieces.{LinesValue}
 use Rattle.release_filter.specs.Steps.Taking.{held_value, texts}
-use Rattle.release_filter.proofs.Endings.{took_judged}
+use Rattle.release_filter.proofs.Endings.{takes_each, took_judged}
 use Rattle.release_filter.proofs.TakenPieces.{seen}
 use Rattle.release_filter.proofs.lines.Lines.take_line.Goals as goal
 
@@ -25,3 +25,31 @@ returns-in-Ok-clause-takes c =
     (held_value c.take.new.held) (counts_value c.take.new.counts) c.args.kept.now.items c.take.new.kept.items c.in-Ok.is_valid c.requires
     c.self.invariant line c.judge_line-judged.ensures c.in-Ok.ensures.takes c.clear.ensures.items refl in
     (whole.0, seen _ _ _ _ _ _ _ c.self.view_is whole.1, whole.2, whole.3)
+
+pub returns-then-may_hand_over-clause-takes : goal.returns-then-may_hand_over-clause-takes
+returns-then-may_hand_over-clause-takes c =
+    let s = c.self.inside in
+    let value : LinesValue = record {
+      filter = s.chosen.filter;
+      prefixes = texts s.chosen.prefixes.items;
+      is_strict = s.is_strict;
+      at_front = s.at_front;
+      unended = s.unended.items;
+      held = held_value s.held;
+      counts = counts_value s.counts;
+    } in
+    let may = c.may_hand_over-may_hand_over.ensures c.if-may_hand_over.true in
+    let line = c.after_mark-line.result.now in
+    let is : line ≡ after_mark s.at_front (s.unended.items ++ c.args.end.now) = cc c.in_ok-extend_from_slice.ensures.items in
+    let nothing = sym c.as_slice.ensures.value ∙ may.2 in
+    let old = c.args.kept.now.items in
+    let new = c.swap.new.x.items in
+    let whole : new ≡ line =
+    ap (λ (v : Vec ℕ Global). v.items) c.swap.ensures.x_after ∙ c.in_ok-extend_from_slice.ensures.items
+    ∙ sym (is ∙ ap (λ b. after_mark b (s.unended.items ++ c.args.end.now)) may.1) in
+    let left = ap (λ (v : Vec ℕ Global). v.items) c.swap.ensures.y_after ∙ nothing in
+    let taken = took_judged value c.args.end.now c.swap.new.y.items line c.judge_line-judged.result s.at_front (held_value s.held)
+    (counts_value c.add.new.self) old new true c.requires c.self.invariant is c.judge_line-judged.ensures
+    (λ plain passes. takes_each (held_value s.held) (counts_value s.counts) (counts_value c.add.new.self) line c.judge_line-judged.result _
+    plain old new may.0 c.in-Passes.is nothing whole c.add.ensures) left may.1 in
+    (taken.0, seen _ _ _ _ _ _ _ c.self.view_is taken.1, taken.2, taken.3)
