@@ -41,7 +41,7 @@ from .values import (
     precedence,
 )
 
-__version__ = "0.3.1"
+__version__ = "0.3.2"
 
 __all__ = [
     "AnyVersion",
