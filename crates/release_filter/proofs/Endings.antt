@@ -1,19 +1,18 @@
 -- What one line does to the state, and what the line that no line feed ends does.
-use Rattle.std.proofs.Common.{◌≡◌, ◌≢◌, ◌∙◌, ◌⊎◌, ◌++◌, ◌∷◌, ◌&&◌, [], List, ℕ, Bool, true, false, not, refl, sym, ap, cond, subst, inl, inr, IsTrue, Option, Some}
-use Rattle.std.proofs.Common.{append-nil, length, map, ◌==◌}
+use Rattle.std.proofs.Common.{◌≡◌, ◌∙◌, ◌⊎◌, ◌++◌, ◌∷◌, [], List, Bool, true, false, not, refl, sym, ap, cond, subst, inl, inr, IsTrue}
+use Rattle.std.proofs.Common.{append-nil, length, ◌==◌}
 use Rattle.std.specs.Prelude.{◌||◌}
 use Rattle.semver_parser.specs.Outlines.{OutlineValue}
 use Rattle.semver_parser.specs.Texts.{Text, is_empty}
 use Rattle.semver_parser.specs.Versions.{PlainVersion}
-use Rattle.release_filter.specs.Counting.{CountsValue, counted, counted_as, one_more}
-use Rattle.release_filter.specs.Filters.{FilterValue}
+use Rattle.release_filter.specs.Counting.{CountsValue, counted_as, one_more}
 use Rattle.release_filter.specs.LineTexts.{IsWholeLine, after_mark, line_text, lines_of}
 use Rattle.release_filter.specs.Pieces.{Completes, EndsInvalid, LinesValue, Takes}
 use Rattle.release_filter.specs.Steps.Outlined.{JudgesBy}
 use Rattle.release_filter.specs.Steps.Taking.{Concludes, Outlines, PassesAs, TakesLine, TakesWhole, verdict_of}
 use Rattle.release_filter.specs.Verdicts.{AreJudged, HasVersion, IsVerdictOn, JudgedLine, Verdict, asked, has_invalid, is_invalid, kept, dropped}
 use Rattle.release_filter.specs.Verdicts.{empty, invalid}
-use Rattle.release_filter.specs.Wanted.{HeldValue, Holds, HoldsBy, KeptValue, emptied, kept_as, kept_of, text_of}
+use Rattle.release_filter.specs.Wanted.{HeldValue, Holds, HoldsBy, KeptValue, emptied, kept_as, text_of}
 use Rattle.release_filter.specs.declared.wanted.Wanted.TheVariants as wanted
 use Rattle.release_filter.specs.declared.judging.Judged.{Judged}
 use Rattle.release_filter.specs.declared.judging.Judged.TheVariants.{NoVersion, DoesNotPass, Passes}

@@ -1,6 +1,6 @@
 -- What holding a kept line does, and what is appended at the end of a text.
 use Rattle.std.proofs.Common.{◌≡◌, ◌∙◌, ◌⊎◌, ◌↔◌, ◌++◌, ◌∷◌, ◌<◌, ◌+◌, [], List, ℕ, Bool, true, false, refl, sym, ap, ap₂, subst, inl, inr}
-use Rattle.std.proofs.Common.{Option, Some, None, MatchOption, Vec, Global, Bor, append_assoc, append-nil, arith, drop, get_or, length, map, take, Less}
+use Rattle.std.proofs.Common.{Option, Some, None, MatchOption, Vec, Global, Bor, append_assoc, append-nil, drop, get_or, length, map, take, Less}
 use Rattle.std.proofs.Math.Seq.{take-append_seam}
 use Rattle.std.proofs.lemmas.List.{drop_more, map-append}
 use Rattle.std.specs.Cmp.{IsTotalOrder}

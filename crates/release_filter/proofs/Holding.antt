@@ -1,23 +1,22 @@
 -- What is held of kept lines: of none, of some and of more, and that it is one thing.
-use Rattle.std.proofs.Common.{◌≡◌, ◌≢◌, ◌∙◌, ◌++◌, ◌∷◌, ◌<◌, ◌-◌, [], List, ℕ, Bool, true, false, cond, refl, sym, ap, ap₂, subst, arith}
-use Rattle.std.proofs.Common.{append_assoc, append-nil, filter, get_or, length, map, Option, Some, None, suc, Less, Equal, Greater}
+use Rattle.std.proofs.Common.{◌≡◌, ◌≢◌, ◌∙◌, ◌++◌, ◌∷◌, [], List, refl, sym, ap, ap₂, subst}
+use Rattle.std.proofs.Common.{append_assoc, append-nil, map, Option, Some, None, Less, Equal, Greater}
 use Rattle.std.proofs.lemmas.List.{map-append}
 use Rattle.std.proofs.lemmas.List.Folds.{concat-append}
-use Rattle.std.specs.Cmp.{IsTotalOrder, Equal-is, back_total}
-use Rattle.std.specs.List.{AllByRecursion, AllPairs, concat}
-use Rattle.std.specs.Ordering.{is_eq, ordering_reverse}
+use Rattle.std.specs.Cmp.{IsTotalOrder, back_total}
+use Rattle.std.specs.List.{AllByRecursion, concat}
+use Rattle.std.specs.Ordering.{ordering_reverse}
 use Rattle.std.specs.Prelude.{option_to_list}
 use Rattle.std.specs.declared.cmp.Ordering.{Ordering}
 use Rattle.semver_parser.specs.Precedence.{precedence}
 use Rattle.semver_parser.specs.Texts.{Text}
 use Rattle.semver_parser.specs.Versions.{PlainVersion}
-use Rattle.release_filter.specs.Verdicts.{JudgedLine, kept, dropped, invalid, empty}
-use Rattle.release_filter.specs.Wanted.{Answers, AnswersBy, HeldValue, Holds, HoldsBy, IsBest, IsFirstGreatest, IsStableSort, KeptValue}
-use Rattle.release_filter.specs.Wanted.{ended_text, kept_as, kept_of, order_of, text_of}
+use Rattle.release_filter.specs.Verdicts.{JudgedLine}
+use Rattle.release_filter.specs.Wanted.{HeldValue, Holds, HoldsBy, IsBest, IsFirstGreatest, KeptValue}
+use Rattle.release_filter.specs.Wanted.{kept_as, kept_of, order_of, text_of}
 use Rattle.release_filter.specs.declared.wanted.Wanted.{Wanted}
 use Rattle.release_filter.specs.declared.wanted.Wanted.TheVariants.{Each, Greatest, Least, Sorted}
 use Rattle.release_filter.proofs.ExtremeSteps.{all_append, all_map}
-use Rattle.release_filter.proofs.Passing.{not_both}
 
 -- ---- the kept ones of lines
 

@@ -1,10 +1,9 @@
 -- What a line is, prefix by prefix.
 use Rattle.std.proofs.Common.{◌≡◌, ◌∙◌, ◌++◌, ◌∷◌, ◌≤◌, ◌<◌, ◌-◌, [], List, ℕ, Bool, true, false, cond, refl, sym, ap, ap₂, inl, inr, subst, arith}
-use Rattle.std.proofs.Common.{String, Global, string_bytes, length, get_or, take, drop, Option, Some, None, map}
+use Rattle.std.proofs.Common.{String, Global, string_bytes, length, get_or, take, drop, Option, map}
 use Rattle.std.proofs.lemmas.Grind.{common_steps}
 use Rattle.std.proofs.lemmas.List.{append_cancel_left, map-append}
 use Rattle.std.specs.List.{AllByRecursion}
-use Rattle.std.specs.Prelude.{IsTrue}
 use Rattle.semver_parser.specs.Texts.{Text, is_empty}
 use Rattle.semver_parser.specs.Versions.{PlainVersion, VersionValue}
 use Rattle.semver_parser.specs.VersionGrammar.{SpellsVersion}
@@ -14,7 +13,7 @@ use Rattle.release_filter.specs.Judging.{IsJudged}
 use Rattle.release_filter.specs.LineTexts.{line_text}
 use Rattle.release_filter.specs.Steps.Outlined.{IsOutlined, JudgesBy}
 use Rattle.release_filter.specs.Steps.Taking.{PassesAs, texts, verdict_of}
-use Rattle.release_filter.specs.Verdicts.{AreJudged, HasNoVersion, HasVersion, IsVerdictOn, JudgedLine, SpellsAfter, Verdict, asked}
+use Rattle.release_filter.specs.Verdicts.{AreJudged, HasVersion, IsVerdictOn, JudgedLine, SpellsAfter, Verdict, asked}
 use Rattle.release_filter.specs.Verdicts.{kept, dropped, invalid, empty}
 use Rattle.release_filter.specs.declared.judging.Judged.{Judged}
 use Rattle.release_filter.specs.declared.judging.Judged.TheVariants.{NoVersion, DoesNotPass, Passes}

@@ -1,17 +1,16 @@
 -- What is counted of a line that has no version.
-use Rattle.std.proofs.Common.{◌≡◌, ◌∙◌, ◌+◌, ◌-◌, ◌^◌, ◌==◌, ◌≤◌, ◌⊎◌, inl, inr, [], ◌∷◌, List, ℕ, Bool, true, false, cond, refl, sym, ap, subst, arith}
+use Rattle.std.proofs.Common.{◌≡◌, ◌∙◌, ◌==◌, [], ◌∷◌, ℕ, Bool, true, false, cond, refl, sym, ap, arith}
 use Rattle.std.proofs.Common.{Option, Some, None, Vec, Global, length, min, take, rules}
 use Rattle.std.proofs.lemmas.Grind.{common_steps}
 use Rattle.std.specs.Option.{is_some, option_map}
 use Rattle.semver_parser.specs.Texts.{Text, is_empty}
-use Rattle.release_filter.specs.Counting.{CountsValue, InvalidValue, counted_as, counts_value, first_of, invalid_value, one_more}
+use Rattle.release_filter.specs.Counting.{InvalidValue, counted_as, counts_value, first_of, invalid_value, one_more}
 use Rattle.release_filter.specs.LineTexts.{line_text}
 use Rattle.release_filter.specs.Steps.Noting.{added}
 use Rattle.release_filter.specs.Steps.Taking.{without_version}
 use Rattle.release_filter.specs.Verdicts.{empty, invalid}
 use Rattle.release_filter.specs.declared.counts.Counts.{Counts}
 use Rattle.release_filter.specs.declared.counts.InvalidLine.{InvalidLine}
-use Rattle.release_filter.specs.declared.counts.Noted.{Noted}
 use Rattle.release_filter.specs.declared.counts.Noted.TheVariants.{Empty, FirstInvalid, Invalid}
 use Rattle.release_filter.proofs.Passing.{not_both}
 

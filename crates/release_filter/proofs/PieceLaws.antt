@@ -1,6 +1,6 @@
 -- That a piece of a text does one thing, and what all of a text does.
 use Rattle.std.proofs.Common.{◌≡◌, ◌≢◌, ◌∙◌, ◌++◌, ◌∷◌, ◌<◌, ◌≤◌, ◌-◌, ◌&&◌, ◌==◌, [], List, ◌⊎◌, ℕ, Bool, true, false, refl, sym, subst, inl, inr}
-use Rattle.std.proofs.Common.{All, ap, ap₂, append_assoc, append-nil, arith, cond, get_or, length, length-append, length-drop, length-take, suc, take, drop, map, eqb, zero}
+use Rattle.std.proofs.Common.{All, ap, ap₂, append_assoc, append-nil, arith, cond, get_or, length, length-append, length-drop, length-take, suc, take, drop, map, eqb}
 use Rattle.std.proofs.Common.{Result, Ok, Err, IfOk, IfErr}
 use Rattle.std.specs.Cmp.{IsTotalOrder}
 use Rattle.std.specs.List.{AllByRecursion, concat}
@@ -11,12 +11,12 @@ use Rattle.std.proofs.Math.Bool.{and-false}
 use Rattle.std.proofs.Math.Seq.{take-add}
 use Rattle.std.proofs.lemmas.Bool.{cases_lt}
 use Rattle.std.proofs.lemmas.Grind.{common_steps}
-use Rattle.std.proofs.lemmas.List.{append_cancel_left, take-append-drop}
+use Rattle.std.proofs.lemmas.List.{take-append-drop}
 use Rattle.std.proofs.lemmas.List.Elements.{All-same, All-tail}
 use Rattle.semver_parser.specs.Precedence.{precedence}
 use Rattle.semver_parser.specs.Texts.{Text, is_empty}
 use Rattle.release_filter.specs.Counting.{counted}
-use Rattle.release_filter.specs.LineTexts.{AreCut, IsWholeLine, onto_first, after_mark, lines_of, marked_off, without_mark}
+use Rattle.release_filter.specs.LineTexts.{IsWholeLine, onto_first, after_mark, lines_of, marked_off, without_mark}
 use Rattle.release_filter.specs.Pieces.{Completes, Finishes, LinesValue, RefusesEnd, StopsAs, Takes, begun}
 use Rattle.release_filter.specs.declared.lines.LinesError.{LinesError}
 use Rattle.release_filter.specs.declared.lines.LinesError.TheVariants.{OutOfMemory, NoVersion}

@@ -1,6 +1,6 @@
 -- That what `sort_by` did with held lines is their stable sort.
-use Rattle.std.proofs.Common.{◌≡◌, ◌∙◌, ◌⊎◌, ◌<◌, ◌+◌, ◌++◌, ◌∷◌, [], List, ℕ, Bool, true, false, not, cond, refl, sym, ap, ap₂, subst, inl, inr, arith}
-use Rattle.std.proofs.Common.{Bor, IsPermutation, Less, Equal, Greater, filter, get_or, length, map, rules}
+use Rattle.std.proofs.Common.{◌≡◌, ◌∙◌, ◌⊎◌, ◌<◌, ◌∷◌, [], List, Bool, true, false, not, cond, refl, sym, ap, ap₂, subst, inl, inr, arith}
+use Rattle.std.proofs.Common.{Bor, IsPermutation, Less, Equal, Greater, filter, get_or, length, rules}
 use Rattle.std.proofs.lemmas.Fn.{always_returns_same}
 use Rattle.std.proofs.lemmas.List.{get_or-map, length-map}
 use Rattle.std.proofs.lemmas.List.Sorted.{ranks_by, sorted_far, list_any-IsPermutation, IsPermutation-map}

@@ -1,5 +1,5 @@
 -- That lines have one stable sort by precedence.
-use Rattle.std.proofs.Common.{◌≡◌, ◌≢◌, ◌∙◌, ◌++◌, ◌∷◌, ◌<◌, [], List, ℕ, suc, Bool, true, false, cond, refl, sym, ap, ap₂, subst, arith}
+use Rattle.std.proofs.Common.{◌≡◌, ◌≢◌, ◌∙◌, ◌∷◌, ◌<◌, [], List, ℕ, suc, Bool, true, false, cond, refl, sym, ap, ap₂, arith}
 use Rattle.std.proofs.Common.{filter, get_or, length, Less, Equal, Greater}
 use Rattle.std.specs.Cmp.{IsTotalOrder}
 use Rattle.std.specs.List.{AllPairs}

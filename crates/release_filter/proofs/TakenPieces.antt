@@ -45,6 +45,19 @@ whole_after begun end none (some, stops, ends) = (
   λ more. last_after begun end some ∙ ends some,
 )
 
+-- what is after a mark is the whole of it if it is as long
+pub not_marked : (front : Bool) (text : Text) → length (after_mark front text) ≡ length text → after_mark front text ≡ text
+not_marked false text same = refl
+not_marked true [] same = refl
+not_marked true (a ∷ []) same = refl
+not_marked true (a ∷ b ∷ []) same = refl
+not_marked true (a ∷ b ∷ c ∷ rest) same = by_mark ((a == 0xEF) && ((b == 0xBB) && (c == 0xBF))) same
+  where
+    by_mark : (m : Bool) → length (cond m rest (a ∷ b ∷ c ∷ rest)) ≡ length (a ∷ b ∷ c ∷ rest)
+        → cond m rest (a ∷ b ∷ c ∷ rest) ≡ a ∷ b ∷ c ∷ rest
+    by_mark true same = absurd (omega (arith, same))
+    by_mark false same = refl
+
 -- the line that this ends
 abbrev pub line_with : LinesValue → Text → Text
 line_with s end = after_mark s.at_front (s.unended ++ end)

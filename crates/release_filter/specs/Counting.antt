@@ -1,5 +1,5 @@
 -- How many lines a text has, how many of these have no version, and the first of those.
-use Rattle.std.specs.Prelude.{ℕ, ◌+◌, ◌-◌, ◌^◌, min, List, [], ◌∷◌, take, Option, Some, None, Vec}
+use Rattle.std.specs.Prelude.{ℕ, ◌+◌, ◌-◌, ◌^◌, min, List, [], ◌∷◌, take, Option, Some, None}
 use Rattle.std.specs.Option.{option_map}
 use Rattle.semver_parser.specs.Texts.{Text}
 use Rattle.release_filter.specs.LineTexts.{line_text}

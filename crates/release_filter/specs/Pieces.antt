@@ -3,7 +3,7 @@ use Rattle.std.specs.Prelude.{◌≡◌, ◌&&◌, Bool, true, false, List, [], 
 use Rattle.semver_parser.specs.Texts.{Text, is_empty}
 use Rattle.release_filter.specs.Counting.{CountsValue, counted, one_more}
 use Rattle.release_filter.specs.Filters.{FilterValue}
-use Rattle.release_filter.specs.LineTexts.{AreCut, after_mark, lines_of, marked_off, without_mark}
+use Rattle.release_filter.specs.LineTexts.{AreCut, after_mark, lines_of, marked_off}
 use Rattle.release_filter.specs.Verdicts.{AreJudged, JudgedLine, has_invalid, invalid}
 use Rattle.release_filter.specs.Wanted.{Answers, HeldValue, Holds, emptied, kept_of}
 use Rattle.release_filter.specs.declared.lines.LinesError.{LinesError}

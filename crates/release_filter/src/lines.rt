@@ -283,12 +283,14 @@ impl Lines {
     {
         let begun = self.unended.len();
         self.unended.extend_from_slice(end)?;
-        let may_hand_over = may_hand_over(self.held.wanted, self.at_front, kept.as_slice());
-        let line = after_mark(self.at_front, self.unended.as_slice());
+        let marked = self.unended.as_slice();
+        let line = after_mark(self.at_front, marked);
+        let may_hand_over = may_hand_over(self.held.wanted, line, marked, kept.as_slice());
         let judged = self.chosen.judge_line(line);
         if let Judged::Passes(_) = judged {
             if may_hand_over {
                 self.counts.add(Noted::Version);
+                self.at_front = false;
                 mem::swap(kept, &mut self.unended);
                 return Ok(true);
             }
@@ -307,12 +309,14 @@ impl Lines {
     }
 }
 
-/// Whether a kept line may take the place of what was appended, since it is all that is.
-fn may_hand_over(wanted: Wanted, at_front: bool, kept: &[u8]) -> bool
-    ensures { result ≡ true → (wanted ≡ Wanted.Each) × (at_front ≡ false) × (kept.now ≡ []) }
+/// Whether a kept line may take the place of what was appended, since it is all that is: it has no
+/// byte order mark in front of it, and nothing was appended.
+fn may_hand_over(wanted: Wanted, line: &[u8], marked: &[u8], kept: &[u8]) -> bool
+    ensures { result ≡ true → (wanted ≡ Wanted.Each) × (length line.now ≡ length marked.now)
+        × (kept.now ≡ []) }
 {
     match wanted {
-        Wanted::Each => !at_front && kept.is_empty(),
+        Wanted::Each => line.len() == marked.len() && kept.is_empty(),
         Wanted::Greatest | Wanted::Least | Wanted::Sorted => false,
     }
 }

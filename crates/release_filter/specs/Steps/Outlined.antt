@@ -1,11 +1,10 @@
 -- What the outline of a text says, and what a filter says of it: a means of proof.
-use Rattle.std.specs.Prelude.{◌≡◌, ◌++◌, Bool, false, IsTrue, Option, Some, None}
+use Rattle.std.specs.Prelude.{◌≡◌, false, IsTrue, Option, Some, None}
 use Rattle.semver_parser.specs.Outlines.{OutlineValue, IsOutlineOf}
 use Rattle.semver_parser.specs.Texts.{Text}
 use Rattle.semver_parser.specs.VersionGrammar.{IsVersionText, SpellsVersion}
 use Rattle.semver_parser.specs.Versions.{VersionValue}
 use Rattle.release_filter.specs.Filters.{FilterValue, passes}
-use Rattle.release_filter.specs.LineTexts.{line_text}
 use Rattle.release_filter.specs.declared.judging.Judged.{Judged}
 use Rattle.release_filter.specs.declared.judging.Judged.TheVariants.{NoVersion, DoesNotPass, Passes}
 

@@ -1,5 +1,4 @@
-use Rattle.release_filter.specs.Steps.Taking.{kept_value}
-use Rattle.release_filter.proofs.Endings.{fails_kept, last_kept}
+use Rattle.release_filter.proofs.Endings.{last_kept}
 use Rattle.release_filter.proofs.wanted.last_line.Goals as goal
 
 pub returns-in_ok-kept_line-in-Passes : goal.returns-in_ok-kept_line-in-Passes

@@ -1,4 +1,4 @@
-use Rattle.std.proofs.Common.{◌≡◌, ◌∙◌, ◌==◌, arith, false, length, min, sym, take, true}
+use Rattle.std.proofs.Common.{◌≡◌, ◌∙◌, arith, length, min, sym, take}
 use Rattle.std.proofs.lemmas.Grind.{common_steps}
 use Rattle.release_filter.proofs.NotedLines.{noted_first, take_min}
 use Rattle.release_filter.proofs.counts.Counts.noted_without_version.Goals as goal

@@ -1,13 +1,12 @@
-use Rattle.std.proofs.Common.{◌≡◌, ◌∙◌, [], Bool, List, false, true, ap, inl, length, refl, subst, sym}
+use Rattle.std.proofs.Common.{◌≡◌, ◌∙◌, [], List, false, ap, inl, refl, subst, sym}
 use Rattle.semver_parser.specs.Versions.{PlainVersion}
 use Rattle.release_filter.specs.Wanted.{KeptValue}
 use Rattle.release_filter.specs.declared.judging.Judged.TheVariants as judged
 use Rattle.std.specs.Prelude.{IsTrue}
 use Rattle.release_filter.specs.Counting.{counts_value}
 use Rattle.release_filter.specs.LineTexts.{after_mark}
-use Rattle.release_filter.specs.Pieces.{Completes, EndsInvalid, Finishes, LinesValue, RefusesEnd, begun}
+use Rattle.release_filter.specs.Pieces.{EndsInvalid, LinesValue, RefusesEnd, begun}
 use Rattle.release_filter.specs.Steps.Taking.{Concludes, held_value, texts}
-use Rattle.release_filter.specs.Verdicts.{JudgedLine, has_invalid}
 use Rattle.release_filter.specs.declared.lines.LinesError.TheVariants.{NoVersion}
 use Rattle.release_filter.proofs.Endings.{fails_kept, ends_invalid, ends_valid, ends_valid_none, finished_none, finished_one, seen_end, some_line}
 use Rattle.release_filter.proofs.Passing.{no_length, not_both}

@@ -1,10 +1,9 @@
-use Rattle.std.proofs.Common.{◌≡◌, ◌∙◌, ◌++◌, ◌∷◌, [], List, Bool, true, false, not, ap, arith, refl, subst, sym}
-use Rattle.std.specs.Prelude.{IsTrue}
+use Rattle.std.proofs.Common.{◌≡◌, ◌∙◌, ◌++◌, ◌∷◌, [], ap, arith, refl, subst, sym}
 use Rattle.semver_parser.specs.Texts.{Text}
 use Rattle.release_filter.specs.Counting.{counts_value}
 use Rattle.release_filter.specs.Pieces.{LinesValue, Takes}
 use Rattle.release_filter.specs.Steps.Taking.{held_value, texts}
-use Rattle.release_filter.specs.Verdicts.{JudgedLine, has_invalid, is_invalid}
+use Rattle.release_filter.specs.Verdicts.{is_invalid}
 use Rattle.release_filter.proofs.Endings.{bad_verdict, one_more_valid, opposite, opposite_bad}
 use Rattle.release_filter.proofs.Passing.{not_both}
 use Rattle.release_filter.proofs.TakenPieces.{NoEnd, left_of, seen, took_all, took_next, took_nothing, took_rest}

@@ -1,10 +1,10 @@
-use Rattle.std.proofs.Common.{◌≡◌, ◌∙◌, ◌++◌, ℕ, Global, Vec, ap, false, refl, sym, true}
+use Rattle.std.proofs.Common.{◌≡◌, ◌∙◌, ◌++◌, ℕ, Global, Vec, ap, false, length, refl, sym, true}
 use Rattle.release_filter.specs.Counting.{counts_value}
 use Rattle.release_filter.specs.LineTexts.{after_mark}
 use Rattle.release_filter.specs.Pieces.{LinesValue}
 use Rattle.release_filter.specs.Steps.Taking.{held_value, texts}
 use Rattle.release_filter.proofs.Endings.{takes_each, took_judged}
-use Rattle.release_filter.proofs.TakenPieces.{seen}
+use Rattle.release_filter.proofs.TakenPieces.{not_marked, seen}
 use Rattle.release_filter.proofs.lines.Lines.take_line.Goals as goal
 
 pub returns-in-Ok-clause-takes : goal.returns-in-Ok-clause-takes
@@ -44,12 +44,14 @@ returns-then-may_hand_over-clause-takes c =
     let nothing = sym c.as_slice.ensures.value ∙ may.2 in
     let old = c.args.kept.now.items in
     let new = c.swap.new.x.items in
+    let long : length (after_mark s.at_front (s.unended.items ++ c.args.end.now)) ≡ length (s.unended.items ++ c.args.end.now) =
+    ap length (sym is) ∙ may.1 ∙ ap length (c.as_slice-marked.ensures.value ∙ c.in_ok-extend_from_slice.ensures.items) in
     let whole : new ≡ line =
     ap (λ (v : Vec ℕ Global). v.items) c.swap.ensures.x_after ∙ c.in_ok-extend_from_slice.ensures.items
-    ∙ sym (is ∙ ap (λ b. after_mark b (s.unended.items ++ c.args.end.now)) may.1) in
+    ∙ sym (is ∙ not_marked s.at_front (s.unended.items ++ c.args.end.now) long) in
     let left = ap (λ (v : Vec ℕ Global). v.items) c.swap.ensures.y_after ∙ nothing in
-    let taken = took_judged value c.args.end.now c.swap.new.y.items line c.judge_line-judged.result s.at_front (held_value s.held)
+    let taken = took_judged value c.args.end.now c.swap.new.y.items line c.judge_line-judged.result false (held_value s.held)
     (counts_value c.add.new.self) old new true c.requires c.self.invariant is c.judge_line-judged.ensures
     (λ plain passes. takes_each (held_value s.held) (counts_value s.counts) (counts_value c.add.new.self) line c.judge_line-judged.result _
-    plain old new may.0 c.in-Passes.is nothing whole c.add.ensures) left may.1 in
+    plain old new may.0 c.in-Passes.is nothing whole c.add.ensures) left refl in
     (taken.0, seen _ _ _ _ _ _ _ c.self.view_is taken.1, taken.2, taken.3)

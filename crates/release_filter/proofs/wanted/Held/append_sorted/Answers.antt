@@ -1,8 +1,6 @@
-use Rattle.std.proofs.Common.{◌≡◌, ◌∙◌, ◌++◌, ◌∷◌, [], Bor, Global, List, Option, Vec, ap, append-nil, drop, map, refl, sym, subst, rules}
-use Rattle.std.proofs.lemmas.List.{drop_all, map-append}
+use Rattle.std.proofs.Common.{◌≡◌, ◌∙◌, ◌++◌, Bor, Global, List, Vec, ap, append-nil, map, refl, sym, subst, rules}
+use Rattle.std.proofs.lemmas.List.{drop_all}
 use Rattle.std.proofs.lemmas.List.Sorted.{ranks_by}
-use Rattle.std.specs.Option.{option_map}
-use Rattle.std.specs.Prelude.{option_to_list}
 use Rattle.release_filter.specs.Steps.Taking.{kept_value}
 use Rattle.release_filter.specs.Wanted.{IsStableSort, KeptValue, ended_text}
 use Rattle.release_filter.specs.declared.wanted.KeptLine.{KeptLine}

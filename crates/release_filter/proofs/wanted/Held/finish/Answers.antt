@@ -1,4 +1,4 @@
-use Rattle.std.proofs.Common.{◌≡◌, ◌∙◌, ◌++◌, [], List, ap, append-nil, subst, sym}
+use Rattle.std.proofs.Common.{◌∙◌, ◌++◌, [], List, ap, append-nil, subst, sym}
 use Rattle.release_filter.specs.Steps.Taking.{Concludes, held_value, verdict_of}
 use Rattle.release_filter.specs.Wanted.{IsBest, IsStableSort, KeptValue, kept_as, order_of}
 use Rattle.release_filter.proofs.Endings.{fails_kept, text_kept}

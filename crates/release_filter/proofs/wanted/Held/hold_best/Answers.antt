@@ -1,4 +1,4 @@
-use Rattle.std.proofs.Common.{Some, refl, ap, ◌∙◌, ◌++◌, Vec, Global, ℕ, Option}
+use Rattle.std.proofs.Common.{Some, refl, ap, ◌∙◌, ◌++◌, Vec, Global, ℕ}
 use Rattle.std.specs.Option.{option_map}
 use Rattle.semver_parser.specs.Texts.{Text}
 use Rattle.semver_parser.specs.VersionViews.{version_value}

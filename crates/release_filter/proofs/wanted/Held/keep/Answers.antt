@@ -1,4 +1,4 @@
-use Rattle.std.proofs.Common.{◌≡◌, ◌∙◌, ◌++◌, ◌∷◌, [], List, ap, append-nil, map, refl, sym, subst}
+use Rattle.std.proofs.Common.{◌∙◌, ◌++◌, ◌∷◌, [], List, ap, append-nil, map, refl, sym, subst}
 use Rattle.std.proofs.lemmas.List.{map-append}
 use Rattle.semver_parser.specs.Versions.{PlainVersion}
 use Rattle.release_filter.specs.Steps.Taking.{held_value, kept_value}

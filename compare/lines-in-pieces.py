@@ -1,0 +1,178 @@
+"""Compares release-filter with the definitions of docs/MEANING.md: python3 lines-in-pieces.py PROGRAM COUNT SEED.
+
+It makes COUNT random texts of lines, each with a range and options, and tells by code of its own what is written, what is reported of lines without a
+version, and the status. Each text is cut in 100 random ways, and the program gets each piece by a read of its own: standard input is a socket that keeps
+messages apart. Any difference is printed, and ends it.
+"""
+
+import random
+import re
+import socket
+import subprocess
+import sys
+
+CUTS = 100
+IDENTIFIER = rb"[0-9A-Za-z]+(?:-[0-9A-Za-z]+)*"
+NUMBER = rb"(0|[1-9][0-9]*)"
+IDENTIFIERS = rb"(%s(?:\.%s)*)" % (IDENTIFIER, IDENTIFIER)
+VERSION = re.compile(
+    rb"[ \t\r\n]*%s\.%s\.%s(?:-%s)?(?:\+%s)?[ \t\r\n]*" % (NUMBER, NUMBER, NUMBER, IDENTIFIERS, IDENTIFIERS)
+)
+MARK = b"\xef\xbb\xbf"
+
+NUMBERS = (b"0", b"1", b"1", b"2", b"3", b"10")
+QUALIFIERS = (b"", b"", b"", b"-a", b"-b", b"-a.1", b"-b.0", b"-0", b"-rc-1", b"-a+x", b"+x", b"+y", b"-a.b.c+x.y")
+PREFIXES = (b"", b"", b"v", b"v", b"pkg@", b"version ")
+ENDS = (b"\n", b"\n", b"\n", b"\n", b"\r\n")
+NO_VERSIONS = (b"", b"", b"x", b"main", b"1.2", b"1.2.3-", b"01.2.3", b"1.2.3 4", b"v", b"1.2.3.4", b"\xff\xfe", b"1.2.\xc3\xa9", b"1.2.3-a..b", b"1.2.18446744073709551616", b" ", b"\r")
+
+
+def precedence(version):
+    """By SemVer 2.0.0, section 11."""
+    numbers, pre = version
+    parts = [(0, int(part), b"") if part.isdigit() and (part == b"0" or part[:1] != b"0") else (1, 0, part) for part in pre.split(b".")] if pre else []
+    return numbers, not pre, parts
+
+
+def between(least, end, pre_of=None, pre_from=b""):
+    """Releases from `least` on and below `end`; pre-releases of `pre_of` from `pre_from` on."""
+    def holds(version):
+        numbers, pre = version
+        if pre:
+            return numbers == pre_of and precedence(version) >= precedence((numbers, pre_from))
+        return least <= numbers < end
+    return holds
+
+
+def within(least, end):
+    """All versions from the lowest pre-release of `least` on and below that of `end`."""
+    return lambda version: least <= version[0] < end
+
+
+ALL = ((0, 0, 0), (2**64, 0, 0))
+RANGES = (
+    (["*"], between(*ALL)),
+    (["^1.2"], between((1, 2, 0), (2, 0, 0))),
+    (["--npm", ">1.2 <3"], between((1, 3, 0), (3, 0, 0))),
+    ([">=1.2.0-b, <2"], between((1, 2, 0), (2, 0, 0), (1, 2, 0), b"b")),
+    (["--releases", ">=1.2.0-b, <2"], between((1, 2, 0), (2, 0, 0))),
+    (["--pre", "*"], within(*ALL)),
+    (["--pre", "--npm", "*"], within(*ALL)),
+    (["--pre", "^1.2"], within((1, 2, 0), (2, 0, 0))),
+)
+
+
+def version_of(text, prefixes):
+    """The version of a line's text: what is after the first prefix after which there is one."""
+    for prefix in prefixes:
+        read = VERSION.fullmatch(text[len(prefix):]) if text.startswith(prefix) else None
+        if read and all(int(number) < 2**64 for number in read.groups()[:3]):
+            return tuple(int(number) for number in read.groups()[:3]), read[4] or b""
+    return None
+
+
+def told(text, holds, wanted, prefixes, is_strict):
+    """What the program writes, what it reports, and its status."""
+    lines = text.removeprefix(MARK).split(b"\n")
+    lines = [line + b"\n" for line in lines[:-1]] + [line for line in lines[-1:] if line]
+    kept, invalid, empty = [], [], 0
+    for at, line in enumerate(lines):
+        spelled = line.removesuffix(b"\n").removesuffix(b"\r")
+        version = version_of(spelled, prefixes)
+        if version and holds(version):
+            kept.append((precedence(version), line))
+        elif not version and spelled:
+            invalid.append((at + 1, spelled))
+            if is_strict:
+                return b"" if wanted else b"".join(line for _, line in kept), b"release-filter: line %d is no version\n" % (at + 1), 2
+        empty += not spelled and not version
+    if wanted == "--greatest":
+        written = max(kept, key=lambda it: it[0])[1] if kept else b""
+    elif wanted == "--least":
+        written = min(kept, key=lambda it: it[0])[1] if kept else b""
+    elif wanted == "--sort":
+        written = b"".join(line if line.endswith(b"\n") else line + b"\n" for _, line in sorted(kept, key=lambda it: it[0]))
+    else:
+        written = b"".join(line for _, line in kept)
+    report = b""
+    if invalid and not kept:
+        number, first = invalid[0]
+        shown = "".join(ESCAPES.get(byte) or (chr(byte) if 32 <= byte < 127 else f"\\x{byte:02x}") for byte in first[:80])
+        dots = "..." if len(first) > 80 else ""
+        are = "is" if len(invalid) == 1 else "are"
+        report = f"release-filter: {len(invalid)} of {len(lines) - empty} lines {are} no version; the first, line {number}: {shown}{dots}\n".encode()
+    return written, report, 0 if kept else 1
+
+
+ESCAPES = {9: "\\t", 10: "\\n", 13: "\\r", 34: '\\"', 39: "\\'", 92: "\\\\"}
+
+
+def random_line(draw, prefixes):
+    line = draw.choice((*PREFIXES, *(3 * prefixes))) + b".".join(draw.choice(NUMBERS) for _ in range(3)) + draw.choice(QUALIFIERS)
+    kind = draw.randrange(10)
+    if kind == 0:
+        line = draw.choice(PREFIXES) + draw.choice(NO_VERSIONS)
+    elif kind == 1:
+        line = draw.choice((b" ", b"\t", b"  ")) + line + draw.choice((b"", b" ", b"\r"))
+    elif kind == 2:
+        at = draw.randrange(len(line))
+        line = line[:at] + draw.choice((b"x", b"-", b".", b"+", b"\x00", b"\x80")) + line[at + 1:]
+    elif kind == 3:
+        line += draw.choice((b"+", b"-a.")) + draw.choice((b"z", b"0a", b"7")) * draw.choice((1, 90, 400))
+    return line
+
+
+def random_text(draw, prefixes):
+    lines = [random_line(draw, prefixes) + draw.choice(ENDS) for _ in range(draw.choice((0, 1, 2, 3, 6, 12, 30)))]
+    text = draw.choice((b"", b"", b"", MARK, MARK + MARK, MARK[:2])) + b"".join(lines)
+    return text if draw.randrange(2) else text.removesuffix(b"\n")
+
+
+def random_cut(draw, text):
+    """The pieces of a text: of one length, or ended at random places."""
+    if draw.randrange(4) == 0:
+        length = draw.choice((1, 2, 3, 7))
+        return [text[at:at + length] for at in range(0, len(text), length)]
+    ends = sorted(draw.sample(range(1, len(text)), min(len(text) - 1, draw.randrange(1, 9)))) if len(text) > 1 else []
+    return [text[start:end] for start, end in zip([0, *ends], [*ends, len(text)]) if start < end]
+
+
+def run(program, arguments, pieces):
+    ours, its = socket.socketpair(socket.AF_UNIX, socket.SOCK_SEQPACKET)
+    with ours, its:
+        process = subprocess.Popen([program, *arguments], stdin=its, stdout=subprocess.PIPE, stderr=subprocess.PIPE)
+        its.close()
+        try:
+            for piece in pieces:
+                ours.send(piece)
+        except (BrokenPipeError, ConnectionResetError):
+            pass
+        ours.close()
+        written, report = process.communicate()
+    return written, report, process.returncode
+
+
+def main():
+    program, count, seed = sys.argv[1], int(sys.argv[2]), int(sys.argv[3])
+    draw = random.Random(seed)
+    kept = reported = 0
+    for at in range(count):
+        arguments, holds = draw.choice(RANGES)
+        wanted = draw.choice(("", "", "--greatest", "--least", "--sort"))
+        prefixes = draw.choice(([], [], [b"v"], [b"v", b""], [b"", b"v"], [b"pkg@", b"v", b"version "]))
+        is_strict = draw.randrange(5) == 0
+        text = random_text(draw, prefixes or [b""])
+        options = [*([wanted] if wanted else []), *(["--strict"] if is_strict else [])]
+        options += [it for prefix in prefixes for it in ("--prefix", prefix.decode())]
+        expected = told(text, holds, wanted, prefixes or [b""], is_strict)
+        kept += expected[2] == 0
+        reported += bool(expected[1])
+        for _ in range(CUTS):
+            pieces = random_cut(draw, text)
+            found = run(program, options + arguments, pieces)
+            if found != expected:
+                sys.exit(f"text {at + 1}: {options + arguments} on {pieces}\nfound:    {found}\nexpected: {expected}")
+    print(f"{count} texts, each cut in {CUTS} ways; {kept} had kept lines, {reported} a report: no difference")
+
+
+main()
