@@ -1,4 +1,4 @@
-// Compares npm's own reading with node-semver, by PROGRAM, which is the built `tool_cases`.
+// Compares npm's own reading with node-semver, by PROGRAM, which is the built `replayed_cases`.
 //
 // `node npm-with-node-semver.js PROGRAM COUNT SEED` makes COUNT texts by the grammar, COUNT that are
 // changed at a place, and all texts of a few characters. It asks whether each is read, and of those
@@ -100,6 +100,10 @@ function rangeOf (of) {
   }
 }
 
+// A text without the characters that end a field or a line of the program's input, or begin an escape.
+const ESCAPES = { '\\': '\\\\', '\n': '\\n', '\r': '\\r', '\t': '\\t' }
+const escaped = (of) => of.replace(/[\\\n\r\t]/g, (character) => ESCAPES[character])
+
 function differ (of, wanted, answered) {
   console.log(`differ: ${JSON.stringify(of)}: by node-semver ${wanted}, here ${answered}`)
   process.exit(1)
@@ -111,7 +115,7 @@ function compare (program, what, all, versionsOf) {
   const accidents = new Map()
   for (let at = 0; at < all.length; at += BATCH) {
     const batch = all.slice(at, at + BATCH).map((of) => ({ of, versions: versionsOf(of) }))
-    const told = answers(program, batch.map(({ of, versions }) => `${of} ? ${versions.join(' ')}`), 'npm ')
+    const told = answers(program, batch.map(({ of, versions }) => `meant-as-npm\t${escaped(of)}\t${versions.join(' ')}`))
     batch.forEach(({ of, versions }, place) => {
       const [range, answer] = [rangeOf(of), told[place]]
       counts.texts++
@@ -144,7 +148,7 @@ function main ([program, count, seed, versions]) {
     return compare(program, seed, lines(seed), () => asked)
   }
   const random = new Random(seed)
-  const made = (make) => Array.from({ length: Number(count) }, () => make(random)).filter((of) => !/[\n\r]| \? /.test(of))
+  const made = (make) => Array.from({ length: Number(count) }, () => make(random))
   const versionsOf = (of) => asked(random, of)
   console.log(`seed ${seed}`)
   compare(program, 'by the grammar', made(text), versionsOf)

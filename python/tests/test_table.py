@@ -1,4 +1,4 @@
-"""The rows of the tables: versions, ranges by each reading, printing, exact bounds, and filters."""
+"""The rows of the table: versions, ranges by each reading, printing, exact bounds, and filters."""
 
 import unittest
 from collections import Counter
@@ -45,15 +45,14 @@ class Tools(unittest.TestCase):
 
     def test_rows(self) -> None:
         counts: Counts[Tuple[str, str]] = Counter()
-        for tool, asked, wanted in rows_of_tools():
-            text, question, versions = asked.partition(" ? ")
-            with self.subTest(tool=tool, asked=asked):
+        for asked, tool, row in rows_of_tools():
+            with self.subTest(call=row.call, text=row.text, steps=row.steps):
                 reading = _READINGS_OF_TOOLS[tool]
-                if question:
-                    self.check_meaning(text, reading, versions.split(" "), wanted)
+                if asked == "meant":
+                    self.check_meaning(row.text, reading, row.steps.split(" "), row.wanted)
                 else:
-                    self.check_rewriting(text, reading, wanted)
-            counts[tool, "meant" if question else "rewritten"] += 1
+                    self.check_rewriting(row.text, reading, row.wanted)
+            counts[tool, asked] += 1
         for tool in _READINGS_OF_TOOLS:
             self.assertGreater(counts[tool, "rewritten"], 80)
             self.assertGreaterEqual(counts[tool, "meant"], 50)

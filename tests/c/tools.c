@@ -1,16 +1,16 @@
-/* Replays the table of the tools through the C library: tools STDIN STDOUT, where these are the
- * files of crates/tool_cases. Each line of STDIN begins with `cargo ` or `npm `, which names the
- * reading that it is asked by. Behind that stands a range text, of which STDOUT has what it is
- * rewritten to, or the word of its fault; or a range text, ` ? ` and versions, of which STDOUT has
- * those that the range means. Ends with status 1 where a line differs or begins otherwise, and
- * where a tool has few lines. */
+/* Replays the tools' rows of the table of cases through the C library: tools STDIN STDOUT, where
+ * these are the files of crates/replayed_cases. Their calls end with `-as-cargo` or `-as-npm`, which
+ * names the reading: `rewritten-as-npm` has a range text, of which the table has what it is
+ * rewritten to, or the word of its error; `meant-as-npm` has versions too, of which the table has
+ * those that the range means. Ends with status 1 if a row differs or a tool has few rows. */
 #include "calls.h"
+#include "table.h"
 
 #include <inttypes.h>
 #include <stdio.h>
 #include <string.h>
 
-/* The name that a tool's lines begin with, its reading, and how many of them passed and failed. */
+/* A tool, its reading, and how many of its rows passed and failed. */
 typedef struct {
     const char *name;
     int32_t reading;
@@ -80,90 +80,71 @@ static text releases_of(const char *expected) {
     return kept;
 }
 
-static bool is_answer(const text *answer, const char *expected, const char *line, const char *how) {
+static bool is_answer(const text *answer, const char *expected, const row *of, const char *how) {
     if (strlen(expected) == answer->length
         && memcmp(expected, answer->bytes, answer->length) == 0) {
         return true;
     }
-    printf("%s, %s\n  expected %s\n  answered %s\n", line, how, expected, answer->bytes);
+    printf("%s %s %s, %s\n  expected %s\n  answered %s\n", of->call, of->of.bytes,
+           of->steps.bytes, how, expected, answer->bytes);
     return false;
 }
 
-/* Replays a line on what a range means: by the tool's own rule, and among releases alone. */
-static bool replay_meaning(const char *line, const char *versions, int32_t reading,
-                           const char *expected) {
-    text range = string(line, (size_t)(versions - line));
+/* Replays a row on what a range means: by the tool's own rule, and among releases only. */
+static bool replay_meaning(const row *of, int32_t reading) {
     text of_tool = {NULL, 0, 0};
     text alone = {NULL, 0, 0};
-    say_meant(&of_tool, &range, reading, SEMVER_PARSER_PRE_RELEASES_OF_TOOL, versions + 3);
-    say_meant(&alone, &range, reading, SEMVER_PARSER_RELEASES_ALONE, versions + 3);
-    text releases = releases_of(expected);
-    bool passed = is_answer(&of_tool, expected, line, "by the rule of the tool")
-                  && is_answer(&alone, releases.bytes, line, "among releases alone");
+    say_meant(&of_tool, &of->of, reading, SEMVER_PARSER_PRE_RELEASES_OF_TOOL, of->steps.bytes);
+    say_meant(&alone, &of->of, reading, SEMVER_PARSER_RELEASES_ALONE, of->steps.bytes);
+    text releases = releases_of(of->expected);
+    bool passed = is_answer(&of_tool, of->expected, of, "by the rule of the tool")
+                  && is_answer(&alone, releases.bytes, of, "among releases only");
     text_free(&releases);
     text_free(&alone);
     text_free(&of_tool);
-    text_free(&range);
     return passed;
 }
 
-/* Replays a line on what a range is rewritten to, where it doesn't matter what `exact` says. */
-static bool replay_rewriting(const char *line, int32_t reading, const char *expected) {
-    text range = string(line, strlen(line));
+/* Replays a row on what a range is rewritten to, where it doesn't matter what `exact` says. */
+static bool replay_rewriting(const row *of, int32_t reading) {
     bool passed = true;
     for (int exact = 0; exact < 2; exact++) {
         text printed = {NULL, 0, 0};
-        int32_t answer = rewrite(&range, reading, exact != 0, &printed, NULL);
+        int32_t answer = rewrite(&of->of, reading, exact != 0, &printed, NULL);
         if (answer != SEMVER_PARSER_OK) {
             text_say(&printed, "%s", fault_word(answer));
         }
-        passed &= is_answer(&printed, expected, line, exact != 0 ? "exact" : "not exact");
+        passed &= is_answer(&printed, of->expected, of, exact != 0 ? "exact" : "not exact");
         text_free(&printed);
     }
-    text_free(&range);
     return passed;
 }
 
-/* The tool of a line, or NULL. */
-static tool *tool_of(tool *tools, int count, const char *line) {
-    size_t length = strcspn(line, " ");
-    for (int at = 0; line[length] == ' ' && at < count; at++) {
-        if (strlen(tools[at].name) == length && memcmp(line, tools[at].name, length) == 0) {
+/* Replays a row of a tool, and counts it. */
+static void replay(tool *by, const row *of) {
+    bool is_meant = strncmp(of->call, "meant-", 6) == 0;
+    bool passed = is_meant ? replay_meaning(of, by->reading) : replay_rewriting(of, by->reading);
+    by->rewritten += passed && !is_meant;
+    by->meant += passed && is_meant;
+    by->failed += !passed;
+}
+
+/* The tool of a call, or NULL. */
+static tool *tool_of(tool *tools, int count, const char *call) {
+    const char *as = strstr(call, "-as-");
+    for (int at = 0; as != NULL && at < count; at++) {
+        if (strcmp(as + 4, tools[at].name) == 0) {
             return &tools[at];
         }
     }
-    printf("%s\n  begins with no tool\n", line);
     return NULL;
 }
 
-/* Replays what stands behind the name in a tool's line, and counts it. */
-static void replay(tool *of, const char *line, const char *expected) {
-    const char *versions = strstr(line, " ? ");
-    bool passed = versions != NULL ? replay_meaning(line, versions, of->reading, expected)
-                                   : replay_rewriting(line, of->reading, expected);
-    of->rewritten += passed && versions == NULL;
-    of->meant += passed && versions != NULL;
-    of->failed += !passed;
-}
-
-/* Tells of a tool's lines, and answers whether all passed and there were enough. */
+/* Prints a tool's counts, and returns whether all of its rows passed and there were enough. */
 static bool is_whole(const tool *of) {
     printf("%s: %d rewritten, %d meant, %d failed\n", of->name, of->rewritten, of->meant,
            of->failed);
     return of->failed == 0 && of->rewritten > 80 && of->meant >= 50;
-}
-
-/* The line at a place, ended by a zero byte, and the place moved behind it. */
-static char *next_line(char **at) {
-    char *line = *at;
-    char *end = strchr(line, '\n');
-    if (end == NULL) {
-        *at = line + strlen(line);
-    } else {
-        *end = 0;
-        *at = end + 1;
-    }
-    return line;
 }
 
 int main(int count, char **arguments) {
@@ -172,25 +153,17 @@ int main(int count, char **arguments) {
         return 2;
     }
     tool tools[] = {{"cargo", SEMVER_PARSER_CARGO, 0, 0, 0}, {"npm", SEMVER_PARSER_NPM, 0, 0, 0}};
-    text lines = text_of_file(arguments[1]);
-    text answers = text_of_file(arguments[2]);
-    char *line_at = lines.bytes;
-    char *answer_at = answers.bytes;
-    bool passed = true;
-    while (*line_at != 0 && *answer_at != 0) {
-        const char *line = next_line(&line_at);
-        const char *expected = next_line(&answer_at);
-        tool *of = tool_of(tools, 2, line);
-        if (of != NULL) {
-            replay(of, line + strlen(of->name) + 1, expected);
+    table rows = table_of_files(arguments[1], arguments[2]);
+    row next;
+    while (next_row(&rows, &next)) {
+        tool *by = tool_of(tools, 2, next.call);
+        if (by != NULL) {
+            replay(by, &next);
         }
-        passed &= of != NULL;
+        row_free(&next);
     }
-    passed &= *line_at == 0 && *answer_at == 0;
-    for (int at = 0; at < 2; at++) {
-        passed &= is_whole(&tools[at]);
-    }
-    text_free(&lines);
-    text_free(&answers);
-    return passed ? 0 : 1;
+    table_free(&rows);
+    bool cargo = is_whole(&tools[0]);
+    bool npm = is_whole(&tools[1]);
+    return cargo && npm ? 0 : 1;
 }

@@ -52,10 +52,11 @@ pub fn write_passed<W: Write>(
 /// Whether a filter reads these versions of a list, and no other ones.
 fn are_read(alloc: Global, filter: &Filter, list: &str, kept: &[&Version]) -> io::Result<bool> {
     let mut left = kept.iter();
-    for item in list.split(' ').filter(|item| !item.is_empty()) {
+    for item in list.split(' ') {
         if let Some(version) = filter.read(alloc, item)? {
-            if !left.next().is_some_and(|next| **next == version) {
-                return Ok(false);
+            match left.next() {
+                Some(next) if **next == version => {}
+                _ => return Ok(false),
             }
         }
     }
@@ -66,7 +67,6 @@ fn are_read(alloc: Global, filter: &Filter, list: &str, kept: &[&Version]) -> io
 pub fn write_greatest<W: Write>(
     alloc: Global,
     text: &str,
-    compat: Compat,
     pre_releases: PreReleases,
     list: &str,
     out: &mut W,
@@ -74,7 +74,7 @@ pub fn write_greatest<W: Write>(
     let Some(versions) = versions_of(alloc, list)? else {
         return write!(out, "not all are versions");
     };
-    let filter = match Filter::new(alloc, text, compat, pre_releases) {
+    let filter = match Filter::new(alloc, text, Compat::Npm, pre_releases) {
         Ok(filter) => filter,
         Err(error) => return write!(out, "{error}"),
     };
@@ -134,9 +134,10 @@ pub fn write_copied<W: Write>(
 /// The versions of a list, if each item is one.
 pub fn versions_of(alloc: Global, list: &str) -> io::Result<Option<Vec<Version>>> {
     let mut versions = Vec::new(alloc);
-    for item in list.split(' ').filter(|item| !item.is_empty()) {
+    for item in list.split(' ') {
         match version::parse(alloc, item) {
             Ok(version) => versions.push(version)?,
+            Err(_) if item.is_empty() => {}
             Err(_) => return Ok(None),
         }
     }
@@ -164,18 +165,16 @@ pub fn write_met<W: Write>(
     list: &str,
     out: &mut W,
 ) -> io::Result<()> {
+    let Some(versions) = versions_of(alloc, list)? else {
+        return write!(out, "not all are versions");
+    };
     let set = match RangeSet::parse(alloc, text, compat) {
         Ok(set) => set,
         Err(error) => return write!(out, "{error}"),
     };
-    for item in list.split(' ').filter(|item| !item.is_empty()) {
-        match version::parse(alloc, item) {
-            Ok(version) => {
-                if version_meets(&set, &version) {
-                    write!(out, "{version} ")?;
-                }
-            }
-            Err(_) => return write!(out, "{item} is no version"),
+    for version in versions.iter() {
+        if version_meets(&set, version) {
+            write!(out, "{version} ")?;
         }
     }
     write!(out, "end")
