@@ -1,8 +1,8 @@
 /* Replays the tools' rows of the table of cases through the C library: tools STDIN STDOUT, where
- * these are the files of crates/replayed_cases. Their calls end with `-as-cargo` or `-as-npm`, which
- * names the reading: `rewritten-as-npm` has a range text, of which the table has what it is
- * rewritten to, or the word of its error; `meant-as-npm` has versions too, of which the table has
- * those that the range means. Ends with status 1 if a row differs or a tool has few rows. */
+ * these are the files of crates/replayed_cases. Their calls end with the reading, `-as-cargo` or
+ * `-as-npm`: `rewritten-as-npm` has a range text, of which the table has what it is rewritten to,
+ * or the word of its error; `meant-as-npm` has versions too, of which the table has those that the
+ * range means. Ends with status 1 if a row differs or a tool has few rows. */
 #include "calls.h"
 #include "table.h"
 
