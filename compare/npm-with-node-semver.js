@@ -1,4 +1,4 @@
-// Compares npm's own reading with node-semver, by PROGRAM, which is the built `tool_cases`.
+// Compares npm's own reading with node-semver, by PROGRAM, which is the built `replayed_cases`.
 //
 // `node npm-with-node-semver.js PROGRAM COUNT SEED` makes COUNT texts by the grammar, COUNT that are
 // changed at a place, and all texts of a few characters. It asks whether each is read, and of those
@@ -98,10 +98,10 @@ function asked (random, of) {
 // `-0` is put behind the build. So node-semver is asked of the text without both.
 const plain = (of) => of.replace(/\+[0-9A-Za-z.-]+/g, '').replace(/v0\.0\.0/g, '0.0.0')
 
-// The rules for pre-releases: the word before a line of the program, and what node-semver is asked by.
+// The rules for pre-releases: the call of the program, and what node-semver is asked by.
 const RULES = [
-  { word: 'npm ', options: {}, name: '', isKnown: (of) => /0\.0\.0\+|v0\.0\.0/.test(of) },
-  { word: 'npm-pre ', options: { includePrerelease: true }, name: ', with includePrerelease', isKnown: (of) => /\+\S*\s+-\s/.test(of) }
+  { call: 'meant-as-npm', options: {}, name: '', isKnown: (of) => /0\.0\.0\+|v0\.0\.0/.test(of) },
+  { call: 'meant-with-all-as-npm', options: { includePrerelease: true }, name: ', with includePrerelease', isKnown: (of) => /\+\S*\s+-\s/.test(of) }
 ]
 
 function rangeOf (of, options) {
@@ -111,6 +111,10 @@ function rangeOf (of, options) {
     return null
   }
 }
+
+// A text without the characters that end a field or a line of the program's input, or begin an escape.
+const ESCAPES = { '\\': '\\\\', '\n': '\\n', '\r': '\\r', '\t': '\\t' }
+const escaped = (of) => of.replace(/[\\\n\r\t]/g, (character) => ESCAPES[character])
 
 function differ (of, wanted, answered) {
   console.log(`differ: ${JSON.stringify(of)}: by node-semver ${wanted}, here ${answered}`)
@@ -123,13 +127,13 @@ function compare (program, what, all, versionsOf) {
 }
 
 // Compares all texts, each by the versions that `of` tells, and tells of what they are.
-function compareBy (program, { word, options, isKnown }, what, all, versionsOf) {
+function compareBy (program, { call, options, isKnown }, what, all, versionsOf) {
   const counts = { texts: 0, read: 0, pairs: 0, met: 0, preReleases: 0 }
   const accidents = new Map()
   const refusals = new Map()
   for (let at = 0; at < all.length; at += BATCH) {
     const batch = all.slice(at, at + BATCH).map((of) => ({ of, versions: versionsOf(of) }))
-    const told = answers(program, batch.map(({ of, versions }) => `${of} ? ${versions.join(' ')}`), word)
+    const told = answers(program, batch.map(({ of, versions }) => `${call}\t${escaped(of)}\t${versions.join(' ')}`))
     batch.forEach(({ of, versions }, place) => {
       const [range, answer] = [rangeOf(of, options), told[place]]
       counts.texts++
@@ -167,7 +171,7 @@ function main ([program, count, seed, versions]) {
     return compare(program, seed, lines(seed), () => asked)
   }
   const random = new Random(seed)
-  const made = (make) => Array.from({ length: Number(count) }, () => make(random)).filter((of) => !/[\n\r]| \? /.test(of))
+  const made = (make) => Array.from({ length: Number(count) }, () => make(random))
   const versionsOf = (of) => asked(random, of)
   console.log(`seed ${seed}`)
   compare(program, 'by the grammar', made(text), versionsOf)

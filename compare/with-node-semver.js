@@ -131,8 +131,8 @@ function expected (text, ranges, tested, options) {
 }
 
 // What the program answers to each line, which gets a name in front.
-function answers (program, lines, name = '-\t') {
-  const input = lines.map((line) => `${name}${line}\n`).join('')
+function answers (program, lines) {
+  const input = lines.map((line) => `-\t${line}\n`).join('')
   const ran = spawnSync(program, { input, encoding: 'utf8', maxBuffer: 1 << 30 })
   if (ran.status !== 0) throw new Error(`${program} ended with ${ran.status}: ${ran.stderr}`)
   return ran.stdout.trimEnd().split('\n').map((line) => line.replace(/^-: /, ''))

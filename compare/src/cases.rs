@@ -1,5 +1,6 @@
 //! What is compared: a call, its text, and for a parser its steps.
 
+use crate::escaped::escaped;
 use std::fmt;
 
 /// Which call a case makes.
@@ -88,7 +89,7 @@ impl Case {
 
     /// Its line for `replayed_cases`.
     pub fn line(&self) -> String {
-        let text = self.text.replace('\\', "\\\\").replace('\n', "\\n").replace('\r', "\\r").replace('\t', "\\t");
+        let text = escaped(&self.text);
         let steps = if self.steps.is_empty() { String::new() } else { format!("\t{}", self.steps.join(",")) };
         format!("-\t{}\t{text}{steps}\n", self.kind.call())
     }

@@ -6,6 +6,7 @@
 
 mod cases;
 mod departures;
+mod escaped;
 mod exact;
 mod program;
 mod random;

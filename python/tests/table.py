@@ -1,9 +1,9 @@
-"""The tables of cases of the repository: rows, and how a table writes what a call answers.
+"""The table of cases of the repository: rows, and how it writes what a call answers.
 
 `crates/replayed_cases` of the checkout has the rows in its `stdin` and the wanted answers in its
-`stdout`; its calls read ranges by the crate's readings. How texts are escaped is told by its
-`src/text.rt`. `crates/tool_cases` has those of Cargo's own reading and of npm's own, which were
-made beside these tools.
+`stdout`. How texts are escaped is told by its `src/text.rt`. Its calls that end with `-as-cargo`
+and `-as-npm` read ranges as these tools do, beside which their rows were made; all others read them
+by the crate's readings.
 """
 
 import re
@@ -24,9 +24,7 @@ from semver_parser import (
     parse_version,
 )
 
-CRATES = Path(__file__).resolve().parents[2] / "crates"
-CASES = CRATES / "replayed_cases"
-TOOL_CASES = CRATES / "tool_cases"
+CASES = Path(__file__).resolve().parents[2] / "crates" / "replayed_cases"
 
 _ESCAPES = {"n": "\n", "r": "\r", "t": "\t", "\\": "\\"}
 
@@ -101,14 +99,15 @@ def rows() -> Iterator[Row]:
         yield Row(call, expanded(text), expanded(steps), answer[len(name) + 2 :])
 
 
-def rows_of_tools() -> Iterator[Tuple[str, str, str]]:
-    """All rows of the tools: `cargo`, `npm`, `cargo-pre` or `npm-pre`, what is asked, and what is wanted."""
-    lines = (TOOL_CASES / "stdin").read_bytes().decode().split("\n")
-    wanted = (TOOL_CASES / "stdout").read_bytes().decode().split("\n")
-    assert len(lines) == len(wanted) and lines.pop() == wanted.pop() == ""
-    for line, answer in zip(lines, wanted):
-        tool, _, asked = line.partition(" ")
-        yield tool, asked, answer
+def rows_of_tools() -> Iterator[Tuple[str, str, Row]]:
+    """The rows of the tools: what is asked, `cargo` or `npm`, and the row.
+
+    Asked is `rewritten`, `meant` or `meant-with-all`, which takes all pre-releases within bounds.
+    """
+    for row in rows():
+        asked, _, tool = row.call.partition("-as-")
+        if tool:
+            yield asked, tool, row
 
 
 def _reading(npm: bool) -> Reading:

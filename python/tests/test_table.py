@@ -1,9 +1,9 @@
-"""The rows of the tables: versions, ranges by each reading, printing, exact bounds, and filters."""
+"""The rows of the table: versions, ranges by each reading, printing, exact bounds, and filters."""
 
 import unittest
 from collections import Counter
 from typing import Counter as Counts
-from typing import List, Optional, Tuple
+from typing import Dict, List, Optional, Tuple
 
 from semver_parser import (
     Filter,
@@ -18,8 +18,11 @@ from tests.table import answer, checksum, rows, rows_of_tools
 
 _SUM = "sum-of-"
 _READINGS_OF_TOOLS = {"cargo": Reading.CARGO, "npm": Reading.NPM}
-_OWN = (None, PreReleases.OF_TOOL)
-_ALL = (PreReleases.INCLUDED,)
+# The rules for pre-releases that mean what is asked. None is the tool's own rule too.
+_RULES_OF_MEANT: Dict[str, Tuple[Optional[PreReleases], ...]] = {
+    "meant": (None, PreReleases.OF_TOOL),
+    "meant-with-all": (PreReleases.INCLUDED,),
+}
 
 
 class Table(unittest.TestCase):
@@ -47,21 +50,19 @@ class Tools(unittest.TestCase):
 
     def test_rows(self) -> None:
         counts: Counts[Tuple[str, str]] = Counter()
-        for tool, asked, wanted in rows_of_tools():
-            text, question, versions = asked.partition(" ? ")
-            with self.subTest(tool=tool, asked=asked):
-                name, pre, _ = tool.partition("-pre")
-                reading = _READINGS_OF_TOOLS[name]
-                if question:
-                    rules = _ALL if pre else _OWN
-                    self.check_meaning(text, reading, rules, versions.split(" "), wanted)
+        for asked, tool, row in rows_of_tools():
+            with self.subTest(call=row.call, text=row.text, steps=row.steps):
+                reading = _READINGS_OF_TOOLS[tool]
+                if asked in _RULES_OF_MEANT:
+                    rules = _RULES_OF_MEANT[asked]
+                    self.check_meaning(row.text, reading, rules, row.steps.split(" "), row.wanted)
                 else:
-                    self.check_rewriting(text, reading, wanted)
-            counts[tool, "meant" if question else "rewritten"] += 1
+                    self.check_rewriting(row.text, reading, row.wanted)
+            counts[tool, asked] += 1
         for tool in _READINGS_OF_TOOLS:
             self.assertGreater(counts[tool, "rewritten"], 80)
             self.assertGreaterEqual(counts[tool, "meant"], 50)
-            self.assertGreater(counts[tool + "-pre", "meant"], 50)
+            self.assertGreater(counts[tool, "meant-with-all"], 50)
 
     def check_rewriting(self, text: str, reading: Reading, wanted: str) -> None:
         """By a tool's own reading bounds are exact, whatever is asked for."""

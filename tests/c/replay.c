@@ -3,14 +3,14 @@
  * of a call that C has is answered by the library's calls, written as the table writes it, and
  * compared with what the table expects. Ends with status 1 where a row differs.
  *
- * Rows of other calls (tokens, steps of a parser, joined identifiers, sentences of errors) are
- * passed over, and so are the tokens that the table has behind a fault's name, which C isn't told.
- */
+ * Rows of other calls (tokens, steps of a parser, joined identifiers, sentences of errors, and what
+ * tests/c/tools.c replays) are skipped, and so are the tokens that the table has after the name of
+ * an error, which C isn't told. */
 #include "calls.h"
+#include "table.h"
 
 #include <inttypes.h>
 #include <stdio.h>
-#include <stdlib.h>
 #include <string.h>
 
 /* ---- how the table writes an answer */
@@ -246,15 +246,16 @@ static bool is_expected(const text *answer, const char *expected, size_t length)
 
 enum outcome { PASSED, FAILED, PASSED_OVER };
 
-/* Replays the row of a call, a text and steps. */
-static enum outcome replay(
-    const char *call, const text *of, const text *steps, const char *expected, size_t length) {
+/* Replays a row. */
+static enum outcome replay(const row *of) {
     static const char sum[] = "sum-of-";
-    bool is_sum = strncmp(call, sum, strlen(sum)) == 0;
+    bool is_sum = strncmp(of->call, sum, strlen(sum)) == 0;
+    size_t length = strlen(of->expected);
     text answer = {NULL, 0, 0};
     text_add(&answer, "", 0);
     enum outcome outcome = PASSED_OVER;
-    bool has_call = say_answer(&answer, is_sum ? call + strlen(sum) : call, of, steps);
+    const char *call = is_sum ? of->call + strlen(sum) : of->call;
+    bool has_call = say_answer(&answer, call, &of->of, &of->steps);
     bool has_tokens = answer.length > 0 && answer.bytes[answer.length - 1] == '(';
     if (has_call && !(is_sum && has_tokens)) {
         text shown = {NULL, 0, 0};
@@ -262,10 +263,10 @@ static enum outcome replay(
         if (is_sum) {
             text_say_sum(&shown, &answer);
         }
-        outcome = is_expected(is_sum ? &shown : &answer, expected, length) ? PASSED : FAILED;
+        outcome = is_expected(is_sum ? &shown : &answer, of->expected, length) ? PASSED : FAILED;
         if (outcome == FAILED) {
-            printf("%s %.200s\n  expected %.*s\n  answered %.400s\n", call, of->bytes,
-                (int)(length < 400 ? length : 400), expected, is_sum ? shown.bytes : answer.bytes);
+            printf("%s %.200s\n  expected %.400s\n  answered %.400s\n", of->call,
+                of->of.bytes, of->expected, is_sum ? shown.bytes : answer.bytes);
         }
         text_free(&shown);
     }
@@ -273,65 +274,20 @@ static enum outcome replay(
     return outcome;
 }
 
-/* Replays the row of a line, whose fields are parted by tabs. */
-static enum outcome replay_line(char *line, const char *expected) {
-    char none[1] = {0};
-    char *fields[4] = {line, none, none, none};
-    for (int field = 1; field < 4; field++) {
-        char *tab = strchr(fields[field - 1], '\t');
-        if (tab == NULL) {
-            break;
-        }
-        *tab = 0;
-        fields[field] = tab + 1;
-    }
-    text of = {NULL, 0, 0};
-    text steps = {NULL, 0, 0};
-    enum outcome outcome = FAILED;
-    const char *answer = expected + strlen(line) + 2;
-    if (strncmp(expected, line, strlen(line)) != 0 ||
-        !text_expand(&of, fields[2], strlen(fields[2])) ||
-        !text_expand(&steps, fields[3], strlen(fields[3]))) {
-        printf("not a row: %s\n", line);
-    } else {
-        outcome = replay(fields[1], &of, &steps, answer, strlen(answer));
-    }
-    text_free(&of);
-    text_free(&steps);
-    return outcome;
-}
-
-/* The line at a place, ended by a zero byte, and the place moved behind it. */
-static char *next_line(char **at) {
-    char *line = *at;
-    char *end = strchr(line, '\n');
-    if (end == NULL) {
-        *at = line + strlen(line);
-    } else {
-        *end = 0;
-        *at = end + 1;
-    }
-    return line;
-}
-
 int main(int count, char **arguments) {
     if (count != 3) {
         fprintf(stderr, "replay STDIN STDOUT\n");
         return 2;
     }
-    text rows = text_of_file(arguments[1]);
-    text answers = text_of_file(arguments[2]);
-    char *row = rows.bytes;
-    char *answer = answers.bytes;
+    table rows = table_of_files(arguments[1], arguments[2]);
+    row next;
     int totals[3] = {0};
-    while (*row != 0 && *answer != 0) {
-        char *line = next_line(&row);
-        totals[replay_line(line, next_line(&answer))]++;
+    while (next_row(&rows, &next)) {
+        totals[replay(&next)]++;
+        row_free(&next);
     }
-    bool is_whole = *row == 0 && *answer == 0;
     printf("rows: %d passed, %d failed, %d passed over\n", totals[PASSED], totals[FAILED],
         totals[PASSED_OVER]);
-    text_free(&rows);
-    text_free(&answers);
-    return is_whole && totals[FAILED] == 0 && totals[PASSED] > 4500 ? 0 : 1;
+    table_free(&rows);
+    return totals[FAILED] == 0 && totals[PASSED] > 4500 ? 0 : 1;
 }

@@ -1,26 +1,29 @@
-/* Replays the table of the tools through the C library: tools STDIN STDOUT, where these are the
- * files of crates/tool_cases. Each line of STDIN begins with `cargo ` or `npm `, which names the
- * reading that it is asked by, or with `cargo-pre ` or `npm-pre ` where all pre-releases count.
- * Behind that stands a range text, of which STDOUT has what it is
- * rewritten to, or the word of its fault; or a range text, ` ? ` and versions, of which STDOUT has
- * those that the range means. Ends with status 1 where a line differs or begins otherwise, and
- * where a tool has few lines. */
+/* Replays the tools' rows of the table of cases through the C library: tools STDIN STDOUT, where
+ * these are the files of crates/replayed_cases. Their calls end with the reading, `-as-cargo` or
+ * `-as-npm`: `rewritten-as-npm` has a range text, of which the table has what it is rewritten to,
+ * or the word of its error; `meant-as-npm` has versions too, of which the table has those that the
+ * range means by the tool's own rule for pre-releases, and `meant-with-all-as-npm` those that it
+ * means with all pre-releases. Ends with status 1 if a row differs or a call has few rows. */
 #include "calls.h"
+#include "table.h"
 
 #include <inttypes.h>
 #include <stdio.h>
 #include <string.h>
 
-/* The name that a tool's lines begin with, its reading and its rule for pre-releases, and how many
- * of them passed and failed. */
+/* What a call asks: which versions are meant by a rule, or what a range is rewritten to. */
+enum { REWRITTEN = -1 };
+
+/* A call of the table, its reading, its rule for pre-releases or REWRITTEN, how many rows it has at
+ * least, and how many of them passed and failed. */
 typedef struct {
     const char *name;
     int32_t reading;
     int32_t rule;
-    int rewritten;
-    int meant;
+    int least;
+    int passed;
     int failed;
-} tool;
+} tool_call;
 
 static const char *fault_word(int32_t answer) {
     switch (answer) {
@@ -83,92 +86,68 @@ static text releases_of(const char *expected) {
     return kept;
 }
 
-static bool is_answer(const text *answer, const char *expected, const char *line, const char *how) {
+static bool is_answer(const text *answer, const char *expected, const row *of, const char *how) {
     if (strlen(expected) == answer->length
         && memcmp(expected, answer->bytes, answer->length) == 0) {
         return true;
     }
-    printf("%s, %s\n  expected %s\n  answered %s\n", line, how, expected, answer->bytes);
+    printf("%s %s %s, %s\n  expected %s\n  answered %s\n", of->call, of->of.bytes,
+           of->steps.bytes, how, expected, answer->bytes);
     return false;
 }
 
-/* Replays a line on what a range means: by the rule of the line, and among releases alone. */
-static bool replay_meaning(const char *line, const char *versions, const tool *of,
-                           const char *expected) {
-    text range = string(line, (size_t)(versions - line));
+/* Replays a row on what a range means: by the rule of the call, and among releases only. */
+static bool replay_meaning(const row *of, int32_t reading, int32_t rule) {
     text by_rule = {NULL, 0, 0};
     text alone = {NULL, 0, 0};
-    say_meant(&by_rule, &range, of->reading, of->rule, versions + 3);
-    say_meant(&alone, &range, of->reading, SEMVER_PARSER_RELEASES_ALONE, versions + 3);
-    text releases = releases_of(expected);
-    bool passed = is_answer(&by_rule, expected, line, "by the rule of the line")
-                  && is_answer(&alone, releases.bytes, line, "among releases alone");
+    say_meant(&by_rule, &of->of, reading, rule, of->steps.bytes);
+    say_meant(&alone, &of->of, reading, SEMVER_PARSER_RELEASES_ALONE, of->steps.bytes);
+    text releases = releases_of(of->expected);
+    bool passed = is_answer(&by_rule, of->expected, of, "by the rule of the call")
+                  && is_answer(&alone, releases.bytes, of, "among releases only");
     text_free(&releases);
     text_free(&alone);
     text_free(&by_rule);
-    text_free(&range);
     return passed;
 }
 
-/* Replays a line on what a range is rewritten to, where it doesn't matter what `exact` says. */
-static bool replay_rewriting(const char *line, int32_t reading, const char *expected) {
-    text range = string(line, strlen(line));
+/* Replays a row on what a range is rewritten to, where it doesn't matter what `exact` says. */
+static bool replay_rewriting(const row *of, int32_t reading) {
     bool passed = true;
     for (int exact = 0; exact < 2; exact++) {
         text printed = {NULL, 0, 0};
-        int32_t answer = rewrite(&range, reading, exact != 0, &printed, NULL);
+        int32_t answer = rewrite(&of->of, reading, exact != 0, &printed, NULL);
         if (answer != SEMVER_PARSER_OK) {
             text_say(&printed, "%s", fault_word(answer));
         }
-        passed &= is_answer(&printed, expected, line, exact != 0 ? "exact" : "not exact");
+        passed &= is_answer(&printed, of->expected, of, exact != 0 ? "exact" : "not exact");
         text_free(&printed);
     }
-    text_free(&range);
     return passed;
 }
 
-/* The tool of a line, or NULL. */
-static tool *tool_of(tool *tools, int count, const char *line) {
-    size_t length = strcspn(line, " ");
-    for (int at = 0; line[length] == ' ' && at < count; at++) {
-        if (strlen(tools[at].name) == length && memcmp(line, tools[at].name, length) == 0) {
-            return &tools[at];
+/* Replays a row of a call, and counts it. */
+static void replay(tool_call *by, const row *of) {
+    bool passed = by->rule == REWRITTEN ? replay_rewriting(of, by->reading)
+                                        : replay_meaning(of, by->reading, by->rule);
+    by->passed += passed;
+    by->failed += !passed;
+}
+
+/* The call of a name, or NULL. */
+static tool_call *call_of(tool_call *calls, int count, const char *name) {
+    for (int at = 0; at < count; at++) {
+        if (strcmp(name, calls[at].name) == 0) {
+            return &calls[at];
         }
     }
-    printf("%s\n  begins with no tool\n", line);
     return NULL;
 }
 
-/* Replays what stands behind the name in a tool's line, and counts it. */
-static void replay(tool *of, const char *line, const char *expected) {
-    const char *versions = strstr(line, " ? ");
-    bool passed = versions != NULL ? replay_meaning(line, versions, of, expected)
-                                   : replay_rewriting(line, of->reading, expected);
-    of->rewritten += passed && versions == NULL;
-    of->meant += passed && versions != NULL;
-    of->failed += !passed;
-}
-
-/* Tells of a tool's lines, and answers whether all passed and there were enough. What a range is
- * rewritten to goes by no rule. */
-static bool is_whole(const tool *of) {
-    printf("%s: %d rewritten, %d meant, %d failed\n", of->name, of->rewritten, of->meant,
-           of->failed);
-    bool is_own = of->rule == SEMVER_PARSER_PRE_RELEASES_OF_TOOL;
-    return of->failed == 0 && (!is_own || of->rewritten > 80) && of->meant >= 50;
-}
-
-/* The line at a place, ended by a zero byte, and the place moved behind it. */
-static char *next_line(char **at) {
-    char *line = *at;
-    char *end = strchr(line, '\n');
-    if (end == NULL) {
-        *at = line + strlen(line);
-    } else {
-        *end = 0;
-        *at = end + 1;
-    }
-    return line;
+/* Prints a call's counts, and returns whether all of its rows passed and there were enough. */
+static bool is_whole(const tool_call *of) {
+    printf("%s: %d passed, %d failed\n", of->name, of->passed, of->failed);
+    return of->failed == 0 && of->passed >= of->least;
 }
 
 int main(int count, char **arguments) {
@@ -176,32 +155,33 @@ int main(int count, char **arguments) {
         fprintf(stderr, "tools STDIN STDOUT\n");
         return 2;
     }
-    tool tools[] = {
-        {"cargo", SEMVER_PARSER_CARGO, SEMVER_PARSER_PRE_RELEASES_OF_TOOL, 0, 0, 0},
-        {"npm", SEMVER_PARSER_NPM, SEMVER_PARSER_PRE_RELEASES_OF_TOOL, 0, 0, 0},
-        {"cargo-pre", SEMVER_PARSER_CARGO, SEMVER_PARSER_ALL_PRE_RELEASES, 0, 0, 0},
-        {"npm-pre", SEMVER_PARSER_NPM, SEMVER_PARSER_ALL_PRE_RELEASES, 0, 0, 0},
+    const int32_t own = SEMVER_PARSER_PRE_RELEASES_OF_TOOL;
+    const int32_t all = SEMVER_PARSER_ALL_PRE_RELEASES;
+    tool_call calls[] = {
+        {"rewritten-as-cargo", SEMVER_PARSER_CARGO, REWRITTEN, 81, 0, 0},
+        {"meant-as-cargo", SEMVER_PARSER_CARGO, own, 50, 0, 0},
+        {"meant-with-all-as-cargo", SEMVER_PARSER_CARGO, all, 50, 0, 0},
+        {"rewritten-as-npm", SEMVER_PARSER_NPM, REWRITTEN, 81, 0, 0},
+        {"meant-as-npm", SEMVER_PARSER_NPM, own, 50, 0, 0},
+        {"meant-with-all-as-npm", SEMVER_PARSER_NPM, all, 50, 0, 0},
     };
-    int tool_count = sizeof tools / sizeof *tools;
-    text lines = text_of_file(arguments[1]);
-    text answers = text_of_file(arguments[2]);
-    char *line_at = lines.bytes;
-    char *answer_at = answers.bytes;
+    const int call_count = sizeof calls / sizeof *calls;
     bool passed = true;
-    while (*line_at != 0 && *answer_at != 0) {
-        const char *line = next_line(&line_at);
-        const char *expected = next_line(&answer_at);
-        tool *of = tool_of(tools, tool_count, line);
-        if (of != NULL) {
-            replay(of, line + strlen(of->name) + 1, expected);
+    table rows = table_of_files(arguments[1], arguments[2]);
+    row next;
+    while (next_row(&rows, &next)) {
+        tool_call *by = call_of(calls, call_count, next.call);
+        if (by != NULL) {
+            replay(by, &next);
+        } else if (strstr(next.call, "-as-") != NULL) {
+            printf("not a call: %s\n", next.call);
+            passed = false;
         }
-        passed &= of != NULL;
+        row_free(&next);
     }
-    passed &= *line_at == 0 && *answer_at == 0;
-    for (int at = 0; at < tool_count; at++) {
-        passed &= is_whole(&tools[at]);
+    table_free(&rows);
+    for (int at = 0; at < call_count; at++) {
+        passed &= is_whole(&calls[at]);
     }
-    text_free(&lines);
-    text_free(&answers);
     return passed ? 0 : 1;
 }

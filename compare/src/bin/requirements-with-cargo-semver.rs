@@ -2,15 +2,18 @@
 //! is read, which releases meet what it is rewritten to, and which versions it means, releases and
 //! pre-releases at and round the numbers that it states.
 //!
-//! `requirements-with-cargo-semver PROGRAM COUNT SEED`, where PROGRAM is the built `tool_cases`,
+//! `requirements-with-cargo-semver PROGRAM COUNT SEED`, where PROGRAM is the built `replayed_cases`,
 //! makes COUNT texts, by the grammar and changed at one place. Their numbers stay small, so that none
 //! is too large. `requirements-with-cargo-semver PROGRAM --texts TEXTS VERSIONS` takes the lines of
 //! two files. It prints the first difference, and then ends with status 1.
 
+#[path = "../escaped.rs"]
+mod escaped;
 #[allow(dead_code)]
 #[path = "../random.rs"]
 mod random;
 
+use escaped::escaped;
 use random::Random;
 use semver::{Prerelease, Version, VersionReq};
 use std::io::Write;
@@ -105,18 +108,19 @@ fn version(numbers: &[u64], pre: &str) -> Version {
     Version { pre, ..Version::new(numbers[0], numbers[1], numbers[2]) }
 }
 
-/// What the program answers to each text, as Cargo reads it.
-fn answers(program: &str, texts: &[String]) -> Vec<String> {
+/// What the program answers to each call with its text and versions.
+fn answers(program: &str, calls: &[String]) -> Vec<String> {
     let mut child =
         Command::new(program).stdin(Stdio::piped()).stdout(Stdio::piped()).spawn().expect("the program runs");
     let mut input = child.stdin.take().expect("its input is a pipe");
-    let lines: String = texts.iter().map(|text| format!("cargo {text}\n")).collect();
-    let writer = std::thread::spawn(move || input.write_all(lines.as_bytes()).expect("it reads all texts"));
+    let lines: String = calls.iter().map(|call| format!("-\t{call}\n")).collect();
+    let writer = std::thread::spawn(move || input.write_all(lines.as_bytes()).expect("it reads all calls"));
     let output = child.wait_with_output().expect("it ends");
-    writer.join().expect("all texts were written");
+    writer.join().expect("all calls were written");
     let output = String::from_utf8(output.stdout).expect("it writes text");
-    let answers: Vec<String> = output.split_terminator('\n').map(str::to_string).collect();
-    assert_eq!(answers.len(), texts.len(), "one answer a text");
+    let answers: Vec<String> =
+        output.split_terminator('\n').map(|line| line.strip_prefix("-: ").expect("an answer begins with the name").to_string()).collect();
+    assert_eq!(answers.len(), calls.len(), "one answer a call");
     answers
 }
 
@@ -150,12 +154,13 @@ fn main() -> ExitCode {
         }
     }
     let (mut read, mut met, mut pre_releases) = (0, 0, 0);
+    let rewritings: Vec<String> = texts.iter().map(|text| format!("rewritten-as-cargo\t{}", escaped(text))).collect();
     let questions = texts.iter().zip(&asked).map(|(text, versions)| {
         let versions: Vec<String> = versions.iter().map(Version::to_string).collect();
-        format!("{text} ? {}", versions.join(" "))
+        format!("meant-as-cargo\t{}\t{}", escaped(text), versions.join(" "))
     });
     let questions: Vec<String> = questions.collect();
-    let rewritten = answers(&arguments[1], &texts);
+    let rewritten = answers(&arguments[1], &rewritings);
     let meant = answers(&arguments[1], &questions);
     for (at, text) in texts.iter().enumerate() {
         let (rewritten, meant) = (&rewritten[at], &meant[at]);

@@ -1,9 +1,9 @@
 //! What the filter keeps, and which versions meet a set.
 
-use release_filter::{Filter, PreReleases, filter_text, version_meets};
+use release_filter::{Filter, Lines, PreReleases, Wanted, filter_text, version_meets};
 use semver_parser::version::Version;
 use semver_parser::{Compat, RangeError, RangeSet, version};
-use std::alloc::Global;
+use std::alloc::{AllocError, Global};
 use std::io;
 use std::io::Write;
 
@@ -52,10 +52,11 @@ pub fn write_passed<W: Write>(
 /// Whether a filter reads these versions of a list, and no other ones.
 fn are_read(alloc: Global, filter: &Filter, list: &str, kept: &[&Version]) -> io::Result<bool> {
     let mut left = kept.iter();
-    for item in list.split(' ').filter(|item| !item.is_empty()) {
+    for item in list.split(' ') {
         if let Some(version) = filter.read(alloc, item)? {
-            if !left.next().is_some_and(|next| **next == version) {
-                return Ok(false);
+            match left.next() {
+                Some(next) if **next == version => {}
+                _ => return Ok(false),
             }
         }
     }
@@ -66,7 +67,6 @@ fn are_read(alloc: Global, filter: &Filter, list: &str, kept: &[&Version]) -> io
 pub fn write_greatest<W: Write>(
     alloc: Global,
     text: &str,
-    compat: Compat,
     pre_releases: PreReleases,
     list: &str,
     out: &mut W,
@@ -74,7 +74,7 @@ pub fn write_greatest<W: Write>(
     let Some(versions) = versions_of(alloc, list)? else {
         return write!(out, "not all are versions");
     };
-    let filter = match Filter::new(alloc, text, compat, pre_releases) {
+    let filter = match Filter::new(alloc, text, Compat::Npm, pre_releases) {
         Ok(filter) => filter,
         Err(error) => return write!(out, "{error}"),
     };
@@ -84,7 +84,7 @@ pub fn write_greatest<W: Write>(
     }
 }
 
-/// Writes the line of the greatest version behind a prefix, and how the rest of the lines is left.
+/// Writes the line of the greatest version after a prefix, and how many bytes are left.
 pub fn write_greatest_line<W: Write>(
     alloc: Global,
     text: &str,
@@ -92,20 +92,21 @@ pub fn write_greatest_line<W: Write>(
     lines: &str,
     out: &mut W,
 ) -> io::Result<()> {
-    let filter = match Filter::new(alloc, text, Compat::Npm, PreReleases::Stated) {
-        Ok(filter) => filter,
+    let mut chosen = match lines_of(alloc, text, prefix, Wanted::Greatest)? {
+        Ok(chosen) => chosen,
         Err(error) => return write!(out, "{error}"),
     };
-    let mut input = lines.as_bytes();
-    match filter.greatest_line_behind(alloc, prefix, &mut input) {
-        Ok(Some(line)) => write!(out, "{:?}", str::from_utf8(line.as_slice()).ok())?,
-        Ok(None) => write!(out, "none")?,
-        Err(error) => write!(out, "{error}")?,
+    let (line, left) = appended(alloc, &mut chosen, lines, lines.len())?;
+    if line.is_empty() {
+        write!(out, "none")?;
+    } else {
+        write!(out, "{:?}", str::from_utf8(line.as_slice()).ok())?;
     }
-    write!(out, ", {} left", input.len())
+    write!(out, ", {left} left")?;
+    write_in_bytes(alloc, &mut chosen, lines, line.as_slice(), out)
 }
 
-/// Writes the lines that are copied, whether there was one, and how many bytes are left.
+/// Writes whether a line is kept, the kept lines, and how many bytes are left.
 pub fn write_copied<W: Write>(
     alloc: Global,
     text: &str,
@@ -113,30 +114,81 @@ pub fn write_copied<W: Write>(
     lines: &str,
     out: &mut W,
 ) -> io::Result<()> {
-    let filter = match Filter::new(alloc, text, Compat::Npm, PreReleases::Stated) {
-        Ok(filter) => filter,
+    let mut chosen = match lines_of(alloc, text, prefix, Wanted::Each)? {
+        Ok(chosen) => chosen,
         Err(error) => return write!(out, "{error}"),
     };
-    let mut input = lines.as_bytes();
-    let mut copied = Vec::new(alloc);
-    match filter.copy_lines_behind(alloc, prefix, &mut input, &mut copied) {
-        Ok(some) => write!(out, "{some} ")?,
-        Err(error) => write!(out, "{error} ")?,
+    let (kept, left) = appended(alloc, &mut chosen, lines, lines.len())?;
+    let text = str::from_utf8(kept.as_slice()).ok();
+    write!(out, "{} {text:?}, {left} left", !kept.is_empty())?;
+    write_in_bytes(alloc, &mut chosen, lines, kept.as_slice(), out)
+}
+
+/// The lines that a range means in npm mode by the default rule, after a prefix if there is one.
+fn lines_of(
+    alloc: Global,
+    text: &str,
+    prefix: &str,
+    wanted: Wanted,
+) -> io::Result<Result<Lines, RangeError>> {
+    let filter = match Filter::new(alloc, text, Compat::Npm, PreReleases::Stated) {
+        Ok(filter) => filter,
+        Err(error) => return Ok(Err(error)),
+    };
+    let mut prefixes = Vec::new(alloc);
+    if !prefix.is_empty() {
+        prefixes.push(prefix.to_string(alloc)?)?;
     }
-    write!(
-        out,
-        "{:?}, {} left",
-        str::from_utf8(copied.as_slice()).ok(),
-        input.len()
-    )
+    Ok(Ok(Lines::new(alloc, filter, prefixes, wanted, false)))
+}
+
+/// What a text appends in pieces of so many bytes, and how many of its bytes are not taken.
+fn appended(
+    alloc: Global,
+    lines: &mut Lines,
+    text: &str,
+    length: usize,
+) -> io::Result<(Vec<u8>, usize)> {
+    let mut kept = Vec::new(alloc);
+    let mut left = text.as_bytes();
+    for _ in 0..text.len() {
+        if left.is_empty() {
+            break;
+        }
+        let (piece, rest) = left.split_at(length.min(left.len()));
+        if let Err(stopped) = lines.push(alloc, piece, &mut kept) {
+            return Ok((kept, left.len().saturating_sub(stopped.taken)));
+        }
+        left = rest;
+    }
+    match lines.finish(alloc, &mut kept) {
+        Ok(()) => Ok((kept, left.len())),
+        Err(_) => Err(AllocError.into()),
+    }
+}
+
+/// Writes whether a text appends something else in pieces of one byte.
+fn write_in_bytes<W: Write>(
+    alloc: Global,
+    chosen: &mut Lines,
+    lines: &str,
+    kept: &[u8],
+    out: &mut W,
+) -> io::Result<()> {
+    let (in_bytes, left) = appended(alloc, chosen, lines, 1)?;
+    if left == 0 && in_bytes.as_slice() == kept {
+        return Ok(());
+    }
+    write!(out, ", and something else in bytes")
 }
 
 /// The versions of a list, if each item is one.
 pub fn versions_of(alloc: Global, list: &str) -> io::Result<Option<Vec<Version>>> {
     let mut versions = Vec::new(alloc);
-    for item in list.split(' ').filter(|item| !item.is_empty()) {
+    for item in list.split(' ') {
         match version::parse(alloc, item) {
             Ok(version) => versions.push(version)?,
+            Err(_) if item.is_empty() => {}
             Err(_) => return Ok(None),
         }
     }
@@ -164,18 +216,16 @@ pub fn write_met<W: Write>(
     list: &str,
     out: &mut W,
 ) -> io::Result<()> {
+    let Some(versions) = versions_of(alloc, list)? else {
+        return write!(out, "not all are versions");
+    };
     let set = match RangeSet::parse(alloc, text, compat) {
         Ok(set) => set,
         Err(error) => return write!(out, "{error}"),
     };
-    for item in list.split(' ').filter(|item| !item.is_empty()) {
-        match version::parse(alloc, item) {
-            Ok(version) => {
-                if version_meets(&set, &version) {
-                    write!(out, "{version} ")?;
-                }
-            }
-            Err(_) => return write!(out, "{item} is no version"),
+    for version in versions.iter() {
+        if version_meets(&set, version) {
+            write!(out, "{version} ")?;
         }
     }
     write!(out, "end")

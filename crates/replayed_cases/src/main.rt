@@ -1,28 +1,32 @@
-//! Replays a table of cases. Each line of standard input has a name, a call and a text, parted by
-//! tabs, and for the calls of a parser its steps, for those of the filter and of sets the versions,
-//! for `concat` what is added, and for pairs of sets the other text; the line of standard output
-//! begins with the name and tells what the call answered. Of a call behind `sum-of-` it tells the
-//! length and the checksum of that. What is expected stands in the file beside this crate's input:
-//! it comes from the published rows, from the Rust crate, and of sets from `tools/set-rows`.
+//! Replays a table of cases. Each line of standard input has a name, a call and a text, separated
+//! by tabs, and for some calls a fourth field: the steps of a parser, the versions of a filter or a
+//! set, what `concat` adds, or the other text of a pair of sets. Each line of standard output has
+//! the name and what the call returned, or of a call after `sum-of-` the length and the checksum of
+//! that. The wanted lines are in the file `stdout` of this crate: they come from the published
+//! rows, from the Rust crate, of sets from `tools/set-rows`, and of a tool's own reading from that
+//! tool (`docs/TESTED.md`).
 #![tactic(auto)]
 
 mod checksum;
 mod filtering;
 mod lexing;
+mod modes;
 mod parsing;
 mod ranges;
 mod reporting;
 mod sets;
 mod text;
+mod tools;
 mod versions;
 
 use checksum::Checksum;
-use filtering::{write_greatest as greatest, write_passed as passed};
+use filtering::write_greatest as greatest;
 use release_filter::PreReleases;
-use semver_parser::{Compat, version};
+use semver_parser::version;
 use std::alloc::Global;
 use std::io;
 use std::io::{BufRead, BufReader, BufWriter, Write};
+use tool_ranges::meaning::Meaning;
 
 fn main(rt: HostRuntime) -> io::Result<()> {
     let input = BufReader::new(rt.alloc(), rt.reader())?;
@@ -74,45 +78,23 @@ fn answer<W: Write>(
         "version-text" => versions::write_printed(alloc, text, out),
         "error-text" => versions::write_error_text(alloc, text, out),
         "concat" => versions::write_joined(alloc, text, steps, out),
-        "cargo" => ranges::write_set(alloc, text, Compat::Cargo, out),
-        "npm" => ranges::write_set(alloc, text, Compat::Npm, out),
-        "cargo-text" => ranges::write_printed(alloc, text, Compat::Cargo, out),
-        "npm-text" => ranges::write_printed(alloc, text, Compat::Npm, out),
-        "cargo-exact" => ranges::write_exact(alloc, text, Compat::Cargo, out),
-        "npm-exact" => ranges::write_exact(alloc, text, Compat::Npm, out),
         "from-str" => ranges::write_from_str(alloc, text, out),
-        "filter-cargo" => filtering::write_kept(alloc, text, Compat::Cargo, steps, out),
-        "filter-npm" => filtering::write_kept(alloc, text, Compat::Npm, steps, out),
-        "mean-cargo" => passed(
-            alloc,
-            text,
-            Compat::Cargo,
-            PreReleases::Included,
-            steps,
-            out,
-        ),
-        "mean-npm" => passed(alloc, text, Compat::Npm, PreReleases::Included, steps, out),
-        "stated-cargo" => passed(alloc, text, Compat::Cargo, PreReleases::Stated, steps, out),
-        "stated-npm" => passed(alloc, text, Compat::Npm, PreReleases::Stated, steps, out),
-        "releases-cargo" => passed(
-            alloc,
-            text,
-            Compat::Cargo,
-            PreReleases::Excluded,
-            steps,
-            out,
-        ),
-        "releases-npm" => passed(alloc, text, Compat::Npm, PreReleases::Excluded, steps, out),
-        "greatest-release" => greatest(alloc, text, Compat::Npm, PreReleases::Excluded, steps, out),
-        "greatest-stated" => greatest(alloc, text, Compat::Npm, PreReleases::Stated, steps, out),
-        "greatest-of-all" => greatest(alloc, text, Compat::Npm, PreReleases::Included, steps, out),
+        "report" => reporting::write_report(alloc, text, out),
         "copy-lines" => filtering::write_copied(alloc, text, "", steps, out),
         "copy-tags" => filtering::write_copied(alloc, text, "v", steps, out),
         "greatest-line" => filtering::write_greatest_line(alloc, text, "", steps, out),
         "greatest-tag" => filtering::write_greatest_line(alloc, text, "v", steps, out),
-        "meet-cargo" => filtering::write_met(alloc, text, Compat::Cargo, steps, out),
-        "meet-npm" => filtering::write_met(alloc, text, Compat::Npm, steps, out),
-        "report" => reporting::write_report(alloc, text, out),
-        _ => sets::write_answer(alloc, call, text, steps, out),
+        "greatest-release" => greatest(alloc, text, PreReleases::Excluded, steps, out),
+        "greatest-stated" => greatest(alloc, text, PreReleases::Stated, steps, out),
+        "greatest-of-all" => greatest(alloc, text, PreReleases::Included, steps, out),
+        "rewritten-as-cargo" => tools::write_rewritten(alloc, Meaning::Cargo, text, out),
+        "rewritten-as-npm" => tools::write_rewritten(alloc, Meaning::Npm, text, out),
+        "meant-as-cargo" => tools::write_meant(alloc, Meaning::Cargo, text, steps, out),
+        "meant-as-npm" => tools::write_meant(alloc, Meaning::Npm, text, steps, out),
+        "meant-with-all-as-cargo" => {
+            tools::write_meant(alloc, Meaning::CargoAll, text, steps, out)
+        }
+        "meant-with-all-as-npm" => tools::write_meant(alloc, Meaning::NpmAll, text, steps, out),
+        _ => modes::write_answer(alloc, call, text, steps, out),
     }
 }

@@ -1,53 +1,19 @@
-//! Sets of the versions that range texts mean, and how two of them stand to each other. A rule for
-//! pre-releases and a mode are told by one word, as `stated-npm`.
+//! Sets of the versions that range texts mean, and how two of them stand to each other.
 
 use crate::filtering::versions_of;
+use semver_parser::version::Version;
 use semver_parser::{Compat, RangeError};
-use std::alloc::Global;
+use std::alloc::{AllocError, Global};
 use std::io;
 use std::io::Write;
 use version_sets::{PreReleases, VersionSet};
 
 /// A rule for pre-releases, and a mode.
-type Reading = (PreReleases, Compat);
-
-/// Writes what a call answers for a text and steps, if there is such a call.
-pub fn write_answer<W: Write>(
-    alloc: Global,
-    call: &str,
-    text: &str,
-    steps: &str,
-    out: &mut W,
-) -> io::Result<()> {
-    let Some((call, reading)) = call.split_once('-') else {
-        return write!(out, "no such call");
-    };
-    match (call, reading_of(reading)) {
-        ("set", Some(reading)) => write_set(alloc, reading, text, steps, out),
-        ("pair", Some(reading)) => write_pair(alloc, reading, text, steps, out),
-        _ => write!(out, "no such call"),
-    }
-}
-
-/// The rule and the mode of a word.
-fn reading_of(word: &str) -> Option<Reading> {
-    let (rule, mode) = word.split_once('-')?;
-    let rule = match rule {
-        "releases" => PreReleases::Excluded,
-        "stated" => PreReleases::Stated,
-        "mean" => PreReleases::Included,
-        _ => return None,
-    };
-    match mode {
-        "cargo" => Some((rule, Compat::Cargo)),
-        "npm" => Some((rule, Compat::Npm)),
-        _ => None,
-    }
-}
+pub type Reading = (PreReleases, Compat);
 
 /// Writes the versions of a list, parted by blanks, that are in the set of a text, then its least
 /// version and its least release, or the fault of the text.
-fn write_set<W: Write>(
+pub fn write_set<W: Write>(
     alloc: Global,
     reading: Reading,
     text: &str,
@@ -79,7 +45,7 @@ fn write_set<W: Write>(
 /// Writes how the sets of two texts stand to each other, or the fault of a text. The second text
 /// may have a semicolon behind it and then versions, parted by blanks: of each is written what it
 /// is in.
-fn write_pair<W: Write>(
+pub fn write_pair<W: Write>(
     alloc: Global,
     reading: Reading,
     text: &str,
@@ -87,50 +53,86 @@ fn write_pair<W: Write>(
     out: &mut W,
 ) -> io::Result<()> {
     let (other, list) = steps.split_once(';').unwrap_or((steps, ""));
-    match (set_of(alloc, reading, text), set_of(alloc, reading, other)) {
-        (Ok(first), Ok(second)) => write_compared(alloc, &first, &second, list, out),
-        (Err(error), _) | (_, Err(error)) => write!(out, "{error}"),
+    let first = match set_of(alloc, reading, text) {
+        Ok(set) => set,
+        Err(error) => return write!(out, "{error}"),
+    };
+    let second = match set_of(alloc, reading, other) {
+        Ok(set) => set,
+        Err(error) => return write!(out, "{error}"),
+    };
+    let Some(versions) = versions_of(alloc, list)? else {
+        return write!(out, "not all are versions");
+    };
+    let parts = Parts::of(alloc, &first, &second)?;
+    write_compared(alloc, &first, &second, &parts, out)?;
+    for version in versions.iter() {
+        write!(out, "; {version}:")?;
+        write_places(version, &first, &second, &parts, out)?;
+    }
+    Ok(())
+}
+
+/// What two sets have alone and together.
+#[derive(Drop)]
+struct Parts {
+    lost: VersionSet,
+    gained: VersionSet,
+    shared: VersionSet,
+    union: VersionSet,
+}
+
+impl Parts {
+    fn of(alloc: Global, first: &VersionSet, second: &VersionSet) -> Result<Parts, AllocError> {
+        Ok(Parts {
+            lost: first.difference(alloc, second)?,
+            gained: second.difference(alloc, first)?,
+            shared: first.intersection(alloc, second)?,
+            union: first.union(alloc, second)?,
+        })
     }
 }
 
-/// Writes the least versions that the first set has alone, the second has alone, and both have,
-/// whether the first is within the second, both overlap, and are the same; and of each version of a
-/// list, parted by blanks, what it is in.
+/// Writes the least versions that the first set has alone, the second has alone, and both have, and
+/// whether the first is within the second, both overlap, and are the same.
 fn write_compared<W: Write>(
     alloc: Global,
     first: &VersionSet,
     second: &VersionSet,
-    list: &str,
+    parts: &Parts,
     out: &mut W,
 ) -> io::Result<()> {
-    let Some(versions) = versions_of(alloc, list)? else {
-        return write!(out, "not all are versions");
-    };
-    let lost = first.difference(alloc, second)?;
-    let gained = second.difference(alloc, first)?;
-    let shared = first.intersection(alloc, second)?;
-    let union = first.union(alloc, second)?;
     write!(out, "lost ")?;
-    write_least(alloc, &lost, out)?;
+    write_least(alloc, &parts.lost, out)?;
     write!(out, ", gained ")?;
-    write_least(alloc, &gained, out)?;
+    write_least(alloc, &parts.gained, out)?;
     write!(out, ", shared ")?;
-    write_least(alloc, &shared, out)?;
-    let is_within = first.is_within(second);
-    let overlaps = first.overlaps(second);
-    write!(
-        out,
-        ", within {is_within}, overlaps {overlaps}, same {}",
-        first == second
-    )?;
-    for version in versions.iter() {
-        write!(out, "; {version}:")?;
-        write_if(first.has(version), " first", out)?;
-        write_if(second.has(version), " second", out)?;
-        write_if(lost.has(version), " lost", out)?;
-        write_if(gained.has(version), " gained", out)?;
-        write_if(shared.has(version), " shared", out)?;
-        write_if(union.has(version), " union", out)?;
+    write_least(alloc, &parts.shared, out)?;
+    let (within, overlaps) = (first.is_within(second), first.overlaps(second));
+    let same = first == second;
+    write!(out, ", within {within}, overlaps {overlaps}, same {same}")
+}
+
+/// Writes what a version is in.
+fn write_places<W: Write>(
+    version: &Version,
+    first: &VersionSet,
+    second: &VersionSet,
+    parts: &Parts,
+    out: &mut W,
+) -> io::Result<()> {
+    let places = [
+        (" first", first),
+        (" second", second),
+        (" lost", &parts.lost),
+        (" gained", &parts.gained),
+        (" shared", &parts.shared),
+        (" union", &parts.union),
+    ];
+    for (place, set) in places {
+        if set.has(version) {
+            write!(out, "{place}")?;
+        }
     }
     Ok(())
 }
@@ -141,14 +143,6 @@ fn write_least<W: Write>(alloc: Global, set: &VersionSet, out: &mut W) -> io::Re
         Some(version) => write!(out, "{version}"),
         None => write!(out, "none"),
     }
-}
-
-/// Writes a word where something is so.
-fn write_if<W: Write>(is_so: bool, word: &str, out: &mut W) -> io::Result<()> {
-    if is_so {
-        return write!(out, "{word}");
-    }
-    Ok(())
 }
 
 /// The set of a text.

@@ -1,0 +1,56 @@
+//! Range texts as Cargo or npm itself reads them.
+
+use crate::filtering::versions_of;
+use semver_parser::RangeError;
+use std::alloc::Global;
+use std::io;
+use std::io::Write;
+use tool_ranges::meaning::{self, Meaning};
+use tool_ranges::reading;
+
+/// Writes what a tool's reading rewrites a text to, or the word of its error.
+pub fn write_rewritten<W: Write>(
+    alloc: Global,
+    tool: Meaning,
+    text: &str,
+    out: &mut W,
+) -> io::Result<()> {
+    match reading::rewrite(alloc, tool.reading(), text) {
+        Ok(set) => write!(out, "{set}"),
+        Err(error) => write_error(&error, out),
+    }
+}
+
+/// Writes those versions of a list, separated by spaces, that a text means by the tool's own rule
+/// for pre-releases or with all of them, or the word of its error.
+pub fn write_meant<W: Write>(
+    alloc: Global,
+    tool: Meaning,
+    text: &str,
+    list: &str,
+    out: &mut W,
+) -> io::Result<()> {
+    let Some(versions) = versions_of(alloc, list)? else {
+        return write!(out, "not all are versions");
+    };
+    let set = match meaning::read(alloc, tool, text) {
+        Ok(set) => set,
+        Err(error) => return write_error(&error, out),
+    };
+    write!(out, "means")?;
+    for version in versions.iter() {
+        if set.has(version) {
+            write!(out, " {version}")?;
+        }
+    }
+    Ok(())
+}
+
+/// Writes the word of an error.
+fn write_error<W: Write>(error: &RangeError, out: &mut W) -> io::Result<()> {
+    match error {
+        RangeError::NotARange => write!(out, "not-a-range"),
+        RangeError::NumberTooLarge => write!(out, "number-too-large"),
+        RangeError::OutOfMemory => write!(out, "out-of-memory"),
+    }
+}

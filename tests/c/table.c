@@ -1,0 +1,64 @@
+#include "table.h"
+
+#include <stdio.h>
+#include <stdlib.h>
+#include <string.h>
+
+table table_of_files(const char *rows, const char *answers) {
+    table made = {text_of_file(rows), text_of_file(answers), NULL, NULL};
+    made.row_at = made.rows.bytes;
+    made.answer_at = made.answers.bytes;
+    return made;
+}
+
+void table_free(table *it) {
+    text_free(&it->rows);
+    text_free(&it->answers);
+}
+
+/* The line at a place, ended by a zero byte, and the place moved after it. */
+static char *next_line(char **at) {
+    char *line = *at;
+    char *end = strchr(line, '\n');
+    if (end == NULL) {
+        *at = line + strlen(line);
+    } else {
+        *end = 0;
+        *at = end + 1;
+    }
+    return line;
+}
+
+bool next_row(table *of, row *next) {
+    if (*of->row_at == 0 && *of->answer_at == 0) {
+        return false;
+    }
+    char none[1] = {0};
+    char *fields[4] = {next_line(&of->row_at), none, none, none};
+    for (int field = 1; field < 4; field++) {
+        char *tab = strchr(fields[field - 1], '\t');
+        if (tab == NULL) {
+            break;
+        }
+        *tab = 0;
+        fields[field] = tab + 1;
+    }
+    const char *answer = next_line(&of->answer_at);
+    size_t length = strlen(fields[0]);
+    row made = {fields[1], {NULL, 0, 0}, {NULL, 0, 0}, NULL};
+    if (length == 0 || fields[1] == none || strncmp(answer, fields[0], length) != 0
+        || strncmp(answer + length, ": ", 2) != 0
+        || !text_expand(&made.of, fields[2], strlen(fields[2]))
+        || !text_expand(&made.steps, fields[3], strlen(fields[3]))) {
+        fprintf(stderr, "not a row: %s, answered %s\n", fields[0], answer);
+        exit(2);
+    }
+    made.expected = answer + length + 2;
+    *next = made;
+    return true;
+}
+
+void row_free(row *it) {
+    text_free(&it->of);
+    text_free(&it->steps);
+}
