@@ -164,12 +164,12 @@ fn appends_in_pieces(
 ) -> Result<bool, AllocError> {
     let mut pieces = Vec::new(alloc);
     let mut rest = TEXT;
-    while !rest.is_empty() {
+    for _ in 0..TEXT.len() {
+        if rest.is_empty() {
+            break;
+        }
         let (piece, others) = rest.split_at(length.min(rest.len()));
         pieces.push(piece)?;
-        if piece.is_empty() {
-            return Ok(false);
-        }
         rest = others;
     }
     appends(alloc, wanted, pieces.as_slice(), appended)

@@ -58,7 +58,7 @@
  * take the number of a reading in place of a mode. */
 #define SEMVER_PARSER_VERSION_MAJOR 0
 #define SEMVER_PARSER_VERSION_MINOR 3
-#define SEMVER_PARSER_VERSION_PATCH 1
+#define SEMVER_PARSER_VERSION_PATCH 2
 #define SEMVER_PARSER_VERSION "0.3.2"
 
 #ifdef __cplusplus
