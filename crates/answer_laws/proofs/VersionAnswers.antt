@@ -105,7 +105,8 @@ pub unless_more : {T P Q : Type 0} (r : Result T Error) → (P → Q) → Unless
 unless_more (Err error.OutOfMemory) f p = tt
 unless_more r f p = f p
 
-pub unless_both : {T U P Q R : Type 0} (r : Result T Error) (s : Result U Error) → (P → Q → R) → UnlessOutOfMemory r P → UnlessOutOfMemory s Q
+pub unless_both : {T U P Q R : Type 0} (r : Result T Error) (s : Result U Error) → (P → Q → R) → UnlessOutOfMemory r P
+    → UnlessOutOfMemory s Q
     → UnlessOutOfMemory r (UnlessOutOfMemory s R)
 unless_both r s f p q = unless_more r (λ x. unless_more s (f x) q) p
 

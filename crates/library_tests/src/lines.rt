@@ -175,7 +175,8 @@ fn appends_in_pieces(
     appends(alloc, wanted, pieces.as_slice(), appended)
 }
 
-/// Whether strict lines stop once, after the second line, and append all else if the rest is pushed.
+/// Whether strict lines stop once, after the second line, and append all else if the rest is
+/// pushed.
 fn stops_and_goes_on(
     alloc: Global,
     wanted: Wanted,

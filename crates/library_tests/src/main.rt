@@ -1,6 +1,7 @@
 //! Tests of the library that need more than data, on what its calls write and append: printed
 //! values, whole writes and the report, at writers that fail, and the lines of a text in pieces. It
-//! writes what it found. What that has to be is in the file beside this crate: it comes from the written rules.
+//! writes what it found. What that has to be is in the file beside this crate: it comes from the
+//! written rules.
 #![tactic(auto)]
 
 mod lines;

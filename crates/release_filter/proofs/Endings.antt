@@ -10,7 +10,8 @@ use Rattle.release_filter.specs.LineTexts.{IsWholeLine, after_mark, line_text, l
 use Rattle.release_filter.specs.Pieces.{Completes, EndsInvalid, LinesValue, Takes}
 use Rattle.release_filter.specs.Steps.Outlined.{JudgesBy}
 use Rattle.release_filter.specs.Steps.Taking.{Concludes, Outlines, PassesAs, TakesLine, TakesWhole, verdict_of}
-use Rattle.release_filter.specs.Verdicts.{AreJudged, HasVersion, IsVerdictOn, JudgedLine, Verdict, asked, has_invalid, is_invalid, kept, dropped}
+use Rattle.release_filter.specs.Verdicts.{AreJudged, HasVersion, IsVerdictOn, JudgedLine, Verdict, asked, has_invalid, is_invalid, kept}
+use Rattle.release_filter.specs.Verdicts.{dropped}
 use Rattle.release_filter.specs.Verdicts.{empty, invalid}
 use Rattle.release_filter.specs.Wanted.{HeldValue, Holds, HoldsBy, KeptValue, emptied, kept_as, text_of}
 use Rattle.release_filter.specs.declared.wanted.Wanted.TheVariants as wanted
@@ -24,7 +25,8 @@ use Rattle.release_filter.proofs.TakenPieces.{NoEnd, judged_as, line_with, no_en
 -- ---- one line
 
 -- of a line that is kept this is held
-pub takes_kept : (h g : HeldValue) (c d : CountsValue) (line : Text) (said : Judged) (o : OutlineValue) (plain : PlainVersion) (old new : Text)
+pub takes_kept : (h g : HeldValue) (c d : CountsValue) (line : Text) (said : Judged) (o : OutlineValue) (plain : PlainVersion) (old new :
+    Text)
     → said ≡ Passes o
     → (Outlines o plain → (added : Text) × Holds h (record { version = plain; line = line } ∷ []) g added × (new ≡ old ++ added))
     → PassesAs said plain → d ≡ counted_as (verdict_of said plain line) c line
@@ -79,7 +81,8 @@ takes_other h c d line said plain old isnt counts = record {
 }
 
 -- of a line that is kept and wanted at once, all is appended
-pub takes_each : (h : HeldValue) (c d : CountsValue) (line : Text) (said : Judged) (o : OutlineValue) (plain : PlainVersion) (old new : Text)
+pub takes_each : (h : HeldValue) (c d : CountsValue) (line : Text) (said : Judged) (o : OutlineValue) (plain : PlainVersion) (old new :
+    Text)
     → h.wanted ≡ wanted.Each → said ≡ Passes o → old ≡ [] → new ≡ line → d ≡ record c { lines = one_more c.lines }
     → TakesLine h c line (verdict_of said plain line) h d old new × (true ≡ not (is_invalid (verdict_of said plain line)))
 takes_each h c d line said o plain old new each is none whole counts = (
@@ -108,7 +111,8 @@ took_judged s end left line said front g d old new valid whole none is judges ta
     let on = subst (λ l. IsVerdictOn s.filter s.prefixes l v) is told.2 in
     let taken = subst (λ l. TakesLine s.held s.counts l v g d old new) is one.0 in (
       judged_as s end v,
-      subst (λ b. Takes s end (judged_as s end v ∷ []) (record s { at_front = b; unended = left; held = g; counts = d }) old new) (sym later)
+      subst (λ b. Takes s end (judged_as s end v ∷ []) (record s { at_front = b; unended = left; held = g; counts = d }) old new) (sym
+          later)
           (took_line s end left v g d old new whole none on taken none_left),
       none_left,
       one.1,
@@ -180,7 +184,8 @@ module _ (s : LinesValue) (line : Text) (is : line ≡ after_mark s.at_front s.u
       (subst (λ l. AreJudged s.filter s.prefixes l []) (sym (no_lines none)) (judged_none s.filter s.prefixes)) judges in
       not_both (ap has_invalid those ∙ bad) refl
 
-  module _ (some : line ≡ [] → ⊥) (none : NoEnd s.unended) (said : Judged) (judges : JudgesBy (HasVersion (asked s.prefixes) line) s.filter said)
+  module _ (some : line ≡ [] → ⊥) (none : NoEnd s.unended) (said : Judged) (judges : JudgesBy (HasVersion (asked s.prefixes) line) s.filter
+      said)
     where
       one_line : (l : Text) → (l ≡ [] → ⊥) → NoEnd l → lines_of l ≡ l ∷ []
       one_line [] some none = absurd (some refl)
@@ -225,11 +230,13 @@ module _ (s : LinesValue) (line : Text) (is : line ≡ after_mark s.at_front s.u
           or_false true e = e
           or_false false e = refl
 
-      pub ends_invalid : (bad : Bool) → ((plain : PlainVersion) → bad ≡ is_invalid (verdict_of said plain line)) → bad ≡ true → EndsInvalid s
+      pub ends_invalid : (bad : Bool) → ((plain : PlainVersion) → bad ≡ is_invalid (verdict_of said plain line)) → bad ≡ true
+          → EndsInvalid s
       ends_invalid bad so e = (last ∷ [], last_judged, ap (λ b. b || false) (sym (so told.0) ∙ e))
 
       pub ends_valid : OneVersion → (bad : Bool) → ((plain : PlainVersion) → bad ≡ is_invalid (verdict_of said plain line)) → bad ≡ false
           → ¬ (EndsInvalid s)
       ends_valid same bad so e (judged, judges, isnt) =
-          let those = one_judging s.filter s.prefixes same (lines_of (after_mark s.at_front s.unended)) (last ∷ []) judged last_judged judges in
+          let those = one_judging s.filter s.prefixes same (lines_of (after_mark s.at_front s.unended)) (last ∷ []) judged last_judged
+          judges in
           not_both (ap has_invalid those ∙ isnt) (ap (λ b. b || false) (sym (so told.0) ∙ e))

@@ -1,6 +1,7 @@
 -- What holding a kept line does, and what is appended at the end of a text.
 use Rattle.std.proofs.Common.{◌≡◌, ◌∙◌, ◌⊎◌, ◌↔◌, ◌++◌, ◌∷◌, ◌<◌, ◌+◌, [], List, ℕ, Bool, true, false, refl, sym, ap, ap₂, subst, inl, inr}
-use Rattle.std.proofs.Common.{Option, Some, None, MatchOption, Vec, Global, Bor, append_assoc, append-nil, drop, get_or, length, map, take, Less}
+use Rattle.std.proofs.Common.{Option, Some, None, MatchOption, Vec, Global, Bor, append_assoc, append-nil, drop, get_or, length, map, take}
+use Rattle.std.proofs.Common.{Less}
 use Rattle.std.proofs.Math.Seq.{take-append_seam}
 use Rattle.std.proofs.lemmas.List.{drop_more, map-append}
 use Rattle.std.specs.Cmp.{IsTotalOrder}
@@ -12,7 +13,8 @@ use Rattle.semver_parser.specs.Versions.{PlainVersion}
 use Rattle.semver_parser.specs.VersionViews.{version_value}
 use Rattle.semver_parser.specs.declared.version.Version.{Version}
 use Rattle.release_filter.specs.Steps.Taking.{Concludes, kept_value}
-use Rattle.release_filter.specs.Wanted.{AnswersBy, HeldValue, HoldsBy, IsBest, IsStableSort, KeptValue, ended, ended_text, order_of, text_of}
+use Rattle.release_filter.specs.Wanted.{AnswersBy, HeldValue, HoldsBy, IsBest, IsStableSort, KeptValue, ended, ended_text, order_of}
+use Rattle.release_filter.specs.Wanted.{text_of}
 use Rattle.release_filter.specs.declared.wanted.KeptLine.{KeptLine}
 use Rattle.release_filter.specs.declared.wanted.Wanted.{Wanted}
 use Rattle.release_filter.specs.declared.wanted.Wanted.TheVariants.{Each, Greatest, Least, Sorted}
@@ -62,7 +64,8 @@ holds_best Sorted (inr e) h g lines best is so = cc
 
 pub ended_append : (xs ys : List KeptValue) → ended_text (xs ++ ys) ≡ ended_text xs ++ ended_text ys
 ended_append [] ys = refl
-ended_append (x ∷ xs) ys = ap (λ l. ended x.line ++ l) (ended_append xs ys) ∙ sym (append_assoc (ended x.line) (ended_text xs) (ended_text ys))
+ended_append (x ∷ xs) ys = ap (λ l. ended x.line ++ l) (ended_append xs ys) ∙ sym (append_assoc (ended x.line) (ended_text xs) (ended_text
+    ys))
 
 abbrev pub seen_lines : List (Bor KeptLine) → List KeptValue
 seen_lines lines = map (λ (line : Bor KeptLine). kept_value line.now) lines

@@ -1,5 +1,6 @@
 -- What a line is, prefix by prefix.
-use Rattle.std.proofs.Common.{◌≡◌, ◌∙◌, ◌++◌, ◌∷◌, ◌≤◌, ◌<◌, ◌-◌, [], List, ℕ, Bool, true, false, cond, refl, sym, ap, ap₂, inl, inr, subst, arith}
+use Rattle.std.proofs.Common.{◌≡◌, ◌∙◌, ◌++◌, ◌∷◌, ◌≤◌, ◌<◌, ◌-◌, [], List, ℕ, Bool, true, false, cond, refl, sym, ap, ap₂, inl, inr, subst}
+use Rattle.std.proofs.Common.{arith}
 use Rattle.std.proofs.Common.{String, Global, string_bytes, length, get_or, take, drop, Option, map}
 use Rattle.std.proofs.lemmas.Grind.{common_steps}
 use Rattle.std.proofs.lemmas.List.{append_cancel_left, map-append}
@@ -28,7 +29,8 @@ one_after same prefix line v w a b =
     let text = append_cancel_left prefix a.0 b.0 (sym a.1 ∙ b.1) in
     same v w b.0 (subst (λ t. SpellsVersion v t) text a.2) b.2
 
-pub one_had : OneVersion → (prefixes : List Text) (line : Text) (v w : VersionValue) → HasVersion prefixes line v → HasVersion prefixes line w → v ≡ w
+pub one_had : OneVersion → (prefixes : List Text) (line : Text) (v w : VersionValue) → HasVersion prefixes line v
+    → HasVersion prefixes line w → v ≡ w
 one_had same [] line v w a b = absurd a
 one_had same (prefix ∷ prefixes) line v w (inl a) (inl b) = one_after same prefix line v w a b
 one_had same (prefix ∷ prefixes) line v w (inl a) (inr (none, b)) = absurd (none v a)
@@ -43,7 +45,8 @@ judged_after filter prefix line text NoVersion e none =
 judged_after filter prefix line text DoesNotPass e j = (j.0.0, (text, e, j.0.1), j.1 j.0.0 j.0.1)
 judged_after filter prefix line text (Passes o) e j = (j.0.0, (text, e, j.0.1), j.1 j.0.0 j.0.1, (text, j.0, j.0.1))
 
-pub no_text : (prefix : Text) (line : Text) → ((text : Text) → ¬ (line_text line ≡ prefix ++ text)) → (w : VersionValue) → ¬ (SpellsAfter prefix line w)
+pub no_text : (prefix : Text) (line : Text) → ((text : Text) → ¬ (line_text line ≡ prefix ++ text)) → (w : VersionValue)
+    → ¬ (SpellsAfter prefix line w)
 no_text prefix line none w s = none s.0 s.1
 
 -- a prefix after which there is a version decides
@@ -161,7 +164,8 @@ module _ (filter : FilterValue) (prefixes : List Text) where
         let first : j ≡ k = λ i. record { line = line i; verdict = is i } in
         ap₂ (λ x xs. x ∷ xs) first (same_judged js ks (cc) p.1 q.1)
 
-    pub one_judging : (xs : List Text) (js ks : List JudgedLine) → AreJudged filter prefixes xs js → AreJudged filter prefixes xs ks → js ≡ ks
+    pub one_judging : (xs : List Text) (js ks : List JudgedLine) → AreJudged filter prefixes xs js → AreJudged filter prefixes xs ks
+        → js ≡ ks
     one_judging xs js ks a b = same_judged js ks (a.all ∙ sym b.all) a.each b.each
 
 -- ---- a line that is judged by its outline

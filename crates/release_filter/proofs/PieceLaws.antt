@@ -1,6 +1,8 @@
 -- That a piece of a text does one thing, and what all of a text does.
-use Rattle.std.proofs.Common.{◌≡◌, ◌≢◌, ◌∙◌, ◌++◌, ◌∷◌, ◌<◌, ◌≤◌, ◌-◌, ◌&&◌, ◌==◌, [], List, ◌⊎◌, ℕ, Bool, true, false, refl, sym, subst, inl, inr}
-use Rattle.std.proofs.Common.{All, ap, ap₂, append_assoc, append-nil, arith, cond, get_or, length, length-append, length-drop, length-take, suc, take, drop, map, eqb}
+use Rattle.std.proofs.Common.{◌≡◌, ◌≢◌, ◌∙◌, ◌++◌, ◌∷◌, ◌<◌, ◌≤◌, ◌-◌, ◌&&◌, ◌==◌, [], List, ◌⊎◌, ℕ, Bool, true, false, refl, sym, subst}
+use Rattle.std.proofs.Common.{inl, inr}
+use Rattle.std.proofs.Common.{All, ap, ap₂, append_assoc, append-nil, arith, cond, get_or, length, length-append, length-drop, length-take}
+use Rattle.std.proofs.Common.{suc, take, drop, map, eqb}
 use Rattle.std.proofs.Common.{Result, Ok, Err, IfOk, IfErr}
 use Rattle.std.specs.Cmp.{IsTotalOrder}
 use Rattle.std.specs.List.{AllByRecursion, concat}
@@ -78,7 +80,8 @@ no_marked : (front : Bool) (lines : List Text) → marked_off front lines ≡ []
 no_marked front [] e = refl
 no_marked front (line ∷ lines) e = cc
 
-split_judged : (filter : FilterValue) (prefixes : List Text) (xs ys : List Text) (ks : List JudgedLine) → AreJudged filter prefixes (xs ++ ys) ks
+split_judged : (filter : FilterValue) (prefixes : List Text) (xs ys : List Text) (ks : List JudgedLine)
+    → AreJudged filter prefixes (xs ++ ys) ks
     → (js : List JudgedLine) × (zs : List JudgedLine) × (ks ≡ js ++ zs) × AreJudged filter prefixes xs js × AreJudged filter prefixes ys zs
 split_judged filter prefixes [] ys ks a = ([], ks, refl, judged_none filter prefixes, a)
 split_judged filter prefixes (x ∷ xs) ys [] a = absurd (let e = a.all in cc)
@@ -119,7 +122,8 @@ in_front : (js ks zs : List JudgedLine) (x y : JudgedLine) → (js ++ x ∷ []) 
 in_front [] [] zs x y e is valid = cc
 in_front [] (k ∷ ks) zs x y e is valid =
     let same : x ≡ k = cc in
-    absurd (not_both (ap (λ (j : JudgedLine). is_invalid j.verdict) (sym same) ∙ ap is_invalid is) (or_left (is_invalid k.verdict) (has_invalid ks) valid))
+    absurd (not_both (ap (λ (j : JudgedLine). is_invalid j.verdict) (sym same) ∙ ap is_invalid is) (or_left (is_invalid k.verdict)
+    (has_invalid ks) valid))
 in_front (j ∷ js) [] zs x y e is valid = absurd (some js (cc))
   where
     some : (js : List JudgedLine) → ¬ ((js ++ x ∷ []) ++ zs ≡ [])
@@ -161,7 +165,8 @@ module _ (same : OneVersion) (total : IsTotalOrder precedence) where
       (subst (λ l. Holds s.held (kept_of l) b.held b.added) (sym judged) b.holds) in
       let rest = one_answer total a.held a.rest b.rest a.answers (subst (λ h. Answers h b.rest) (sym held.0) b.answers) in (
         judged,
-        a.state ∙ ap (λ l. record s { at_front = true; unended = []; held = emptied s.held; counts = counted s.counts l }) judged ∙ sym b.state,
+        a.state ∙ ap (λ l. record s { at_front = true; unended = []; held = emptied s.held; counts = counted s.counts l }) judged
+            ∙ sym b.state,
         a.appended ∙ ap₂ (λ l m. old ++ (l ++ m)) held.1 rest ∙ sym b.appended,
       )
 
@@ -194,7 +199,8 @@ module _ (same : OneVersion) (total : IsTotalOrder precedence) where
         → a ≡ b
     not_later before within second valid ended' =
         let more = take (b - a) (drop a piece) in
-        let cut : take b piece ≡ take a piece ++ more = ap (λ n. take n piece) (let le = before in omega arith) ∙ take-add a (b - a) piece in
+        let cut : take b piece ≡ take a piece ++ more = ap (λ n. take n piece) (let le = before in omega arith)
+        ∙ take-add a (b - a) piece in
         let parts = front_judged s t u (take a piece) more (js ++ x ∷ []) (ks ++ y ∷ []) old mid other new first ended
         (subst (λ l. Takes s l (ks ++ y ∷ []) u other new) cut second) in
         let none = parts.2 (in_front js ks parts.0 x y (sym parts.1) is valid) ended' in

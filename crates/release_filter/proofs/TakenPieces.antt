@@ -1,6 +1,7 @@
 -- What a piece of a text does, line by line.
 use Rattle.std.proofs.Common.{◌≡◌, ◌≢◌, ◌∙◌, ◌++◌, ◌∷◌, ◌≤◌, ◌<◌, ◌+◌, ◌-◌, ◌&&◌, [], List, ℕ, Bool, true, false, refl, sym, subst, arith}
-use Rattle.std.proofs.Common.{length, take, drop, ap, append_assoc, append-nil, All, length-append, length-take, length-drop, get_or, cond, ne_eqb, ◌==◌}
+use Rattle.std.proofs.Common.{length, take, drop, ap, append_assoc, append-nil, All, length-append, length-take, length-drop, get_or, cond}
+use Rattle.std.proofs.Common.{ne_eqb, ◌==◌}
 use Rattle.std.specs.Cmp.{IsTotalOrder}
 use Rattle.std.specs.List.{AllByRecursion, concat}
 use Rattle.std.specs.Io.{StartsWith}
@@ -117,7 +118,8 @@ seen inside s t piece judged old new is takes = subst (λ x. Takes x piece judge
 pub one_left : (x : ℕ) (xs : Text) → NoEnd (x ∷ xs) → lines_of (x ∷ xs) ≡ (x ∷ xs) ∷ []
 one_left x [] none = ap (λ b. cond b ((x ∷ []) ∷ []) ((x ∷ []) ∷ [])) (ne_eqb x 10 (All-head (λ y. y ≢ 10) x [] none))
 one_left x (y ∷ ys) none =
-    ap (λ b. cond b ((x ∷ []) ∷ lines_of (y ∷ ys)) (onto_first x (lines_of (y ∷ ys)))) (ne_eqb x 10 (All-head (λ z. z ≢ 10) x (y ∷ ys) none))
+    ap (λ b. cond b ((x ∷ []) ∷ lines_of (y ∷ ys)) (onto_first x (lines_of (y ∷ ys)))) (ne_eqb x 10 (All-head (λ z. z ≢ 10) x (y ∷ ys)
+    none))
     ∙ ap (onto_first x) (one_left y ys (All-tail (λ z. z ≢ 10) x (y ∷ ys) none))
 
 pub no_end_marked : (front : Bool) (line : Text) → NoEnd line → NoEnd (after_mark front line)
@@ -141,7 +143,8 @@ marked_later : (lines : List Text) → marked_off false lines ≡ lines
 marked_later [] = refl
 marked_later (line ∷ lines) = refl
 
-pub marked_append : (front : Bool) (xs ys : List Text) → marked_off front (xs ++ ys) ≡ marked_off front xs ++ marked_off (front && is_empty xs) ys
+pub marked_append : (front : Bool) (xs ys : List Text) → marked_off front (xs ++ ys) ≡ marked_off front xs ++ marked_off (front && is_empty
+    xs) ys
 marked_append front [] ys = ap (λ f. marked_off f ys) (sym (and-true front))
 marked_append front (x ∷ xs) ys =
     ap (λ l. after_mark front x ∷ (xs ++ l)) (sym (marked_later ys) ∙ ap (λ f. marked_off f ys) (sym (and-false front)))
@@ -231,7 +234,8 @@ module _ (total : IsTotalOrder precedence) where
       )
 
   -- and what is left of the piece
-  pub took_all : (s t u : LinesValue) (piece : Text) (js : List JudgedLine) (old mid new : Text) (taken : ℕ) → Takes s (take taken piece) js t old mid
+  pub took_all : (s t u : LinesValue) (piece : Text) (js : List JudgedLine) (old mid new : Text) (taken : ℕ)
+      → Takes s (take taken piece) js t old mid
       → Takes t (left_of piece taken) [] u mid new → Takes s piece js u old new
   took_all s t u piece js old mid new taken a b =
       let is = ap (λ l. take taken piece ++ l) (take_rest piece taken) ∙ take-append-drop taken piece in

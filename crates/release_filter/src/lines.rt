@@ -88,9 +88,9 @@ impl Model for Lines {
 
 impl Lines {
     // Answer: equation.
-    /// Returns the lines of a text of which no byte was taken yet. With a filter of `^1`, the prefix
-    /// `v` and `Wanted::Each`, those that are kept are `v1.4.0` and `v1.9.2`, and not `v2.0.0` or
-    /// `1.4.0`.
+    /// Returns the lines of a text of which no byte was taken yet. With a filter of `^1`, the
+    /// prefix `v` and `Wanted::Each`, those that are kept are `v1.4.0` and `v1.9.2`, and not
+    /// `v2.0.0` or `1.4.0`.
     ///
     /// Where `is_strict` is true, a line that isn't empty and has no version is an error.
     pub fn new(
@@ -174,9 +174,9 @@ impl Lines {
     ///
     /// # Errors
     ///
-    /// `OutOfMemory` if an allocation fails. `NoVersion`, exactly where the lines are strict and the
-    /// last line isn't empty and has no version. Then nothing was appended, the lines are as they
-    /// were, and the call can be repeated.
+    /// `OutOfMemory` if an allocation fails. `NoVersion`, exactly where the lines are strict and
+    /// the last line isn't empty and has no version. Then nothing was appended, the lines are as
+    /// they were, and the call can be repeated.
     ///
     /// # Details
     ///

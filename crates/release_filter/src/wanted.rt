@@ -99,7 +99,8 @@ impl Held {
 
     /// Holds a line if it is better than the best so far.
     fn hold_best(&mut self, alloc: Global, version: Version, line: &[u8]) -> Result<(), AllocError>
-        ensures best { IfOk result (λ _. (best : Option KeptValue) × IsBest (order_of self.old.wanted)
+        ensures best { IfOk result (λ _. (best : Option KeptValue)
+            × IsBest (order_of self.old.wanted)
             (option_to_list (option_map kept_value self.old.best)
             ++ record { version = (version_value version).plain; line = line.now } ∷ []) best
             × (held_value self.new ≡ record (held_value self.old) { best = best })) }
@@ -127,7 +128,8 @@ impl Held {
         kept: &mut Vec<u8>,
     ) -> Result<(), AllocError>
         ensures answers { (plain : PlainVersion) → PassesAs judged.now plain → IfOk result (λ _.
-            Concludes (held_value self.now) (kept_as (verdict_of judged.now plain line.now) line.now)
+            Concludes (held_value self.now)
+            (kept_as (verdict_of judged.now plain line.now) line.now)
             kept.old.items kept.new.items) }
         ensures unchanged { IfErr result (λ _. kept.new.items ≡ kept.old.items) }
     {

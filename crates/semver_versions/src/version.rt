@@ -14,7 +14,8 @@ ghost use Rattle.semver_texts.specs.PrintedText.{version_text};
 ghost use Rattle.semver_texts.specs.VersionViews.{version_value};
 ghost use Rattle.semver_texts.specs.VersionGrammar.{SpellsVersion, IsVersionText, IsTrimmed};
 ghost use Rattle.semver_texts.specs.VersionGrammar.{IsPrintableVersion};
-ghost use Rattle.semver_versions.specs.Outlines.{OutlineValue, IsOutlineOf, IsOutlineAfter, StandsAt};
+ghost use Rattle.semver_versions.specs.Outlines.{IsOutlineAfter, IsOutlineOf};
+ghost use Rattle.semver_versions.specs.Outlines.{OutlineValue, StandsAt};
 ghost use Rattle.semver_steps.specs.VersionReading.{IsOutcomeOf, TextMayRunOut};
 ghost use Rattle.semver_steps.specs.ParserViews.{answer_of, UnlessOutOfMemory, IfOutOfMemory};
 

@@ -1,5 +1,6 @@
 -- What one line does: a means of proof.
-use Rattle.std.specs.Prelude.{◌≡◌, ◌++◌, Bool, not, List, [], ◌∷◌, map, String, string_bytes, if◌then◌else◌}
+use Rattle.std.specs.Prelude.{◌≡◌, ◌++◌, Bool, not, List, [], ◌∷◌, map, String, string_bytes}
+use Rattle.std.specs.Prelude.{if◌then◌else◌}
 use Rattle.std.specs.Global.{Global}
 use Rattle.std.specs.Option.{option_map}
 use Rattle.semver_parser.specs.Outlines.{OutlineValue, IsOutlineOf}

@@ -37,7 +37,8 @@ pub record AreParts (text pre build : Text) : Type 0 where
   pub split : text
       ≡ marked (codes "-") (cut_at_dots pre) ++ (marked (codes "+") (cut_at_dots build) ++ after)
 
--- the outline of a version that the text spells after so many bytes, or none where the text spells none
+-- the outline of a version that the text spells after so many bytes, or none where the text spells
+-- none
 abbrev pub IsOutlined : ℕ → Text → Option OutlineValue → Type 0
 IsOutlined before text None = ¬ (IsVersionText text)
 IsOutlined before text (Some o) = IsOutlineAfter before text o

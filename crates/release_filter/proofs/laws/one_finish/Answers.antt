@@ -3,7 +3,8 @@ use Rattle.release_filter.proofs.laws.one_finish.Goals as goal
 
 pub returns-clause-one : goal.returns-clause-one
 returns-clause-one c = λ states bytes. both_ok c.finish.result c.finish-2.result _ _ _
-    (two_finished c.one_version.ensures.same_version c.precedence_is_total.ensures.total c.args.first.now c.args.second.now c.finish.new.self
+    (two_finished c.one_version.ensures.same_version c.precedence_is_total.ensures.total c.args.first.now c.args.second.now
+    c.finish.new.self
     c.finish-2.new.self states c.args.kept.now.items c.args.other.now.items _ _ bytes) c.finish.ensures.finishes c.finish-2.ensures.finishes
 
 pub returns-clause-one_error : goal.returns-clause-one_error

@@ -12,7 +12,8 @@ returns-clause-takes c = λ plain passes.
         | in-Passes+in_ok-keep w ↦
             rw (w.held-is, w.kept-is)
             (takes_kept (held_value c.args.held.now) (held_value w.keep.new.self) (counts_value c.args.counts.now) _ c.args.line.now
-            c.args.judged.now _ plain c.args.kept.now.items w.keep.new.kept.items w.in-Passes.is (w.in_ok-keep.ensures.holds plain) passes counts)
+            c.args.judged.now _ plain c.args.kept.now.items w.keep.new.kept.items w.in-Passes.is (w.in_ok-keep.ensures.holds plain) passes
+            counts)
         | in_default w ↦
             rw (w.held-is, w.kept-is)
             (takes_other (held_value c.args.held.now) (counts_value c.args.counts.now) _ c.args.line.now c.args.judged.now plain

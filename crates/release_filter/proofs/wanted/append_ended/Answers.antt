@@ -10,7 +10,8 @@ loop-line-init c = ([], sym (append-nil _), refl)
 
 pub loop-line-preserved : goal.loop-line-preserved
 loop-line-preserved c =
-    appends_next c.args.lines.now c.loop-line.line-index c.line-item.result c.args.kept.now.items c.loop-line.kept.items _ c.loop-line-test.true
+    appends_next c.args.lines.now c.loop-line.line-index c.line-item.result c.args.kept.now.items c.loop-line.kept.items _
+    c.loop-line-test.true
     c.line-item.is c.loop-line.invariant
     (c.in_default.ensures.appends ∙ ap (λ l. c.loop-line.kept.items ++ ended l) c.as_slice.ensures.value)
 

@@ -10,4 +10,5 @@ returns-clause-none c = λ text n at. exactly_none _ text c.behind_numbers.resul
     (outlined_at_numbers text c.args.rest.now _ _ _ _ c.behind_numbers.result c.behind_numbers.ensures n at)
 
 pub returns-clause-after : goal.returns-clause-after
-returns-clause-after c = λ text before o n at. exactly_after text before c.behind_numbers.result (c.behind_numbers.ensures text before n at) o
+returns-clause-after c = λ text before o n at. exactly_after text before c.behind_numbers.result (c.behind_numbers.ensures text before n at)
+    o

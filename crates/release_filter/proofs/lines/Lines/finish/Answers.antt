@@ -8,7 +8,8 @@ use Rattle.release_filter.specs.LineTexts.{after_mark}
 use Rattle.release_filter.specs.Pieces.{EndsInvalid, LinesValue, RefusesEnd, begun}
 use Rattle.release_filter.specs.Steps.Taking.{Concludes, held_value, texts}
 use Rattle.release_filter.specs.declared.lines.LinesError.TheVariants.{NoVersion}
-use Rattle.release_filter.proofs.Endings.{fails_kept, ends_invalid, ends_valid, ends_valid_none, finished_none, finished_one, seen_end, some_line}
+use Rattle.release_filter.proofs.Endings.{fails_kept, ends_invalid, ends_valid, ends_valid_none, finished_none, finished_one, seen_end}
+use Rattle.release_filter.proofs.Endings.{some_line}
 use Rattle.release_filter.proofs.Passing.{no_length, not_both}
 use Rattle.release_filter.proofs.lines.Lines.finish.Goals as goal
 use Rattle.release_filter.proofs.lines.Lines.finish.Goals.{else-self-via-then-self+else-is_bad, else-self-via-else-self}
@@ -69,7 +70,8 @@ returns-in_default-noted-clause-refuses c =
     subst (λ (x : LinesValue). IsTrue x.is_strict → ¬ (EndsInvalid x)) c.self.view_is
     (λ strict. elim c.else-self.branch [
       | else-self-via-then-self+else-is_bad w ↦
-          ends_valid value line is some c.self.invariant c.judge_line-judged.result c.judge_line-judged.ensures c.one_version.ensures.same_version
+          ends_valid value line is some c.self.invariant c.judge_line-judged.result c.judge_line-judged.ensures
+          c.one_version.ensures.same_version
           c.is_invalid-is_bad.result c.is_invalid-is_bad.ensures w.if-is_bad.false
       | else-self-via-else-self w ↦ absurd (not_both strict w.if-self.false)
     ])
@@ -92,7 +94,8 @@ returns-in_default-finish-clause-refuses c =
     subst (λ (x : LinesValue). IsTrue x.is_strict → ¬ (EndsInvalid x)) c.self.view_is
     (λ strict. elim c.else-self.branch [
       | else-self-via-then-self+else-is_bad w ↦
-          ends_valid value line is some c.self.invariant c.judge_line-judged.result c.judge_line-judged.ensures c.one_version.ensures.same_version
+          ends_valid value line is some c.self.invariant c.judge_line-judged.result c.judge_line-judged.ensures
+          c.one_version.ensures.same_version
           c.is_invalid-is_bad.result c.is_invalid-is_bad.ensures w.if-is_bad.false
       | else-self-via-else-self w ↦ absurd (not_both strict w.if-self.false)
     ])

@@ -75,10 +75,12 @@ returns-clause-takes c =
     let rest = left_of c.args.piece.now c.lines.taken in
     let is : c.extend_from_slice.new.self.items ≡ c.self-2.inside.unended.items ++ rest =
     rw c.if-is_err.ensures.negation at c.extend_from_slice.ensures.items in
-    let last = subst (λ (l : Text). Takes value rest [] (record value { unended = c.extend_from_slice.new.self.items }) l c.take_first.new.kept.items)
+    let last = subst (λ (l : Text). Takes value rest [] (record value { unended = c.extend_from_slice.new.self.items }) l
+    c.take_first.new.kept.items)
     found.2 (took_rest value rest c.extend_from_slice.new.self.items c.take_first.new.kept.items c.self-2.invariant found.0 is) in (
       so_far.1,
-      took_all c.precedence_is_total.ensures.total c.args.self.now c.lines.self _ c.args.piece.now so_far.1 _ c.lines.kept.items _ c.lines.taken
+      took_all c.precedence_is_total.ensures.total c.args.self.now c.lines.self _ c.args.piece.now so_far.1 _ c.lines.kept.items _
+          c.lines.taken
           so_far.2 (seen _ _ _ _ _ _ _ (c.self-2.view_is ∙ found.1) last),
       so_far.3,
     )

@@ -31,7 +31,8 @@ returns-clause-sorts c =
           with_last c.loop-line.lines.items c.match-last.lines.items held last w.in-Some.last _ all w.in-Some.is
           (ap (λ (v : Vec (Bor KeptLine) Global). v.items) w.lines-is ∙ w.in_ok-push-2.ensures.items) refl
       | in_default w ↦
-          without_last c.match-last.lines.items held last (ap (λ (v : Vec (Bor KeptLine) Global). seen_lines v.items) w.lines-is ∙ all) w.in_default.is
+          without_last c.match-last.lines.items held last (ap (λ (v : Vec (Bor KeptLine) Global). seen_lines v.items) w.lines-is
+          ∙ all) w.in_default.is
     ] in
     let weak = ranks_by c.precedence_is_total.ensures.total plain_of in
     let answers = compares (λ a r q k. search rules) in

@@ -12,9 +12,11 @@ returns-in_ok-hold_best-in-Greatest-clause-holds c = λ plain of.
     let line = c.args.line.now in
     let held = c.in_ok-hold_best-in-Greatest.ensures.best in
     let best = subst (λ (v : PlainVersion). IsBest (order_of c.args.self.now.wanted)
-    (best_list c.args.self.now.best ++ record { version = v; line = line } ∷ []) held.0) (c.in_ok-version-in-Greatest.ensures plain of) held.1 in (
+    (best_list c.args.self.now.best ++ record { version = v; line = line } ∷ []) held.0) (c.in_ok-version-in-Greatest.ensures plain of)
+    held.1 in (
       [],
-      holds_best c.args.self.now.wanted c.in-Greatest.is h (held_value c.hold_best.new.self) (record { version = plain; line = line } ∷ []) held.0
+      holds_best c.args.self.now.wanted c.in-Greatest.is h (held_value c.hold_best.new.self) (record { version = plain; line = line } ∷ [])
+          held.0
           best held.2,
       sym (append-nil c.args.kept.now.items),
     )
