@@ -1,7 +1,7 @@
 -- What one line does to the state, and what the line that no line feed ends does.
 use Rattle.std.proofs.Common.{◌≡◌, ◌∙◌, ◌⊎◌, ◌++◌, ◌∷◌, [], List, Bool, true, false, not, refl, sym, ap, cond, subst, inl, inr, IsTrue}
 use Rattle.std.proofs.Common.{append-nil, length, ◌==◌}
-use Rattle.std.specs.Prelude.{◌||◌}
+use Rattle.std.specs.Prelude.{◌||◌, Option, option_to_list}
 use Rattle.semver_parser.specs.Outlines.{OutlineValue}
 use Rattle.semver_parser.specs.Texts.{Text, is_empty}
 use Rattle.semver_parser.specs.Versions.{PlainVersion}
@@ -13,10 +13,11 @@ use Rattle.release_filter.specs.Steps.Taking.{Concludes, Outlines, PassesAs, Tak
 use Rattle.release_filter.specs.Verdicts.{AreJudged, HasVersion, IsVerdictOn, JudgedLine, Verdict, asked, has_invalid, is_invalid, kept}
 use Rattle.release_filter.specs.Verdicts.{dropped}
 use Rattle.release_filter.specs.Verdicts.{empty, invalid}
-use Rattle.release_filter.specs.Wanted.{HeldValue, Holds, HoldsBy, KeptValue, emptied, kept_as, text_of}
+use Rattle.release_filter.specs.Wanted.{HeldValue, Holds, HoldsBy, IsBest, KeptValue, emptied, kept_as, order_of, text_of}
 use Rattle.release_filter.specs.declared.wanted.Wanted.TheVariants as wanted
 use Rattle.release_filter.specs.declared.judging.Judged.{Judged}
 use Rattle.release_filter.specs.declared.judging.Judged.TheVariants.{NoVersion, DoesNotPass, Passes}
+use Rattle.release_filter.proofs.HeldLines.{holds_best}
 use Rattle.release_filter.proofs.Holding.{holds_none, kept_one}
 use Rattle.release_filter.proofs.JudgedLines.{OneVersion, judged_none, judged_one, one_judging, verdict}
 use Rattle.release_filter.proofs.Passing.{not_both}
@@ -96,6 +97,25 @@ takes_each h c d line said o plain old new each is none whole counts = (
   },
   ap (λ s. not (is_invalid (verdict_of s plain line))) (sym is),
 )
+
+-- of a line that is kept and of which the best is wanted, none is appended
+pub takes_best : (h g : HeldValue) (c d : CountsValue) (line : Text) (said : Judged) (o : OutlineValue) (plain v : PlainVersion) (old :
+    Text)
+    (best : Option KeptValue) → (h.wanted ≡ wanted.Greatest) ⊎ (h.wanted ≡ wanted.Least) → said ≡ Passes o → PassesAs said plain
+    → (Outlines o plain → v ≡ plain)
+    → IsBest (order_of h.wanted) (option_to_list h.best ++ record { version = v; line = line } ∷ []) best
+    → g ≡ record h { best = best } → d ≡ record c { lines = one_more c.lines }
+    → TakesLine h c line (verdict_of said plain line) g d old old × (true ≡ not (is_invalid (verdict_of said plain line)))
+takes_best h g c d line said o plain v old best either is passes made found so counts =
+    let same = made (subst (λ s. PassesAs s plain) is passes) in
+    let lines = λ (p : PlainVersion). record { version = p; line = line } ∷ [] in
+    let here = subst (λ (p : PlainVersion). IsBest (order_of h.wanted) (option_to_list h.best ++ lines p) best) same found in (
+      takes_kept h g c d line said o plain old old is
+          (λ of. ([], holds_best h.wanted either h g (lines plain) best here so, sym (append-nil old)))
+          passes
+          (counts ∙ ap (λ s. counted_as (verdict_of s plain line) c line) (sym is)),
+      ap (λ s. not (is_invalid (verdict_of s plain line))) (sym is),
+    )
 
 -- a line was taken of which a filter says this
 pub took_judged : (s : LinesValue) (end left line : Text) (said : Judged) (front : Bool) (g : HeldValue) (d : CountsValue) (old new : Text)

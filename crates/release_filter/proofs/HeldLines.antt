@@ -1,11 +1,11 @@
 -- What holding a kept line does, and what is appended at the end of a text.
 use Rattle.std.proofs.Common.{◌≡◌, ◌∙◌, ◌⊎◌, ◌↔◌, ◌++◌, ◌∷◌, ◌<◌, ◌+◌, [], List, ℕ, Bool, true, false, refl, sym, ap, ap₂, subst, inl, inr}
 use Rattle.std.proofs.Common.{Option, Some, None, MatchOption, Vec, Global, Bor, append_assoc, append-nil, drop, get_or, length, map, take}
-use Rattle.std.proofs.Common.{Less}
+use Rattle.std.proofs.Common.{Less, ◌==◌}
 use Rattle.std.proofs.Math.Seq.{take-append_seam}
 use Rattle.std.proofs.lemmas.List.{drop_more, map-append}
 use Rattle.std.specs.Cmp.{IsTotalOrder}
-use Rattle.std.specs.Option.{option_map}
+use Rattle.std.specs.Option.{is_some, option_map}
 use Rattle.std.specs.Prelude.{option_to_list}
 use Rattle.semver_parser.specs.Precedence.{precedence}
 use Rattle.semver_parser.specs.Texts.{Text}
@@ -19,7 +19,7 @@ use Rattle.release_filter.specs.declared.wanted.KeptLine.{KeptLine}
 use Rattle.release_filter.specs.declared.wanted.Wanted.{Wanted}
 use Rattle.release_filter.specs.declared.wanted.Wanted.TheVariants.{Each, Greatest, Least, Sorted}
 use Rattle.release_filter.proofs.Holding.{best_of_none, better_one, isnt_over, not_better, total_of}
-use Rattle.release_filter.proofs.Passing.{not_both}
+use Rattle.release_filter.proofs.Passing.{no_length, not_both}
 
 -- ---- the best line
 
@@ -114,6 +114,17 @@ pub stays_alone : (w : Wanted) (best last : Option KeptLine) → last ≡ None
 stays_alone w best last is =
     subst (λ (l : Option KeptLine). IsBest (order_of w) (best_list best ++ best_list l) (option_map kept_value best)) (sym is)
     (best_of_none (order_of w) (option_map kept_value best))
+
+-- the best line is all that is appended
+pub handed_over : (w : Wanted) (best last : Option KeptLine) (old new : Text) → is_some last ≡ false → (length old == 0) ≡ true
+    → new ≡ text_of (best_list best)
+    → (x : Option KeptValue) × IsBest (order_of w) (best_list best ++ best_list last) x × (new ≡ old ++ text_of (option_to_list x))
+handed_over w best None old new none empty is = (
+  option_map kept_value best,
+  best_of_none (order_of w) (option_map kept_value best),
+  is ∙ ap (λ l. l ++ text_of (best_list best)) (sym (no_length old empty)),
+)
+handed_over w best (Some k) old new none empty is = absurd (not_both refl none)
 
 -- ---- the end of a text
 

@@ -1,6 +1,6 @@
 //! The lines of a text that comes in pieces, and which of them a filter keeps.
 
-ghost use Rattle.std.specs.Prelude.{◌≡◌, ◌≤◌, ◌≢◌, [], true, false, length, map};
+ghost use Rattle.std.specs.Prelude.{◌≡◌, ◌≤◌, ◌≢◌, ◌⊎◌, [], true, false, length, map};
 ghost use Rattle.std.specs.Prelude.{All, IfErr, IfOk, IfSome, IsTrue, List, MatchOption, None, not};
 ghost use Rattle.std.specs.Prelude.{string_bytes, take};
 ghost use Rattle.std.specs.Io.{StartsWith};
@@ -18,7 +18,7 @@ use crate::filter::Filter;
 use crate::judging::Judged;
 use crate::line_filter::LineFilter;
 use crate::line_texts::{after_mark, whole_line};
-use crate::wanted::{Held, Wanted};
+use crate::wanted::{Held, Wanted, without_build};
 use semver_parser::laws;
 use std::alloc::{AllocError, Global};
 use std::marker::Model;
@@ -286,12 +286,24 @@ impl Lines {
         let marked = self.unended.as_slice();
         let line = after_mark(self.at_front, marked);
         let may_hand_over = may_hand_over(self.held.wanted, line, marked, kept.as_slice());
+        let may_hold = may_hold(self.held.wanted, line, marked);
         let judged = self.chosen.judge_line(line);
-        if let Judged::Passes(_) = judged {
+        if let Judged::Passes(outline) = &judged {
             if may_hand_over {
                 self.counts.add(Noted::Version);
                 self.at_front = false;
                 mem::swap(kept, &mut self.unended);
+                return Ok(true);
+            }
+            if may_hold {
+                let Ok(version) = without_build(alloc, outline) else {
+                    self.unended.truncate(begun);
+                    return Err(AllocError);
+                };
+                self.held.hold_whole(alloc, version, &mut self.unended);
+                self.counts.add(Noted::Version);
+                self.unended.clear();
+                self.at_front = false;
                 return Ok(true);
             }
         }
@@ -318,6 +330,18 @@ fn may_hand_over(wanted: Wanted, line: &[u8], marked: &[u8], kept: &[u8]) -> boo
     match wanted {
         Wanted::Each => line.len() == marked.len() && kept.is_empty(),
         Wanted::Greatest | Wanted::Least | Wanted::Sorted => false,
+    }
+}
+
+/// Whether a kept line may be held as it is: it has no byte order mark in front of it, and the best
+/// line is wanted.
+fn may_hold(wanted: Wanted, line: &[u8], marked: &[u8]) -> bool
+    ensures { result ≡ true → ((wanted ≡ Wanted.Greatest) ⊎ (wanted ≡ Wanted.Least))
+        × (length line.now ≡ length marked.now) }
+{
+    match wanted {
+        Wanted::Greatest | Wanted::Least => line.len() == marked.len(),
+        Wanted::Each | Wanted::Sorted => false,
     }
 }
 

@@ -119,19 +119,37 @@ impl Held {
         Ok(())
     }
 
-    /// Appends the rest of the answer at the end of a text, of which this is the last line.
+    /// Holds a line if it is better than the best so far, and takes its memory with it.
+    pub(crate) fn hold_whole(&mut self, alloc: Global, version: Version, line: &mut Vec<u8>)
+        ensures best { (best : Option KeptValue) × IsBest (order_of self.old.wanted)
+            (option_to_list (option_map kept_value self.old.best)
+            ++ record { version = (version_value version).plain; line = line.old.items } ∷ []) best
+            × (held_value self.new ≡ record (held_value self.old) { best = best }) }
+    {
+        laws::precedence_is_total();
+        if !is_better(self.wanted, &version, &self.best) {
+            return;
+        }
+        let bytes = mem::replace(line, Vec::new(alloc));
+        self.best = Some(KeptLine { version, bytes });
+    }
+
+    /// Appends the rest of the answer at the end of a text, of which this is the last line. What is
+    /// held then is of no use.
     pub(crate) fn finish(
-        &self,
+        &mut self,
         alloc: Global,
         line: &[u8],
         judged: &Judged<'_>,
         kept: &mut Vec<u8>,
     ) -> Result<(), AllocError>
         ensures answers { (plain : PlainVersion) → PassesAs judged.now plain → IfOk result (λ _.
-            Concludes (held_value self.now)
+            Concludes (held_value self.old)
             (kept_as (verdict_of judged.now plain line.now) line.now)
             kept.old.items kept.new.items) }
-        ensures unchanged { IfErr result (λ _. kept.new.items ≡ kept.old.items) }
+        ensures wanted { IfOk result (λ _. self.new.wanted ≡ self.old.wanted) }
+        ensures unchanged { IfErr result (λ _. (held_value self.new ≡ held_value self.old)
+            × (kept.new.items ≡ kept.old.items)) }
     {
         match self.wanted {
             Wanted::Each => match judged {
@@ -154,15 +172,24 @@ impl Held {
         }
     }
 
-    /// Appends the best line, this last one among them.
-    fn append_best(&self, last: &Option<KeptLine>, kept: &mut Vec<u8>) -> Result<(), AllocError>
+    /// Appends the best line, this last one among them. For want of a copy, one that is all that is
+    /// appended is handed over, and then it isn't held any more.
+    fn append_best(&mut self, last: &Option<KeptLine>, kept: &mut Vec<u8>) -> Result<(), AllocError>
         ensures best { IfOk result (λ _. (best : Option KeptValue)
-            × IsBest (order_of self.now.wanted)
-            (option_to_list (option_map kept_value self.now.best)
+            × IsBest (order_of self.old.wanted)
+            (option_to_list (option_map kept_value self.old.best)
             ++ option_to_list (option_map kept_value last.now)) best
             × (kept.new.items ≡ kept.old.items ++ text_of (option_to_list best))) }
-        ensures unchanged { IfErr result (λ _. kept.new.items ≡ kept.old.items) }
+        ensures wanted { self.new.wanted ≡ self.old.wanted }
+        ensures unchanged { IfErr result (λ _. (held_value self.new ≡ held_value self.old)
+            × (kept.new.items ≡ kept.old.items)) }
     {
+        if last.is_none() && kept.as_slice().is_empty() {
+            if let Some(best) = mem::replace(&mut self.best, None) {
+                *kept = best.bytes;
+            }
+            return Ok(());
+        }
         match better_of(self.wanted, &self.best, last) {
             Some(best) => kept.extend_from_slice(best.bytes.as_slice()),
             None => Ok(()),
@@ -268,7 +295,7 @@ fn kept_line(alloc: Global, outline: &Outline<'_>, line: &[u8]) -> Result<KeptLi
 
 /// The version of an outline, without its build.
 #[inline(always)]
-fn without_build(alloc: Global, outline: &Outline<'_>) -> Result<Version, AllocError>
+pub(crate) fn without_build(alloc: Global, outline: &Outline<'_>) -> Result<Version, AllocError>
     ensures { (plain : PlainVersion) → Outlines outline.now plain → IfOk result (λ version.
         (version_value version).plain ≡ plain) }
 {

@@ -1,11 +1,11 @@
-use Rattle.std.proofs.Common.{◌≡◌, ◌∙◌, [], List, false, ap, inl, refl, subst, sym}
+use Rattle.std.proofs.Common.{◌≡◌, ◌∙◌, [], List, None, false, true, ap, inl, refl, subst, sym}
 use Rattle.semver_parser.specs.Versions.{PlainVersion}
 use Rattle.release_filter.specs.Wanted.{KeptValue}
 use Rattle.release_filter.specs.declared.judging.Judged.TheVariants as judged
 use Rattle.std.specs.Prelude.{IsTrue}
 use Rattle.release_filter.specs.Counting.{counts_value}
 use Rattle.release_filter.specs.LineTexts.{after_mark}
-use Rattle.release_filter.specs.Pieces.{EndsInvalid, LinesValue, RefusesEnd, begun}
+use Rattle.release_filter.specs.Pieces.{EndsInvalid, LinesValue, RefusesEnd}
 use Rattle.release_filter.specs.Steps.Taking.{Concludes, held_value, texts}
 use Rattle.release_filter.specs.declared.lines.LinesError.TheVariants.{NoVersion}
 use Rattle.release_filter.proofs.Endings.{fails_kept, ends_invalid, ends_valid, ends_valid_none, finished_none, finished_one, seen_end}
@@ -121,7 +121,11 @@ returns-then-is_empty-clause-finishes c =
     let end = subst (λ (l : List KeptValue). Concludes value.held l old new) (fails_kept judged.NoVersion plain line (inl refl))
     (c.in-Ok.ensures.answers plain tt) in
     let ended = finished_none value line is none old new end in
-    let begins = c.begin.ensures ∙ sym (ap begun c.self.view_is) in
+    let begins = c.begin.ensures ∙ (λ i. record value {
+      at_front = true;
+      unended = [];
+      held = record { wanted = c.in-Ok.ensures.wanted i; best = None; sorted = [] };
+    }) in
     ([], seen_end value _ _ _ [] old new c.self.view_is begins ended, λ strict. refl)
 
 pub returns-clause-finishes : goal.returns-clause-finishes
@@ -146,10 +150,16 @@ returns-clause-finishes c =
       | else-self-via-then-self+else-is_bad w ↦ w.if-is_bad.false
       | else-self-via-else-self w ↦ absurd (not_both strict w.if-self.false)
     ] in
+    let begins = c.begin-2.ensures ∙ (λ i. record value {
+      at_front = true;
+      unended = [];
+      held = record { wanted = c.in-Ok-finish.ensures.wanted i; best = None; sorted = [] };
+      counts = counts_value c.add.new.self;
+    }) in
     let ended = finished_one value line is some c.self.invariant c.judge_line-judged.result c.judge_line-judged.ensures
     (counts_value c.add.new.self) old new c.in-Ok-finish.ensures.answers (λ plain. c.add.ensures ∙ c.in-Ok-noted.ensures plain)
     c.is_invalid-is_bad.result c.is_invalid-is_bad.ensures valid in (
       ended.0,
-      seen_end value _ _ _ ended.0 old new c.self.view_is c.begin-2.ensures ended.1,
+      seen_end value _ _ _ ended.0 old new c.self.view_is begins ended.1,
       λ strict. ended.2 (ap (λ (v : LinesValue). v.is_strict) c.self.view_is ∙ strict),
     )
