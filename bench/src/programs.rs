@@ -115,9 +115,9 @@ impl Filter<'_> {
         }
     }
 
-    /// One run whose output goes nowhere. It answers the status.
+    /// One run whose output and report go nowhere. It answers the status.
     fn pass(&self, lines: &Path) -> u64 {
-        let run = self.command(lines).stdout(Stdio::null()).status();
+        let run = self.command(lines).stdout(Stdio::null()).stderr(Stdio::null()).status();
         run.ok().and_then(|status| status.code()).map_or(u64::MAX, |code| code as u64)
     }
 
