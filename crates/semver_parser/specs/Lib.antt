@@ -12,6 +12,7 @@ pub use Rattle.semver_tokens.specs.Views
 pub use Rattle.semver_steps.specs.ParserSteps
 pub use Rattle.semver_steps.specs.ParserViews
 pub use Rattle.semver_texts.specs.VersionGrammar
+pub use Rattle.semver_texts.specs.ToolVersions
 pub use Rattle.semver_steps.specs.VersionReading
 pub use Rattle.semver_texts.specs.VersionViews
 pub use Rattle.semver_texts.specs.Precedence

@@ -12,7 +12,7 @@ pub use semver_ranges::laws::{
 };
 pub use semver_texts::laws::precedence_is_total;
 pub use semver_tokens::laws::one_token_list;
-pub use semver_versions::laws::{one_outcome, one_version};
+pub use semver_versions::laws::{one_outcome, one_outlined_version, one_version, one_version_in};
 
 /// What some versions meet: first by the text's own meaning, and then by its comparators.
 pub fn row_facts()

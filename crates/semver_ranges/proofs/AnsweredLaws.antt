@@ -6,10 +6,11 @@ use Rattle.std.proofs.lemmas.Bool.{and_parts, and_from, not_from_false}
 use Rattle.std.proofs.lemmas.List.Elements.{All-nil, All-cons}
 use Rattle.std.proofs.lemmas.List.Folds.{list_all-append}
 use Rattle.std.specs.List.{list_all, flat_map}
-use Rattle.semver_ranges.specs.declared.grammar.Dialect.{Dialect}
-use Rattle.semver_ranges.specs.declared.grammar.Dialect.TheVariants.{Crate}
+use Rattle.semver_texts.specs.declared.dialect.Dialect.{Dialect}
+use Rattle.semver_texts.specs.declared.dialect.Dialect.TheVariants.{Crate}
 use Rattle.semver_ranges.specs.declared.range.Compat.{Compat}
-use Rattle.semver_ranges.specs.RangeTree.{PartialTree, Simple, RangeTree, empty, hyphen, simples, SetTree, is_part, HasParts, SpellsSimples}
+use Rattle.semver_ranges.specs.RangeTree.{PartialTree, Simple, RangeTree, empty, hyphen, simples, SetTree, HasParts, SpellsSimples}
+use Rattle.semver_texts.specs.Texts.{is_part}
 use Rattle.semver_ranges.specs.RangeTree.{SpellsWord, SpellsRange, SpellsPadded, SpellsIn, Spells}
 use Rattle.semver_texts.specs.Texts.{Text, is_empty}
 use Rattle.semver_texts.specs.Versions.{numbers, IdentifierValue, PlainVersion}

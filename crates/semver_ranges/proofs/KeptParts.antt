@@ -10,7 +10,7 @@ use Rattle.std.proofs.lemmas.List.Splits.{join_with_byte-slice_split}
 use Rattle.std.proofs.lemmas.Bool.{and_parts}
 use Rattle.std.proofs.lemmas.Str.Parse.{parse_plain}
 use Rattle.std.proofs.lemmas.Grind.{common_steps}
-use Rattle.semver_ranges.specs.RangeTree.{is_part}
+use Rattle.semver_texts.specs.Texts.{is_part}
 use Rattle.semver_texts.specs.Texts.{is_part_byte, is_dotted_byte, is_dot, cut_at_dots, Text}
 use Rattle.semver_texts.proofs.Lists.{Passes, joined_pass}
 use Rattle.semver_texts.specs.Versions.{IdentifierValue, numeric, alphanumeric}

@@ -10,12 +10,13 @@ use Rattle.std.specs.List.{list_all, flat_map}
 use Rattle.std.specs.Str.{all_ascii_digits}
 use Rattle.std.specs.Str.Parse.{digits_value}
 use Rattle.std.specs.Char.{is_ascii_digit}
-use Rattle.semver_ranges.specs.declared.grammar.Dialect.TheVariants.{Crate}
+use Rattle.semver_texts.specs.declared.dialect.Dialect.TheVariants.{Crate}
 use Rattle.semver_ranges.specs.declared.range.Op.{Op}
 use Rattle.semver_ranges.specs.declared.range.Op.TheVariants.{Lt, Lte, Gt, Gte, Eq}
 use Rattle.semver_ranges.specs.declared.range.Compat.{Compat}
 use Rattle.semver_ranges.specs.RangeTree.{PartialTree, three, Form, equal, less, at_most, greater, at_least, Simple, RangeTree, empty}
-use Rattle.semver_ranges.specs.RangeTree.{simples, SetTree, is_blank, is_number, is_wildcard, is_part, SpellsPartial}
+use Rattle.semver_ranges.specs.RangeTree.{simples, SetTree, is_blank, is_wildcard, SpellsPartial}
+use Rattle.semver_texts.specs.Texts.{is_number, is_part}
 use Rattle.semver_ranges.specs.RangeTree.{SpellsForm, SpellsSimple, SpellsSimples, SpellsRange, Spells}
 use Rattle.semver_texts.specs.Texts.{is_part_byte, Text, is_empty, joined}
 use Rattle.semver_texts.specs.Versions.{numbers, IdentifierValue, numeric, alphanumeric, PlainVersion}

@@ -5,7 +5,7 @@ use Rattle.std.proofs.Common.{◌≡◌, not, List, [], ◌∷◌, ◌++◌, cod
 use Rattle.semver_ranges.specs.RangeTree.{three}
 use Rattle.semver_texts.specs.Texts.{Text, is_empty, is_dotted_byte, marked}
 use Rattle.semver_ranges.specs.Steps.Reading.{front, behind_three, begins_qualifier}
-use Rattle.semver_ranges.proofs.PartRuns.{pieces}
+use Rattle.semver_texts.proofs.PartRuns.{pieces}
 
 -- what stands behind three components is some qualifier exactly where the mark of one stands there
 pub qualified : (a b c : Text) (pre build : List Text) (t u : Text) → behind_three a b c t ≡ Some (three a b c pre build, u)

@@ -3,7 +3,7 @@ use Rattle.std.proofs.Common.{◌≡◌, ℕ, Bool, true, false, ◌||◌, ◌==
 use Rattle.std.proofs.Common.{append_assoc, append-nil, arith}
 use Rattle.std.proofs.lemmas.Bool.{or_left, or_right, and_parts, eqb-true, not_from_false}
 use Rattle.std.proofs.lemmas.Bool.Decides.{nat_tests}
-use Rattle.semver_ranges.specs.declared.grammar.Dialect.{Dialect}
+use Rattle.semver_texts.specs.declared.dialect.Dialect.{Dialect}
 use Rattle.semver_ranges.specs.RangeTree.{PartialTree, Form, bare, tilde, Simple, RangeTree}
 use Rattle.semver_ranges.specs.RangeTree.{empty, hyphen, simples, SetTree, is_blank, AreBlanks, AreSomeBlanks, SpellsWord, SpellsForm}
 use Rattle.semver_ranges.specs.RangeTree.{SpellsSimple, SpellsSimples, SpellsRange, SpellsPadded, SpellsIn}

@@ -6,13 +6,14 @@ use Rattle.std.proofs.lemmas.Bool.Decides.{nat_tests}
 use Rattle.std.proofs.lemmas.List.Splits.{join_with_byte-slice_split}
 use Rattle.std.specs.Char.{is_ascii_digit}
 use Rattle.semver_texts.proofs.Lists.{by_test}
-use Rattle.semver_ranges.proofs.PartRuns.{pieces}
+use Rattle.semver_texts.proofs.PartRuns.{pieces}
 use Rattle.std.specs.Str.{all_ascii_digits}
 use Rattle.std.specs.List.{list_all, slice_split, join_with_byte}
-use Rattle.semver_ranges.specs.declared.grammar.Dialect.{Dialect}
-use Rattle.semver_ranges.specs.declared.grammar.Dialect.TheVariants.{Crate, Cargo, Npm}
+use Rattle.semver_texts.specs.declared.dialect.Dialect.{Dialect}
+use Rattle.semver_texts.specs.declared.dialect.Dialect.TheVariants.{Crate, Cargo, Npm}
 use Rattle.semver_ranges.specs.RangeTree.{PartialTree, one, two, three, Form, Simple, is_blank, is_wildcard, is_component}
-use Rattle.semver_ranges.specs.RangeTree.{is_part, AreBlanks, SpellsPartial, SpellsWord, IsSignAndBlanks, SpellsForm, SpellsSimple}
+use Rattle.semver_ranges.specs.RangeTree.{AreBlanks, SpellsPartial, SpellsWord, IsSignAndBlanks, SpellsForm, SpellsSimple}
+use Rattle.semver_texts.specs.Texts.{is_part}
 use Rattle.semver_texts.specs.Texts.{Text, is_empty, marked, is_dot}
 use Rattle.semver_ranges.specs.Steps.Reading.{front, back, behind_blanks, ends_range, ends_word, component, parts}
 use Rattle.semver_texts.specs.Texts.{is_dotted_byte}

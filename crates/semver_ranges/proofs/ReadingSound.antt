@@ -4,7 +4,7 @@ use Rattle.std.proofs.Common.{Option, Some, None, append_assoc, append-nil}
 use Rattle.std.proofs.lemmas.Bool.{and_parts, and_from, eqb-true}
 use Rattle.std.proofs.Common.{arith}
 use Rattle.std.proofs.lemmas.Bool.Decides.{nat_tests}
-use Rattle.semver_ranges.specs.declared.grammar.Dialect.{Dialect}
+use Rattle.semver_texts.specs.declared.dialect.Dialect.{Dialect}
 use Rattle.semver_ranges.specs.RangeTree.{PartialTree, Form, bare, Simple, RangeTree}
 use Rattle.semver_ranges.specs.RangeTree.{SetTree, is_blank, AreBlanks, AreSomeBlanks, SpellsWord, SpellsForm, SpellsSimple, SpellsSimples}
 use Rattle.semver_ranges.specs.RangeTree.{SpellsRange, SpellsPadded, SpellsIn}

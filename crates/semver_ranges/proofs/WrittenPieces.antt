@@ -10,10 +10,11 @@ use Rattle.std.specs.Char.{is_ascii_digit}
 use Rattle.std.specs.Int.{is_in_range}
 use Rattle.std.specs.Str.{all_ascii_digits}
 use Rattle.std.specs.List.{list_all, slice_split, join_with_byte}
-use Rattle.semver_ranges.specs.declared.grammar.Dialect.{Dialect}
-use Rattle.semver_ranges.specs.declared.grammar.Dialect.TheVariants.{Crate, Cargo, Npm}
+use Rattle.semver_texts.specs.declared.dialect.Dialect.{Dialect}
+use Rattle.semver_texts.specs.declared.dialect.Dialect.TheVariants.{Crate, Cargo, Npm}
 use Rattle.semver_ranges.specs.RangeTree.{PartialTree, one, two, three, Form, bare, less, greater, tilde}
-use Rattle.semver_ranges.specs.RangeTree.{Simple, is_blank, is_component, is_part, AreBlanks}
+use Rattle.semver_ranges.specs.RangeTree.{Simple, is_blank, is_component, AreBlanks}
+use Rattle.semver_texts.specs.Texts.{is_part}
 use Rattle.semver_ranges.specs.RangeTree.{SpellsPartial, SpellsWord, SpellsForm, SpellsSimple}
 use Rattle.semver_texts.specs.Texts.{is_part_byte, Text, marked, is_dot}
 use Rattle.semver_ranges.specs.Steps.Reading.{front, back, behind_blanks, ends_word, component, parts, behind_pre}

@@ -3,14 +3,14 @@
 -- operator and round the whole set. What npm itself reads differs in its blanks, in a `v` before a
 -- partial, and in leading zeros of a pre-release.
 use Prim.Native.Char.{code}
-use Rattle.std.specs.Prelude.{◌≡◌, ℕ, Bool, true, false, ◌&&◌, ◌||◌, not, ◌==◌, ◌⊎◌, List, []}
+use Rattle.std.specs.Prelude.{◌≡◌, ℕ, Bool, true, false, ◌||◌, not, ◌==◌, ◌⊎◌, List, []}
 use Rattle.std.specs.Prelude.{◌∷◌, ◌++◌, codes, IsTrue}
 use Rattle.std.specs.Int.{is_in_range}
 use Rattle.std.specs.List.{list_all, join_with_byte}
-use Rattle.std.specs.Str.{all_ascii_digits}
-use Rattle.semver_ranges.specs.declared.grammar.Dialect.{Dialect}
-use Rattle.semver_ranges.specs.declared.grammar.Dialect.TheVariants.{Crate, Cargo, Npm}
-use Rattle.semver_texts.specs.Texts.{Text, is_empty, is_part_byte, marked}
+use Rattle.semver_texts.specs.declared.dialect.Dialect.{Dialect}
+use Rattle.semver_texts.specs.declared.dialect.Dialect.TheVariants.{Crate, Cargo, Npm}
+use Rattle.semver_texts.specs.Texts.{Text, has_no_leading_zero, is_empty, is_number, is_part}
+use Rattle.semver_texts.specs.Texts.{marked}
 
 -- a partial: one to three components; behind three, the parts of a pre-release and of a build
 pub data PartialTree : Type 0 where
@@ -53,12 +53,6 @@ AreBlanks d t = IsTrue (list_all (is_blank d) t)
 abbrev pub AreSomeBlanks : Dialect → Text → Type 0
 AreSomeBlanks d t = IsTrue (not (is_empty t)) × AreBlanks d t
 
--- a number of any size: `0`, or digits that don't begin with `0`
-abbrev pub is_number : Text → Bool
-is_number [] = false
-is_number (first ∷ rest) =
-    all_ascii_digits (first ∷ rest) && (is_empty rest || not (first == code "0"))
-
 -- a wildcard: `x`, `X` or `*`
 abbrev pub is_wildcard : Text → Bool
 is_wildcard (b ∷ []) = (b == code "x") || (b == code "X") || (b == code "*")
@@ -67,10 +61,6 @@ is_wildcard _ = false
 -- a component of a partial: a wildcard or a number
 abbrev pub is_component : Text → Bool
 is_component t = is_wildcard t || is_number t
-
--- a part of a pre-release or a build: one or more such bytes
-abbrev pub is_part : Text → Bool
-is_part t = not (is_empty t) && list_all is_part_byte t
 
 -- the components of a partial
 abbrev pub components : PartialTree → List Text
@@ -96,10 +86,6 @@ abbrev pub SpellsPartial : PartialTree → Text → Type 0
 SpellsPartial p t =
     IsTrue (list_all is_component (components p)) × HasParts p
     × (t ≡ join_with_byte (code ".") (components p) ++ qualifier p)
-
--- whether a part is a number without leading zeros, where it is digits alone
-abbrev pub has_no_leading_zero : Text → Bool
-has_no_leading_zero part = not (all_ascii_digits part) || is_number part
 
 -- whether no part of a partial's pre-release has one
 abbrev pub has_no_leading_zeros : PartialTree → Bool

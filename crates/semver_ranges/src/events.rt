@@ -14,10 +14,11 @@ ghost use Rattle.semver_ranges.specs.Steps.CursorViews.{AreSides, FindsSides, Ta
 ghost use Rattle.semver_ranges.specs.Steps.CursorViews.{IsSimpleOf, NextGives, size_left};
 
 use crate::grammar::{
-    Dialect, Form, Simple, behind_bars, behind_blanks, ends_range, read_right_side, read_simple,
+    Form, Simple, behind_bars, behind_blanks, ends_range, read_right_side, read_simple,
 };
 use crate::partial::{LowerBounds, Partial};
 use crate::range_set::RangeError;
+use semver_texts::dialect::Dialect;
 use semver_texts::dotted::behind_mark;
 
 /// What stands next in a range text.
@@ -167,7 +168,7 @@ impl<'input> Events<'input> {
 // Answer: equation.
 impl<'input> Iterator for Events<'input> {
     ghost use Rattle.std.specs.Iterator.{at_most};
-    ghost use Rattle.semver_ranges.specs.declared.grammar.Dialect.TheVariants.{Crate};
+    ghost use Rattle.semver_texts.specs.declared.dialect.Dialect.TheVariants.{Crate};
 
     type Item = Result<Event<'input>, RangeError>;
 

@@ -11,9 +11,10 @@ ghost use Rattle.std.specs.List.{list_all, slice_split};
 ghost use Rattle.std.specs.Str.Parse.{digits_value};
 ghost use Rattle.std.specs.Char.{is_ascii_digit};
 ghost use Rattle.semver_texts.specs.Texts.{Text, is_part_byte as part_byte};
-ghost use Rattle.semver_ranges.specs.RangeTree.{one, two, three, is_blank as blank, is_part};
-ghost use Rattle.semver_ranges.specs.RangeTree.{PartialTree, has_no_leading_zero};
-ghost use Rattle.semver_ranges.specs.declared.grammar.Dialect.TheVariants as dialect;
+ghost use Rattle.semver_ranges.specs.RangeTree.{one, two, three, is_blank as blank};
+ghost use Rattle.semver_texts.specs.Texts.{is_part};
+ghost use Rattle.semver_ranges.specs.RangeTree.{PartialTree};
+ghost use Rattle.semver_texts.specs.declared.dialect.Dialect.TheVariants as dialect;
 ghost use Rattle.semver_ranges.specs.Steps.Reading.{behind_v, takes};
 ghost use Rattle.semver_ranges.specs.Steps.Reading.{back, ends_range, ends_word};
 ghost use Rattle.semver_texts.specs.Texts.{begins_with};
@@ -31,18 +32,8 @@ ghost use Rattle.semver_ranges.specs.Steps.CursorViews.{IsSimpleOf};
 
 use crate::partial::{Component, Components, Partial};
 use semver_texts::decimals;
-use semver_texts::dotted::{Hyphens, behind_mark, marked_part, split_at_dot};
-
-/// Whose grammar a text is read by.
-#[derive(Clone, Copy, PartialEq, Eq)]
-pub enum Dialect {
-    /// The crate's.
-    Crate,
-    /// Cargo's own, as to its blanks. `tool_ranges` says which partials a requirement may have.
-    Cargo,
-    /// npm's own, but for the characters beyond ASCII: each byte of one counts as a blank here.
-    Npm,
-}
+use semver_texts::dialect::Dialect;
+use semver_texts::dotted::{Hyphens, behind_mark, have_no_leading_zeros, marked_part};
 
 /// What stands before a partial: nothing, or an operator.
 #[derive(Clone, Copy, PartialEq, Eq)]
@@ -171,42 +162,6 @@ fn takes(written: &Components<'_>, dialect: Dialect) -> bool
         Dialect::Crate | Dialect::Cargo => true,
         Dialect::Npm => written.count < 3 || have_no_leading_zeros(written.pre),
     }
-}
-
-// Answer: equation.
-/// Whether none of the parts that are digits alone has a leading zero.
-pub fn have_no_leading_zeros(parts: &[u8]) -> bool
-    ensures { result ≡ list_all has_no_leading_zero (cut_at_dots parts.now) }
-{
-    if parts.is_empty() {
-        return true;
-    }
-    let mut rest = Some(parts);
-    while let Some(bytes) = rest {
-        let (part, behind) = split_at_dot(bytes);
-        if !has_no_leading_zero(part) {
-            return false;
-        }
-        rest = behind;
-    }
-    true
-}
-
-/// Whether a part is a number without leading zeros, where it is digits alone.
-#[inline(always)]
-fn has_no_leading_zero(part: &[u8]) -> bool
-    ensures { result ≡ has_no_leading_zero part.now }
-{
-    let begins_with_zero = part.is_empty() || (part.len() > 1 && part[0] == b'0');
-    !(begins_with_zero && are_digits(part))
-}
-
-/// Whether each byte is a digit.
-#[inline(always)]
-fn are_digits(part: &[u8]) -> bool
-    ensures { result ≡ list_all is_ascii_digit part.now }
-{
-    part.iter().all(|byte| byte.is_ascii_digit())
 }
 
 // Answer: equation.

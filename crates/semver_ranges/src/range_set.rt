@@ -3,7 +3,7 @@
 ghost use Rattle.std.specs.Prelude.{Some, ◌≡◌, ◌⊎◌, ◌∷◌, true, [], List, length, map, IsTrue};
 ghost use Rattle.std.specs.Prelude.{IfOk, IfSome, IsOkAnd, MatchResult};
 ghost use Rattle.std.specs.List.{list_all};
-ghost use Rattle.semver_ranges.specs.declared.grammar.Dialect.TheVariants.{Crate};
+ghost use Rattle.semver_texts.specs.declared.dialect.Dialect.TheVariants.{Crate};
 ghost use Rattle.semver_ranges.specs.RangeTree.{Simple as SimpleTree, SetTree, Spells, simples};
 ghost use Rattle.semver_texts.specs.Texts.{Text};
 ghost use Rattle.semver_texts.specs.Versions.{PlainVersion};
@@ -27,10 +27,11 @@ ghost use Rattle.semver_ranges.specs.Steps.BoundsViews.{range_of_simples, range_
 ghost use Rattle.semver_ranges.specs.Steps.BoundsViews.{IsRow};
 
 use crate::events::{Event, Events};
-use crate::grammar::{Dialect, read_simple};
+use crate::grammar::read_simple;
 use crate::partial::{Partial, RaisedBounds};
 use crate::range::{Compat, Range};
 use crate::rewriting::{Bounds, rewritten};
+use semver_texts::dialect::Dialect;
 use semver_texts::printing::write_joined;
 use std::alloc::{AllocError, Global};
 use std::fmt;

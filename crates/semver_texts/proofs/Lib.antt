@@ -4,3 +4,5 @@ pub mod Joins
 pub mod Lists
 pub mod Numerals
 pub mod Numbers
+pub mod PartRuns
+pub mod SpelledVersions

@@ -1,5 +1,6 @@
 pub mod Steps
 pub mod Texts
+pub mod ToolVersions
 pub mod Versions
 pub mod PrintedText
 pub mod VersionGrammar

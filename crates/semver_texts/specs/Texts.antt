@@ -1,9 +1,10 @@
 -- Texts as their bytes, and how they are joined.
 use Prim.Native.Char.{code}
 use Rattle.std.specs.Prelude.{◌≡◌, ℕ, ◌^◌, ◌<◌, Bool, true, false, ◌||◌, ◌==◌, List, [], ◌∷◌, ◌++◌}
-use Rattle.std.specs.Prelude.{length, map, slice_index, IsTrue, decimal}
+use Rattle.std.specs.Prelude.{◌&&◌, not, length, map, slice_index, IsTrue, decimal}
 use Rattle.std.specs.Char.{is_ascii_alphanumeric, is_ascii_digit}
-use Rattle.std.specs.List.{AllByRecursion, join_with_byte, slice_split}
+use Rattle.std.specs.List.{AllByRecursion, join_with_byte, list_all, slice_split}
+use Rattle.std.specs.Str.{all_ascii_digits}
 
 -- a text, as its bytes
 abbrev pub Text : Type 0
@@ -18,6 +19,20 @@ is_empty (x ∷ xs) = false
 -- hyphen
 abbrev pub is_part_byte : ℕ → Bool
 is_part_byte b = is_ascii_alphanumeric b || (b == code "-")
+
+-- a part of a pre-release or a build: one or more such bytes
+abbrev pub is_part : Text → Bool
+is_part t = not (is_empty t) && list_all is_part_byte t
+
+-- a number of any size: `0`, or digits that don't begin with `0`
+abbrev pub is_number : Text → Bool
+is_number [] = false
+is_number (first ∷ rest) =
+    all_ascii_digits (first ∷ rest) && (is_empty rest || not (first == code "0"))
+
+-- whether a part is a number without leading zeros, where it is digits alone
+abbrev pub has_no_leading_zero : Text → Bool
+has_no_leading_zero part = not (all_ascii_digits part) || is_number part
 
 -- a dot
 abbrev pub is_dot : ℕ → Bool

@@ -2,9 +2,11 @@
 //! are written in version texts and in range texts.
 ghost use Rattle.std.specs.Prelude.{◌≡◌, ◌||◌, ◌==◌, ◌<◌, [], ◌∷◌, ◌++◌, None, Some, Ok, true};
 ghost use Rattle.std.specs.Prelude.{false, length, IsTrue, IfOk, IfErr, MatchOption};
-ghost use Rattle.std.specs.List.{AllByRecursion, AllZip, prefix_len, slice_split};
+ghost use Rattle.std.specs.Char.{is_ascii_digit};
+ghost use Rattle.std.specs.List.{AllByRecursion, AllZip, list_all, prefix_len, slice_split};
 ghost use Rattle.std.specs.Fn.{FnReturnsAt};
-ghost use Rattle.semver_texts.specs.Texts.{begins_with, cut_at_dots, is_dot, is_dotted_byte};
+ghost use Rattle.semver_texts.specs.Texts.{begins_with, cut_at_dots, has_no_leading_zero, is_dot};
+ghost use Rattle.semver_texts.specs.Texts.{is_dotted_byte};
 ghost use Rattle.semver_texts.specs.Steps.DottedParts.{is_run_byte, runs_stand, marked_part};
 
 use crate::bytes::count_dots;
@@ -114,6 +116,42 @@ pub fn split_at_dot(bytes: &[u8]) -> (&[u8], Option<&[u8]>)
         }
     }
     (bytes, None)
+}
+
+// Answer: equation.
+/// Whether none of the parts that are digits alone has a leading zero.
+pub fn have_no_leading_zeros(parts: &[u8]) -> bool
+    ensures { result ≡ list_all has_no_leading_zero (cut_at_dots parts.now) }
+{
+    if parts.is_empty() {
+        return true;
+    }
+    let mut rest = Some(parts);
+    while let Some(bytes) = rest {
+        let (part, behind) = split_at_dot(bytes);
+        if !has_no_leading_zero(part) {
+            return false;
+        }
+        rest = behind;
+    }
+    true
+}
+
+/// Whether a part is a number without leading zeros, where it is digits alone.
+#[inline(always)]
+fn has_no_leading_zero(part: &[u8]) -> bool
+    ensures { result ≡ has_no_leading_zero part.now }
+{
+    let begins_with_zero = part.is_empty() || (part.len() > 1 && part[0] == b'0');
+    !(begins_with_zero && are_digits(part))
+}
+
+/// Whether each byte is a digit.
+#[inline(always)]
+fn are_digits(part: &[u8]) -> bool
+    ensures { result ≡ list_all is_ascii_digit part.now }
+{
+    part.iter().all(|byte| byte.is_ascii_digit())
 }
 
 /// What is made of each part between the dots. Their list is asked for once, at its size.

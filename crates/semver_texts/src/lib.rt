@@ -5,6 +5,7 @@
 
 pub mod bytes;
 pub mod decimals;
+pub mod dialect;
 pub mod dotted;
 pub mod laws;
 pub mod precedence;

@@ -1,18 +1,19 @@
 -- Identifiers that still stand in a text, compared with others one by one.
 use Rattle.std.proofs.lemmas.Bool.Decides.{nat_tests}
-use Rattle.std.proofs.Common.{◌≡◌, ℕ, ◌+◌, ◌<◌, ◌≤◌, List, [], ◌∷◌, length, drop, get_or, map, sym, ap, ◌∙◌, subst, arith}
-use Rattle.std.specs.Prelude.{Option, Some, None}
+use Rattle.std.proofs.Common.{◌≡◌, ℕ, ◌+◌, ◌<◌, ◌≤◌, List, [], ◌∷◌, length, drop, get_or, map, sym, ap, ◌∙◌, subst, arith, true}
+use Rattle.std.specs.Prelude.{IsTrue, Option, Some, None}
 use Rattle.std.specs.Borrow.{Bor}
 use Rattle.std.specs.Cmp.Lexicographic.{slice_cmp}
-use Rattle.std.specs.List.{AllByRecursion, AllZip, count_by, slice_split}
+use Rattle.std.specs.List.{AllZip, count_by, list_all, slice_split}
+use Rattle.std.proofs.lemmas.Bool.{and_parts}
 use Rattle.std.proofs.lemmas.List.{drop_all, drop_more}
 use Rattle.std.proofs.lemmas.List.Splits.{length-slice_split}
 use Rattle.std.specs.Ordering.{nat_cmp, ordering_then}
 use Rattle.std.specs.declared.cmp.Ordering.{Ordering}
 use Rattle.std.specs.declared.cmp.Ordering.TheVariants.{Equal, Greater}
 use Rattle.semver_texts.specs.Precedence.{identifier_cmp, pre_cmp, precedence}
-use Rattle.semver_texts.specs.Texts.{Text, is_dot}
-use Rattle.semver_texts.specs.VersionGrammar.{IsIdentifierText, SpellsIdentifier}
+use Rattle.semver_texts.specs.Texts.{Text, is_dot, is_part}
+use Rattle.semver_texts.specs.ToolVersions.{IsKeptAs}
 use Rattle.semver_texts.specs.VersionViews.{identifier_value}
 use Rattle.semver_texts.specs.Versions.{IdentifierValue, PlainVersion}
 use Rattle.semver_texts.specs.declared.version.Identifier.{Identifier}
@@ -24,9 +25,9 @@ compared ids others = slice_cmp identifier_cmp ids (map identifier_value others)
 
 -- what is left of the text and of the others decides
 pub record IsLeft (text : Text) (others : List Identifier) (rest : Option (Bor Text)) (left : List Identifier) : Type 0 where
-  pub each : AllByRecursion IsIdentifierText (parts_behind rest)
-  pub decides : (ids : List IdentifierValue) → AllZip SpellsIdentifier ids (slice_split is_dot text)
-      → (behind : List IdentifierValue) × AllZip SpellsIdentifier behind (parts_behind rest) × (compared ids others ≡ compared behind left)
+  pub each : IsTrue (list_all is_part (parts_behind rest))
+  pub decides : (ids : List IdentifierValue) → AllZip IsKeptAs ids (slice_split is_dot text)
+      → (behind : List IdentifierValue) × AllZip IsKeptAs behind (parts_behind rest) × (compared ids others ≡ compared behind left)
 
 -- one of them and those behind it
 pub at_item : (others : List Identifier) (i : ℕ) (x : Identifier) → i < length others → x ≡ get_or others i x
@@ -47,23 +48,23 @@ all_compared others rest i past w = rw (drop_all i others past) at w
 module _ {text : Text} {others : List Identifier} where
   -- the text has ended
   pub ended : (left : List Identifier) → IsLeft text others None left → (ids : List IdentifierValue)
-      → AllZip SpellsIdentifier ids (slice_split is_dot text) → compared [] left ≡ compared ids others
+      → AllZip IsKeptAs ids (slice_split is_dot text) → compared [] left ≡ compared ids others
   ended left w ids all = at (w.decides ids all).0 (w.decides ids all).1 (w.decides ids all).2
     where
-      at : (behind : List IdentifierValue) → AllZip SpellsIdentifier behind [] → compared ids others ≡ compared behind left
+      at : (behind : List IdentifierValue) → AllZip IsKeptAs behind [] → compared ids others ≡ compared behind left
           → compared [] left ≡ compared ids others
       at [] none e = sym e
       at (id ∷ behind) none e = absurd none
 
   -- the others have ended before it
   pub longer : (rest : Bor Text) → IsLeft text others (Some rest) [] → (ids : List IdentifierValue)
-      → AllZip SpellsIdentifier ids (slice_split is_dot text) → Greater ≡ compared ids others
+      → AllZip IsKeptAs ids (slice_split is_dot text) → Greater ≡ compared ids others
   longer rest w ids all =
       let w' = w.decides ids all in
       at w'.0 (slice_split is_dot rest.now) (length-slice_split is_dot rest.now) w'.1 w'.2
     where
       at : (left : List IdentifierValue) (parts : List Text) → length parts ≡ count_by is_dot rest.now + 1
-          → AllZip SpellsIdentifier left parts → compared ids others ≡ compared left [] → Greater ≡ compared ids others
+          → AllZip IsKeptAs left parts → compared ids others ≡ compared left [] → Greater ≡ compared ids others
       at left [] some all e = absurd (omega (arith, some))
       at [] (part ∷ parts) some none e = absurd none
       at (id ∷ left) (part ∷ parts) some both e = sym e
@@ -73,21 +74,21 @@ module _ {text : Text} {others : List Identifier} where
     cut : slice_split is_dot bytes.now ≡ part ∷ parts_behind behind
     cut = split_parts bytes.now part behind split
 
-    parts : AllByRecursion IsIdentifierText (part ∷ parts_behind behind)
-    parts = rw cut at w.each
+    parts : (is_part part ≡ true) × (list_all is_part (parts_behind behind) ≡ true)
+    parts = and_parts (is_part part) _ (rw cut at w.each)
 
-    pub first_part : IsIdentifierText part
+    pub first_part : is_part part ≡ true
     first_part = parts.0
 
     module _ (ordering : Ordering)
-        (is : (id : IdentifierValue) → SpellsIdentifier id part → ordering ≡ identifier_cmp id (identifier_value first)) where
+        (is : (id : IdentifierValue) → IsKeptAs id part → ordering ≡ identifier_cmp id (identifier_value first)) where
       -- the first identifier decides
-      pub decided : (ordering ≡ Equal → ⊥) → (ids : List IdentifierValue) → AllZip SpellsIdentifier ids (slice_split is_dot text)
+      pub decided : (ordering ≡ Equal → ⊥) → (ids : List IdentifierValue) → AllZip IsKeptAs ids (slice_split is_dot text)
           → ordering ≡ compared ids others
       decided unequal ids all =
-          at (w.decides ids all).0 (subst (AllZip SpellsIdentifier (w.decides ids all).0) cut (w.decides ids all).1) (w.decides ids all).2
+          at (w.decides ids all).0 (subst (AllZip IsKeptAs (w.decides ids all).0) cut (w.decides ids all).1) (w.decides ids all).2
         where
-          at : (ids' : List IdentifierValue) → AllZip SpellsIdentifier ids' (part ∷ parts_behind behind)
+          at : (ids' : List IdentifierValue) → AllZip IsKeptAs ids' (part ∷ parts_behind behind)
               → compared ids others ≡ compared ids' (first ∷ left) → ordering ≡ compared ids others
           at [] none e = absurd none
           at (id ∷ more) both e = let first_is = is id both.0 in grind arith
@@ -100,9 +101,9 @@ module _ {text : Text} {others : List Identifier} where
             (rw cut at (w.decides ids all).1) (w.decides ids all).2;
       }
         where
-          at : (ids ids' : List IdentifierValue) → AllZip SpellsIdentifier ids' (part ∷ parts_behind behind)
+          at : (ids ids' : List IdentifierValue) → AllZip IsKeptAs ids' (part ∷ parts_behind behind)
               → compared ids others ≡ compared ids' (first ∷ left)
-              → (more : List IdentifierValue) × AllZip SpellsIdentifier more (parts_behind behind)
+              → (more : List IdentifierValue) × AllZip IsKeptAs more (parts_behind behind)
               × (compared ids others ≡ compared more left)
           at ids [] none e = absurd none
           at ids (id ∷ more) both e =

@@ -1,10 +1,16 @@
 pub mod ComparedTexts
 pub mod CutIdentifiers
+pub mod DialectOutlines
+pub mod KeptTexts
 pub mod OneVersion
+pub mod OutlineVersions
 pub mod OutlinedTexts
 pub mod ParseFacts
 pub mod SpelledParts
+pub mod ToolOutlines
+pub mod ToolParts
 pub mod VersionExamples
 pub mod VersionMemory
 pub mod VersionTokens
 pub mod WholeText
+pub mod WhiteSpaces

@@ -12,7 +12,7 @@ use Rattle.semver_texts.specs.Versions.{IdentifierValue, VersionValue, numbers}
 use Rattle.semver_texts.specs.PrintedText.{identifier_text}
 use Rattle.semver_texts.specs.VersionGrammar.{SpellsIdentifier, SpellsPart, SpellsVersion, IsVersionText}
 use Rattle.semver_versions.specs.Outlines.{OutlineValue, dotted_text, behind_mark, outline_behind, IsOutlineAfter, IsOutlineOf, StandsAt}
-use Rattle.semver_versions.specs.Steps.Cutting.{AreParts, AreSpaces, IsOutlined}
+use Rattle.semver_versions.specs.Steps.Cutting.{AreParts, AreSpaces, IsOutlined, outline_with}
 use Rattle.semver_texts.specs.Texts.{cut_at_dots}
 use Rattle.semver_versions.proofs.CutIdentifiers.{cut_texts, marked_cut}
 use Rattle.semver_versions.proofs.OneVersion.{one_version, numbers_first, identifiers_bytes, joined_some, same_identifiers}
@@ -61,21 +61,13 @@ marked_size mark (b ∷ part) some = omega (arith, ap length (marked_cut mark (b
 -- the parts with their marks are within what stands behind the numbers
 pub parts_fit : (rest pre build : Text) → AreParts rest pre build
     → length (marked (codes "-") (cut_at_dots pre)) + length (marked (codes "+") (cut_at_dots build)) ≤ length rest
-    × (length pre ≤ length (marked (codes "-") (cut_at_dots pre))) × (length build ≤ length (marked (codes "+") (cut_at_dots build)))
-parts_fit rest pre build w = (
-  omega (
-    arith,
-    ap length w.split,
-    length-append (marked (codes "-") (cut_at_dots pre)) (marked (codes "+") (cut_at_dots build) ++ w.after),
-    length-append (marked (codes "+") (cut_at_dots build)) w.after,
-  ),
-  within 45 pre,
-  within 43 build,
-)
-  where
-    within : (mark : ℕ) (part : Text) → length part ≤ length (marked (mark ∷ []) (cut_at_dots part))
-    within mark [] = omega arith
-    within mark (b ∷ part) = omega (arith, ap length (marked_cut mark (b ∷ part) (omega arith)))
+parts_fit rest pre build w =
+    omega (
+      arith,
+      ap length w.split,
+      length-append (marked (codes "-") (cut_at_dots pre)) (marked (codes "+") (cut_at_dots build) ++ w.after),
+      length-append (marked (codes "+") (cut_at_dots build)) w.after,
+    )
 
 -- and what stands behind the numbers within the text
 pub rest_fits : (text rest : Text) (major minor patch : ℕ)
@@ -87,27 +79,17 @@ rest_fits text rest major minor patch n =
     (omega (arith, cut, ap length n.split, length-append (join_with_byte 46 (map decimal (major ∷ minor ∷ patch ∷ []))) rest), cut)
 
 pub has_outline : (before : ℕ) (text rest pre build : Text) (major minor patch : ℕ) → BeginsWithNumbers text major minor patch rest
-    → AreParts rest pre build → (numbers_end pre_end : ℕ) → numbers_end + length rest ≡ before + length text
-    → pre_end ≡ numbers_end + length (marked (codes "-") (cut_at_dots pre))
-    → IsOutlineAfter before text (record {
-      major = major;
-      minor = minor;
-      patch = patch;
-      pre = pre;
-      build = build;
-      pre_offset = behind_mark numbers_end pre;
-      build_offset = behind_mark pre_end build;
-    })
-has_outline before text rest pre build major minor patch n w numbers_end pre_end at_numbers at_pre =
+    → AreParts rest pre build → (numbers_end : ℕ) → numbers_end + length rest ≡ before + length text
+    → IsOutlineAfter before text (outline_with major minor patch numbers_end pre build)
+has_outline before text rest pre build major minor patch n w numbers_end at_numbers =
     let ids = spell_some (cut_at_dots pre) w.pre_each in
     let others = spell_some (cut_at_dots build) w.build_each in
     let front : Text = join_with_byte 46 (map decimal (major ∷ minor ∷ patch ∷ [])) in
     let behind_numbers : numbers_end ≡ before + length front = omega (arith, at_numbers, ap length n.split, length-append front rest) in
     let part : Text = marked (codes "-") (map identifier_text ids.0) in
-    let behind_pre : pre_end ≡ before + length (front ++ part) =
+    let behind_pre : numbers_end + length (marked (codes "-") (cut_at_dots pre)) ≡ before + length (front ++ part) =
     omega (
       arith,
-      at_pre,
       behind_numbers,
       ap (λ ts. length (marked (codes "-") ts)) (spelled_texts ids.0 (cut_at_dots pre) ids.1),
       length-append front part,
@@ -134,7 +116,7 @@ has_plain_outline before text rest major minor patch n spaces =
     let front : Text = join_with_byte 46 (map decimal (major ∷ minor ∷ patch ∷ [])) in
     has_outline before text rest [] [] major minor patch n
     (record { after = rest; pre_each = tt; build_each = tt; spaces = spaces; split = refl })
-    (before + length front) (before + length front) (omega (arith, ap length n.split, length-append front rest)) (omega arith)
+    (before + length front) (omega (arith, ap length n.split, length-append front rest))
 
 -- ---- white space before it
 
@@ -187,7 +169,7 @@ exactly_none before text (Some o) is = (λ e. cc, λ none. absurd (none (is.0, i
 -- ---- the parts of an outline
 
 -- a part stands behind its mark
-stands : (mark place : ℕ) (part lead rest text : Text) → text ≡ lead ++ ((mark ∷ part) ++ rest) → place ≡ length lead
+pub stands : (mark place : ℕ) (part lead rest text : Text) → text ≡ lead ++ ((mark ∷ part) ++ rest) → place ≡ length lead
     → StandsAt (behind_mark place part) part text
 stands mark place [] lead rest text whole at = refl
 stands mark place (b ∷ part) lead rest text whole at =

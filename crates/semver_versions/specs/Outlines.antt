@@ -1,10 +1,15 @@
 -- Versions in outline: three numbers, the texts of the pre-release and of the build, and where
 -- these begin in the text of the version.
 use Prim.Native.Char.{code}
-use Rattle.std.specs.Prelude.{◌≡◌, ℕ, suc, ◌+◌, List, [], ◌∷◌, length, map, take, drop, decimal}
+use Rattle.std.specs.Prelude.{◌≡◌, ℕ, suc, ◌+◌, ◌^◌, ◌&&◌, nat_lt, if◌then◌else◌, List, [], ◌∷◌}
+use Rattle.std.specs.Prelude.{length, map, take, drop, decimal}
 use Rattle.std.specs.List.{join_with_byte, prefix_len}
-use Rattle.semver_texts.specs.Texts.{Text, is_space}
-use Rattle.semver_texts.specs.Versions.{IdentifierValue, VersionValue, numbers}
+use Rattle.std.specs.Str.Parse.{digits_value}
+use Rattle.semver_texts.specs.Texts.{Text, cut_at_dots, is_number, is_space}
+use Rattle.semver_texts.specs.ToolVersions.{SpellsIn, before_numbers}
+use Rattle.semver_texts.specs.Versions.{IdentifierValue, numeric, alphanumeric, VersionValue}
+use Rattle.semver_texts.specs.Versions.{numbers}
+use Rattle.semver_texts.specs.declared.dialect.Dialect.{Dialect}
 use Rattle.semver_texts.specs.PrintedText.{identifier_text, plain_text}
 use Rattle.semver_texts.specs.VersionGrammar.{SpellsVersion}
 
@@ -51,6 +56,28 @@ IsOutlineAfter before text o =
 -- it is the outline of a version that the text spells, after the white space at its front
 abbrev pub IsOutlineOf : Text → OutlineValue → Type 0
 IsOutlineOf text o = IsOutlineAfter (prefix_len is_space text) text o
+
+-- it is the outline of a version that the text spells in a dialect
+abbrev pub IsOutlineIn : Dialect → Text → OutlineValue → Type 0
+IsOutlineIn dialect text o = (v : VersionValue) × SpellsIn dialect v text
+    × (o ≡ outline_behind (before_numbers text) v)
+
+-- the identifier that a text of letters, digits and hyphens is kept as
+abbrev pub identifier_of : Text → IdentifierValue
+identifier_of part = if is_number part && nat_lt (digits_value 10 part) (2 ^ 64)
+    then numeric (digits_value 10 part) else alphanumeric part
+
+-- the version that an outline is of
+abbrev pub version_of : OutlineValue → VersionValue
+version_of o = record {
+  plain = record {
+    major = o.major;
+    minor = o.minor;
+    patch = o.patch;
+    pre = map identifier_of (cut_at_dots o.pre);
+  };
+  build = map identifier_of (cut_at_dots o.build);
+}
 
 -- the part stands in the text at the offset
 abbrev pub StandsAt : ℕ → Text → Text → Type 0

@@ -1,14 +1,14 @@
 //! How a pre-release that is still a text compares with one that was read.
 
-ghost use Rattle.std.specs.Prelude.{◌≡◌, ◌<◌, List, length, map};
-ghost use Rattle.std.specs.List.{AllByRecursion, AllZip, slice_split};
+ghost use Rattle.std.specs.Prelude.{◌≡◌, List, map, IsTrue};
+ghost use Rattle.std.specs.List.{AllZip, list_all, slice_split};
 ghost use Rattle.std.specs.Cmp.Lexicographic.{slice_cmp};
-ghost use Rattle.semver_texts.specs.Texts.{cut_at_dots, is_dot};
+ghost use Rattle.semver_texts.specs.Texts.{cut_at_dots, is_dot, is_part};
 ghost use Rattle.semver_texts.specs.Versions.{IdentifierValue};
 ghost use Rattle.semver_texts.specs.Precedence.{identifier_cmp, pre_cmp};
-ghost use Rattle.semver_texts.specs.VersionGrammar.{IsIdentifierText, SpellsIdentifier};
+ghost use Rattle.semver_texts.specs.ToolVersions.{IsKeptAs};
 ghost use Rattle.semver_texts.specs.VersionViews.{identifier_value};
-ghost use Rattle.semver_versions.specs.Steps.Cutting.{AreIdentifiers};
+ghost use Rattle.semver_versions.specs.Steps.Cutting.{ArePartTexts};
 
 use semver_texts::decimals::whole_number;
 use semver_texts::dotted::{split_at_dot, text_of_parts};
@@ -17,8 +17,8 @@ use std::cmp::Ordering;
 
 /// No pre-release is above any. Two go identifier by identifier. A text without bytes is none.
 pub(crate) fn compare_pre_releases(text: &[u8], other: &[Identifier]) -> Ordering
-    requires { AreIdentifiers text.now }
-    ensures { (ids : List IdentifierValue) → AllZip SpellsIdentifier ids (cut_at_dots text.now)
+    requires { ArePartTexts text.now }
+    ensures { (ids : List IdentifierValue) → AllZip IsKeptAs ids (cut_at_dots text.now)
         → result ≡ pre_cmp ids (map identifier_value other.now) }
 {
     match (text.is_empty(), other.is_empty()) {
@@ -31,9 +31,9 @@ pub(crate) fn compare_pre_releases(text: &[u8], other: &[Identifier]) -> Orderin
 
 /// The first identifiers that differ decide. Where there are none, the longer list is above.
 fn compare_identifiers(text: &[u8], other: &[Identifier]) -> Ordering
-    requires { AllByRecursion IsIdentifierText (slice_split is_dot text.now) }
+    requires { IsTrue (list_all is_part (slice_split is_dot text.now)) }
     ensures { (ids : List IdentifierValue)
-        → AllZip SpellsIdentifier ids (slice_split is_dot text.now)
+        → AllZip IsKeptAs ids (slice_split is_dot text.now)
         → result ≡ slice_cmp identifier_cmp ids (map identifier_value other.now) }
 {
     let mut rest = Some(text);
@@ -56,7 +56,7 @@ fn compare_identifiers(text: &[u8], other: &[Identifier]) -> Ordering
 
 /// Numbers go as numbers and texts by their bytes, and a number is below any text.
 fn compare_with(text: &str, other: &Identifier) -> Ordering
-    ensures { (id : IdentifierValue) → SpellsIdentifier id text.now
+    ensures { (id : IdentifierValue) → IsKeptAs id text.now
         → result ≡ identifier_cmp id (identifier_value other.now) }
 {
     match (whole_number(text), other) {

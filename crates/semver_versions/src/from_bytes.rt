@@ -6,17 +6,16 @@
 //! and what is read stays in registers. `parts` alone is called, where there is a pre-release or a
 //! build.
 
-ghost use Rattle.std.specs.Prelude.{◌≡◌, ◌<◌, ◌+◌, ◌^◌, [], ◌∷◌, ℕ, true, false, length, drop};
+ghost use Rattle.std.specs.Prelude.{◌≡◌, ◌<◌, ◌+◌, ◌^◌, ℕ, true, false, length, drop};
 ghost use Rattle.std.specs.Prelude.{MatchOption};
 ghost use Rattle.std.specs.List.{prefix_len};
-ghost use Rattle.semver_texts.specs.Texts.{Text, BeginsWithNumbers, cut_at_dots, marked, is_space};
-ghost use Rattle.semver_versions.specs.Outlines.{behind_mark};
+ghost use Rattle.semver_texts.specs.Texts.{Text, BeginsWithNumbers, is_space};
 ghost use Rattle.semver_versions.specs.Steps.Cutting.{AreSpaces, AreParts, IsOutlined};
 
-use crate::outlines::Outline;
+use crate::outlines::{Outline, with_parts};
 use semver_texts::bytes::space_len;
 use semver_texts::decimals::{begins_with_digit, numbers};
-use semver_texts::dotted::{Hyphens, marked_part, text_of_parts};
+use semver_texts::dotted::{Hyphens, marked_part};
 
 /// Whether the bytes are white space alone.
 #[inline(always)]
@@ -43,28 +42,10 @@ fn parts(bytes: &[u8]) -> Option<(&[u8], &[u8])>
     }
 }
 
-/// How many bytes a part has with its mark.
-#[inline(always)]
-fn marked_len(part: &[u8]) -> usize
-    requires { length part.now + 1 < 2 ^ 64 }
-    ensures { (mark : ℕ) → result ≡ length (marked (mark ∷ []) (cut_at_dots part.now)) }
-{
-    if part.is_empty() { 0 } else { part.len() + 1 }
-}
-
-/// Where a part begins whose mark stands at the place; 0 where there is no part.
-#[inline(always)]
-fn behind_mark_at(place: usize, part: &[u8]) -> usize
-    requires { place + length part.now < 2 ^ 64 }
-    ensures { result ≡ behind_mark place part.now }
-{
-    if part.is_empty() { 0 } else { place + 1 }
-}
-
 /// The outline whose numbers are known, how many bytes there are up to their end, and what stands
 /// behind them.
 #[inline(always)]
-fn with_parts(
+fn behind_plain(
     major: u64,
     minor: u64,
     patch: u64,
@@ -77,16 +58,7 @@ fn with_parts(
         → IsOutlined before text result }
 {
     let (pre, build) = parts(rest)?;
-    let pre_end = numbers_end + marked_len(pre);
-    Some(Outline {
-        major,
-        minor,
-        patch,
-        pre: text_of_parts(pre),
-        build: text_of_parts(build),
-        before_pre: behind_mark_at(numbers_end, pre),
-        before_build: behind_mark_at(pre_end, build),
-    })
+    Some(with_parts(major, minor, patch, numbers_end, pre, build))
 }
 
 /// The outline of the version whose numbers are known, how many bytes there are up to their end,
@@ -116,7 +88,7 @@ pub(crate) fn behind_numbers(
             before_build: 0,
         });
     }
-    with_parts(major, minor, patch, numbers_end, rest)
+    behind_plain(major, minor, patch, numbers_end, rest)
 }
 
 /// What follows the white space at the front. For speed, a digit there is told first.

@@ -1,8 +1,13 @@
 //! Laws over the definitions: each is the contract of a function that does nothing.
-ghost use Rattle.std.specs.Prelude.{◌≡◌, Result};
+ghost use Rattle.std.specs.Prelude.{◌≡◌, ◌↔◌, Result};
 ghost use Rattle.semver_texts.specs.Texts.{Text};
 ghost use Rattle.semver_texts.specs.Versions.{VersionValue};
+ghost use Rattle.semver_texts.specs.ToolVersions.{SpellsIn};
 ghost use Rattle.semver_texts.specs.VersionGrammar.{SpellsVersion};
+ghost use Rattle.semver_texts.specs.declared.dialect.Dialect.{Dialect};
+ghost use Rattle.semver_texts.specs.declared.dialect.Dialect.TheVariants.{Crate};
+ghost use Rattle.semver_versions.specs.Outlines.{IsOutlineIn, IsOutlineOf, OutlineValue};
+ghost use Rattle.semver_versions.specs.Outlines.{version_of};
 ghost use Rattle.semver_tokens.specs.ParserState.{Fault};
 ghost use Rattle.semver_steps.specs.VersionReading.{IsOutcomeOf};
 
@@ -10,6 +15,21 @@ ghost use Rattle.semver_steps.specs.VersionReading.{IsOutcomeOf};
 pub fn one_version()
     ensures same_version { (v w : VersionValue) (text : Text) → SpellsVersion v text
         → SpellsVersion w text → v ≡ w }
+{}
+
+/// No text spells two versions in a dialect.
+pub fn one_version_in()
+    ensures same_version { (dialect : Dialect) (v w : VersionValue) (text : Text)
+        → SpellsIn dialect v text → SpellsIn dialect w text → v ≡ w }
+{}
+
+/// The outline of a text is of the version that the text spells.
+pub fn one_outlined_version()
+    ensures same_version { (dialect : Dialect) (o : OutlineValue) (v : VersionValue) (text : Text)
+        → IsOutlineIn dialect text o → SpellsIn dialect v text → v ≡ version_of o }
+    // In the crate's dialect an outline is that of the crate's grammar.
+    ensures same_outline { (o : OutlineValue) (text : Text)
+        → IsOutlineIn Crate text o ↔ IsOutlineOf text o }
 {}
 
 /// Reading a text as a version has one outcome.

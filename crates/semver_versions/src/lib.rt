@@ -7,4 +7,5 @@ mod from_bytes;
 mod identifiers;
 pub mod laws;
 mod outlines;
+mod tools;
 pub mod version;

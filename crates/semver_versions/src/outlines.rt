@@ -1,15 +1,19 @@
 //! Versions in outline.
 
-ghost use Rattle.std.specs.Prelude.{◌≡◌, ◌⊎◌, ◌<◌, [], length, map, not, IfOk, IfErr};
-ghost use Rattle.semver_texts.specs.Texts.{Text, is_empty};
+ghost use Rattle.std.specs.Prelude.{◌≡◌, ◌⊎◌, ◌<◌, ◌+◌, ◌^◌, ℕ, [], ◌∷◌, codes, length, map, not};
+ghost use Rattle.std.specs.Prelude.{IfOk, IfErr};
+ghost use Rattle.semver_texts.specs.Texts.{Text, cut_at_dots, is_empty, marked};
 ghost use Rattle.semver_texts.specs.Versions.{VersionValue};
 ghost use Rattle.semver_texts.specs.Precedence.{precedence};
 ghost use Rattle.semver_texts.specs.VersionGrammar.{SpellsVersion};
 ghost use Rattle.semver_texts.specs.VersionViews.{identifier_value, version_value};
-ghost use Rattle.semver_versions.specs.Outlines.{IsOutlineOf};
+ghost use Rattle.semver_versions.specs.Outlines.{IsOutlineOf, behind_mark};
+ghost use Rattle.semver_versions.specs.Outlines.{version_of};
+ghost use Rattle.semver_versions.specs.Steps.Cutting.{ArePartTexts, outline_with};
 
 use crate::comparing::compare_pre_releases;
 use crate::identifiers::identifiers;
+use semver_texts::dotted::text_of_parts;
 use semver_texts::version::{Identifier, Version};
 use std::alloc::{AllocError, Global};
 use std::cmp::Ordering;
@@ -30,7 +34,7 @@ pub struct Outline<'t> {
 
 impl<'t> Model for Outline<'t> {
     ghost use Rattle.semver_versions.specs.Outlines.{OutlineValue};
-    ghost use Rattle.semver_versions.specs.Steps.Cutting.{AreIdentifiers};
+    ghost use Rattle.semver_versions.specs.Steps.Cutting.{ArePartTexts};
 
     ghost Value = { OutlineValue };
 
@@ -44,7 +48,7 @@ impl<'t> Model for Outline<'t> {
       build_offset = o.before_build;
     } };
 
-    ghost invariant = { λ o. AreIdentifiers o.pre.now × AreIdentifiers o.build.now };
+    ghost invariant = { λ o. ArePartTexts o.pre.now × ArePartTexts o.build.now };
 }
 
 impl<'t> Outline<'t> {
@@ -103,6 +107,8 @@ impl<'t> Outline<'t> {
         // It is so of the version of each text that has this outline.
         ensures pre_release { (text : Text) (v : VersionValue) → IsOutlineOf text self.now
             → SpellsVersion v text → result ≡ not (is_empty v.plain.pre) }
+        // So of the version that the outline is of.
+        ensures of_version { result ≡ not (is_empty (version_of self.now).plain.pre) }
     {
         !self.pre.is_empty()
     }
@@ -138,6 +144,9 @@ impl<'t> Outline<'t> {
         ensures identifiers { (text : Text) (v : VersionValue) → IsOutlineOf text self.now
             → SpellsVersion v text
             → IfOk result (λ ids. map identifier_value ids.items ≡ v.plain.pre) }
+        // So of the version that the outline is of.
+        ensures of_version { IfOk result (λ ids.
+            map identifier_value ids.items ≡ (version_of self.now).plain.pre) }
         ensures out_of_memory { IfErr result (λ _. 0 < length self.now.pre) }
     {
         identifiers(alloc, self.pre.as_bytes())
@@ -152,12 +161,15 @@ impl<'t> Outline<'t> {
         ensures identifiers { (text : Text) (v : VersionValue) → IsOutlineOf text self.now
             → SpellsVersion v text
             → IfOk result (λ ids. map identifier_value ids.items ≡ v.build) }
+        // So of the version that the outline is of.
+        ensures of_version { IfOk result (λ ids.
+            map identifier_value ids.items ≡ (version_of self.now).build) }
         ensures out_of_memory { IfErr result (λ _. 0 < length self.now.build) }
     {
         identifiers(alloc, self.build.as_bytes())
     }
 
-    // Answer: law answer_laws::versions::one_version_of_outline.
+    // Answer: equation.
     /// The version: of the outline of `1.2.3-rc.4+5aedf` the numbers 1, 2 and 3, the pre-release
     /// `"rc"`, 4 and the build `"5aedf"`.
     ///
@@ -168,6 +180,9 @@ impl<'t> Outline<'t> {
         // Each text that has this outline spells the version.
         ensures version { IfOk result (λ version. (text : Text) → IsOutlineOf text self.now
             → SpellsVersion (version_value version) text) }
+        // It is the version that the outline is of.
+        ensures of_version { IfOk result (λ version.
+            version_value version ≡ version_of self.now) }
         ensures out_of_memory { IfErr result
             (λ _. (0 < length self.now.pre) ⊎ (0 < length self.now.build)) }
     {
@@ -179,6 +194,7 @@ impl<'t> Outline<'t> {
             build: self.build_identifiers(alloc)?,
         })
     }
+
     // Answer: equation.
     /// How the version of this outline compares with another by precedence (SemVer 2.0.0, section
     /// 11), as `version::cmp_precedence` tells it of two versions: the outline of
@@ -189,6 +205,9 @@ impl<'t> Outline<'t> {
         ensures precedence { (text : Text) (v : VersionValue) → IsOutlineOf text self.now
             → SpellsVersion v text
             → result ≡ precedence v.plain (version_value version.now).plain }
+        // So of the version that the outline is of.
+        ensures of_version { result
+            ≡ precedence (version_of self.now).plain (version_value version.now).plain }
     {
         let Outline {
             major,
@@ -205,5 +224,52 @@ impl<'t> Outline<'t> {
             return by_numbers;
         }
         compare_pre_releases(pre.as_bytes(), &version.pre)
+    }
+}
+
+/// How many bytes a part has with its mark.
+#[inline(always)]
+fn marked_len(part: &[u8]) -> usize
+    requires { length part.now + 1 < 2 ^ 64 }
+    ensures { (mark : ℕ) → result ≡ length (marked (mark ∷ []) (cut_at_dots part.now)) }
+{
+    if part.is_empty() { 0 } else { part.len() + 1 }
+}
+
+/// Where a part begins whose mark stands at the place; 0 where there is no part.
+#[inline(always)]
+fn behind_mark_at(place: usize, part: &[u8]) -> usize
+    requires { place + length part.now < 2 ^ 64 }
+    ensures { result ≡ behind_mark place part.now }
+{
+    if part.is_empty() { 0 } else { place + 1 }
+}
+
+/// The outline of these numbers, how many bytes there are up to their end, and the texts of the
+/// pre-release and of the build, which follow, each after its mark.
+#[inline(always)]
+pub(crate) fn with_parts<'t>(
+    major: u64,
+    minor: u64,
+    patch: u64,
+    numbers_end: usize,
+    pre: &'t [u8],
+    build: &'t [u8],
+) -> Outline<'t>
+    requires pre { ArePartTexts pre.now }
+    requires build { ArePartTexts build.now }
+    requires fits { numbers_end + (length (marked (codes "-") (cut_at_dots pre.now))
+        + length (marked (codes "+") (cut_at_dots build.now))) < 2 ^ 64 }
+    ensures { result ≡ outline_with major minor patch numbers_end pre.now build.now }
+{
+    let pre_end = numbers_end + marked_len(pre);
+    Outline {
+        major,
+        minor,
+        patch,
+        pre: text_of_parts(pre),
+        build: text_of_parts(build),
+        before_pre: behind_mark_at(numbers_end, pre),
+        before_build: behind_mark_at(pre_end, build),
     }
 }

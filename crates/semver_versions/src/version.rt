@@ -7,21 +7,24 @@
 //! 18446744073709551615. An identifier is one or more runs of ASCII letters and digits joined by
 //! single hyphens; there is no limit on runs, identifiers or the length of a text.
 ghost use Rattle.std.specs.Prelude.{◌≡◌, ◌↔◌, ◌<◌, ◌⊎◌, ◌+◌, ◌^◌, [], length, Some, None};
-ghost use Rattle.std.specs.Prelude.{ℕ, IfOk, IfErr, IfSome, option_map};
+ghost use Rattle.std.specs.Prelude.{IfOk, IfErr, IfSome, option_map};
 ghost use Rattle.semver_texts.specs.Texts.{Text, BeginsWithNumbers};
 ghost use Rattle.semver_texts.specs.Versions.{VersionValue};
 ghost use Rattle.semver_texts.specs.PrintedText.{version_text};
 ghost use Rattle.semver_texts.specs.VersionViews.{version_value};
 ghost use Rattle.semver_texts.specs.VersionGrammar.{SpellsVersion, IsVersionText, IsTrimmed};
 ghost use Rattle.semver_texts.specs.VersionGrammar.{IsPrintableVersion};
-ghost use Rattle.semver_versions.specs.Outlines.{IsOutlineAfter, IsOutlineOf};
-ghost use Rattle.semver_versions.specs.Outlines.{OutlineValue, StandsAt};
+ghost use Rattle.semver_texts.specs.ToolVersions.{IsVersionTextIn, SpellsIn};
+ghost use Rattle.semver_versions.specs.Outlines.{IsOutlineIn, IsOutlineOf};
+ghost use Rattle.semver_versions.specs.Outlines.{OutlineValue, StandsAt, version_of};
 ghost use Rattle.semver_steps.specs.VersionReading.{IsOutcomeOf, TextMayRunOut};
 ghost use Rattle.semver_steps.specs.ParserViews.{answer_of, UnlessOutOfMemory, IfOutOfMemory};
 
 use crate::from_bytes;
 pub use crate::outlines::Outline;
+use crate::tools::{self, Tool};
 use semver_steps::parser::{self, Parser};
+pub use semver_texts::dialect::Dialect;
 pub use semver_texts::precedence::cmp_precedence;
 pub use semver_texts::version::{Identifier, Version};
 use std::alloc::{AllocError, Global};
@@ -122,39 +125,66 @@ pub fn outline_bytes(input: &[u8]) -> Option<Outline<'_>>
     from_bytes::outline(input)
 }
 
-// Answer: law answer_laws::versions::one_outline_behind_numbers.
-/// Returns what [`outline_bytes`] does of a text that begins with three numbers, if these are read
-/// already: 1, 2 and 3, the 5 bytes up to their end, and the rest `-rc.4` give the outline of
-/// `1.2.3-rc.4`, and the rest `.4` gives `None`. It does not allocate.
+// Answer: law answer_laws::versions::one_outline_in.
+/// Returns what [`outline_bytes`] does, by a dialect: by Cargo's and npm's, `1.0.0-a--b` has an
+/// outline and `1.0.0-01` has none; by npm's alone, ` v1.2.3` has one.
 ///
-/// Two conditions have to hold, or the result is not specified: `numbers_end` is at least the
-/// length of the three numbers with two dots, and the rest does not begin with a digit. If
-/// `numbers_end` is greater, other bytes are before the numbers, and places are counted from the
-/// first of these: 6 gives the outline of ` 1.2.3-rc.4`.
+/// The bytes need not be UTF-8, and it does not allocate. `docs/GRAMMAR.md` has the grammars.
 #[inline(always)]
-pub fn outline_behind_numbers(
+pub fn outline_in(input: &[u8], dialect: Dialect) -> Option<Outline<'_>>
+    // An outline is returned exactly if it is that of a version that the bytes spell.
+    ensures outlined { (o : OutlineValue) → (result ≡ Some o) ↔ IsOutlineIn dialect input.now o }
+    // None is returned exactly if the bytes spell no version.
+    ensures none { (result ≡ None) ↔ ¬ (IsVersionTextIn dialect input.now) }
+    // The version that the outline is of is the one that the bytes spell.
+    ensures version { IfSome result (λ o. SpellsIn dialect (version_of o) input.now) }
+    // Both texts are in the input at their offsets.
+    ensures places { IfSome result (λ o. StandsAt o.pre_offset o.pre input.now
+        × StandsAt o.build_offset o.build input.now) }
+{
+    match dialect {
+        Dialect::Crate => from_bytes::outline(input),
+        Dialect::Cargo => tools::outline(input, Tool::Cargo),
+        Dialect::Npm => tools::outline(input, Tool::Npm),
+    }
+}
+
+// Answer: law answer_laws::versions::one_outline_of_numbers.
+/// Returns what [`outline_in`] does of a text that begins with three numbers, if these are read
+/// already: 1, 2 and 3, their 5 bytes, and the rest `-rc.4` give the outline of `1.2.3-rc.4`. It
+/// does not allocate.
+///
+/// Two conditions have to hold, or the result is not specified: `numbers_end` is the length of the
+/// three numbers with two dots, and the rest does not begin with a digit.
+#[inline(always)]
+pub fn outline_of_numbers(
     major: u64,
     minor: u64,
     patch: u64,
     numbers_end: usize,
     rest: &[u8],
+    dialect: Dialect,
 ) -> Option<Outline<'_>>
     requires fits { numbers_end + length rest.now < 2 ^ 64 }
-    // An outline is answered exactly where it is that of a version that the text spells.
+    // An outline is returned exactly if it is that of a version that the text spells.
     ensures outlined { (text : Text) (o : OutlineValue)
         → BeginsWithNumbers text major minor patch rest.now
-        → length text ≡ numbers_end + length rest.now → (result ≡ Some o) ↔ IsOutlineOf text o }
-    // None is answered exactly where the text spells no version.
+        → length text ≡ numbers_end + length rest.now
+        → (result ≡ Some o) ↔ IsOutlineIn dialect text o }
+    // None is returned exactly if the text spells no version.
     ensures none { (text : Text) → BeginsWithNumbers text major minor patch rest.now
         → length text ≡ numbers_end + length rest.now
-        → (result ≡ None) ↔ ¬ (IsVersionText text) }
-    // So it is where other bytes are before the numbers, from which places are counted.
-    ensures after { (text : Text) (before : ℕ) (o : OutlineValue)
-        → BeginsWithNumbers text major minor patch rest.now
-        → numbers_end + length rest.now ≡ before + length text
-        → (result ≡ Some o) ↔ IsOutlineAfter before text o }
+        → (result ≡ None) ↔ ¬ (IsVersionTextIn dialect text) }
 {
-    from_bytes::behind_numbers(major, minor, patch, numbers_end, rest)
+    match dialect {
+        Dialect::Crate => from_bytes::behind_numbers(major, minor, patch, numbers_end, rest),
+        Dialect::Cargo => {
+            tools::outline_of_numbers(major, minor, patch, numbers_end, rest, Tool::Cargo)
+        }
+        Dialect::Npm => {
+            tools::outline_of_numbers(major, minor, patch, numbers_end, rest, Tool::Npm)
+        }
+    }
 }
 
 // Answer: law answer_laws::versions::one_version_parse.

@@ -1,6 +1,6 @@
 -- A means of proof, which no public clause cites: what a parse answers, by the reader.
 use Rattle.std.specs.Prelude.{List, ◌≡◌, false, IsTrue, Result, Ok, Err, Some, None}
-use Rattle.semver_ranges.specs.declared.grammar.Dialect.TheVariants.{Crate}
+use Rattle.semver_texts.specs.declared.dialect.Dialect.TheVariants.{Crate}
 use Rattle.semver_ranges.specs.declared.range.Compat.{Compat}
 use Rattle.semver_ranges.specs.declared.range_set.RangeSet.{RangeSet}
 use Rattle.semver_ranges.specs.declared.range_set.RangeError.{RangeError}

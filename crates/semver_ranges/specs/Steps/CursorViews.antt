@@ -13,10 +13,11 @@ use Rattle.semver_ranges.specs.declared.events.Event.TheVariants as event
 use Rattle.semver_ranges.specs.declared.events.Events.{Events}
 use Rattle.semver_ranges.specs.declared.range_set.RangeError.{RangeError}
 use Rattle.semver_ranges.specs.declared.range_set.RangeError.TheVariants.{NotARange}
-use Rattle.semver_ranges.specs.declared.grammar.Dialect.{Dialect}
+use Rattle.semver_texts.specs.declared.dialect.Dialect.{Dialect}
 use Rattle.semver_ranges.specs.declared.partial.LowerBounds.{LowerBounds}
 use Rattle.semver_ranges.specs.RangeTree as tree
-use Rattle.semver_ranges.specs.RangeTree.{three, is_part}
+use Rattle.semver_ranges.specs.RangeTree.{three}
+use Rattle.semver_texts.specs.Texts.{is_part}
 use Rattle.semver_texts.specs.Texts.{Text}
 use Rattle.semver_ranges.specs.Steps.Reading.{parts, behind_three}
 use Rattle.semver_ranges.specs.Steps.RangeEvents as list

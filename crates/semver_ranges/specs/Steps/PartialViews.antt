@@ -19,7 +19,8 @@ use Rattle.semver_ranges.specs.declared.partial.LowerBounds.TheVariants.{Stated,
 use Rattle.semver_ranges.specs.declared.partial.Place.{Place}
 use Rattle.semver_ranges.specs.declared.partial.Place.TheVariants.{Major, Minor, Patch}
 use Rattle.semver_ranges.specs.RangeTree.{PartialTree, one, two, three, is_wildcard}
-use Rattle.semver_ranges.specs.RangeTree.{is_part, components, qualifier}
+use Rattle.semver_ranges.specs.RangeTree.{components, qualifier}
+use Rattle.semver_texts.specs.Texts.{is_part}
 use Rattle.semver_texts.specs.Texts.{Text, is_empty, cut_at_dots}
 use Rattle.semver_texts.specs.Versions.{IdentifierValue, PlainVersion}
 use Rattle.semver_ranges.specs.Partials.{fits_u64, kept, stated, zero_filled}

@@ -2,7 +2,7 @@
 -- right.
 use Rattle.std.specs.Prelude.{ℕ, ◌+◌, Bool, true, false, if◌then◌else◌, Option, Some, None, List}
 use Rattle.std.specs.Prelude.{[], ◌∷◌, codes}
-use Rattle.semver_ranges.specs.declared.grammar.Dialect.{Dialect}
+use Rattle.semver_texts.specs.declared.dialect.Dialect.{Dialect}
 use Rattle.semver_ranges.specs.declared.partial.LowerBounds.{LowerBounds}
 use Rattle.semver_ranges.specs.RangeTree.{bare, one, Simple, RangeTree, empty, hyphen, simples}
 use Rattle.semver_ranges.specs.RangeTree.{SetTree}

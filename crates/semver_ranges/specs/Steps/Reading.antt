@@ -9,9 +9,10 @@ use Rattle.std.specs.List.{list_all, slice_split}
 use Rattle.semver_ranges.specs.RangeTree.{PartialTree, one, two, three, Form, bare, equal, less}
 use Rattle.semver_ranges.specs.RangeTree.{at_most, greater, at_least, tilde, caret, Simple}
 use Rattle.semver_ranges.specs.RangeTree.{RangeTree, empty, hyphen, simples, SetTree, is_blank}
-use Rattle.semver_ranges.specs.RangeTree.{is_wildcard, is_part, has_no_leading_zeros}
-use Rattle.semver_ranges.specs.declared.grammar.Dialect.{Dialect}
-use Rattle.semver_ranges.specs.declared.grammar.Dialect.TheVariants.{Crate, Cargo, Npm}
+use Rattle.semver_ranges.specs.RangeTree.{is_wildcard, has_no_leading_zeros}
+use Rattle.semver_texts.specs.Texts.{is_part}
+use Rattle.semver_texts.specs.declared.dialect.Dialect.{Dialect}
+use Rattle.semver_texts.specs.declared.dialect.Dialect.TheVariants.{Crate, Cargo, Npm}
 use Rattle.semver_texts.specs.Texts.{Text, begins_with, is_dot, is_dotted_byte}
 
 -- the longest front whose bytes pass, and what is left

@@ -6,7 +6,7 @@ use Rattle.semver_ranges.specs.RangeViews.{range_of}
 use Rattle.semver_ranges.specs.Steps.PartialViews.{pre_of}
 use Rattle.semver_ranges.specs.Steps.RangeEvents.{events_of}
 use Rattle.std.proofs.lemmas.List.{map_push}
-use Rattle.semver_ranges.specs.declared.grammar.Dialect.TheVariants.{Crate}
+use Rattle.semver_texts.specs.declared.dialect.Dialect.TheVariants.{Crate}
 use Rattle.semver_ranges.proofs.Tables.{port_table}
 use Rattle.semver_ranges.proofs.EventLists.{range_made, set_fits}
 use Rattle.semver_ranges.proofs.EventSums.{one_range_more}

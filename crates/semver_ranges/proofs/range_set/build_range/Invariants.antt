@@ -1,7 +1,7 @@
 use Rattle.std.proofs.Common.{◌≡◌, ◌++◌, List, Some, IsTrue}
 use Rattle.std.specs.Prelude.{map}
 use Rattle.std.specs.List.{list_all, flat_map}
-use Rattle.semver_ranges.specs.declared.grammar.Dialect.TheVariants.{Crate}
+use Rattle.semver_texts.specs.declared.dialect.Dialect.TheVariants.{Crate}
 use Rattle.semver_ranges.specs.RewritingTable.{simple_fits, written_simple}
 use Rattle.semver_ranges.specs.RangeViews.{comparator_of}
 use Rattle.semver_ranges.specs.Steps.PartialViews.{pre_of}

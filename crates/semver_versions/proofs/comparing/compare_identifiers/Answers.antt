@@ -1,7 +1,7 @@
 use Rattle.std.proofs.Common.{◌+◌, [], ◌∷◌, drop, rules, subst}
 use Rattle.std.specs.Prelude.{None, Some}
 use Rattle.semver_versions.proofs.ComparedTexts.{IsLeft, all_compared, at_item, decided, ended, first_part, goes_on, longer}
-use Rattle.semver_versions.proofs.CutIdentifiers.{inner_passes, is_identifiers}
+use Rattle.semver_versions.proofs.KeptTexts.{part_passes}
 use Rattle.semver_versions.proofs.comparing.compare_identifiers.Goals as goal
 use Rattle.semver_versions.proofs.comparing.compare_identifiers.Goals.{In-Some}
 
@@ -21,8 +21,8 @@ returns-in_default c = λ ids all.
 pub text_of_parts-requires : goal.text_of_parts-requires
 text_of_parts-requires c =
     let part = c.split_at_dot.result.0.now in
-    inner_passes part (is_identifiers part (first_part c.in-Some.bytes part c.split_at_dot.result.1 c.split_at_dot.ensures
-    (here (goal.at.text_of_parts-requires c).In-Some)))
+    part_passes part (first_part c.in-Some.bytes part c.split_at_dot.result.1 c.split_at_dot.ensures
+    (here (goal.at.text_of_parts-requires c).In-Some))
 
 pub returns-then-is_ne : goal.returns-then-is_ne
 returns-then-is_ne c = λ ids all.

@@ -1,12 +1,17 @@
-use Rattle.std.proofs.Common.{◌∙◌, ap}
+use Rattle.std.proofs.Common.{◌∙◌, ap, sym}
 use Rattle.std.specs.Prelude.{not}
+use Rattle.semver_texts.specs.Texts.{is_empty}
+use Rattle.semver_texts.specs.Versions.{VersionValue}
 use Rattle.semver_versions.specs.Outlines.{OutlineValue}
-use Rattle.semver_versions.proofs.OutlinedTexts.{same_emptiness}
+use Rattle.semver_versions.proofs.OutlineVersions.{its_version, none_where_empty}
 use Rattle.semver_versions.proofs.outlines.Outline.is_pre_release.Goals as goal
 
 pub returns : goal.returns
-returns c = record {
-  pre_release = λ text v outlined spells.
-      ap not (c.is_empty.ensures ∙ same_emptiness text v spells c.args.self.now outlined c.self.inside.pre.now
-      (ap (λ (o : OutlineValue). o.pre) c.self.view_is));
-}
+returns c =
+    let is = ap not (c.is_empty.ensures ∙ none_where_empty c.self.inside.pre.now)
+    ∙ rw (← (ap (λ (o : OutlineValue). o.pre) c.self.view_is)) in
+    record {
+      pre_release = λ text v outlined spells.
+          is ∙ ap (λ (w : VersionValue). not (is_empty w.plain.pre)) (sym (its_version _ text v spells c.args.self.now outlined));
+      of_version = is;
+    }

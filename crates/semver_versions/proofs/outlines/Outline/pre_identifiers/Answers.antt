@@ -1,11 +1,20 @@
-use Rattle.std.proofs.Common.{map, ap, ◌∙◌}
+use Rattle.std.proofs.Common.{map, ap, sym, ◌∙◌}
 use Rattle.semver_texts.specs.VersionViews.{identifier_value}
+use Rattle.semver_texts.specs.Versions.{VersionValue}
 use Rattle.semver_versions.specs.Outlines.{OutlineValue}
-use Rattle.semver_versions.proofs.OutlinedTexts.{cut_pre, if_ok_more}
+use Rattle.semver_versions.proofs.KeptTexts.{kept_is}
+use Rattle.semver_versions.proofs.OutlineVersions.{its_version}
+use Rattle.semver_versions.proofs.OutlinedTexts.{if_ok_more}
 use Rattle.semver_versions.proofs.outlines.Outline.pre_identifiers.Goals as goal
+
+pub returns-clause-of_version : goal.returns-clause-of_version
+returns-clause-of_version c =
+    if_ok_more c.identifiers.result (λ ids each. kept_is (map identifier_value ids.items) _
+    (rw (c.as_bytes.ensures.value ∙ ap (λ (o : OutlineValue). o.pre) c.self.view_is) at each))
+    c.identifiers.ensures.kept
 
 pub returns-clause-identifiers : goal.returns-clause-identifiers
 returns-clause-identifiers c = λ text v outlined spells.
-    if_ok_more c.identifiers.result (λ ids each. cut_pre text v spells c.args.self.now outlined (map identifier_value ids.items)
-    (rw (c.as_bytes.ensures.value ∙ ap (λ (o : OutlineValue). o.pre) c.self.view_is) at each))
-    c.identifiers.ensures.spelled
+    if_ok_more c.identifiers.result (λ ids is. is
+    ∙ ap (λ (w : VersionValue). w.plain.pre) (sym (its_version _ text v spells c.args.self.now outlined)))
+    (returns-clause-of_version c)

@@ -1,0 +1,39 @@
+-- Parts and dots at the front of a text, byte by byte, where each hyphen may stand.
+use Rattle.std.proofs.Common.{◌≡◌, ℕ, Bool, true, false, ◌&&◌, List, [], ◌∷◌, take, refl, arith, one-add, if◌then◌else◌}
+use Rattle.std.specs.List.{list_all, prefix_len, slice_split}
+use Rattle.std.proofs.lemmas.Bool.Decides.{nat_tests}
+use Rattle.semver_texts.specs.Texts.{Text, is_part, is_part_byte, is_dot, is_dotted_byte}
+use Rattle.semver_texts.specs.Steps.DottedParts.{runs_stand}
+use Rattle.semver_texts.proofs.Lists.{by_test}
+
+-- the first piece of a text between dots, and the other pieces
+abbrev pub first_piece : List Text → Text
+first_piece [] = []
+first_piece (w ∷ ws) = w
+
+abbrev pub other_pieces : List Text → List Text
+other_pieces [] = []
+other_pieces (w ∷ ws) = ws
+
+pub pieces : (t : Text) → slice_split is_dot t ≡ first_piece (slice_split is_dot t) ∷ other_pieces (slice_split is_dot t)
+pieces [] = refl
+pieces (b ∷ t) = grind (arith, pieces t)
+
+-- the front that passes, byte by byte
+abbrev front : (ℕ → Bool) → Text → Text
+front p [] = []
+front p (b ∷ t) = if p b then b ∷ front p t else []
+
+front_taken : (p : ℕ → Bool) (t : Text) → front p t ≡ take (prefix_len p t) t
+front_taken p [] = refl
+front_taken p (b ∷ t) = by_test (p b) (λ y. rw (y, one-add, front_taken p t) refl) (λ n. rw n refl)
+
+runs : (t : Text) → let ps : List Text = slice_split is_dot (front is_dotted_byte t) in
+    (runs_stand is_part_byte true t ≡ (list_all is_part_byte (first_piece ps) && list_all is_part (other_pieces ps)))
+    × (runs_stand is_part_byte false t ≡ list_all is_part ps)
+runs [] = (refl, refl)
+runs (b ∷ t) = grind (arith, nat_tests, runs t, pieces (front is_dotted_byte t))
+
+-- the runs at the front stand exactly where they are parts
+pub runs_ahead : (t : Text) → runs_stand is_part_byte false t ≡ list_all is_part (slice_split is_dot (take (prefix_len is_dotted_byte t) t))
+runs_ahead t = rw (← (front_taken is_dotted_byte t)) (runs t).1

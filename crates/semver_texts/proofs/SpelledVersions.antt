@@ -1,0 +1,107 @@
+-- Version texts by the dialects: those of SemVer 2.0.0 beside npm's and the crate's.
+use Rattle.std.proofs.Common.{◌≡◌, ℕ, ◌^◌, ◌<◌, ◌≤◌, Bool, true, List, [], ◌∷◌, ◌++◌, length, map, codes, decimal}
+use Rattle.std.proofs.Common.{refl, sym, ap, ◌∙◌, subst, inl, append_assoc, append-nil, arith}
+use Rattle.std.specs.Prelude.{IsTrue}
+use Rattle.std.specs.Char.{is_ascii_alphanumeric}
+use Rattle.std.specs.List.{AllByRecursion, AllZip, join_with_byte, list_all}
+use Rattle.std.proofs.lemmas.List.Folds.{list_all-map}
+use Rattle.semver_texts.specs.Texts.{Text, IsRun, has_no_leading_zero, is_part, is_part_byte, marked}
+use Rattle.semver_texts.specs.Versions.{IdentifierValue, numeric, alphanumeric, VersionValue, numbers}
+use Rattle.semver_texts.specs.PrintedText.{identifier_text, version_text}
+use Rattle.semver_texts.specs.VersionGrammar.{IsIdentifierText, SpellsCore, SpellsIdentifier}
+use Rattle.semver_texts.specs.ToolVersions.{AreWhiteSpaces, IsKeptAs, SpellsNpm, SpellsSemver, characters}
+use Rattle.semver_texts.proofs.Lists.{Passes, all_more, joined_pass}
+
+-- ---- what prints
+
+kept_text : (id : IdentifierValue) (text : Text) → IsKeptAs id text → text ≡ identifier_text id
+kept_text (numeric n) text w = w.1
+kept_text (alphanumeric kept) text w = w.0
+
+pub kept_texts : (ids : List IdentifierValue) (texts : List Text) → AllZip IsKeptAs ids texts → texts ≡ map identifier_text ids
+kept_texts [] [] all = refl
+kept_texts [] (t ∷ texts) all = absurd all
+kept_texts (id ∷ ids) [] all = absurd all
+kept_texts (id ∷ ids) (t ∷ texts) all = (λ i. kept_text id t all.0 i ∷ kept_texts ids texts all.1 i)
+
+pub semver_printed : (v : VersionValue) (text : Text) → SpellsSemver v text → text ≡ version_text v
+semver_printed v text w =
+    let three : Text = join_with_byte 46 (map decimal (numbers v.plain)) in
+    w.spelled
+    ∙ (λ i. three ++ (marked (codes "-") (kept_texts v.plain.pre w.pre_texts w.pre i)
+    ++ marked (codes "+") (kept_texts v.build w.build_texts w.build i)))
+    ∙ sym (append_assoc three _ _)
+
+-- ---- npm's
+
+no_white_space : AreWhiteSpaces []
+no_white_space = record { each = []; are = refl; whole = refl }
+
+pub semver_is_npm : (v : VersionValue) (text : Text) → SpellsSemver v text → v.plain.major < 2 ^ 53 → v.plain.minor < 2 ^ 53
+    → v.plain.patch < 2 ^ 53 → characters text ≤ 256 → SpellsNpm v text
+semver_is_npm v text w major minor patch short = record {
+  before = [];
+  sign = [];
+  core = text;
+  after = [];
+  spaces_before = no_white_space;
+  is_sign = inl refl;
+  spells = w;
+  spaces_after = no_white_space;
+  major = major;
+  minor = minor;
+  patch = patch;
+  short = short;
+  whole = sym (append-nil text);
+}
+
+-- ---- the crate's
+
+run_is_part : (b : ℕ) → is_ascii_alphanumeric b ≡ true → is_part_byte b ≡ true
+run_is_part b h = rw h refl
+
+run_passes : (run : Text) → IsRun run → Passes is_part_byte run
+run_passes run w = all_more run_is_part run w.1
+
+pub all_passes : (p : ℕ → Bool) (t : Text) → Passes p t → list_all p t ≡ true
+all_passes p [] all = refl
+all_passes p (b ∷ t) all = rw (all.0, all_passes p t all.1) refl
+
+runs_are_part : (runs : List Text) → 0 < length runs → AllByRecursion IsRun runs → is_part (join_with_byte 45 runs) ≡ true
+runs_are_part [] some each = absurd (omega (arith, some))
+runs_are_part ([] ∷ runs) some each = absurd (omega (arith, each.0.0))
+runs_are_part ((b ∷ run) ∷ []) some each = all_passes is_part_byte (b ∷ run) (run_passes (b ∷ run) each.0)
+runs_are_part ((b ∷ run) ∷ next ∷ runs) some each =
+    let all : List Text = (b ∷ run) ∷ next ∷ runs in
+    all_passes is_part_byte (join_with_byte 45 all) (joined_pass is_part_byte 45 refl all (all_more run_passes all each))
+
+pub identifier_is_part : (t : Text) → IsIdentifierText t → is_part t ≡ true
+identifier_is_part t w = subst (λ t. is_part t ≡ true) (sym w.joined) (runs_are_part w.runs w.some w.each)
+
+spelled_kept : (id : IdentifierValue) (text : Text) → SpellsIdentifier id text → IsKeptAs id text
+spelled_kept (numeric n) text w = w
+spelled_kept (alphanumeric kept) text w = (w.0, identifier_is_part kept w.1, w.2)
+
+pub spelled_kept_all : (ids : List IdentifierValue) (texts : List Text) → AllZip SpellsIdentifier ids texts → AllZip IsKeptAs ids texts
+spelled_kept_all [] [] all = tt
+spelled_kept_all [] (t ∷ texts) all = absurd all
+spelled_kept_all (id ∷ ids) [] all = absurd all
+spelled_kept_all (id ∷ ids) (t ∷ texts) all = (spelled_kept id t all.0, spelled_kept_all ids texts all.1)
+
+pub core_is_semver : (v : VersionValue) (text : Text) → SpellsCore v text
+    → IsTrue (list_all (λ id. has_no_leading_zero (identifier_text id)) v.plain.pre) → SpellsSemver v text
+core_is_semver v text w no_zeros =
+    let pre = spelled_kept_all v.plain.pre w.pre.texts w.pre.each in
+    record {
+      pre_texts = w.pre.texts;
+      build_texts = w.build.texts;
+      major = w.major;
+      minor = w.minor;
+      patch = w.patch;
+      pre = pre;
+      no_zeros = ap (list_all has_no_leading_zero) (kept_texts v.plain.pre w.pre.texts pre)
+          ∙ list_all-map has_no_leading_zero identifier_text v.plain.pre ∙ no_zeros;
+      build = spelled_kept_all v.build w.build.texts w.build.each;
+      spelled = w.spelled ∙ (λ i. join_with_byte 46 (map decimal (numbers v.plain)) ++ w.pre.joined i ++ w.build.joined i)
+          ∙ append_assoc (join_with_byte 46 (map decimal (numbers v.plain))) _ _;
+    }

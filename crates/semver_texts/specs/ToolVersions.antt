@@ -1,0 +1,94 @@
+-- Versions as the tools read them: those of SemVer 2.0.0, which Cargo reads, and npm's, as
+-- node-semver 7 reads without options.
+use Prim.Native.Char.{code}
+use Rattle.std.specs.Prelude.{◌≡◌, ◌⊎◌, ℕ, ◌^◌, ◌<◌, ◌≤◌, Bool, false, ◌&&◌, ◌||◌, ◌==◌, not, List}
+use Rattle.std.specs.Prelude.{[], ◌∷◌, ◌++◌, map, IsTrue, codes, decimal}
+use Rattle.std.specs.Char.{is_ascii_digit}
+use Rattle.std.specs.Int.{is_in_range}
+use Rattle.std.specs.List.{AllZip, concat, count_by, join_with_byte, list_all, prefix_len}
+use Rattle.semver_texts.specs.Texts.{Text, IsNumber, has_no_leading_zero, is_part, marked}
+use Rattle.semver_texts.specs.Versions.{IdentifierValue, numeric, alphanumeric, VersionValue}
+use Rattle.semver_texts.specs.Versions.{numbers}
+use Rattle.semver_texts.specs.VersionGrammar.{SpellsVersion}
+use Rattle.semver_texts.specs.declared.dialect.Dialect.{Dialect}
+use Rattle.semver_texts.specs.declared.dialect.Dialect.TheVariants.{Crate, Cargo, Npm}
+
+-- the text is kept as the identifier: one or more letters, digits and hyphens (SemVer 2.0.0,
+-- sections 9 and 10). The canonical decimal of a number below 2^64 is kept as that number, any
+-- other text as it is
+abbrev pub IsKeptAs : IdentifierValue → Text → Type 0
+IsKeptAs (numeric n) text = (n < 2 ^ 64) × (text ≡ decimal n)
+IsKeptAs (alphanumeric kept) text = (text ≡ kept) × IsTrue (is_part kept) × ¬ (IsNumber kept)
+
+-- the text is the version as SemVer 2.0.0 writes it: three numbers below 2^64 joined by dots, `-`
+-- and the identifiers of the pre-release, of which none of digits alone has a leading zero, `+` and
+-- those of the build
+pub record SpellsSemver (v : VersionValue) (text : Text) : Type 0 where
+  pub pre_texts : List Text
+  pub build_texts : List Text
+  pub major : v.plain.major < 2 ^ 64
+  pub minor : v.plain.minor < 2 ^ 64
+  pub patch : v.plain.patch < 2 ^ 64
+  pub pre : AllZip IsKeptAs v.plain.pre pre_texts
+  pub no_zeros : IsTrue (list_all has_no_leading_zero pre_texts)
+  pub build : AllZip IsKeptAs v.build build_texts
+  pub spelled : text ≡ join_with_byte (code ".") (map decimal (numbers v.plain))
+      ++ (marked (codes "-") pre_texts ++ marked (codes "+") build_texts)
+
+-- whether these are the bytes, in UTF-8, of a character that JavaScript calls white space: U+0009
+-- to U+000D and U+0020; U+00A0; U+1680, U+2000 to U+200A, U+2028, U+2029, U+202F, U+205F, U+3000
+-- and U+FEFF
+abbrev pub is_white_space : Text → Bool
+is_white_space (a ∷ []) = is_in_range 9 13 a || (a == 32)
+is_white_space (a ∷ b ∷ []) = (a == 0xC2) && (b == 0xA0)
+is_white_space (a ∷ b ∷ c ∷ []) = ((a == 0xE1) && ((b == 0x9A) && (c == 0x80)))
+    || (((a == 0xE2) && (((b == 0x80) && (is_in_range 0x80 0x8A c
+    || ((c == 0xA8) || ((c == 0xA9) || (c == 0xAF))))) || ((b == 0x81) && (c == 0x9F))))
+    || (((a == 0xE3) && ((b == 0x80) && (c == 0x80)))
+    || ((a == 0xEF) && ((b == 0xBB) && (c == 0xBF)))))
+is_white_space _ = false
+
+-- any number of such characters, none included
+pub record AreWhiteSpaces (text : Text) : Type 0 where
+  pub each : List Text
+  pub are : IsTrue (list_all is_white_space each)
+  pub whole : text ≡ concat each
+
+-- a byte of a character that isn't its first one
+abbrev pub goes_on : ℕ → Bool
+goes_on b = is_in_range 0x80 0xBF b
+
+-- how many characters a text has. Each of a version is one unit of UTF-16, and so of JavaScript
+abbrev pub characters : Text → ℕ
+characters text = count_by (λ b. not (goes_on b)) text
+
+-- the text is the version as npm reads it: at most 256 characters; between any white space, and
+-- after `v` or nothing, a version of SemVer 2.0.0 whose numbers are below 2^53
+pub record SpellsNpm (v : VersionValue) (text : Text) : Type 0 where
+  pub before : Text
+  pub sign : Text
+  pub core : Text
+  pub after : Text
+  pub spaces_before : AreWhiteSpaces before
+  pub is_sign : (sign ≡ []) ⊎ (sign ≡ codes "v")
+  pub spells : SpellsSemver v core
+  pub spaces_after : AreWhiteSpaces after
+  pub major : v.plain.major < 2 ^ 53
+  pub minor : v.plain.minor < 2 ^ 53
+  pub patch : v.plain.patch < 2 ^ 53
+  pub short : characters text ≤ 256
+  pub whole : text ≡ before ++ (sign ++ (core ++ after))
+
+-- the text spells the version in a dialect
+abbrev pub SpellsIn : Dialect → VersionValue → Text → Type 0
+SpellsIn Crate v text = SpellsVersion v text
+SpellsIn Cargo v text = SpellsSemver v text
+SpellsIn Npm v text = SpellsNpm v text
+
+-- some version is spelled so
+abbrev pub IsVersionTextIn : Dialect → Text → Type 0
+IsVersionTextIn dialect text = (v : VersionValue) × SpellsIn dialect v text
+
+-- how many bytes of a version text are before its numbers
+abbrev pub before_numbers : Text → ℕ
+before_numbers text = prefix_len (λ b. not (is_ascii_digit b)) text

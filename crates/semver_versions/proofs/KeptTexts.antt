@@ -1,0 +1,190 @@
+-- Texts of letters, digits and hyphens, the identifiers that they are kept as, and such texts between dots.
+use Rattle.std.proofs.Common.{◌≡◌, ℕ, ◌<◌, ◌≤◌, ◌^◌, Bool, true, false, List, [], ◌∷◌, ◌++◌, length, take, drop, map, arith, ap, sym, refl}
+use Rattle.std.proofs.Common.{◌∙◌, subst}
+use Rattle.std.proofs.Common.{decimal}
+use Rattle.std.specs.Prelude.{◌==◌, ◌&&◌, nat_lt, slice_index, IsTrue, Some, None}
+use Rattle.std.specs.List.{AllByRecursion, AllZip, join_with_byte, list_all, prefix_len, slice_split}
+use Rattle.std.specs.Str.Parse.{digits_value}
+use Rattle.std.proofs.lemmas.Bool.{and_parts, eqb-true, eq-eqb}
+use Rattle.std.proofs.lemmas.Bool.Decides.{nat_tests}
+use Rattle.std.proofs.lemmas.Fmt.{decimal_injective}
+use Rattle.std.proofs.lemmas.Grind.{common_steps}
+use Rattle.std.proofs.lemmas.List.{take-append-drop, take_at, drop_at}
+use Rattle.std.proofs.lemmas.List.Splits.{join_with_byte-slice_split}
+use Rattle.semver_texts.specs.Texts.{Text, cut_at_dots, is_dot, is_dotted_byte, is_number, is_part, is_part_byte, marked}
+use Rattle.semver_texts.specs.ToolVersions.{IsKeptAs}
+use Rattle.semver_texts.specs.Versions.{IdentifierValue, numeric, alphanumeric}
+use Rattle.semver_texts.specs.VersionGrammar.{IsIdentifierText, SpellsIdentifier}
+use Rattle.semver_texts.specs.declared.dotted.Hyphens.TheVariants.{Any}
+use Rattle.semver_texts.specs.Steps.DottedParts.{marked_part}
+use Rattle.semver_texts.proofs.DottedParts.{found_same}
+use Rattle.semver_texts.proofs.Lists.{Passes, all_more, by_test, joined_pass, prefix_is}
+use Rattle.semver_texts.proofs.Numbers.{IsCanonical, canonical_from_IsNumber, decimal_canonical}
+use Rattle.semver_texts.proofs.PartRuns.{runs_ahead}
+use Rattle.semver_texts.proofs.SpelledVersions.{all_passes, identifier_is_part, kept_texts}
+use Rattle.semver_tokens.proofs.FirstToken.{run_is_part}
+use Rattle.semver_tokens.proofs.TokenLists.{decimal_is_run}
+use Rattle.semver_versions.specs.Outlines.{identifier_of, dotted_text}
+use Rattle.semver_versions.specs.Steps.Cutting.{ArePartTexts}
+use Rattle.semver_versions.proofs.CutIdentifiers.{marked_cut, some_cut}
+use Rattle.semver_versions.proofs.OneVersion.{IsPartText, joined_some, split_joined}
+
+-- ---- one text
+
+pub each_passes : {X : Type 0} (p : X → Bool) (t : List X) → list_all p t ≡ true → AllByRecursion (λ x. IsTrue (p x)) t
+each_passes p [] e = tt
+each_passes p (b ∷ t) e = let both = and_parts (p b) _ e in (both.0, each_passes p t both.1)
+
+pub part_bytes : (t : Text) → is_part t ≡ true → IsPartText t
+part_bytes [] e = cc
+part_bytes (b ∷ t) e = (omega arith, each_passes is_part_byte (b ∷ t) e)
+
+is_a_part : (t : Text) → IsPartText t → is_part t ≡ true
+is_a_part [] w = absurd (omega (arith, w.0))
+is_a_part (b ∷ t) w = all_passes is_part_byte (b ∷ t) w.1
+
+pub kept_part : (id : IdentifierValue) (t : Text) → IsKeptAs id t → is_part t ≡ true
+kept_part (numeric n) t w =
+    let run = decimal_is_run n w.0 in
+    is_a_part t (subst IsPartText (sym w.1) (run.0, all_more run_is_part (decimal n) run.1))
+kept_part (alphanumeric kept) t w = subst (λ x. is_part x ≡ true) (sym w.0) w.1
+
+pub kept_spelled : (id : IdentifierValue) (t : Text) → IsKeptAs id t → IsIdentifierText t → SpellsIdentifier id t
+kept_spelled (numeric n) t w is = w
+kept_spelled (alphanumeric kept) t w is = (w.0, subst IsIdentifierText w.0 is, w.2)
+
+pub same_kept : (id other : IdentifierValue) (t : Text) → IsKeptAs id t → IsKeptAs other t → id ≡ other
+same_kept (numeric n) (numeric m) t a b = rw (decimal_injective n m a.0 b.0 (sym a.1 ∙ b.1))
+same_kept (numeric n) (alphanumeric kept) t a b = absurd (b.2 (n, a.0, sym b.0 ∙ a.1))
+same_kept (alphanumeric kept) (numeric m) t a b = absurd (a.2 (m, b.0, sym a.0 ∙ b.1))
+same_kept (alphanumeric kept) (alphanumeric other) t a b = ap alphanumeric (sym a.0 ∙ b.0)
+
+canonical : (t : Text) → is_number t ≡ true → digits_value 10 t < 2 ^ 64 → IsCanonical t
+canonical [] e small = cc
+canonical (b ∷ t) e small = record {
+  digits = (and_parts _ _ e).0;
+  no_leading_zero = λ z. grind (arith, nat_tests, common_steps);
+  small = small;
+}
+
+number_is : (t : Text) → IsCanonical t → 0 < length t → is_number t ≡ true
+number_is [] c some = absurd (omega (arith, some))
+number_is (b ∷ []) c some = let d = c.digits in grind (arith, nat_tests, common_steps)
+number_is (b ∷ next ∷ t) c some =
+    let d = c.digits in let z = c.no_leading_zero in grind (arith, nat_tests, common_steps)
+
+pub kept_as_of : (t : Text) → is_part t ≡ true → IsKeptAs (identifier_of t) t
+kept_as_of t e = by_test (is_number t && nat_lt (digits_value 10 t) (2 ^ 64))
+    (λ y. let both = and_parts _ _ y in
+    let c = canonical t both.0 (grind (arith, nat_tests, common_steps)) in
+    rw y (c.small, sym (decimal_canonical t (part_bytes t e).0 c)))
+    (λ n. rw n (
+      refl,
+      e,
+      λ number. let c = canonical_from_IsNumber t number in
+          let is = number_is t c (part_bytes t e).0 in
+          let small = c.small in grind (arith, nat_tests, common_steps),
+    ))
+
+-- ---- texts between dots
+
+pub parts_bytes : (ts : List Text) → list_all is_part ts ≡ true → AllByRecursion IsPartText ts
+parts_bytes [] e = tt
+parts_bytes (t ∷ ts) e = let both = and_parts (is_part t) _ e in (part_bytes t both.0, parts_bytes ts both.1)
+
+pub kept_parts : (ids : List IdentifierValue) (ts : List Text) → AllZip IsKeptAs ids ts → list_all is_part ts ≡ true
+kept_parts [] [] all = refl
+kept_parts [] (t ∷ ts) all = absurd all
+kept_parts (id ∷ ids) [] all = absurd all
+kept_parts (id ∷ ids) (t ∷ ts) all = rw (kept_part id t all.0, kept_parts ids ts all.1) refl
+
+pub all_kept : (ts : List Text) → list_all is_part ts ≡ true → AllZip IsKeptAs (map identifier_of ts) ts
+all_kept [] e = tt
+all_kept (t ∷ ts) e = let both = and_parts (is_part t) _ e in (kept_as_of t both.0, all_kept ts both.1)
+
+pub same_all_kept : (ids others : List IdentifierValue) (ts : List Text) → AllZip IsKeptAs ids ts → AllZip IsKeptAs others ts → ids ≡ others
+same_all_kept [] [] [] a b = refl
+same_all_kept [] (o ∷ others) [] a b = absurd b
+same_all_kept (id ∷ ids) others [] a b = absurd a
+same_all_kept [] others (t ∷ ts) a b = absurd a
+same_all_kept (id ∷ ids) [] (t ∷ ts) a b = absurd b
+same_all_kept (id ∷ ids) (o ∷ others) (t ∷ ts) a b = (λ i. same_kept id o t a.0 b.0 i ∷ same_all_kept ids others ts a.1 b.1 i)
+
+pub kept_is : (ids : List IdentifierValue) (ts : List Text) → AllZip IsKeptAs ids ts → ids ≡ map identifier_of ts
+kept_is ids ts all = same_all_kept ids _ ts all (all_kept ts (kept_parts ids ts all))
+
+pub identifiers_are_parts : (ts : List Text) → AllByRecursion IsIdentifierText ts → list_all is_part ts ≡ true
+identifiers_are_parts [] all = refl
+identifiers_are_parts (t ∷ ts) all = rw (identifier_is_part t all.0, identifiers_are_parts ts all.1) refl
+
+-- joined by dots and cut there they are the same
+pub parts_cut : (ts : List Text) → list_all is_part ts ≡ true → cut_at_dots (join_with_byte 46 ts) ≡ ts
+parts_cut [] e = refl
+parts_cut (t ∷ ts) e =
+    let each = parts_bytes (t ∷ ts) e in
+    some_cut (join_with_byte 46 (t ∷ ts)) (joined_some 46 t ts each.0.0) ∙ split_joined t ts each
+
+joined_cut : (t : Text) → join_with_byte 46 (cut_at_dots t) ≡ t
+joined_cut [] = refl
+joined_cut (b ∷ t) = join_with_byte-slice_split 46 _
+
+pub part_passes : (t : Text) → is_part t ≡ true → Passes is_dotted_byte t
+part_passes t e = all_more (λ b h. rw h refl) t (part_bytes t e).1
+
+pub parts_pass : (t : Text) → ArePartTexts t → Passes is_dotted_byte t
+parts_pass t e =
+    subst (Passes is_dotted_byte) (joined_cut t)
+    (joined_pass is_dotted_byte 46 refl (cut_at_dots t) (all_more part_passes (cut_at_dots t) (each_passes is_part _ e)))
+
+-- the text of identifiers is the one that they are kept from
+pub kept_dotted : (ids : List IdentifierValue) (t : Text) → AllZip IsKeptAs ids (cut_at_dots t) → t ≡ dotted_text ids
+kept_dotted ids t all = sym (joined_cut t) ∙ ap (join_with_byte 46) (kept_texts ids _ all)
+
+pub dotted_kept : (ids : List IdentifierValue) (ts : List Text) → AllZip IsKeptAs ids ts → (dotted_text ids ≡ join_with_byte 46 ts)
+    × AllZip IsKeptAs ids (cut_at_dots (dotted_text ids))
+dotted_kept ids ts all =
+    let is : dotted_text ids ≡ join_with_byte 46 ts = ap (join_with_byte 46) (sym (kept_texts ids ts all)) in
+    (is, subst (AllZip IsKeptAs ids) (sym (ap cut_at_dots is ∙ parts_cut ts (kept_parts ids ts all))) all)
+
+-- ---- parts behind their mark
+
+pub part_fits : (mark : ℕ) (part : Text) → length part ≤ length (marked (mark ∷ []) (cut_at_dots part))
+part_fits mark [] = omega arith
+part_fits mark (b ∷ part) = omega (arith, ap length (marked_cut mark (b ∷ part) (omega arith)))
+
+-- the part that is found
+pub part_found : (mark : ℕ) (t inner rest : Text) → marked_part Any mark t ≡ Some (inner, rest)
+    → ArePartTexts inner × (t ≡ marked (mark ∷ []) (cut_at_dots inner) ++ rest)
+part_found mark [] inner rest e =
+    let same = found_same e in (subst ArePartTexts same.0 refl, λ i. marked (mark ∷ []) (cut_at_dots (same.0 i)) ++ same.1 i)
+part_found mark (b ∷ t) inner rest e = by_test (b == mark)
+    (λ y. by_test (list_all is_part (slice_split is_dot (take (prefix_len is_dotted_byte t) t)))
+    (λ are. let n : ℕ = prefix_len is_dotted_byte t in
+    let same = found_same (rw (y, runs_ahead t, are) at e) in
+    let cut = some_parts (take n t) are in (
+      subst ArePartTexts same.0 (rw (← (cut.1)) are),
+      (λ i. eqb-true b mark y i ∷ (sym (take-append-drop n t) ∙ (λ j. same.0 j ++ same.1 j)) i)
+          ∙ rw (marked_cut mark inner (subst (λ x. 0 < length x) same.0 cut.0)),
+    ))
+    (λ other. let none : None ≡ Some (inner, rest) = rw (y, runs_ahead t, other) at e in cc))
+    (λ n. let same = found_same (rw n at e) in
+    (subst ArePartTexts same.0 refl, λ i. marked (mark ∷ []) (cut_at_dots (same.0 i)) ++ same.1 i))
+  where
+    some_parts : (t : Text) → list_all is_part (slice_split is_dot t) ≡ true → (0 < length t) × (slice_split is_dot t ≡ cut_at_dots t)
+    some_parts [] e = cc
+    some_parts (b ∷ t) e = (omega arith, refl)
+
+-- where there is a part, it is that
+pub part_is : (mark : ℕ) (t inner rest : Text) → ArePartTexts inner → t ≡ marked (mark ∷ []) (cut_at_dots inner) ++ rest
+    → is_dotted_byte (slice_index rest 0) ≡ false → (slice_index rest 0 == mark) ≡ false → marked_part Any mark t ≡ Some (inner, rest)
+part_is mark [] [] rest are split ended no_mark = cc
+part_is mark (b ∷ t) [] rest are split ended no_mark =
+    rw (ap (λ x. slice_index x 0 == mark) split ∙ no_mark) (ap (λ x. Some ([], x)) split)
+part_is mark t (b ∷ inner) rest are split ended no_mark =
+    let part : Text = b ∷ inner in
+    let n = prefix_is is_dotted_byte part rest (parts_pass part are) refl ended in
+    let taken : take (prefix_len is_dotted_byte (part ++ rest)) (part ++ rest) ≡ part =
+    ap (λ k. take k (part ++ rest)) n ∙ take_at part rest (length part) refl in
+    ap (marked_part Any mark) (split ∙ ap (λ x. x ++ rest) (marked_cut mark part (omega arith)))
+    ∙ rw (eq-eqb mark mark refl, runs_ahead (part ++ rest) ∙ ap (λ x. list_all is_part (slice_split is_dot x)) taken ∙ are)
+    (ap Some (λ i. (taken i, (ap (λ k. drop k (part ++ rest)) n ∙ drop_at part rest (length part) refl) i)))
