@@ -58,7 +58,7 @@ pub fn one_greatest<'v>(
 pub fn one_judge<'t>(filter: &Filter, text: &'t [u8]) -> (Judged<'t>, Judged<'t>)
     ensures one { result.0 ≡ result.1 }
 {
-    laws::one_version();
+    laws::one_version_in();
     (filter.judge(text), filter.judge(text))
 }
 

@@ -1,19 +1,18 @@
 //! Laws on tokens, parsers, versions and outlines.
 
-ghost use Rattle.std.specs.Prelude.{◌≡◌, ℕ, ◌+◌, ◌<◌, ◌^◌, IsOk, alloc_error, length};
+ghost use Rattle.std.specs.Prelude.{◌≡◌, ◌+◌, ◌<◌, ◌^◌, IsOk, alloc_error, length};
 ghost use Rattle.std.specs.Prelude.{option_map};
 ghost use Rattle.semver_texts.specs.Texts.{BeginsWithNumbers, Text};
 ghost use Rattle.semver_texts.specs.VersionViews.{identifier_value, version_value};
 ghost use Rattle.semver_tokens.specs.ParserState.{OutOfMemory};
 ghost use Rattle.semver_steps.specs.ParserViews.{IfOutOfMemory, UnlessOutOfMemory};
 ghost use Rattle.semver_steps.specs.ParserViews.{answer_of, step_of};
-ghost use Rattle.semver_versions.specs.Outlines.{IsOutlineOf};
 ghost use Rattle.answer_laws.specs.OneAnswer.{AreOne};
 
 use semver_steps::parser::{self, Parser};
 use semver_texts::version::{Identifier, Version};
 use semver_tokens::lexer::Lexer;
-use semver_versions::version::{self, Outline};
+use semver_versions::version::{self, Dialect, Outline};
 use std::alloc::{AllocError, Global};
 
 /// A text has one lexer.
@@ -117,34 +116,34 @@ pub fn one_outline_bytes(input: &[u8]) -> (Option<Outline<'_>>, Option<Outline<'
     (version::outline_bytes(input), version::outline_bytes(input))
 }
 
-/// What is outlined after its numbers has one outline, or none, if some text begins with them.
-pub fn one_outline_behind_numbers(
+/// Bytes have one outline in a dialect, or none.
+pub fn one_outline_in(input: &[u8], dialect: Dialect) -> (Option<Outline<'_>>, Option<Outline<'_>>)
+    ensures one { result.0 ≡ result.1 }
+{
+    (
+        version::outline_in(input, dialect),
+        version::outline_in(input, dialect),
+    )
+}
+
+/// What is outlined after its numbers has one outline in a dialect, or none, if some text begins
+/// with them.
+pub fn one_outline_of_numbers(
     major: u64,
     minor: u64,
     patch: u64,
     numbers_end: usize,
     rest: &[u8],
+    dialect: Dialect,
 ) -> (Option<Outline<'_>>, Option<Outline<'_>>)
     requires fits { numbers_end + length rest.now < 2 ^ 64 }
-    ensures one { (text : Text) (before : ℕ) → BeginsWithNumbers text major minor patch rest.now
-        → numbers_end + length rest.now ≡ before + length text → result.0 ≡ result.1 }
+    ensures one { (text : Text) → BeginsWithNumbers text major minor patch rest.now
+        → length text ≡ numbers_end + length rest.now → result.0 ≡ result.1 }
 {
     (
-        version::outline_behind_numbers(major, minor, patch, numbers_end, rest),
-        version::outline_behind_numbers(major, minor, patch, numbers_end, rest),
+        version::outline_of_numbers(major, minor, patch, numbers_end, rest, dialect),
+        version::outline_of_numbers(major, minor, patch, numbers_end, rest, dialect),
     )
-}
-
-/// One version is made of the outline of a text, or memory ran out.
-pub fn one_version_of_outline(
-    alloc: Global,
-    outline: &Outline<'_>,
-) -> (Result<Version, AllocError>, Result<Version, AllocError>)
-    ensures one { (text : Text) → IsOutlineOf text outline.now
-        → AreOne alloc_error version_value result.0 result.1 }
-{
-    semver_versions::laws::one_version();
-    (outline.version(alloc), outline.version(alloc))
 }
 
 /// A text is parsed into one version, or gives one error, or memory ran out.

@@ -120,7 +120,7 @@ takes_best h g c d line said o plain v old best either is passes made found so c
 -- a line was taken of which a filter says this
 pub took_judged : (s : LinesValue) (end left line : Text) (said : Judged) (front : Bool) (g : HeldValue) (d : CountsValue) (old new : Text)
     (valid : Bool) → IsWholeLine end → NoEnd s.unended → line ≡ line_with s end
-    → JudgesBy (HasVersion (asked s.prefixes) line) s.filter said
+    → JudgesBy (HasVersion s.filter.dialect (asked s.prefixes) line) s.filter said
     → ((plain : PlainVersion) → PassesAs said plain → TakesLine s.held s.counts line (verdict_of said plain line) g d old new
     × (valid ≡ not (is_invalid (verdict_of said plain line)))) → left ≡ [] → front ≡ false
     → TakesWhole s end (record s { at_front = front; unended = left; held = g; counts = d }) old new valid
@@ -204,8 +204,8 @@ module _ (s : LinesValue) (line : Text) (is : line ≡ after_mark s.at_front s.u
       (subst (λ l. AreJudged s.filter s.prefixes l []) (sym (no_lines none)) (judged_none s.filter s.prefixes)) judges in
       not_both (ap has_invalid those ∙ bad) refl
 
-  module _ (some : line ≡ [] → ⊥) (none : NoEnd s.unended) (said : Judged) (judges : JudgesBy (HasVersion (asked s.prefixes) line) s.filter
-      said)
+  module _ (some : line ≡ [] → ⊥) (none : NoEnd s.unended) (said : Judged)
+      (judges : JudgesBy (HasVersion s.filter.dialect (asked s.prefixes) line) s.filter said)
     where
       one_line : (l : Text) → (l ≡ [] → ⊥) → NoEnd l → lines_of l ≡ l ∷ []
       one_line [] some none = absurd (some refl)

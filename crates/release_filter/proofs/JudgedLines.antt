@@ -7,8 +7,9 @@ use Rattle.std.proofs.lemmas.List.{append_cancel_left, map-append}
 use Rattle.std.specs.List.{AllByRecursion}
 use Rattle.semver_parser.specs.Texts.{Text, is_empty}
 use Rattle.semver_parser.specs.Versions.{PlainVersion, VersionValue}
-use Rattle.semver_parser.specs.VersionGrammar.{SpellsVersion}
-use Rattle.semver_parser.specs.Outlines.{OutlineValue}
+use Rattle.semver_parser.specs.ToolVersions.{SpellsIn}
+use Rattle.semver_parser.specs.Outlines.{OutlineValue, IsOutlineIn, version_of}
+use Rattle.semver_parser.specs.declared.version.Dialect.{Dialect}
 use Rattle.release_filter.specs.Filters.{FilterValue, passes}
 use Rattle.release_filter.specs.Judging.{IsJudged}
 use Rattle.release_filter.specs.LineTexts.{line_text}
@@ -22,54 +23,61 @@ use Rattle.release_filter.proofs.ExtremeSteps.{all_append}
 use Rattle.release_filter.proofs.Passing.{not_both}
 
 abbrev pub OneVersion : Type 0
-OneVersion = (v w : VersionValue) (text : Text) → SpellsVersion v text → SpellsVersion w text → v ≡ w
+OneVersion = (dialect : Dialect) (v w : VersionValue) (text : Text) → SpellsIn dialect v text → SpellsIn dialect w text → v ≡ w
 
-one_after : OneVersion → (prefix : Text) (line : Text) (v w : VersionValue) → SpellsAfter prefix line v → SpellsAfter prefix line w → v ≡ w
-one_after same prefix line v w a b =
+abbrev pub OneOutlined : Type 0
+OneOutlined = (dialect : Dialect) (o : OutlineValue) (v : VersionValue) (text : Text) → IsOutlineIn dialect text o → SpellsIn dialect v text
+    → v ≡ version_of o
+
+one_after : OneVersion → (dialect : Dialect) (prefix : Text) (line : Text) (v w : VersionValue) → SpellsAfter dialect prefix line v
+    → SpellsAfter dialect prefix line w → v ≡ w
+one_after same dialect prefix line v w a b =
     let text = append_cancel_left prefix a.0 b.0 (sym a.1 ∙ b.1) in
-    same v w b.0 (subst (λ t. SpellsVersion v t) text a.2) b.2
+    same dialect v w b.0 (subst (λ t. SpellsIn dialect v t) text a.2) b.2
 
-pub one_had : OneVersion → (prefixes : List Text) (line : Text) (v w : VersionValue) → HasVersion prefixes line v
-    → HasVersion prefixes line w → v ≡ w
-one_had same [] line v w a b = absurd a
-one_had same (prefix ∷ prefixes) line v w (inl a) (inl b) = one_after same prefix line v w a b
-one_had same (prefix ∷ prefixes) line v w (inl a) (inr (none, b)) = absurd (none v a)
-one_had same (prefix ∷ prefixes) line v w (inr (none, a)) (inl b) = absurd (none w b)
-one_had same (prefix ∷ prefixes) line v w (inr (none, a)) (inr (other, b)) = one_had same prefixes line v w a b
+pub one_had : OneVersion → (dialect : Dialect) (prefixes : List Text) (line : Text) (v w : VersionValue)
+    → HasVersion dialect prefixes line v → HasVersion dialect prefixes line w → v ≡ w
+one_had same dialect [] line v w a b = absurd a
+one_had same dialect (prefix ∷ prefixes) line v w (inl a) (inl b) = one_after same dialect prefix line v w a b
+one_had same dialect (prefix ∷ prefixes) line v w (inl a) (inr (none, b)) = absurd (none v a)
+one_had same dialect (prefix ∷ prefixes) line v w (inr (none, a)) (inl b) = absurd (none w b)
+one_had same dialect (prefix ∷ prefixes) line v w (inr (none, a)) (inr (other, b)) = one_had same dialect prefixes line v w a b
 
 -- what the filter says of the text after a prefix, it says of the line
-pub judged_after : (filter : FilterValue) (prefix : Text) (line : Text) (text : Text) (r : Judged) → line_text line ≡ prefix ++ text
-    → IsJudged (passes filter) text r → JudgesBy (SpellsAfter prefix line) filter r
-judged_after filter prefix line text NoVersion e none =
-    λ w s. none (w, subst (λ t. SpellsVersion w t) (append_cancel_left prefix s.0 text (sym s.1 ∙ e)) s.2)
-judged_after filter prefix line text DoesNotPass e j = (j.0.0, (text, e, j.0.1), j.1 j.0.0 j.0.1)
-judged_after filter prefix line text (Passes o) e j = (j.0.0, (text, e, j.0.1), j.1 j.0.0 j.0.1, (text, j.0, j.0.1))
+pub judged_after : OneOutlined → (filter : FilterValue) (prefix : Text) (line : Text) (text : Text) (r : Judged)
+    → line_text line ≡ prefix ++ text → IsJudged filter.dialect (passes filter) text r
+    → JudgesBy (SpellsAfter filter.dialect prefix line) filter r
+judged_after same filter prefix line text NoVersion e none =
+    λ w s. none (w, subst (λ t. SpellsIn filter.dialect w t) (append_cancel_left prefix s.0 text (sym s.1 ∙ e)) s.2)
+judged_after same filter prefix line text DoesNotPass e j = (j.0.0, (text, e, j.0.1), j.1 j.0.0 j.0.1)
+judged_after same filter prefix line text (Passes o) e j =
+    (j.0.0, (text, e, j.0.1), j.1 j.0.0 j.0.1, same filter.dialect o j.0.0 text j.0 j.0.1)
 
-pub no_text : (prefix : Text) (line : Text) → ((text : Text) → ¬ (line_text line ≡ prefix ++ text)) → (w : VersionValue)
-    → ¬ (SpellsAfter prefix line w)
-no_text prefix line none w s = none s.0 s.1
+pub no_text : (dialect : Dialect) (prefix : Text) (line : Text) → ((text : Text) → ¬ (line_text line ≡ prefix ++ text))
+    → (w : VersionValue) → ¬ (SpellsAfter dialect prefix line w)
+no_text dialect prefix line none w s = none s.0 s.1
 
 -- a prefix after which there is a version decides
 pub decided : (filter : FilterValue) (prefix : Text) (prefixes : List Text) (line : Text) (r : Judged) → ¬ (r ≡ NoVersion)
-    → JudgesBy (SpellsAfter prefix line) filter r → JudgesBy (HasVersion (prefix ∷ prefixes) line) filter r
+    → JudgesBy (SpellsAfter filter.dialect prefix line) filter r → JudgesBy (HasVersion filter.dialect (prefix ∷ prefixes) line) filter r
 decided filter prefix prefixes line NoVersion some j = absurd (some refl)
 decided filter prefix prefixes line DoesNotPass some j = (j.0, inl j.1, j.2)
 decided filter prefix prefixes line (Passes o) some j = (j.0, inl j.1, j.2, j.3)
 
 -- after another one the next prefix is asked
 pub next : (filter : FilterValue) (prefix : Text) (prefixes : List Text) (line : Text) (r : Judged)
-    → ((w : VersionValue) → ¬ (SpellsAfter prefix line w)) → JudgesBy (HasVersion prefixes line) filter r
-    → JudgesBy (HasVersion (prefix ∷ prefixes) line) filter r
+    → ((w : VersionValue) → ¬ (SpellsAfter filter.dialect prefix line w)) → JudgesBy (HasVersion filter.dialect prefixes line) filter r
+    → JudgesBy (HasVersion filter.dialect (prefix ∷ prefixes) line) filter r
 next filter prefix prefixes line NoVersion none j = no_version
   where
-    no_version : (w : VersionValue) → ¬ (HasVersion (prefix ∷ prefixes) line w)
+    no_version : (w : VersionValue) → ¬ (HasVersion filter.dialect (prefix ∷ prefixes) line w)
     no_version w (inl a) = none w a
     no_version w (inr (other, a)) = j w a
 next filter prefix prefixes line DoesNotPass none j = (j.0, inr (none, j.1), j.2)
 next filter prefix prefixes line (Passes o) none j = (j.0, inr (none, j.1), j.2, j.3)
 
-pub only : (filter : FilterValue) (prefix : Text) (line : Text) (r : Judged) → JudgesBy (SpellsAfter prefix line) filter r
-    → JudgesBy (HasVersion (prefix ∷ []) line) filter r
+pub only : (filter : FilterValue) (prefix : Text) (line : Text) (r : Judged) → JudgesBy (SpellsAfter filter.dialect prefix line) filter r
+    → JudgesBy (HasVersion filter.dialect (prefix ∷ []) line) filter r
 only filter prefix line NoVersion j = next filter prefix [] line NoVersion j (λ w a. a)
 only filter prefix line DoesNotPass j = (j.0, inl j.1, j.2)
 only filter prefix line (Passes o) j = (j.0, inl j.1, j.2, j.3)
@@ -84,12 +92,13 @@ first_and_rest (prefix ∷ prefixes) first some is =
     ap₂ (λ x xs. string_bytes x ∷ texts xs) (sym is) (sym rest)
 
 pub none_asked : (filter : FilterValue) (prefixes : List (String Global)) (line : List ℕ) (r : Judged) → length prefixes < 1
-    → JudgesBy (SpellsAfter [] line) filter r → JudgesBy (HasVersion (asked (texts prefixes)) line) filter r
+    → JudgesBy (SpellsAfter filter.dialect [] line) filter r → JudgesBy (HasVersion filter.dialect (asked (texts prefixes)) line) filter r
 none_asked filter [] line r none j = only filter [] line r j
 none_asked filter (prefix ∷ prefixes) line r none j = absurd (omega arith)
 
 pub some_asked : (filter : FilterValue) (prefixes : List (String Global)) (line : List ℕ) (r : Judged) → 1 ≤ length prefixes
-    → JudgesBy (HasVersion (texts prefixes) line) filter r → JudgesBy (HasVersion (asked (texts prefixes)) line) filter r
+    → JudgesBy (HasVersion filter.dialect (texts prefixes) line) filter r
+    → JudgesBy (HasVersion filter.dialect (asked (texts prefixes)) line) filter r
 some_asked filter [] line r some j = absurd (omega arith)
 some_asked filter (prefix ∷ prefixes) line r some j = j
 
@@ -99,7 +108,7 @@ no_plain : PlainVersion
 no_plain = record { major = 0; minor = 0; patch = 0; pre = [] }
 
 pub verdict : (filter : FilterValue) (prefixes : List Text) (line : Text) (said : Judged)
-    → JudgesBy (HasVersion (asked prefixes) line) filter said
+    → JudgesBy (HasVersion filter.dialect (asked prefixes) line) filter said
     → (plain : PlainVersion) × PassesAs said plain × IsVerdictOn filter prefixes line (verdict_of said plain line)
 verdict filter prefixes line NoVersion j = (no_plain, tt, by_text (is_empty (line_text line)) refl)
   where
@@ -107,19 +116,19 @@ verdict filter prefixes line NoVersion j = (no_plain, tt, by_text (is_empty (lin
     by_text true e = (j, e)
     by_text false e = (j, e)
 verdict filter prefixes line DoesNotPass j = (no_plain, tt, (j.0, j.1, j.2))
-verdict filter prefixes line (Passes o) j = (j.0.plain, (j.3.0, j.0, j.3.1, j.3.2, refl), (j.0, j.1, j.2, refl))
+verdict filter prefixes line (Passes o) j = (j.0.plain, ap (λ (v : VersionValue). v.plain) j.3, (j.0, j.1, j.2, refl))
 
 -- a line is one thing
 one_verdict : OneVersion → (filter : FilterValue) (prefixes : List Text) (line : Text) (v w : Verdict) → IsVerdictOn filter prefixes line v
     → IsVerdictOn filter prefixes line w → v ≡ w
 one_verdict same filter prefixes line (kept a) (kept b) p q =
-    ap kept (p.3 ∙ ap (λ (v : VersionValue). v.plain) (one_had same (asked prefixes) line p.0 q.0 p.1 q.1) ∙ sym q.3)
+    ap kept (p.3 ∙ ap (λ (v : VersionValue). v.plain) (one_had same filter.dialect (asked prefixes) line p.0 q.0 p.1 q.1) ∙ sym q.3)
 one_verdict same filter prefixes line (kept a) dropped p q =
-    absurd (not_both (subst (λ v. passes filter v ≡ true) (one_had same (asked prefixes) line p.0 q.0 p.1 q.1) p.2) q.2)
+    absurd (not_both (subst (λ v. passes filter v ≡ true) (one_had same filter.dialect (asked prefixes) line p.0 q.0 p.1 q.1) p.2) q.2)
 one_verdict same filter prefixes line (kept a) invalid p q = absurd (q.0 p.0 p.1)
 one_verdict same filter prefixes line (kept a) empty p q = absurd (q.0 p.0 p.1)
 one_verdict same filter prefixes line dropped (kept b) p q =
-    absurd (not_both (subst (λ v. passes filter v ≡ true) (one_had same (asked prefixes) line q.0 p.0 q.1 p.1) q.2) p.2)
+    absurd (not_both (subst (λ v. passes filter v ≡ true) (one_had same filter.dialect (asked prefixes) line q.0 p.0 q.1 p.1) q.2) p.2)
 one_verdict same filter prefixes line dropped dropped p q = refl
 one_verdict same filter prefixes line dropped invalid p q = absurd (q.0 p.0 p.1)
 one_verdict same filter prefixes line dropped empty p q = absurd (q.0 p.0 p.1)
@@ -170,8 +179,8 @@ module _ (filter : FilterValue) (prefixes : List Text) where
 
 -- ---- a line that is judged by its outline
 
-pub outlined_line : (filter : FilterValue) (line : Text) (found : Option OutlineValue) (said : Judged)
-    → ((text : Text) → IsOutlined text found → IsJudged (passes filter) text said) → IsOutlined (line_text line) found
-    → JudgesBy (HasVersion ([] ∷ []) line) filter said
-outlined_line filter line found said told is =
-    only filter [] line said (judged_after filter [] line (line_text line) said refl (told (line_text line) is))
+pub outlined_line : OneOutlined → (filter : FilterValue) (line : Text) (found : Option OutlineValue) (said : Judged)
+    → ((text : Text) → IsOutlined filter.dialect text found → IsJudged filter.dialect (passes filter) text said)
+    → IsOutlined filter.dialect (line_text line) found → JudgesBy (HasVersion filter.dialect ([] ∷ []) line) filter said
+outlined_line same filter line found said told is =
+    only filter [] line said (judged_after same filter [] line (line_text line) said refl (told (line_text line) is))

@@ -10,6 +10,7 @@ use Rattle.std.proofs.lemmas.List.{map-append, take-append-drop, take-set, take_
 use Rattle.std.proofs.lemmas.List.Elements.{filter-append}
 use Rattle.std.specs.List.{AllByRecursion}
 use Rattle.semver_parser.specs.VersionViews.{version_value}
+use Rattle.semver_parser.specs.declared.version.Dialect.{Dialect}
 use Rattle.semver_parser.specs.declared.version.Version.{Version}
 use Rattle.version_sets.specs.declared.PreReleases.{PreReleases}
 use Rattle.version_sets.specs.VersionSets.{SetValue, has, Fits}
@@ -171,16 +172,17 @@ keeps_next f xs places ys old kept i d b inside same is before =
     ∙ sym (take_more ys i (f b) (subst (λ n. i < n) (same_length xs places ys same) inside)))
 
 -- the answer on a version is whether it passes
-pub judged_at : (filter : FilterValue) (set : SetValue) (rule : PreReleases) (versions : List Version) (answers : List Bool) (i : ℕ)
-    (d : Bool) → record { set = set; pre_releases = rule } ≡ filter
+pub judged_at : (filter : FilterValue) (set : SetValue) (rule : PreReleases) (dialect : Dialect) (versions : List Version)
+    (answers : List Bool) (i : ℕ) (d : Bool) → record { set = set; pre_releases = rule; dialect = dialect } ≡ filter
     → answers ≡ map (λ v. has set (version_value v).plain) versions → AllByRecursion (λ v. Fits (version_value v).plain) versions
     → i < length versions → (e : Version) → get_or answers i d ≡ passes filter (version_value (get_or versions i e))
-judged_at filter set rule versions answers i d view told fit inside e =
+judged_at filter set rule dialect versions answers i d view told fit inside e =
     ap (λ bs. get_or bs i d) told ∙ at versions i fit inside ∙ ap (λ f. passes f (version_value (get_or versions i e))) view
   where
     at : (versions : List Version) (i : ℕ) → AllByRecursion (λ v. Fits (version_value v).plain) versions → i < length versions
         → get_or (map (λ v. has set (version_value v).plain) versions) i d
-        ≡ passes (record { set = set; pre_releases = rule }) (version_value (get_or versions i e))
+        ≡ passes (record { set = set; pre_releases = rule; dialect = dialect }) (version_value (get_or versions i e))
     at [] i fit inside = absurd (omega (arith, inside))
-    at (v ∷ versions) zero fit inside = sym (passes_as_in (record { set = set; pre_releases = rule }) (version_value v) fit.0)
+    at (v ∷ versions) zero fit inside =
+        sym (passes_as_in (record { set = set; pre_releases = rule; dialect = dialect }) (version_value v) fit.0)
     at (v ∷ versions) (suc i) fit inside = at versions i fit.1 (omega (arith, inside))

@@ -17,8 +17,9 @@ use Rattle.std.specs.Io.BufRead.{ends_with_byte, strip_last}
 use Rattle.semver_texts.specs.Texts.{Text, BeginsWithNumbers}
 use Rattle.semver_texts.proofs.Lists.{Passes, passes_append, all_more, by_test}
 use Rattle.semver_texts.proofs.Numerals.{own}
-use Rattle.semver_parser.specs.Outlines.{OutlineValue, IsOutlineOf}
-use Rattle.semver_parser.specs.VersionGrammar.{IsVersionText}
+use Rattle.semver_parser.specs.Outlines.{OutlineValue, IsOutlineIn}
+use Rattle.semver_parser.specs.ToolVersions.{IsVersionTextIn}
+use Rattle.semver_parser.specs.declared.version.Dialect.{Dialect}
 use Rattle.release_filter.specs.LineTexts.{IsWholeLine, line_text}
 use Rattle.release_filter.specs.Steps.Outlined.{IsOutlined}
 use Rattle.release_filter.proofs.Passing.{not_both}
@@ -151,11 +152,11 @@ module _ (bytes rest back : List ℕ) {major minor patch : ℕ} (n : BeginsWithN
     text_len : length (line_text line) ≡ length bytes - length rest + length stripped
     text_len = omega (arith, front_len, ap length text_is, length-append (front_of major minor patch) stripped)
 
-    pub outlined : (found : Option OutlineValue)
+    pub outlined : (dialect : Dialect) (found : Option OutlineValue)
         → ((text : Text) (o : OutlineValue) → BeginsWithNumbers text major minor patch stripped
-        → length text ≡ length bytes - length rest + length stripped → (found ≡ Some o) ↔ IsOutlineOf text o)
+        → length text ≡ length bytes - length rest + length stripped → (found ≡ Some o) ↔ IsOutlineIn dialect text o)
         → ((text : Text) → BeginsWithNumbers text major minor patch stripped
-        → length text ≡ length bytes - length rest + length stripped → (found ≡ None) ↔ ¬ (IsVersionText text))
-        → IsOutlined (line_text line) found
-    outlined None told none = (none (line_text line) text_begins text_len).0 refl
-    outlined (Some o) told none = (told (line_text line) o text_begins text_len).0 refl
+        → length text ≡ length bytes - length rest + length stripped → (found ≡ None) ↔ ¬ (IsVersionTextIn dialect text))
+        → IsOutlined dialect (line_text line) found
+    outlined dialect None told none = (none (line_text line) text_begins text_len).0 refl
+    outlined dialect (Some o) told none = (told (line_text line) o text_begins text_len).0 refl

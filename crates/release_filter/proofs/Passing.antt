@@ -4,9 +4,11 @@ use Rattle.std.proofs.Common.{◌↔◌, subst, IsTrue, Bool, true, false, refl,
 use Rattle.std.specs.Prelude.{◌&&◌}
 use Rattle.semver_parser.specs.Texts.{Text, is_empty}
 use Rattle.semver_parser.specs.Versions.{IdentifierValue, PlainVersion, VersionValue}
-use Rattle.semver_parser.specs.VersionGrammar.{SpellsVersion, IsVersionText}
+use Rattle.semver_parser.specs.ToolVersions.{SpellsIn, IsVersionTextIn}
+use Rattle.semver_parser.specs.declared.version.Dialect.{Dialect}
+use Rattle.semver_parser.specs.declared.version.Dialect.TheVariants.{Crate, Cargo, Npm}
 use Rattle.std.proofs.lemmas.Bool.Decides.{nat_tests}
-use Rattle.semver_parser.specs.Outlines.{OutlineValue, IsOutlineOf, dotted_text}
+use Rattle.semver_parser.specs.Outlines.{OutlineValue, IsOutlineIn, dotted_text}
 use Rattle.semver_parser.specs.OwnMeaning.{meets_tree}
 use Rattle.semver_parser.specs.RangeTree.{SetTree}
 use Rattle.semver_parser.specs.declared.Compat.{Compat}
@@ -35,12 +37,12 @@ no_length [] e = refl
 no_length (x ∷ xs) e = absurd (search rules)
 
 -- what is answered of a text is each version that it spells, and that passes
-pub exactly_that : (test : VersionValue → Bool) (text : Text) (u : VersionValue) → IsVersionText text
-    → ((v : VersionValue) → SpellsVersion v text → (test v ≡ true) × (u ≡ v)) → (v : VersionValue)
-    → (Some u ≡ Some v) ↔ (SpellsVersion v text × IsTrue (test v))
-exactly_that test text u some told v = (
+pub exactly_that : (dialect : Dialect) (test : VersionValue → Bool) (text : Text) (u : VersionValue) → IsVersionTextIn dialect text
+    → ((v : VersionValue) → SpellsIn dialect v text → (test v ≡ true) × (u ≡ v)) → (v : VersionValue)
+    → (Some u ≡ Some v) ↔ (SpellsIn dialect v text × IsTrue (test v))
+exactly_that dialect test text u some told v = (
   λ e. let same : some.0 ≡ v = sym (told some.0 some.1).1 ∙ some_is e in
-      (subst (λ w. SpellsVersion w text) same some.1, subst (λ w. test w ≡ true) same (told some.0 some.1).0),
+      (subst (λ w. SpellsIn dialect w text) same some.1, subst (λ w. test w ≡ true) same (told some.0 some.1).0),
   λ both. ap Some (told v both.0).1,
 )
 
@@ -61,12 +63,10 @@ pub passes_as_in : (filter : FilterValue) (v : VersionValue) → Fits v.plain �
 passes_as_in filter v fits = rw (fit v.plain fits) refl
 
 -- as those of each version that a text spells
-pub spelled_fit : (v : VersionValue) (text : Text) → SpellsVersion v text → Fits v.plain
-spelled_fit v text spells = (spells.spells.major, spells.spells.minor, spells.spells.patch)
-
-pub as_outlined : (filter : FilterValue) (v : VersionValue) (text : Text) → SpellsVersion v text
-    → passes filter v ≡ has filter.set v.plain
-as_outlined filter v text spells = passes_as_in filter v (spelled_fit v text spells)
+pub spelled_fit : (dialect : Dialect) (v : VersionValue) (text : Text) → SpellsIn dialect v text → Fits v.plain
+spelled_fit Crate v text spells = (spells.spells.major, spells.spells.minor, spells.spells.patch)
+spelled_fit Cargo v text spells = (spells.major, spells.minor, spells.patch)
+spelled_fit Npm v text spells = (spells.spells.major, spells.spells.minor, spells.spells.patch)
 
 -- where releases alone count, no pre-release passes
 pub excluded_fails : (filter : FilterValue) (v : VersionValue) → HeedsRule filter.pre_releases filter.set → Fits v.plain
@@ -93,8 +93,9 @@ has_part (id ∷ ids) some = omega arith
 pub apart : (o : OutlineValue) → Passes o ≡ DoesNotPass → ⊥
 apart o e = cc
 
--- what `outline_bytes` tells of a text
-pub outlined_as : (text : Text) (found : Option OutlineValue) → ((o : OutlineValue) → (found ≡ Some o) ↔ IsOutlineOf text o)
-    → ((found ≡ None) ↔ ¬ (IsVersionText text)) → IsOutlined text found
-outlined_as text None told none = none.0 refl
-outlined_as text (Some o) told none = (told o).0 refl
+-- what `outline_in` tells of a text
+pub outlined_as : (dialect : Dialect) (text : Text) (found : Option OutlineValue)
+    → ((o : OutlineValue) → (found ≡ Some o) ↔ IsOutlineIn dialect text o) → ((found ≡ None) ↔ ¬ (IsVersionTextIn dialect text))
+    → IsOutlined dialect text found
+outlined_as dialect text None told none = none.0 refl
+outlined_as dialect text (Some o) told none = (told o).0 refl

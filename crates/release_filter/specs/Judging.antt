@@ -2,16 +2,17 @@
 use Rattle.std.specs.Prelude.{◌≡◌, Bool, true, false}
 use Rattle.semver_parser.specs.Texts.{Text}
 use Rattle.semver_parser.specs.Versions.{VersionValue}
-use Rattle.semver_parser.specs.VersionGrammar.{SpellsVersion, IsVersionText}
-use Rattle.semver_parser.specs.Outlines.{IsOutlineOf}
+use Rattle.semver_parser.specs.ToolVersions.{SpellsIn, IsVersionTextIn}
+use Rattle.semver_parser.specs.Outlines.{IsOutlineIn}
+use Rattle.semver_parser.specs.declared.version.Dialect.{Dialect}
 use Rattle.release_filter.specs.declared.judging.Judged.{Judged}
 use Rattle.release_filter.specs.declared.judging.Judged.TheVariants.{NoVersion, DoesNotPass, Passes}
 
--- it is so of the text: it spells no version; or each that it spells fails the test; or each passes
--- it, and its outline is told (a text spells one version at most)
-abbrev pub IsJudged : (VersionValue → Bool) → Text → Judged → Type 0
-IsJudged test text NoVersion = ¬ (IsVersionText text)
-IsJudged test text DoesNotPass =
-    IsVersionText text × ((v : VersionValue) → SpellsVersion v text → test v ≡ false)
-IsJudged test text (Passes outline) =
-    IsOutlineOf text outline × ((v : VersionValue) → SpellsVersion v text → test v ≡ true)
+-- it is so of the text in a dialect: it spells no version; or each that it spells fails the test;
+-- or each passes it, and its outline is told (a text spells one version at most)
+abbrev pub IsJudged : Dialect → (VersionValue → Bool) → Text → Judged → Type 0
+IsJudged dialect test text NoVersion = ¬ (IsVersionTextIn dialect text)
+IsJudged dialect test text DoesNotPass = IsVersionTextIn dialect text
+    × ((v : VersionValue) → SpellsIn dialect v text → test v ≡ false)
+IsJudged dialect test text (Passes outline) = IsOutlineIn dialect text outline
+    × ((v : VersionValue) → SpellsIn dialect v text → test v ≡ true)

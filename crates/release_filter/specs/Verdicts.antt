@@ -3,19 +3,22 @@ use Rattle.std.specs.Prelude.{◌≡◌, ◌⊎◌, Bool, true, false, List, [],
 use Rattle.std.specs.List.{AllByRecursion, list_any}
 use Rattle.semver_parser.specs.Texts.{Text, is_empty}
 use Rattle.semver_parser.specs.Versions.{PlainVersion, VersionValue}
-use Rattle.semver_parser.specs.VersionGrammar.{SpellsVersion}
+use Rattle.semver_parser.specs.ToolVersions.{SpellsIn}
+use Rattle.semver_parser.specs.declared.version.Dialect.{Dialect}
 use Rattle.release_filter.specs.Filters.{FilterValue, passes}
 use Rattle.release_filter.specs.LineTexts.{line_text}
 
--- the text of the line is the prefix and then the text of a version
-abbrev pub SpellsAfter : Text → Text → VersionValue → Type 0
-SpellsAfter prefix line v = (text : Text) × (line_text line ≡ prefix ++ text) × SpellsVersion v text
+-- the text of the line is the prefix and then the text of a version in a dialect
+abbrev pub SpellsAfter : Dialect → Text → Text → VersionValue → Type 0
+SpellsAfter dialect prefix line v =
+    (text : Text) × (line_text line ≡ prefix ++ text) × SpellsIn dialect v text
 
 -- the first of the prefixes after which the line spells a version decides, and it is this version
-abbrev pub HasVersion : List Text → Text → VersionValue → Type 0
-HasVersion [] line v = ⊥
-HasVersion (prefix ∷ prefixes) line v = SpellsAfter prefix line v
-    ⊎ (((w : VersionValue) → ¬ (SpellsAfter prefix line w)) × HasVersion prefixes line v)
+abbrev pub HasVersion : Dialect → List Text → Text → VersionValue → Type 0
+HasVersion dialect [] line v = ⊥
+HasVersion dialect (prefix ∷ prefixes) line v = SpellsAfter dialect prefix line v
+    ⊎ (((w : VersionValue) → ¬ (SpellsAfter dialect prefix line w))
+    × HasVersion dialect prefixes line v)
 
 -- without a prefix it is as with the empty one
 abbrev pub asked : List Text → List Text
@@ -43,18 +46,22 @@ pub record JudgedLine : Type 0 where
 abbrev pub has_invalid : List JudgedLine → Bool
 has_invalid judged = list_any (λ j. is_invalid j.verdict) judged
 
-abbrev pub HasNoVersion : List Text → Text → Type 0
-HasNoVersion prefixes line = (v : VersionValue) → ¬ (HasVersion (asked prefixes) line v)
+abbrev pub HasNoVersion : Dialect → List Text → Text → Type 0
+HasNoVersion dialect prefixes line =
+    (v : VersionValue) → ¬ (HasVersion dialect (asked prefixes) line v)
 
 module _ (filter : FilterValue) (prefixes : List Text) where
   -- the line is that: its version passes, or doesn't; or it has none, with a text or without one
   abbrev pub IsVerdictOn : Text → Verdict → Type 0
-  IsVerdictOn line (kept version) = (v : VersionValue) × HasVersion (asked prefixes) line v
-      × IsTrue (passes filter v) × (version ≡ v.plain)
-  IsVerdictOn line dropped =
-      (v : VersionValue) × HasVersion (asked prefixes) line v × (passes filter v ≡ false)
-  IsVerdictOn line invalid = HasNoVersion prefixes line × (is_empty (line_text line) ≡ false)
-  IsVerdictOn line empty = HasNoVersion prefixes line × (is_empty (line_text line) ≡ true)
+  IsVerdictOn line (kept version) = (v : VersionValue)
+      × HasVersion filter.dialect (asked prefixes) line v × IsTrue (passes filter v)
+      × (version ≡ v.plain)
+  IsVerdictOn line dropped = (v : VersionValue)
+      × HasVersion filter.dialect (asked prefixes) line v × (passes filter v ≡ false)
+  IsVerdictOn line invalid =
+      HasNoVersion filter.dialect prefixes line × (is_empty (line_text line) ≡ false)
+  IsVerdictOn line empty =
+      HasNoVersion filter.dialect prefixes line × (is_empty (line_text line) ≡ true)
 
   -- these are the lines, each with what it is
   pub record AreJudged (lines : List Text) (judged : List JudgedLine) : Type 0 where

@@ -13,13 +13,14 @@ ghost use Rattle.release_filter.specs.Filters.{passes};
 ghost use Rattle.release_filter.specs.Extremes.{HasNone, IsGreatest, IsOneThat};
 
 use crate::precedence;
-use semver_parser::version::Version;
+use semver_parser::version::{Dialect, Version};
 use semver_parser::{Compat, RangeError, laws};
 use std::alloc::{AllocError, Global};
 use std::marker::Model;
 use version_sets::{PreReleases, VersionSet};
 
-/// Which versions a range text means, by one of the three rules for pre-releases.
+/// Which versions a range text means, by one of the three rules for pre-releases, and the dialect
+/// by which version texts are read.
 ///
 /// It is read once, by [`Filter::new`], and then answers as often as is asked.
 #[derive(Drop)]
@@ -28,6 +29,8 @@ pub struct Filter {
     pub(crate) versions: VersionSet,
     /// The rule.
     pre_releases: PreReleases,
+    /// The dialect of the version texts.
+    dialect: Dialect,
 }
 
 impl Model for Filter {
@@ -36,7 +39,11 @@ impl Model for Filter {
 
     ghost Value = { FilterValue };
 
-    ghost view = { λ f. record { set = f.versions; pre_releases = f.pre_releases } };
+    ghost view = { λ f. record {
+      set = f.versions;
+      pre_releases = f.pre_releases;
+      dialect = f.dialect;
+    } };
 
     ghost invariant = { λ f. HeedsRule f.pre_releases f.versions };
 }
@@ -44,7 +51,8 @@ impl Model for Filter {
 impl Filter {
     // Answer: law answer_laws::filters::one_new.
     /// Reads a range text: `^1.2.3-beta || 3.x` in Cargo mode and with `PreReleases::Stated` gives
-    /// a filter that 1.2.3-rc, 1.9.0 and 3.0.0 pass, and 1.3.0-rc and 2.0.0 don't.
+    /// a filter that 1.2.3-rc, 1.9.0 and 3.0.0 pass, and 1.3.0-rc and 2.0.0 don't. Its version
+    /// texts are the crate's.
     ///
     /// # Errors
     ///
@@ -62,26 +70,39 @@ impl Filter {
         ensures meaning { IfOk result (λ filter. (tree : SetTree) (v : VersionValue)
             → Spells tree range.now → passes filter v ≡ meant_with pre_releases compat tree v) }
         ensures rule { IfOk result (λ filter. filter.pre_releases ≡ pre_releases) }
+        ensures dialect { IfOk result (λ filter. filter.dialect ≡ Dialect.Crate) }
     {
         let versions = VersionSet::of_text(alloc, range, compat, pre_releases)?;
         Ok(Filter {
             versions,
             pre_releases,
+            dialect: Dialect::Crate,
         })
     }
 
     // Answer: equation.
     /// A filter that the versions of a set pass, as those that a tool's own reading of a range text
-    /// answers. It takes no memory.
-    pub fn of_versions(versions: VersionSet) -> Filter
+    /// answers, and that reads version texts by a dialect. It takes no memory.
+    pub fn of_versions(versions: VersionSet, dialect: Dialect) -> Filter
         ensures set { result.set ≡ versions }
         // Which pre-releases count, the set says by itself.
         ensures rule { result.pre_releases ≡ PreReleases.Included }
+        ensures dialect { result.dialect ≡ dialect }
     {
         Filter {
             versions,
             pre_releases: PreReleases::Included,
+            dialect,
         }
+    }
+
+    // Answer: equation.
+    /// Returns the dialect by which it reads version texts: that of [`Filter::new`] is the crate's.
+    #[inline(always)]
+    pub fn dialect(&self) -> Dialect
+        ensures { result ≡ self.now.dialect }
+    {
+        self.dialect
     }
 
     /// A law: the set of a filter is in the normal form. It does nothing.

@@ -4,7 +4,7 @@ ghost use Rattle.std.specs.Prelude.{◌≡◌, ◌↔◌, ◌<◌, ◌⊎◌, []
 ghost use Rattle.std.specs.Prelude.{IfOk, IfErr, IsTrue, Some, None, Result};
 ghost use Rattle.semver_parser.specs.Texts.{Text};
 ghost use Rattle.semver_parser.specs.Versions.{VersionValue};
-ghost use Rattle.semver_parser.specs.VersionGrammar.{SpellsVersion};
+ghost use Rattle.semver_parser.specs.ToolVersions.{SpellsIn};
 ghost use Rattle.semver_parser.specs.VersionViews.{version_value};
 ghost use Rattle.release_filter.specs.Filters.{passes};
 ghost use Rattle.release_filter.specs.Judging.{IsJudged};
@@ -33,27 +33,31 @@ impl Filter {
     /// version, of `2.0.0` and of `1.3.0-rc` that they don't pass, and of `1.9.0+b5` that 1.9.0+b5
     /// passes.
     ///
-    /// The text is read as by `version::outline_bytes`, and needn't be UTF-8. It takes no memory.
+    /// The text is read as by `version::outline_in`, by the dialect of the filter, and needn't be
+    /// UTF-8. It takes no memory.
     #[inline(always)]
     pub fn judge<'t>(&self, text: &'t [u8]) -> Judged<'t>
-        ensures judged { IsJudged (passes self.now) text.now result }
+        ensures judged { IsJudged self.now.dialect (passes self.now) text.now result }
         // A pre-release doesn't pass where releases alone do.
-        ensures releases { (v : VersionValue) → SpellsVersion v text.now → ¬ (v.plain.pre ≡ [])
-            → self.now.pre_releases ≡ PreReleases.Excluded → result ≡ Judged.DoesNotPass }
+        ensures releases { (v : VersionValue) → SpellsIn self.now.dialect v text.now
+            → ¬ (v.plain.pre ≡ []) → self.now.pre_releases ≡ PreReleases.Excluded
+            → result ≡ Judged.DoesNotPass }
     {
-        self.judge_outline(version::outline_bytes(text))
+        self.judge_outline(version::outline_in(text, self.dialect()))
     }
 
     /// What the filter says of a text that has this outline, or that spells no version.
     #[inline(always)]
     pub(crate) fn judge_outline<'t>(&self, outline: Option<Outline<'t>>) -> Judged<'t>
-        ensures judged { (text : Text) → IsOutlined text outline.entry
-            → IsJudged (passes self.now) text result }
+        ensures judged { (text : Text) → IsOutlined self.now.dialect text outline.entry
+            → IsJudged self.now.dialect (passes self.now) text result }
         ensures none { outline.entry ≡ None → result ≡ Judged.NoVersion }
-        ensures releases { (text : Text) (v : VersionValue) → IsOutlined text outline.entry
-            → SpellsVersion v text → ¬ (v.plain.pre ≡ [])
-            → self.now.pre_releases ≡ PreReleases.Excluded → result ≡ Judged.DoesNotPass }
+        ensures releases { (text : Text) (v : VersionValue)
+            → IsOutlined self.now.dialect text outline.entry → SpellsIn self.now.dialect v text
+            → ¬ (v.plain.pre ≡ []) → self.now.pre_releases ≡ PreReleases.Excluded
+            → result ≡ Judged.DoesNotPass }
     {
+        laws::one_outlined_version();
         let Some(outline) = outline else {
             return Judged::NoVersion;
         };
@@ -69,28 +73,31 @@ impl Filter {
     /// releases alone, `1.9.0+b5` gives that version, and `2.0.0`, `1.3.0-rc` and `1.2` give
     /// `None`. Which of the two it is that these are, [`Filter::judge`] says.
     ///
-    /// The text is read as by `version::read`, but only as far as is needed. Memory is taken only
-    /// where it spells a version that passes, and that has a pre-release or a build. `Err` means
-    /// that memory ran out.
+    /// The text is read by the dialect of the filter, but only as far as is needed. Memory is taken
+    /// only where it spells a version that passes, and that has a pre-release or a build. `Err`
+    /// means that memory ran out.
     pub fn read(&self, alloc: Global, text: &str) -> Result<Option<Version>, AllocError>
         // Unless memory ran out, a version is answered exactly where the text spells it, and it
         // passes.
         ensures exact { (v : VersionValue) → IfOk result (λ found.
             (option_map version_value found ≡ Some v)
-            ↔ (SpellsVersion v text.now × IsTrue (passes self.now v))) }
+            ↔ (SpellsIn self.now.dialect v text.now × IsTrue (passes self.now v))) }
         // Unless memory ran out, no version is answered exactly where the text spells none that
         // passes.
         ensures none { IfOk result (λ found. (found ≡ None)
-            ↔ ((v : VersionValue) → SpellsVersion v text.now → passes self.now v ≡ false)) }
+            ↔ ((v : VersionValue) → SpellsIn self.now.dialect v text.now
+            → passes self.now v ≡ false)) }
         // Memory runs out only where the text spells a version that passes, and that has a
         // pre-release or a build.
-        ensures out_of_memory { IfErr result (λ _. (v : VersionValue) × SpellsVersion v text.now
-            × IsTrue (passes self.now v) × ((0 < length v.plain.pre) ⊎ (0 < length v.build))) }
+        ensures out_of_memory { IfErr result (λ _. (v : VersionValue)
+            × SpellsIn self.now.dialect v text.now × IsTrue (passes self.now v)
+            × ((0 < length v.plain.pre) ⊎ (0 < length v.build))) }
         // A pre-release takes no memory where releases alone pass.
-        ensures releases { (v : VersionValue) → SpellsVersion v text.now → ¬ (v.plain.pre ≡ [])
-            → self.now.pre_releases ≡ PreReleases.Excluded → result ≡ Result.Ok None }
+        ensures releases { (v : VersionValue) → SpellsIn self.now.dialect v text.now
+            → ¬ (v.plain.pre ≡ []) → self.now.pre_releases ≡ PreReleases.Excluded
+            → result ≡ Result.Ok None }
     {
-        laws::one_version();
+        laws::one_outlined_version();
         match self.judge(text.as_bytes()) {
             Judged::Passes(outline) => Ok(Some(outline.version(alloc)?)),
             Judged::NoVersion | Judged::DoesNotPass => Ok(None),

@@ -36,7 +36,7 @@ pub fn one_outcome()
         → Completes s text others u old other → (judged ≡ others) × (t ≡ u) × (new ≡ other) }
 {
     laws::precedence_is_total();
-    laws::one_version();
+    laws::one_version_in();
 }
 
 /// `Lines::push` has one answer: equal states and bytes before it are equal after it, if the piece
@@ -63,7 +63,7 @@ pub fn one_push(
         → IfOk result.0 (λ _. IfErr result.1 (λ b. (n : ℕ) → ¬ (b.error ≡ NoVersion n))) }
 {
     laws::precedence_is_total();
-    laws::one_version();
+    laws::one_version_in();
     (
         first.push(alloc, piece, kept),
         second.push(alloc, piece, other),
@@ -87,6 +87,6 @@ pub fn one_finish(
         (n : ℕ) → ¬ (b ≡ NoVersion n))) }
 {
     laws::precedence_is_total();
-    laws::one_version();
+    laws::one_version_in();
     (first.finish(alloc, kept), second.finish(alloc, other))
 }

@@ -11,7 +11,8 @@ ghost use Rattle.release_filter.specs.Verdicts.{HasVersion, SpellsAfter, asked};
 use crate::filter::Filter;
 use crate::judging::Judged;
 use crate::line_texts::{text_after, text_of, whole_line};
-use semver_parser::version::{Outline, outline_behind_numbers, outline_bytes};
+use semver_parser::laws;
+use semver_parser::version::{Dialect, Outline, outline_in, outline_of_numbers};
 use semver_texts::decimals::numbers;
 
 /// Which lines are kept.
@@ -29,12 +30,12 @@ impl LineFilter {
         ensures none { result ≡ None → All (λ byte. byte ≢ 10) bytes.now }
         ensures front { IfSome result (λ found. StartsWith bytes.now found.0.now) }
         ensures whole { IfSome result (λ found. IsWholeLine found.0.now) }
-        ensures judged { IfSome result (λ found. JudgesBy
-            (HasVersion (asked (texts self.now.prefixes.items)) found.0.now) self.now.filter
-            found.1) }
+        ensures judged { IfSome result (λ found. JudgesBy (HasVersion self.now.filter.dialect
+            (asked (texts self.now.prefixes.items)) found.0.now) self.now.filter found.1) }
     {
+        laws::one_outlined_version();
         if self.prefixes.is_empty() {
-            let (line, outline) = first_outlined(bytes)?;
+            let (line, outline) = first_outlined(bytes, self.filter.dialect())?;
             return Some((line, self.filter.judge_outline(outline)));
         }
         let line = whole_line(bytes)?;
@@ -44,8 +45,8 @@ impl LineFilter {
     /// What the filter says of a line, after the first prefix after which it spells a version.
     #[inline(always)]
     pub(crate) fn judge_line<'l>(&self, line: &'l [u8]) -> Judged<'l>
-        ensures { JudgesBy (HasVersion (asked (texts self.now.prefixes.items)) line.now)
-            self.now.filter result }
+        ensures { JudgesBy (HasVersion self.now.filter.dialect
+            (asked (texts self.now.prefixes.items)) line.now) self.now.filter result }
     {
         match self.prefixes.as_slice() {
             [] => judge_after(&self.filter, "", line),
@@ -56,7 +57,8 @@ impl LineFilter {
 
 /// What a filter says of a line, after the first of the prefixes after which it spells a version.
 fn judge_after_each<'l>(filter: &Filter, prefixes: &[String], line: &'l [u8]) -> Judged<'l>
-    ensures { JudgesBy (HasVersion (texts prefixes.now) line.now) filter.now result }
+    ensures { JudgesBy (HasVersion filter.now.dialect (texts prefixes.now) line.now) filter.now
+        result }
 {
     match prefixes {
         [] => Judged::NoVersion,
@@ -70,8 +72,9 @@ fn judge_after_each<'l>(filter: &Filter, prefixes: &[String], line: &'l [u8]) ->
 /// What a filter says of a line after a prefix.
 #[inline(always)]
 fn judge_after<'l>(filter: &Filter, prefix: &str, line: &'l [u8]) -> Judged<'l>
-    ensures { JudgesBy (SpellsAfter prefix.now line.now) filter.now result }
+    ensures { JudgesBy (SpellsAfter filter.now.dialect prefix.now line.now) filter.now result }
 {
+    laws::one_outlined_version();
     match text_after(prefix, line) {
         Some(text) => filter.judge(text),
         None => Judged::NoVersion,
@@ -81,20 +84,21 @@ fn judge_after<'l>(filter: &Filter, prefix: &str, line: &'l [u8]) -> Judged<'l>
 /// The first line with its end, if some line has one, and the outline of the version that it
 /// spells. The numbers at its front are read first, and the end of the line is sought after them.
 #[inline(always)]
-fn first_outlined(bytes: &[u8]) -> Option<(&[u8], Option<Outline<'_>>)>
+fn first_outlined(bytes: &[u8], dialect: Dialect) -> Option<(&[u8], Option<Outline<'_>>)>
     ensures none { result ≡ None → All (λ x. x ≢ 10) bytes.now }
     ensures front { IfSome result (λ found. StartsWith bytes.now found.0.now) }
     ensures whole { IfSome result (λ found. IsWholeLine found.0.now) }
-    ensures outlined { IfSome result (λ found. IsOutlined (line_text found.0.now) found.1) }
+    ensures outlined { IfSome result (λ found.
+        IsOutlined dialect (line_text found.0.now) found.1) }
 {
     if let Some((major, minor, patch, rest)) = numbers(bytes) {
         let behind = whole_line(rest)?;
         let numbers_end = bytes.len() - rest.len();
         let line = &bytes[..numbers_end + behind.len()];
         let text = text_of(behind);
-        let outline = outline_behind_numbers(major, minor, patch, numbers_end, text);
+        let outline = outline_of_numbers(major, minor, patch, numbers_end, text, dialect);
         return Some((line, outline));
     }
     let line = whole_line(bytes)?;
-    Some((line, outline_bytes(text_of(line))))
+    Some((line, outline_in(text_of(line), dialect)))
 }

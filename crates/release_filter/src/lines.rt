@@ -50,9 +50,9 @@ pub struct Stopped {
 ///
 /// A line ends with a line feed, and the last one may have none. Its text is the line without that
 /// line feed, and then without one carriage return at its end. A line is kept if its text is one
-/// of the prefixes and then spells a version that passes, as `version::read` reads it
-/// (docs/GRAMMAR.md): spaces and tabs may stand around the version. The first prefix after which it
-/// spells a version decides. Without a prefix it is as with the empty one.
+/// of the prefixes and then spells a version that passes, by the dialect of the filter
+/// (docs/GRAMMAR.md): by the crate's, spaces and tabs may stand around the version. The first
+/// prefix after which it spells a version decides. Without a prefix it is as with the empty one.
 ///
 /// A byte order mark at the front of the text is dropped, also one that is cut between pieces.
 #[derive(Drop)]
@@ -191,7 +191,7 @@ impl Lines {
         ensures same_kept { IfErr result (λ _. kept.new.items ≡ kept.old.items) }
         ensures refuses { IfErr result (RefusesEnd self.old) }
     {
-        laws::one_version();
+        laws::one_version_in();
         let line = after_mark(self.at_front, self.unended.as_slice());
         if line.is_empty() {
             let Ok(_) = self.held.finish(alloc, line, &Judged::NoVersion, kept) else {

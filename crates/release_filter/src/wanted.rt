@@ -299,7 +299,6 @@ pub(crate) fn without_build(alloc: Global, outline: &Outline<'_>) -> Result<Vers
     ensures { (plain : PlainVersion) → Outlines outline.now plain → IfOk result (λ version.
         (version_value version).plain ≡ plain) }
 {
-    laws::one_version();
     Ok(Version {
         major: outline.major(),
         minor: outline.minor(),

@@ -28,7 +28,7 @@ const HELP: &str = "
 Copies those lines of standard input to standard output, as they stand,
 that spell a version which RANGE means.
 
-    --as READING     whose reading of RANGE is taken:
+    --as READING     the dialect of RANGE and of the versions:
                        cargo        Cargo's own; so it is without --as
                        npm          npm's own
                        crate-cargo  the crate semver-parser's, in Cargo mode
@@ -63,7 +63,7 @@ status is 0 if a line was written, 1 if none was, and 2 after an error, which
 standard error describes.";
 
 /// The version of this program, as the file VERSION has it.
-const VERSION: &str = "release-filter 0.3.2";
+const VERSION: &str = "release-filter 0.4.0";
 
 /// So many bytes of the input are read at once.
 const AT_ONCE: usize = 65536;
@@ -120,7 +120,7 @@ fn filtered(
     options: Options,
 ) -> Result<bool, Fault> {
     let versions = meaning::read(rt.alloc(), meaning, range).map_err(Fault::Range)?;
-    let filter = Filter::of_versions(versions);
+    let filter = Filter::of_versions(versions, meaning.reading().dialect());
     let mut lines = options.lines(rt.alloc(), filter);
     let has_written = copy_lines(rt, &mut lines)?;
     if !has_written {

@@ -5,7 +5,7 @@ use Rattle.std.proofs.lemmas.Bool.{and_parts, and_from, eqb-true, not-true, true
 use Rattle.std.proofs.lemmas.List.Folds.{list_all-append}
 use Rattle.std.specs.List.{list_all}
 use Rattle.semver_texts.specs.Texts.{Text}
-use Rattle.semver_ranges.specs.declared.grammar.Dialect.TheVariants.{Cargo}
+use Rattle.semver_texts.specs.declared.dialect.Dialect.TheVariants.{Cargo}
 use Rattle.semver_ranges.specs.RangeTree.{PartialTree, Form, bare, equal, less, at_most, greater, at_least, tilde, caret, Simple}
 use Rattle.semver_ranges.specs.RangeTree.{is_blank, AreBlanks, SpellsPartial, SpellsForm}
 use Rattle.semver_ranges.specs.Steps.Reading.{front, behind_blanks, operator, with_first, component}

@@ -2,7 +2,7 @@
 use Rattle.std.proofs.Common.{◌≡◌, ◌-◌, ◌≤◌, Bool, true, false, ◌==◌, [], ◌∷◌, length, get_or, take, drop, Some, None}
 use Rattle.std.proofs.Common.{refl, sym, ap, ◌∙◌, arith}
 use Rattle.semver_texts.specs.Texts.{Text}
-use Rattle.semver_ranges.specs.declared.grammar.Dialect.TheVariants.{Cargo}
+use Rattle.semver_texts.specs.declared.dialect.Dialect.TheVariants.{Cargo}
 use Rattle.semver_ranges.specs.RangeTree.{PartialTree, Form, Simple}
 use Rattle.semver_ranges.specs.Steps.Reading.{behind_blanks, operator, with_first, component}
 use Rattle.semver_ranges.proofs.ComponentSteps.{first_apart}

@@ -1,7 +1,7 @@
 -- Whatever the reading is: a text has one tree, and what is refused isn't by what is answered.
 use Rattle.std.proofs.Common.{◌≡◌, Ok, Err}
 use Rattle.semver_texts.specs.Texts.{Text}
-use Rattle.semver_ranges.specs.declared.grammar.Dialect.TheVariants as dialect
+use Rattle.semver_texts.specs.declared.dialect.Dialect.TheVariants as dialect
 use Rattle.semver_ranges.specs.declared.range_set.RangeError.{RangeError}
 use Rattle.semver_ranges.specs.RangeTexts.{Refuses}
 use Rattle.semver_ranges.proofs.ReadingComplete.{same_tree}

@@ -6,7 +6,8 @@ use Rattle.std.specs.List.{list_all, list_any}
 use Rattle.semver_texts.specs.Texts.{Text, is_empty}
 use Rattle.semver_ranges.specs.RangeTree.{Form, bare, equal, less, at_most, greater, at_least}
 use Rattle.semver_ranges.specs.RangeTree.{tilde, caret, PartialTree, one, Simple, components}
-use Rattle.semver_ranges.specs.RangeTree.{qualifier, is_wildcard, has_no_leading_zero}
+use Rattle.semver_ranges.specs.RangeTree.{qualifier, is_wildcard}
+use Rattle.semver_texts.specs.Texts.{has_no_leading_zero}
 use Rattle.semver_ranges.specs.RangeTree.{SpellsPartial}
 use Rattle.semver_ranges.specs.Partials.{stated, states_nothing, pre_parts}
 

@@ -3,6 +3,8 @@ use Rattle.std.specs.Prelude.{◌≡◌, Bool, false, List, IsTrue, Result}
 use Rattle.semver_ranges.specs.declared.range_set.RangeError.{RangeError}
 use Rattle.semver_texts.specs.Texts.{Text}
 use Rattle.semver_texts.specs.Versions.{PlainVersion}
+use Rattle.semver_texts.specs.declared.dialect.Dialect.{Dialect}
+use Rattle.semver_texts.specs.declared.dialect.Dialect.TheVariants as dialect
 use Rattle.semver_ranges.specs.declared.range.Compat.{Compat}
 use Rattle.semver_ranges.specs.declared.range.Compat.TheVariants as compat
 use Rattle.semver_ranges.specs.OwnMeaning.{meets_tree}
@@ -53,6 +55,12 @@ abbrev pub means_release : (reading : Reading) → TreeOf reading → PlainVersi
 means_release Cargo tree v = meets_requirement tree v
 means_release Npm tree v = meets_npm tree v
 means_release (Crate mode) tree v = meets_tree mode tree v
+
+-- the dialect of the versions that are judged by a reading
+abbrev pub dialect_of : Reading → Dialect
+dialect_of Cargo = dialect.Cargo
+dialect_of Npm = dialect.Npm
+dialect_of (Crate mode) = dialect.Crate
 
 -- the mode that a set of a reading has
 abbrev pub mode_of : Reading → Compat

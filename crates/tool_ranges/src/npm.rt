@@ -5,7 +5,7 @@ ghost use Rattle.std.specs.Prelude.{IfOk, MatchResult};
 ghost use Rattle.std.specs.List.{list_all};
 ghost use Rattle.std.specs.Str.{chars};
 ghost use Rattle.semver_texts.specs.Versions.{PlainVersion};
-ghost use Rattle.semver_ranges.specs.declared.grammar.Dialect.TheVariants as dialect;
+ghost use Rattle.semver_texts.specs.declared.dialect.Dialect.TheVariants as dialect;
 ghost use Rattle.semver_ranges.specs.declared.range.Compat.TheVariants.{Npm};
 ghost use Rattle.semver_ranges.specs.RangeTree.{SetTree, Spells};
 ghost use Rattle.semver_ranges.specs.RangeViews.{range_of, set_of};
@@ -31,9 +31,9 @@ use crate::rows;
 pub use reading::read;
 pub(crate) use reading::read_with_all;
 use semver_ranges::events::{Event, Events};
-use semver_ranges::grammar::Dialect;
 use semver_ranges::partial::LowerBounds;
 use semver_ranges::{Compat, Range, RangeError, RangeSet};
+use semver_texts::dialect::Dialect;
 use std::alloc::{AllocError, Global};
 
 // Answer: law answer_laws::ranges::one_npm_rewrite.

@@ -8,10 +8,11 @@ ghost use Rattle.semver_ranges.specs.RangeTree.{SetTree, Spells};
 ghost use Rattle.semver_ranges.specs.RangeViews.{set_of};
 ghost use Rattle.semver_ranges.specs.RewritingTable.{fits, rewritten};
 ghost use Rattle.tool_ranges.specs.Readings.{IsRewrittenAs, RefusesAs, SpellsAs, TreeOf};
-ghost use Rattle.tool_ranges.specs.Readings.{means_release, mode_of};
+ghost use Rattle.tool_ranges.specs.Readings.{dialect_of, means_release, mode_of};
 
 use crate::{cargo, npm};
 use semver_ranges::{Compat, RangeError, RangeSet};
+use semver_texts::dialect::Dialect;
 use std::alloc::Global;
 
 /// Whose reading of a range text. `docs/MEANING.md` tells them apart ("Whose reading?").
@@ -23,6 +24,21 @@ pub enum Reading {
     Npm,
     /// The crate's in one of its modes.
     Crate(Compat),
+}
+
+impl Reading {
+    // Answer: equation.
+    /// Returns the dialect of the versions that are judged by a range text of this reading: Cargo's
+    /// of Cargo's own, npm's of npm's own, and the crate's of the crate's in either mode.
+    pub fn dialect(self) -> Dialect
+        ensures dialect { result ≡ dialect_of self }
+    {
+        match self {
+            Reading::Cargo => Dialect::Cargo,
+            Reading::Npm => Dialect::Npm,
+            Reading::Crate(_) => Dialect::Crate,
+        }
+    }
 }
 
 // Answer: law answer_laws::ranges::one_rewrite.

@@ -1,5 +1,5 @@
 //! Versions read from bytes, which needn't be UTF-8.
-use semver_parser::version::{self, Identifier};
+use semver_parser::version::{self, Dialect, Identifier};
 use std::alloc::{AllocError, Global};
 use std::io;
 
@@ -31,6 +31,20 @@ const PARTS: [(&str, (&str, usize), (&str, usize)); 6] = [
     ("1.0.0-1+1", ("1", 6), ("1", 8)),
 ];
 
+/// Bytes, and whether they spell a version in the crate's dialect, in Cargo's and in npm's.
+const DIALECTS: [(&[u8], [bool; 3]); 10] = [
+    (b"1.2.3-rc.1+b5", [true, true, true]),
+    (b"\t1.2.3 ", [true, false, true]),
+    (b"v1.2.3", [false, false, true]),
+    (b"1.2.3-01", [true, false, false]),
+    (b"1.2.3-a--b", [false, true, true]),
+    (b"1.2.3+--", [false, true, true]),
+    (b"9007199254740992.0.0", [true, true, false]),
+    (b"\xc2\xa01.2.3\xe2\x80\x83", [false, false, true]),
+    (b"1.2.3\xff", [false, false, false]),
+    (b"1.2", [false, false, false]),
+];
+
 /// Writes the places of the bytes that are read as something else, and how many there were.
 pub fn write_bytes(rt: &impl Print, alloc: Global) -> io::Result<()> {
     for (place, (bytes, wanted)) in BYTES.iter().enumerate() {
@@ -43,7 +57,12 @@ pub fn write_bytes(rt: &impl Print, alloc: Global) -> io::Result<()> {
             println!(rt; "parts: wrong of {text}")?;
         }
     }
-    if !are_read_behind_numbers() {
+    for (place, (bytes, wanted)) in DIALECTS.iter().enumerate() {
+        if !are_versions(bytes, *wanted) {
+            println!(rt; "dialects: wrong at {place}")?;
+        }
+    }
+    if !are_read_behind_numbers() || !are_read_of_numbers() {
         println!(rt; "parts: wrong behind numbers")?;
     }
     println!(rt; "bytes: {} texts and others", BYTES.len())
@@ -83,7 +102,7 @@ fn has_parts(text: &str, pre: (&str, usize), build: (&str, usize)) -> bool {
 
 /// Whether the parts of `1.2.3-rc.4+b5` are read behind its numbers, and none of `1.2.3.4`.
 fn are_read_behind_numbers() -> bool {
-    let Some(outline) = version::outline_behind_numbers(1, 2, 3, 5, b"-rc.4+b5") else {
+    let Some(outline) = version::outline_of_numbers(1, 2, 3, 5, b"-rc.4+b5", Dialect::Crate) else {
         return false;
     };
     outline.patch() == 3
@@ -91,7 +110,30 @@ fn are_read_behind_numbers() -> bool {
         && outline.pre_offset() == 6
         && outline.build() == "b5"
         && outline.build_offset() == 11
-        && version::outline_behind_numbers(1, 2, 3, 5, b".4").is_none()
+        && version::outline_of_numbers(1, 2, 3, 5, b".4", Dialect::Crate).is_none()
+}
+
+/// Whether the bytes have an outline in the crate's dialect, in Cargo's and in npm's.
+fn are_versions(bytes: &[u8], wanted: [bool; 3]) -> bool {
+    let [by_crate, by_cargo, by_npm] = wanted;
+    version::outline_in(bytes, Dialect::Crate).is_some() == by_crate
+        && version::outline_in(bytes, Dialect::Cargo).is_some() == by_cargo
+        && version::outline_in(bytes, Dialect::Npm).is_some() == by_npm
+}
+
+/// Whether the parts of `1.2.3-a--b+b5` are read behind its numbers as npm reads it, and none of it
+/// in the crate's dialect.
+fn are_read_of_numbers() -> bool {
+    let rest = b"-a--b+b5";
+    let Some(outline) = version::outline_of_numbers(1, 2, 3, 5, rest, Dialect::Npm) else {
+        return false;
+    };
+    outline.minor() == 2
+        && outline.pre() == "a--b"
+        && outline.pre_offset() == 6
+        && outline.build() == "b5"
+        && outline.build_offset() == 11
+        && version::outline_of_numbers(1, 2, 3, 5, rest, Dialect::Crate).is_none()
 }
 
 /// Whether the identifiers that a text's parts are cut to print as these.

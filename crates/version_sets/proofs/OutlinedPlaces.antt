@@ -1,15 +1,18 @@
 -- What an outline tells of the version that was read.
-use Rattle.std.proofs.Common.{◌≡◌, ℕ, ◌+◌, ◌<◌, ◌≤◌, Bool, true, false, not, List, [], ◌∷◌, length, get_or, refl, sym, ap, ◌∙◌, map}
+use Rattle.std.proofs.Common.{◌≡◌, ◌↔◌, ℕ, ◌+◌, ◌<◌, ◌≤◌, Bool, true, false, not, List, [], ◌∷◌, length, get_or, refl, sym, ap, ◌∙◌, map}
 use Rattle.std.proofs.Common.{true≢false}
 use Rattle.std.proofs.Common.{arith, is_ge}
 use Rattle.std.specs.List.{AllWithin}
 use Rattle.std.specs.Prelude.{if◌then◌else◌}
 use Rattle.std.proofs.lemmas.List.{get_or_default}
-use Rattle.semver_parser.specs.Outlines.{OutlineValue, outline_behind}
+use Rattle.semver_parser.specs.Outlines.{OutlineValue, IsOutlineIn, IsOutlineOf, version_of}
 use Rattle.semver_parser.specs.Precedence.{precedence}
 use Rattle.semver_parser.specs.PrecedenceLaws.{precedence_total}
-use Rattle.semver_parser.specs.Texts.{is_empty}
+use Rattle.semver_parser.specs.Texts.{Text, is_empty}
+use Rattle.semver_parser.specs.ToolVersions.{SpellsIn}
+use Rattle.semver_parser.specs.VersionGrammar.{SpellsVersion}
 use Rattle.semver_parser.specs.Versions.{IdentifierValue, PlainVersion, VersionValue}
+use Rattle.semver_parser.specs.declared.version.Dialect.TheVariants.{Crate}
 use Rattle.semver_parser.specs.declared.version.Version.{Version}
 use Rattle.version_sets.specs.Steps.Places.{version_place}
 use Rattle.version_sets.specs.Switches.{switched, IsIncreasing}
@@ -17,14 +20,14 @@ use Rattle.version_sets.specs.VersionSets.{SetValue, has}
 use Rattle.version_sets.proofs.SearchLaws.{is_passed, passed_before, reversed_ge}
 
 -- a release is its numbers
-pub release_is : (v : VersionValue) (o : OutlineValue) (before : ℕ) → o ≡ outline_behind before v → (answer : Bool) → answer ≡ false
-    → answer ≡ not (is_empty v.plain.pre) → (major minor patch : ℕ) → major ≡ o.major → minor ≡ o.minor → patch ≡ o.patch
-    → ◌≡◌ {A = PlainVersion} (record { major = major; minor = minor; patch = patch; pre = [] }) v.plain
-release_is v o before is answer says told major minor patch at_major at_minor at_patch = λ i. record {
-  major = (at_major ∙ ap (λ (x : OutlineValue). x.major) is) i;
-  minor = (at_minor ∙ ap (λ (x : OutlineValue). x.minor) is) i;
-  patch = (at_patch ∙ ap (λ (x : OutlineValue). x.patch) is) i;
-  pre = none v.plain.pre (sym says ∙ told) i;
+pub release_is : (v : PlainVersion) (answer : Bool) → answer ≡ false → answer ≡ not (is_empty v.pre) → (major minor patch : ℕ)
+    → major ≡ v.major → minor ≡ v.minor → patch ≡ v.patch
+    → ◌≡◌ {A = PlainVersion} (record { major = major; minor = minor; patch = patch; pre = [] }) v
+release_is v answer says told major minor patch at_major at_minor at_patch = λ i. record {
+  major = at_major i;
+  minor = at_minor i;
+  patch = at_patch i;
+  pre = none v.pre (sym says ∙ told) i;
 }
   where
     none : (pre : List IdentifierValue) → false ≡ not (is_empty pre) → [] ≡ pre
@@ -32,15 +35,23 @@ release_is v o before is answer says told major minor patch at_major at_minor at
     none (id ∷ pre) e = absurd (true≢false (sym e))
 
 -- a pre-release is in the set where its switches say so
-pub pre_release_has : (v : VersionValue) (set : SetValue) (answer : Bool) → answer ≡ true → answer ≡ not (is_empty v.plain.pre)
-    → switched precedence set.pre_releases v.plain ≡ has set v.plain
-pre_release_has v set answer says told = at (is_empty v.plain.pre) (sym says ∙ told)
+pub pre_release_has : (v : PlainVersion) (set : SetValue) (answer : Bool) → answer ≡ true → answer ≡ not (is_empty v.pre)
+    → switched precedence set.pre_releases v ≡ has set v
+pre_release_has v set answer says told = at (is_empty v.pre) (sym says ∙ told)
   where
     at : (b : Bool) → true ≡ not b
-        → switched precedence set.pre_releases v.plain
-        ≡ (if b then switched precedence set.releases v.plain else switched precedence set.pre_releases v.plain)
+        → switched precedence set.pre_releases v
+        ≡ (if b then switched precedence set.releases v else switched precedence set.pre_releases v)
     at true e = absurd (true≢false e)
     at false e = refl
+
+-- each text that has an outline spells its version
+pub of_texts : (set : SetValue) (o : OutlineValue)
+    → ((v : VersionValue) (text : Text) → IsOutlineIn Crate text o → SpellsIn Crate v text → v ≡ version_of o)
+    → ((text : Text) → IsOutlineIn Crate text o ↔ IsOutlineOf text o) → (answer : Bool) → answer ≡ has set (version_of o).plain
+    → (text : Text) (v : VersionValue) → IsOutlineOf text o → SpellsVersion v text → answer ≡ has set v.plain
+of_texts set o same outlines answer told text v outlined spells =
+    told ∙ ap (λ (w : VersionValue). has set w.plain) (sym (same v text ((outlines text).1 outlined) spells))
 
 -- ---- a search among switches
 

@@ -3,11 +3,8 @@
 ghost use Rattle.std.specs.Prelude.{◌≡◌, ◌%◌, map, nat_eq};
 ghost use Rattle.std.specs.Ordering.{eq_by_cmp};
 ghost use Rattle.std.specs.Cmp.Lexicographic.{pointwise};
-ghost use Rattle.semver_parser.specs.Outlines.{IsOutlineOf};
+ghost use Rattle.semver_parser.specs.Outlines.{version_of};
 ghost use Rattle.semver_parser.specs.Precedence.{precedence};
-ghost use Rattle.semver_parser.specs.Texts.{Text};
-ghost use Rattle.semver_parser.specs.VersionGrammar.{SpellsVersion};
-ghost use Rattle.semver_parser.specs.Versions.{VersionValue};
 ghost use Rattle.version_sets.specs.Steps.Places.{version_place};
 ghost use Rattle.version_sets.specs.Releases.{release_value};
 ghost use Rattle.version_sets.specs.Switches.{switched, IsIncreasing};
@@ -51,9 +48,8 @@ pub(crate) fn has_release(switches: &[Release], release: &Release) -> bool
 #[inline(always)]
 pub(crate) fn has_outline(switches: &[Version], outline: &Outline<'_>) -> bool
     requires { IsIncreasing precedence (map version_place switches.now) }
-    ensures { (text : Text) (v : VersionValue) → IsOutlineOf text outline.now
-        → SpellsVersion v text
-        → result ≡ switched precedence (map version_place switches.now) v.plain }
+    ensures { result ≡ switched precedence (map version_place switches.now)
+        (version_of outline.now).plain }
 {
     let mut low = 0;
     let mut high = switches.len();

@@ -6,7 +6,7 @@ ghost use Rattle.semver_parser.specs.Texts.{Text, is_empty};
 ghost use Rattle.semver_parser.specs.Versions.{PlainVersion, VersionValue};
 ghost use Rattle.semver_parser.specs.VersionGrammar.{SpellsVersion};
 ghost use Rattle.semver_parser.specs.VersionViews.{version_value};
-ghost use Rattle.semver_parser.specs.Outlines.{IsOutlineOf};
+ghost use Rattle.semver_parser.specs.Outlines.{IsOutlineOf, version_of};
 ghost use Rattle.version_sets.specs.Releases.{release_value};
 ghost use Rattle.version_sets.specs.VersionSets.{has, Fits, IsNormal};
 ghost use Rattle.version_sets.specs.Steps.Places.{set_of};
@@ -144,8 +144,10 @@ impl VersionSet {
         // It is that of the version of each text that has this outline.
         ensures has { (text : Text) (v : VersionValue) → IsOutlineOf text outline.now
             → SpellsVersion v text → result ≡ has self.now v.plain }
+        // So of the version that the outline is of.
+        ensures of_version { result ≡ has self.now (version_of outline.now).plain }
     {
-        laws::one_version();
+        laws::one_outlined_version();
         if outline.is_pre_release() {
             return switches::has_outline(&self.pre_releases, outline);
         }

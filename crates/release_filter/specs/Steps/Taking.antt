@@ -3,11 +3,10 @@ use Rattle.std.specs.Prelude.{◌≡◌, ◌++◌, Bool, not, List, [], ◌∷�
 use Rattle.std.specs.Prelude.{if◌then◌else◌}
 use Rattle.std.specs.Global.{Global}
 use Rattle.std.specs.Option.{option_map}
-use Rattle.semver_parser.specs.Outlines.{OutlineValue, IsOutlineOf}
+use Rattle.semver_parser.specs.Outlines.{OutlineValue, version_of}
 use Rattle.semver_parser.specs.Texts.{Text, is_empty}
-use Rattle.semver_parser.specs.VersionGrammar.{SpellsVersion}
 use Rattle.semver_parser.specs.VersionViews.{version_value}
-use Rattle.semver_parser.specs.Versions.{PlainVersion, VersionValue}
+use Rattle.semver_parser.specs.Versions.{PlainVersion}
 use Rattle.release_filter.specs.LineTexts.{line_text}
 use Rattle.release_filter.specs.Pieces.{LinesValue, Takes}
 use Rattle.release_filter.specs.Verdicts.{JudgedLine, Verdict, is_invalid, kept, dropped, invalid}
@@ -44,8 +43,7 @@ verdict_of (Passes outline) plain line = kept plain
 
 -- the outline is that of a version which is this one but for its build
 abbrev pub Outlines : OutlineValue → PlainVersion → Type 0
-Outlines outline plain = (text : Text) × (v : VersionValue) × IsOutlineOf text outline
-    × SpellsVersion v text × (plain ≡ v.plain)
+Outlines outline plain = plain ≡ (version_of outline).plain
 
 abbrev pub PassesAs : Judged → PlainVersion → Type 0
 PassesAs NoVersion plain = Unit {0}

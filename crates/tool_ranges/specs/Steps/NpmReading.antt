@@ -3,7 +3,7 @@
 use Rattle.std.specs.Prelude.{◌≡◌, ℕ, Bool, true, false, not, ◌&&◌, if◌then◌else◌, Some, None}
 use Rattle.std.specs.Prelude.{IsTrue, length, map}
 use Rattle.std.specs.List.{filter, list_all, list_any}
-use Rattle.semver_ranges.specs.declared.grammar.Dialect.TheVariants.{Npm}
+use Rattle.semver_texts.specs.declared.dialect.Dialect.TheVariants.{Npm}
 use Rattle.semver_ranges.specs.declared.range.Op.{Op}
 use Rattle.semver_ranges.specs.declared.range.Op.TheVariants.{Gte}
 use Rattle.semver_ranges.specs.declared.range_set.RangeError.{RangeError}

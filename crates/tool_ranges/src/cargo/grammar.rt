@@ -12,10 +12,10 @@ ghost use Rattle.tool_ranges.specs.CargoMeaning.{has_wildcard, named};
 ghost use Rattle.tool_ranges.specs.Steps.CargoReading.{comparator_at, FindsComparator};
 ghost use Rattle.tool_ranges.specs.Steps.CargoReading.{begins_with_tilde_greater};
 
-use semver_ranges::grammar::{
-    Dialect, Form, Simple, behind_blanks, have_no_leading_zeros, read_components, read_operator,
-};
+use semver_ranges::grammar::{Form, Simple, behind_blanks, read_components, read_operator};
 use semver_ranges::partial::{Component, Components, Partial};
+use semver_texts::dialect::Dialect;
+use semver_texts::dotted::have_no_leading_zeros;
 
 /// The comparator at the front of a text, up to a comma or the end, and what follows the comma. One
 /// without operator is answered as `^`, or with a wildcard as `=`.

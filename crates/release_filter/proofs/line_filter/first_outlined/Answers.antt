@@ -15,11 +15,11 @@ returns-in-Some-clause-whole c =
 pub returns-in-Some-clause-outlined : goal.returns-in-Some-clause-outlined
 returns-in-Some-clause-outlined c =
     outlined c.args.bytes.now c.in-Some.rest.now c.in_ok-behind.behind.now c.in-Some.ensures c.in_ok-behind.ensures.front
-    c.in_ok-behind.ensures.whole c.text_of-text.result.now c.text_of-text.ensures c.outline_behind_numbers-outline.result
-    c.outline_behind_numbers-outline.ensures.outlined c.outline_behind_numbers-outline.ensures.none
+    c.in_ok-behind.ensures.whole c.text_of-text.result.now c.text_of-text.ensures c.args.dialect c.outline_of_numbers-outline.result
+    c.outline_of_numbers-outline.ensures.outlined c.outline_of_numbers-outline.ensures.none
 
 pub returns-clause-outlined : goal.returns-clause-outlined
 returns-clause-outlined c =
-    let found = c.outline_bytes.result in
-    subst (λ text. IsOutlined text found) c.text_of.ensures
-    (outlined_as c.text_of.result.now found c.outline_bytes.ensures.outlined c.outline_bytes.ensures.none)
+    let found = c.outline_in.result in
+    subst (λ text. IsOutlined c.args.dialect text found) c.text_of.ensures
+    (outlined_as c.args.dialect c.text_of.result.now found c.outline_in.ensures.outlined c.outline_in.ensures.none)

@@ -1,6 +1,6 @@
 use Rattle.std.proofs.Common.{◌≡◌, ◌+◌, ◌++◌, length, Some, true}
 use Rattle.std.specs.Prelude.{map}
-use Rattle.semver_ranges.specs.declared.grammar.Dialect.TheVariants as dialect
+use Rattle.semver_texts.specs.declared.dialect.Dialect.TheVariants as dialect
 use Rattle.semver_ranges.specs.RangeTree.{SetTree}
 use Rattle.semver_ranges.specs.Steps.Reading.{read}
 use Rattle.semver_ranges.specs.RangeViews.{range_of}

@@ -1,5 +1,5 @@
 use Rattle.std.proofs.Common.{sym, ap, ◌∙◌, arith}
-use Rattle.semver_ranges.specs.declared.grammar.Dialect.TheVariants as dialect
+use Rattle.semver_texts.specs.declared.dialect.Dialect.TheVariants as dialect
 use Rattle.semver_ranges.specs.declared.range.Compat.TheVariants.{Npm}
 use Rattle.semver_ranges.proofs.EventSums.{summed, sum_more, sum_end}
 use Rattle.semver_ranges.proofs.FoundEvents.{FirstSimple, first_simple}

@@ -1,17 +1,13 @@
 -- The switches below `low` are at or below the version, and those from `high` on are above it.
 use Rattle.std.proofs.Common.{◌≤◌, ◌-◌, length}
-use Rattle.semver_parser.specs.Outlines.{IsOutlineOf}
-use Rattle.semver_parser.specs.Texts.{Text}
-use Rattle.semver_parser.specs.VersionGrammar.{SpellsVersion}
-use Rattle.semver_parser.specs.Versions.{VersionValue}
+use Rattle.semver_parser.specs.Outlines.{version_of}
 use Rattle.version_sets.proofs.OutlinedPlaces.{IsNarrowed}
 use Rattle.version_sets.proofs.switches.has_outline.Given as goal
 
 abbrev pub invariant-loop-low : goal.invariant-loop-low
 invariant-loop-low l =
     (l.low ≤ l.high) × (l.high ≤ length l.switches)
-    × ((text : Text) (v : VersionValue) → IsOutlineOf text l.outline → SpellsVersion v text
-    → IsNarrowed v.plain l.switches l.low l.high)
+    × IsNarrowed (version_of l.outline).plain l.switches l.low l.high
 
 abbrev pub decreases-loop-low : goal.decreases-loop-low
 decreases-loop-low l = l.high - l.low

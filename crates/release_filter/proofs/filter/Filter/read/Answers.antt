@@ -3,13 +3,13 @@ use Rattle.semver_parser.specs.Outlines.{OutlineValue}
 use Rattle.release_filter.specs.Filters.{passes}
 use Rattle.release_filter.specs.Judging.{IsJudged}
 use Rattle.release_filter.specs.declared.judging.Judged.TheVariants.{Passes}
-use Rattle.semver_parser.specs.VersionGrammar.{SpellsVersion}
+use Rattle.semver_parser.specs.ToolVersions.{SpellsIn}
 use Rattle.release_filter.proofs.Passing.{apart, exactly_that, has_part, not_both, on_err}
 use Rattle.release_filter.proofs.filter.Filter.read.Goals as goal
 use Rattle.release_filter.proofs.filter.Filter.read.Goals.{In-Passes}
 
 -- what is said of the text
-told : (c : In-Passes) → IsJudged (passes c.args.self.now) c.args.text.now (Passes c.in-Passes.outline)
+told : (c : In-Passes) → IsJudged c.args.self.now.dialect (passes c.args.self.now) c.args.text.now (Passes c.in-Passes.outline)
 told c = rw (c.as_bytes.ensures.value, c.in-Passes.is) at c.judge.ensures.judged
 
 pub returns-in_err-version-in-Passes-clause-out_of_memory : goal.returns-in_err-version-in-Passes-clause-out_of_memory
@@ -26,14 +26,18 @@ returns-in_err-version-in-Passes-clause-out_of_memory c =
 pub returns-in_err-version-in-Passes-clause-releases : goal.returns-in_err-version-in-Passes-clause-releases
 returns-in_err-version-in-Passes-clause-releases c = λ v spells some only.
     absurd (apart c.in-Passes.outline
-    (sym c.in-Passes.is ∙ c.judge.ensures.releases v (subst (SpellsVersion v) (sym c.as_bytes.ensures.value) spells) some only))
+    (sym c.in-Passes.is
+    ∙ c.judge.ensures.releases v (subst (SpellsIn c.args.self.now.dialect v) (sym c.as_bytes.ensures.value) spells) some only))
 
 pub returns-in_ok-version-in-Passes-clause-exact : goal.returns-in_ok-version-in-Passes-clause-exact
 returns-in_ok-version-in-Passes-clause-exact c =
     let is = told (goal.at.returns-in_ok-version-in-Passes-clause-exact c).In-Passes in
-    let spelled = c.in_ok-version-in-Passes.ensures.version c.args.text.now is.0 in
-    exactly_that _ c.args.text.now _ (is.0.0, is.0.1)
-    (λ v spells. (is.1 v spells, c.one_version.ensures.same_version _ v c.args.text.now spelled spells))
+    let dialect = c.args.self.now.dialect in
+    exactly_that dialect _ c.args.text.now _ (is.0.0, is.0.1) (λ v spells. (
+      is.1 v spells,
+      c.in_ok-version-in-Passes.ensures.of_version
+          ∙ sym (c.one_outlined_version.ensures.same_version dialect c.in-Passes.outline v c.args.text.now is.0 spells),
+    ))
 
 pub returns-in_ok-version-in-Passes-clause-none : goal.returns-in_ok-version-in-Passes-clause-none
 returns-in_ok-version-in-Passes-clause-none c =
@@ -43,4 +47,5 @@ returns-in_ok-version-in-Passes-clause-none c =
 pub returns-in_ok-version-in-Passes-clause-releases : goal.returns-in_ok-version-in-Passes-clause-releases
 returns-in_ok-version-in-Passes-clause-releases c = λ v spells some only.
     absurd (apart c.in-Passes.outline
-    (sym c.in-Passes.is ∙ c.judge.ensures.releases v (subst (SpellsVersion v) (sym c.as_bytes.ensures.value) spells) some only))
+    (sym c.in-Passes.is
+    ∙ c.judge.ensures.releases v (subst (SpellsIn c.args.self.now.dialect v) (sym c.as_bytes.ensures.value) spells) some only))

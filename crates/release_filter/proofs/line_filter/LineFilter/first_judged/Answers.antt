@@ -1,6 +1,7 @@
 use Rattle.std.proofs.Common.{subst, sym, ◌≡◌, [], List, String, Global, arith}
 use Rattle.std.proofs.lemmas.Grind.{common_steps}
-use Rattle.release_filter.specs.Steps.Outlined.{JudgesBy}
+use Rattle.release_filter.specs.LineTexts.{line_text}
+use Rattle.release_filter.specs.Steps.Outlined.{IsOutlined, JudgesBy}
 use Rattle.release_filter.specs.Steps.Taking.{texts}
 use Rattle.release_filter.specs.Verdicts.{HasVersion, asked}
 use Rattle.release_filter.proofs.JudgedLines.{outlined_line}
@@ -12,5 +13,7 @@ returns-then-is_empty-clause-judged c =
     let filter = c.args.self.now.filter in
     let line = c.in_ok-line.line.now in
     let said = c.judge_outline.result in
-    subst (λ (l : List (String Global)). JudgesBy (HasVersion (asked (texts l)) line) filter said) (sym none)
-    (outlined_line filter line c.in_ok-line.outline said c.judge_outline.ensures.judged c.in_ok-line.ensures.outlined)
+    let outlined = subst (λ d. IsOutlined d (line_text line) c.in_ok-line.outline) c.dialect.ensures c.in_ok-line.ensures.outlined in
+    subst (λ (l : List (String Global)). JudgesBy (HasVersion filter.dialect (asked (texts l)) line) filter said) (sym none)
+    (outlined_line c.one_outlined_version.ensures.same_version filter line c.in_ok-line.outline said c.judge_outline.ensures.judged
+    outlined)

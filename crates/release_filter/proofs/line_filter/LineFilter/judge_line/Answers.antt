@@ -16,6 +16,7 @@ returns-in_default c =
     let self = c.args.self.now in
     let r = c.judge_after_each.result in
     let some = subst (λ (items : List (String Global)). 1 ≤ length items) c.as_slice.ensures.value c.in_default.len_at_least in
-    let judged = subst (λ (items : List (String Global)). JudgesBy (HasVersion (texts items) c.args.line.now) self.filter r)
+    let judged =
+    subst (λ (items : List (String Global)). JudgesBy (HasVersion self.filter.dialect (texts items) c.args.line.now) self.filter r)
     c.as_slice.ensures.value c.judge_after_each.ensures in
     some_asked self.filter self.prefixes.items c.args.line.now r some judged

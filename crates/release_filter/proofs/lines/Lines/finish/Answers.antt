@@ -30,7 +30,7 @@ returns-in_default-clause-refuses c =
     let is = c.after_mark-line.ensures ∙ ap (after_mark s.at_front) c.as_slice.ensures.value in
     let none = no_length line (sym c.is_empty.ensures ∙ c.if-is_empty.true) in
     subst (λ (x : LinesValue). IsTrue x.is_strict → ¬ (EndsInvalid x)) c.self.view_is
-    (λ strict. ends_valid_none value line is c.one_version.ensures.same_version none)
+    (λ strict. ends_valid_none value line is c.one_version_in.ensures.same_version none)
 
 pub returns-then-is_bad-clause-refuses : goal.returns-then-is_bad-clause-refuses
 returns-then-is_bad-clause-refuses c =
@@ -71,7 +71,7 @@ returns-in_default-noted-clause-refuses c =
     (λ strict. elim c.else-self.branch [
       | else-self-via-then-self+else-is_bad w ↦
           ends_valid value line is some c.self.invariant c.judge_line-judged.result c.judge_line-judged.ensures
-          c.one_version.ensures.same_version
+          c.one_version_in.ensures.same_version
           c.is_invalid-is_bad.result c.is_invalid-is_bad.ensures w.if-is_bad.false
       | else-self-via-else-self w ↦ absurd (not_both strict w.if-self.false)
     ])
@@ -95,7 +95,7 @@ returns-in_default-finish-clause-refuses c =
     (λ strict. elim c.else-self.branch [
       | else-self-via-then-self+else-is_bad w ↦
           ends_valid value line is some c.self.invariant c.judge_line-judged.result c.judge_line-judged.ensures
-          c.one_version.ensures.same_version
+          c.one_version_in.ensures.same_version
           c.is_invalid-is_bad.result c.is_invalid-is_bad.ensures w.if-is_bad.false
       | else-self-via-else-self w ↦ absurd (not_both strict w.if-self.false)
     ])
