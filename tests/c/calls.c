@@ -46,9 +46,10 @@ static bool is_part(semver_parser_part part, const text *of) {
     return part.offset > 0 && part.offset <= of->length && part.length <= of->length - part.offset;
 }
 
-static int32_t read_version_at(const uint8_t *bytes, const text *of, semver_parser_version *out) {
+static int32_t read_version_at(
+    const uint8_t *bytes, const text *of, int32_t reading, semver_parser_version *out) {
     memset(out, FILL, sizeof *out);
-    int32_t answer = semver_parser_parse_version(bytes, of->length, out);
+    int32_t answer = semver_parser_parse_version(bytes, of->length, reading, out);
     if (answer == SEMVER_PARSER_OK) {
         require(is_part(out->pre, of) && is_part(out->build, of), "a part outside of the text", of);
         require(out->pre.length == 0 || of->bytes[out->pre.offset - 1] == '-',
@@ -61,41 +62,52 @@ static int32_t read_version_at(const uint8_t *bytes, const text *of, semver_pars
     return answer;
 }
 
-int32_t read_version(const text *of, semver_parser_version *out) {
+int32_t read_version(const text *of, int32_t reading, semver_parser_version *out) {
     uint8_t *bytes = alone(of);
-    int32_t answer = read_version_at(bytes, of, out);
+    int32_t answer = read_version_at(bytes, of, reading, out);
     free(bytes);
     if (of->length == 0) {
-        require(read_version_at(NULL, of, out) == answer, "another answer at null", of);
+        require(read_version_at(NULL, of, reading, out) == answer, "another answer at null", of);
     }
     return answer;
 }
 
-static int32_t precedence_at(const text *version, const text *other, int32_t *order, bool *in_other,
-    bool before, bool at_null) {
+bool is_of_version(int32_t answer) {
+    return (answer >= SEMVER_PARSER_OK && answer <= SEMVER_PARSER_VERSION_OUT_OF_MEMORY)
+           || answer == SEMVER_PARSER_NOT_A_VERSION;
+}
+
+static int32_t precedence_at(const text *version, const text *other, int32_t reading,
+    int32_t *order, bool *in_other, bool before, bool at_null) {
     uint8_t *bytes = alone(version);
     uint8_t *other_bytes = alone(other);
     *order = UNTOLD;
     *in_other = before;
     int32_t answer =
         semver_parser_precedence(at_null && version->length == 0 ? NULL : bytes, version->length,
-            at_null && other->length == 0 ? NULL : other_bytes, other->length, order, in_other);
+            at_null && other->length == 0 ? NULL : other_bytes, other->length, reading, order,
+            in_other);
     free(bytes);
     free(other_bytes);
     bool is_ok = answer == SEMVER_PARSER_OK;
     require(is_ok ? *order >= -1 && *order <= 1 : *order == UNTOLD, "an order at a fault, or none",
         version);
-    require(!is_ok || *in_other == before, "a text at fault where none is", version);
+    bool is_fault_of_text = !is_ok && answer != SEMVER_PARSER_NO_SUCH_READING;
+    require(is_fault_of_text || *in_other == before, "a text at fault where none is", version);
     return answer;
 }
 
-int32_t precedence(const text *version, const text *other, int32_t *order, bool *in_other) {
-    int32_t answer = precedence_at(version, other, order, in_other, false, false);
+int32_t precedence(
+    const text *version, const text *other, int32_t reading, int32_t *order, bool *in_other) {
+    int32_t answer = precedence_at(version, other, reading, order, in_other, false, false);
     int32_t again_order;
     bool again_in_other;
-    require(precedence_at(version, other, &again_order, &again_in_other, true, true) == answer,
+    require(precedence_at(version, other, reading, &again_order, &again_in_other, true, true)
+                == answer,
         "another answer at null", version);
-    require(again_order == *order && (answer == SEMVER_PARSER_OK || again_in_other == *in_other),
+    bool is_fault_of_text =
+        answer != SEMVER_PARSER_OK && answer != SEMVER_PARSER_NO_SUCH_READING;
+    require(again_order == *order && (!is_fault_of_text || again_in_other == *in_other),
         "another order at null", version);
     return answer;
 }
@@ -367,15 +379,16 @@ static void require_each(const text *range, int32_t reading, int32_t pre_release
     const semver_parser_text all[5] = {
         {version->length != 0 ? version_bytes : NULL, version->length}, {NULL, 0}, {range_bytes, 0},
         {(const uint8_t *)"123", 3}, {version_bytes, version->length}};
-    const int32_t bytes[5] = {wanted, SEMVER_PARSER_UNEXPECTED_END, SEMVER_PARSER_UNEXPECTED_END,
-        SEMVER_PARSER_UNEXPECTED_END, wanted};
+    bool is_of_tool = reading == SEMVER_PARSER_CARGO || reading == SEMVER_PARSER_NPM;
+    int32_t none = is_of_tool ? SEMVER_PARSER_NOT_A_VERSION : SEMVER_PARSER_UNEXPECTED_END;
+    const int32_t bytes[5] = {wanted, none, none, none, wanted};
     memcpy(versions, all, count * sizeof *versions);
     uint8_t answers[6];
     memset(answers, FILL, sizeof answers);
     int32_t answer =
         semver_parser_meets_each(range_bytes, range->length, reading, pre_releases,
                                  count != 0 ? versions : NULL, count, count != 0 ? answers : NULL);
-    bool read = wanted < 10;
+    bool read = is_of_version(wanted);
     require(
         answer == (read ? (int32_t)SEMVER_PARSER_OK : wanted), "another answer for many", range);
     for (size_t at = 0; read && at < count; at++) {
@@ -395,7 +408,7 @@ int32_t meets(const text *range, int32_t reading, int32_t pre_releases, const te
             "an answer by what was there", range);
     require(meets_one(range, reading, pre_releases, version, true, true) == answer,
             "another answer at null", range);
-    if (answer < 10) {
+    if (is_of_version(answer)) {
         for (size_t count = 0; count <= 5; count++) {
             require_each(range, reading, pre_releases, version, answer, count);
         }

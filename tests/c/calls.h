@@ -7,12 +7,17 @@
 #include "../../crates/semver_parser_c/include/semver_parser.h"
 #include "texts.h"
 
-/* Reads a version. An empty text is read at null too. */
-int32_t read_version(const text *of, semver_parser_version *out);
+/* Reads a version by a reading. An empty text is read at null too. */
+int32_t read_version(const text *of, int32_t reading, semver_parser_version *out);
 
-/* How a version text compares with another: OK with -1, 0 or 1 in `order`, or the fault with
- * whether it is the other's in `in_other`. An empty text is passed at null too. */
-int32_t precedence(const text *version, const text *other, int32_t *order, bool *in_other);
+/* How a version text compares with another by a reading: OK with -1, 0 or 1 in `order`, or the
+ * fault with whether it is the other's in `in_other`, which is false if there is no such reading.
+ * An empty text is passed at null too. */
+int32_t precedence(
+    const text *version, const text *other, int32_t reading, int32_t *order, bool *in_other);
+
+/* Whether a number is the fault of a version, or no fault. */
+bool is_of_version(int32_t answer);
 
 /* Comparators in order, and the bytes that have their pre-releases. */
 typedef struct {

@@ -31,13 +31,13 @@ static int32_t reading;
 
 static int32_t read_text(void) {
     semver_parser_version out;
-    return semver_parser_parse_version(NULL, 5, &out);
+    return semver_parser_parse_version(NULL, 5, reading, &out);
 }
 
 static int32_t precedence_of(const uint8_t *version, const uint8_t *other) {
     int32_t order;
     bool in_other;
-    return semver_parser_precedence(version, 5, other, 5, &order, &in_other);
+    return semver_parser_precedence(version, 5, other, 5, reading, &order, &in_other);
 }
 
 static int32_t precedence_version(void) {

@@ -1,7 +1,7 @@
-/* What the calls for C say by each of the four readings: what each takes a text to be, which rules
- * for pre-releases each has, and which pre-releases Cargo and npm themselves take. What is wanted
- * stands in the tables of docs/MEANING.md, above all in that of "Whose reading?", and in those of
- * docs/GRAMMAR.md. */
+/* What the calls for C say by each of the four readings: what each takes a text of a version or of
+ * a range to be, which rules for pre-releases each has, and which pre-releases Cargo and npm
+ * themselves take. What is wanted stands in the tables of docs/MEANING.md, above all in that of
+ * "Whose reading?", and in those of docs/GRAMMAR.md. */
 #include "calls.h"
 
 #include <stdio.h>
@@ -66,6 +66,200 @@ static text behind_a_front(int32_t reading, const char *bytes) {
     }
     text_say(&made, "%s", bytes);
     return made;
+}
+
+/* ---- versions */
+
+enum {
+    OK = SEMVER_PARSER_OK,
+    NOT_UTF8 = SEMVER_PARSER_VERSION_NOT_UTF8,
+    END = SEMVER_PARSER_UNEXPECTED_END,
+    TOKEN = SEMVER_PARSER_UNEXPECTED_TOKEN,
+    CHARACTER = SEMVER_PARSER_UNEXPECTED_CHAR,
+    MORE = SEMVER_PARSER_MORE_INPUT,
+    NONE = SEMVER_PARSER_NOT_A_VERSION
+};
+
+/* A text, its parts where it is a version, and the answer of each reading. */
+typedef struct {
+    const char *bytes;
+    uint64_t numbers[3];
+    semver_parser_part pre;
+    semver_parser_part build;
+    int32_t answers[READINGS];
+} version_by_reading;
+
+/* The greatest number of npm's versions, and the next one. */
+#define MOST_OF_NPM 9007199254740991
+
+static const version_by_reading versions_by_reading[] = {
+    {"1.2.3", {1, 2, 3}, {0, 0}, {0, 0}, {OK, OK, OK, OK}},
+    {"1.2.3-rc.1+b5", {1, 2, 3}, {6, 4}, {11, 2}, {OK, OK, OK, OK}},
+    {"1.2.3-x-y.0a+01", {1, 2, 3}, {6, 6}, {13, 2}, {OK, OK, OK, OK}},
+    {"1.0.0--a", {1, 0, 0}, {6, 2}, {0, 0}, {OK, OK, TOKEN, TOKEN}},
+    {"1.0.0-a--b", {1, 0, 0}, {6, 4}, {0, 0}, {OK, OK, TOKEN, TOKEN}},
+    {"1.0.0--", {1, 0, 0}, {6, 1}, {0, 0}, {OK, OK, TOKEN, TOKEN}},
+    {"1.0.0-alpha-", {1, 0, 0}, {6, 6}, {0, 0}, {OK, OK, END, END}},
+    {"1.0.0--01", {1, 0, 0}, {6, 3}, {0, 0}, {OK, OK, TOKEN, TOKEN}},
+    {"1.0.0+--", {1, 0, 0}, {0, 0}, {6, 2}, {OK, OK, TOKEN, TOKEN}},
+    {"6.2.0--canary.14175.ab12.0", {6, 2, 0}, {6, 20}, {0, 0}, {OK, OK, TOKEN, TOKEN}},
+    {"1.2.3-01", {1, 2, 3}, {6, 2}, {0, 0}, {NONE, NONE, OK, OK}},
+    {"1.2.3-a.00+b", {1, 2, 3}, {6, 4}, {11, 1}, {NONE, NONE, OK, OK}},
+    {"1.2.3+01", {1, 2, 3}, {0, 0}, {6, 2}, {OK, OK, OK, OK}},
+    {"v1.2.3", {1, 2, 3}, {0, 0}, {0, 0}, {NONE, OK, TOKEN, TOKEN}},
+    {"v1.2.3--a+b", {1, 2, 3}, {7, 2}, {10, 1}, {NONE, OK, TOKEN, TOKEN}},
+    {" 1.2.3 ", {1, 2, 3}, {0, 0}, {0, 0}, {NONE, OK, OK, OK}},
+    {"\t1.2.3-a+b\r\n", {1, 2, 3}, {7, 1}, {9, 1}, {NONE, OK, OK, OK}},
+    {" v1.2.3-a\n", {1, 2, 3}, {8, 1}, {0, 0}, {NONE, OK, TOKEN, TOKEN}},
+    {"\xC2\xA0"
+     "1.2.3-a",
+     {1, 2, 3},
+     {8, 1},
+     {0, 0},
+     {NONE, OK, CHARACTER, CHARACTER}},
+    {"1.2.3+a\xC2\xA0", {1, 2, 3}, {0, 0}, {6, 1}, {NONE, OK, CHARACTER, CHARACTER}},
+    {"9007199254740991.0.0", {MOST_OF_NPM, 0, 0}, {0, 0}, {0, 0}, {OK, OK, OK, OK}},
+    {"9007199254740992.0.0", {MOST_OF_NPM + 1, 0, 0}, {0, 0}, {0, 0}, {OK, NONE, OK, OK}},
+    {"0.0.18446744073709551615", {0, 0, UINT64_MAX}, {0, 0}, {0, 0}, {OK, NONE, OK, OK}},
+    {"18446744073709551616.0.0", {0, 0, 0}, {0, 0}, {0, 0}, {NONE, NONE, TOKEN, TOKEN}},
+    {"vv1.2.3", {0, 0, 0}, {0, 0}, {0, 0}, {NONE, NONE, TOKEN, TOKEN}},
+    {"v 1.2.3", {0, 0, 0}, {0, 0}, {0, 0}, {NONE, NONE, TOKEN, TOKEN}},
+    {"01.2.3", {0, 0, 0}, {0, 0}, {0, 0}, {NONE, NONE, TOKEN, TOKEN}},
+    {"", {0, 0, 0}, {0, 0}, {0, 0}, {NONE, NONE, END, END}},
+    {"1.2", {0, 0, 0}, {0, 0}, {0, 0}, {NONE, NONE, END, END}},
+    {"1.2.3-", {0, 0, 0}, {0, 0}, {0, 0}, {NONE, NONE, END, END}},
+    {"1.2.3/", {0, 0, 0}, {0, 0}, {0, 0}, {NONE, NONE, CHARACTER, CHARACTER}},
+    {"1.2.3 4", {0, 0, 0}, {0, 0}, {0, 0}, {NONE, NONE, MORE, MORE}},
+    {"1.2.3\xFF", {0, 0, 0}, {0, 0}, {0, 0}, {NOT_UTF8, NOT_UTF8, NOT_UTF8, NOT_UTF8}},
+};
+
+static bool is_same_part(semver_parser_part one, semver_parser_part other) {
+    return one.offset == other.offset && one.length == other.length;
+}
+
+static void version_is(int32_t reading, const text *of, int32_t answer, const uint64_t *numbers,
+    semver_parser_part pre, semver_parser_part build) {
+    semver_parser_version read;
+    check(read_version(of, reading, &read) == answer, "another answer of a version", reading,
+        of->bytes);
+    if (answer == OK) {
+        check(read.major == numbers[0] && read.minor == numbers[1] && read.patch == numbers[2],
+            "other numbers", reading, of->bytes);
+        check(is_same_part(read.pre, pre), "another pre-release", reading, of->bytes);
+        check(is_same_part(read.build, build), "another build", reading, of->bytes);
+    }
+}
+
+static void order_is(
+    int32_t reading, const char *bytes, const char *other_bytes, int32_t wanted) {
+    text version = string(bytes);
+    text other = string(other_bytes);
+    int32_t order;
+    bool in_other;
+    check(precedence(&version, &other, reading, &order, &in_other) == OK && order == wanted,
+        "another order", reading, bytes);
+    check(precedence(&other, &version, reading, &order, &in_other) == OK && order == -wanted,
+        "another order the other way round", reading, bytes);
+    text_free(&version);
+    text_free(&other);
+}
+
+static void order_fault_is(int32_t reading, const char *bytes, int32_t fault) {
+    text faulty = string(bytes);
+    text version = string("1.2.3-rc.1+b");
+    int32_t order;
+    bool in_other;
+    check(precedence(&faulty, &version, reading, &order, &in_other) == fault && !in_other,
+        "another fault of an order", reading, bytes);
+    check(precedence(&version, &faulty, reading, &order, &in_other) == fault && in_other,
+        "another fault of the other version", reading, bytes);
+    check(precedence(&faulty, &faulty, reading, &order, &in_other) == fault && !in_other,
+        "another fault of both", reading, bytes);
+    text_free(&faulty);
+    text_free(&version);
+}
+
+static void versions(void) {
+    for (size_t at = 0; at < sizeof versions_by_reading / sizeof *versions_by_reading; at++) {
+        const version_by_reading *row = &versions_by_reading[at];
+        text of = string(row->bytes);
+        for (int32_t reading = 0; reading < READINGS; reading++) {
+            int32_t answer = row->answers[reading];
+            version_is(reading, &of, answer, row->numbers, row->pre, row->build);
+            if (answer == OK) {
+                order_is(reading, row->bytes, row->bytes, 0);
+            } else {
+                order_fault_is(reading, row->bytes, answer);
+            }
+        }
+        text_free(&of);
+    }
+}
+
+/* A text of a front, a unit some times, and an end. */
+static text repeated(const char *front, const char *unit, int count, const char *end) {
+    text made = string(front);
+    for (int at = 0; at < count; at++) {
+        text_say(&made, "%s", unit);
+    }
+    text_say(&made, "%s", end);
+    return made;
+}
+
+/* Long texts. npm takes 256 characters at most, of which a no-break space is one. */
+static void long_versions(void) {
+    const semver_parser_part none = {0, 0};
+    const uint64_t numbers[3] = {1, 2, 3};
+    for (int32_t reading = 0; reading < READINGS; reading++) {
+        bool is_npm = reading == NPM;
+        for (int count = 250; count <= 3000; count += count < 252 ? 1 : 2748) {
+            text identifier = repeated("1.2.3-", "a", count, "");
+            text build = repeated("1.2.3+", "0", count, "");
+            int32_t answer = is_npm && count > 250 ? (int32_t)NONE : (int32_t)OK;
+            semver_parser_part part = {6, (size_t)count};
+            version_is(reading, &identifier, answer, numbers, part, none);
+            version_is(reading, &build, answer, numbers, none, part);
+            text_free(&identifier);
+            text_free(&build);
+
+            text white = repeated("", " ", count + 1, "1.2.3");
+            int32_t of_white = reading == CARGO ? (int32_t)NONE : answer;
+            version_is(reading, &white, of_white, numbers, none, none);
+            text_free(&white);
+            text wide = repeated("v1.2.3", "\xC2\xA0", count, "");
+            int32_t of_wide = is_npm               ? answer
+                              : is_of_tool(reading) ? (int32_t)NONE
+                                                    : (int32_t)TOKEN;
+            version_is(reading, &wide, of_wide, numbers, none, none);
+            text_free(&wide);
+        }
+        text hyphens = repeated("1.2.3-", "-", 240, "a");
+        semver_parser_part part = {6, 241};
+        int32_t answer = is_of_tool(reading) ? (int32_t)OK : (int32_t)TOKEN;
+        version_is(reading, &hyphens, answer, numbers, part, none);
+        text_free(&hyphens);
+    }
+}
+
+/* Each is below those after it, by the readings of the tools. A hyphen is below any letter and
+ * digit, and a number below any text. */
+static void versions_in_order(void) {
+    static const char *const ordered[] = {"1.0.0-1", "1.0.0-10", "1.0.0--", "1.0.0---",
+        "1.0.0--1", "1.0.0--a", "1.0.0-a", "1.0.0-a-", "1.0.0-a--b", "1.0.0-a-b", "1.0.0",
+        "6.2.0--canary.9.z", "6.2.0--canary.14175.ab12", "6.2.0--canary.14175.ab12.0", "6.2.0"};
+    enum { COUNT = sizeof ordered / sizeof *ordered };
+    for (int at = 0; at < COUNT; at++) {
+        for (int after = at; after < COUNT; after++) {
+            order_is(CARGO, ordered[at], ordered[after], at == after ? 0 : -1);
+            order_is(NPM, ordered[at], ordered[after], at == after ? 0 : -1);
+        }
+    }
+    order_is(NPM, " v1.2.3-a+b", "1.2.3-a\xC2\xA0", 0);
+    order_is(NPM, "v1.2.3--a", "1.2.3-a", -1);
+    for (int32_t reading = CRATE_CARGO; reading <= CRATE_NPM; reading++) {
+        order_is(reading, "1.0.0-2", "1.0.0-01", -1);
+        order_is(reading, " 1.2.3-a+b", "1.2.3-a\n", 0);
+    }
 }
 
 /* ---- what a text is rewritten to */
@@ -229,6 +423,11 @@ static const struct {
     {"=v1", "1.2.3", {NO_RANGE, YES, NO_RANGE, NO_RANGE}},
     {"1.2 || 3", "3.9.0", {NO_RANGE, YES, YES, YES}},
     {">=1.2.3, <2", "1.9.0", {YES, NO_RANGE, NO_RANGE, NO_RANGE}},
+    {"^6.2.0--canary.10", "6.2.0--canary.14175.ab12.0", {YES, YES, TOKEN, TOKEN}},
+    {"^6.2.0--canary.10", "6.2.0--canary.9.0", {NO, NO, TOKEN, TOKEN}},
+    {"^10.4.2", "10.4.1--canary.3.0", {NO, NO, TOKEN, TOKEN}},
+    {"=1.2.3-a", "1.2.3-a.01", {NONE, NONE, NO, NO}},
+    {"=1.2.3-a--b", "1.2.3-a--b", {YES, YES, TOKEN, TOKEN}},
 };
 
 /* A range of a tool, and versions that it means and doesn't mean by the rule of that tool. */
@@ -252,16 +451,29 @@ static const struct {
     {NPM, "* || =1.0.0-a", {"0.0.0", "1.0.0", NULL, NULL}, {"1.0.0-a", NULL, NULL}},
 };
 
+/* A long text of a version, as its reading takes it: Cargo's has no white space, and npm's 256
+ * characters. */
+static text long_text_of(int32_t reading, const char *version) {
+    if (reading == CARGO) {
+        text made = string(version);
+        text_say(&made, "+build");
+        for (int at = 0; at < 300; at++) {
+            text_say(&made, ".--0000000");
+        }
+        return made;
+    }
+    int count = reading == NPM ? 256 - (int)strlen("\t\nv+build") - (int)strlen(version) : 3000;
+    text made = repeated("\t\n", " ", count, reading == NPM ? "v" : "");
+    text_say(&made, "%s+build", version);
+    return made;
+}
+
 static void meets_by(int32_t reading, int32_t rule, const char *range, const char *version,
                      int32_t wanted) {
     text short_range = string(range);
     text short_version = string(version);
     text long_range = behind_a_front(reading, range);
-    text long_version = string("\t\n");
-    for (int at = 0; at < 300; at++) {
-        text_say(&long_version, "          ");
-    }
-    text_say(&long_version, "%s+build", version);
+    text long_version = long_text_of(reading, version);
     check(meets(&short_range, reading, rule, &short_version) == wanted, "another answer", reading,
           range);
     /* Nothing of 0.0.0 is above the fronts. */
@@ -307,27 +519,36 @@ static void met(void) {
 
 /* Many versions at once, by each reading and each rule that it has. */
 static void many(void) {
-    static const char *const versions[] = {"1.2.3", "2.0.0",   "1.2.3-rc", "1.3.0-rc", "v1",
-                                           "",      "1.2.3 4", "\xFF",     "1.9.9+b"};
-    enum { COUNT = sizeof versions / sizeof *versions };
-    static const uint8_t wanted[RULES][COUNT] = {{1, 0, 0, 0, 4, 3, 6, 2, 1},
-                                                 {1, 0, 1, 0, 4, 3, 6, 2, 1},
-                                                 {1, 0, 1, 1, 4, 3, 6, 2, 1},
-                                                 {1, 0, 1, 0, 4, 3, 6, 2, 1}};
+    static const char *const texts_of[] = {"1.2.3", "2.0.0", "1.2.3-rc", "1.3.0-rc", "1.9.9+b",
+        "v1", "", "1.2.3 4", "\xFF", "v1.2.3", " 1.2.3", "1.2.3-c--d", "1.2.3-c.01"};
+    enum { COUNT = sizeof texts_of / sizeof *texts_of };
+    /* Whether each meets by each rule if it is a version, and its fault by each reading. */
+    static const uint8_t meets_by_rule[RULES][COUNT] = {{1, 0, 0, 0, 1, 0, 0, 0, 0, 1, 1, 0, 0},
+                                                        {1, 0, 1, 0, 1, 0, 0, 0, 0, 1, 1, 1, 1},
+                                                        {1, 0, 1, 1, 1, 0, 0, 0, 0, 1, 1, 1, 1},
+                                                        {1, 0, 1, 0, 1, 0, 0, 0, 0, 1, 1, 1, 1}};
+    static const uint8_t faults[READINGS][COUNT] = {
+        {0, 0, 0, 0, 0, NONE, NONE, NONE, NOT_UTF8, NONE, NONE, 0, NONE},
+        {0, 0, 0, 0, 0, NONE, NONE, NONE, NOT_UTF8, 0, 0, 0, NONE},
+        {0, 0, 0, 0, 0, TOKEN, END, MORE, NOT_UTF8, TOKEN, 0, TOKEN, 0},
+        {0, 0, 0, 0, 0, TOKEN, END, MORE, NOT_UTF8, TOKEN, 0, TOKEN, 0}};
     const uint8_t *range = (const uint8_t *)"^1.2.3-beta";
     for (int32_t reading = 0; reading < READINGS; reading++) {
         for (int32_t rule = 0; rule < RULES; rule++) {
             semver_parser_text texts[COUNT];
             uint8_t answers[COUNT];
+            uint8_t wanted[COUNT];
             for (size_t at = 0; at < COUNT; at++) {
-                texts[at].bytes = (const uint8_t *)versions[at];
-                texts[at].length = strlen(versions[at]);
+                texts[at].bytes = (const uint8_t *)texts_of[at];
+                texts[at].length = strlen(texts_of[at]);
+                uint8_t fault = faults[reading][at];
+                wanted[at] = fault != 0 ? fault : meets_by_rule[rule][at];
             }
             memset(answers, 0xA5, COUNT);
             int32_t answer =
                 semver_parser_meets_each(range, 11, reading, rule, texts, COUNT, answers);
             if (has_rule(reading, rule)) {
-                check(answer == SEMVER_PARSER_OK && memcmp(answers, wanted[rule], COUNT) == 0,
+                check(answer == SEMVER_PARSER_OK && memcmp(answers, wanted, COUNT) == 0,
                       "other answers of many", reading, "^1.2.3-beta");
             } else {
                 check(answer == SEMVER_PARSER_NO_SUCH_RULE && answers[0] == 0xA5,
@@ -433,8 +654,9 @@ static void least_and_compared(void) {
 
 /* ---- numbers of no reading, and of no rule of one */
 
-/* Texts that are ranges and that aren't, an empty one, one that is no UTF-8, and a long one. */
-enum { TEXTS = 6 };
+/* Texts that are ranges, a version, and neither, an empty one, one that is no UTF-8, and a long
+ * one. */
+enum { TEXTS = 7 };
 static text texts[TEXTS];
 
 /* What the calls answer that ask what a range means: of a version and of many, of the least one,
@@ -468,6 +690,22 @@ static void rewriting_is_refused(int32_t reading) {
     }
 }
 
+/* A version isn't read then, nor are two compared. */
+static void versions_are_refused(int32_t reading) {
+    for (int at = 0; at < TEXTS; at++) {
+        semver_parser_version read;
+        int32_t order;
+        bool in_other;
+        check(read_version(&texts[at], reading, &read) == SEMVER_PARSER_NO_SUCH_READING,
+            "a version is read", reading, texts[at].bytes);
+        for (int other = 0; other < TEXTS; other++) {
+            check(precedence(&texts[at], &texts[other], reading, &order, &in_other)
+                      == SEMVER_PARSER_NO_SUCH_READING,
+                "two versions are compared", reading, texts[at].bytes);
+        }
+    }
+}
+
 /* That a number is one of a rule of a reading is seen by the fault of the text that isn't UTF-8. */
 static void rule_is_taken(int32_t reading, int32_t rule) {
     text range = string("1");
@@ -485,14 +723,15 @@ static void no_such_numbers(void) {
     static const int32_t no_readings[] = {-1, 4, 5, 20, 256, 65537, INT32_MAX, INT32_MIN};
     static const int32_t rules[] = {ALONE, STATED, ALL,   OF_TOOL,   -1,       4,
                                     15,    256,    65539, INT32_MAX, INT32_MIN};
-    static const char *const short_texts[TEXTS - 1] = {"1", "", "v1", "\xFF",
-                                                       "<=18446744073709551615"};
+    static const char *const short_texts[TEXTS - 1] = {
+        "1", "", "v1", "\xFF", "<=18446744073709551615", "1.2.3-rc"};
     for (int at = 0; at < TEXTS - 1; at++) {
         texts[at] = string(short_texts[at]);
     }
     texts[TEXTS - 1] = behind_a_front(NPM, "1");
     for (size_t at = 0; at < sizeof no_readings / sizeof *no_readings; at++) {
         rewriting_is_refused(no_readings[at]);
+        versions_are_refused(no_readings[at]);
         for (size_t rule = 0; rule < sizeof rules / sizeof *rules; rule++) {
             meaning_is_refused(no_readings[at], rules[rule], SEMVER_PARSER_NO_SUCH_READING);
         }
@@ -512,6 +751,9 @@ static void no_such_numbers(void) {
 }
 
 int main(void) {
+    versions();
+    long_versions();
+    versions_in_order();
     rewritten();
     long_rewritten();
     met();

@@ -63,6 +63,18 @@ static void grant(int requests) {
     refused = false;
 }
 
+/* The reading that is asked. */
+static int32_t reading;
+
+static bool is_of_tool(void) {
+    return reading == SEMVER_PARSER_CARGO || reading == SEMVER_PARSER_NPM;
+}
+
+/* One of its rules for pre-releases. */
+static int32_t rule_of_reading(void) {
+    return is_of_tool() ? SEMVER_PARSER_PRE_RELEASES_OF_TOOL : SEMVER_PARSER_ALL_PRE_RELEASES;
+}
+
 /* A version that takes this many requests. */
 static void version_takes(const char *bytes, int requests, int32_t wanted) {
     text of = {NULL, 0, 0};
@@ -70,7 +82,7 @@ static void version_takes(const char *bytes, int requests, int32_t wanted) {
     for (int request = 0; request <= requests; request++) {
         semver_parser_version read;
         grant(request);
-        int32_t answered = read_version(&of, &read);
+        int32_t answered = read_version(&of, reading, &read);
         check(refused == (request < requests), "another number of requests", bytes, request);
         check(answered == (refused ? SEMVER_PARSER_VERSION_OUT_OF_MEMORY : wanted),
             "another answer", bytes, request);
@@ -87,23 +99,17 @@ static void order_takes(
         bool in_other = !is_other;
         grant(request);
         int32_t answered = semver_parser_precedence((const uint8_t *)bytes, strlen(bytes),
-            (const uint8_t *)other, strlen(other), &order, &in_other);
+            (const uint8_t *)other, strlen(other), reading, &order, &in_other);
         check(refused == (request < requests), "another number of requests", other, request);
         check(answered == (refused ? (int32_t)SEMVER_PARSER_VERSION_OUT_OF_MEMORY : wanted),
             "another answer of an order", other, request);
         check((order == 777) == (answered != SEMVER_PARSER_OK), "another order", other, request);
-        check(in_other == (answered == SEMVER_PARSER_OK ? !is_other : is_other),
-            "another text at fault", other, request);
+        bool is_kept =
+            answered == SEMVER_PARSER_OK || answered == SEMVER_PARSER_NO_SUCH_READING;
+        check(in_other == (is_kept ? !is_other : is_other), "another text at fault", other,
+            request);
         check(taken == 0, "memory is kept", other, request);
     }
-}
-
-/* The reading that is asked, and one of its rules for pre-releases. */
-static int32_t reading;
-
-static int32_t rule_of_reading(void) {
-    bool is_of_tool = reading == SEMVER_PARSER_CARGO || reading == SEMVER_PARSER_NPM;
-    return is_of_tool ? SEMVER_PARSER_PRE_RELEASES_OF_TOOL : SEMVER_PARSER_ALL_PRE_RELEASES;
 }
 
 /* A range whose rewriting takes requests, or takes none, by the call that prints, or by that of
@@ -220,8 +226,8 @@ static void comparison_takes(
     check(!refused && (request > 1) == some, "another number of requests", old_range, request);
 }
 
-/* Many texts, of which the second takes requests to tell its fault, and one is at null where that
- * is asked for: the texts are copied then, before the range is read. */
+/* Many texts, of which the second takes requests to tell its fault by the crate's readings, and one
+ * is at null where that is asked for: the texts are copied then, before the range is read. */
 static void many_take(const char *range, bool at_null, int32_t wanted) {
     const semver_parser_text versions[] = {{(const uint8_t *)"1.2.3", 5},
         {(const uint8_t *)"1.2.3-rc.1/", 11}, {at_null ? NULL : (const uint8_t *)"", 0},
@@ -235,11 +241,14 @@ static void many_take(const char *range, bool at_null, int32_t wanted) {
         check(answered == wanted || (refused && answered == SEMVER_PARSER_RANGE_OUT_OF_MEMORY),
             "another answer of many", range, request);
         if (answered == SEMVER_PARSER_OK) {
-            check(answers[0] == SEMVER_PARSER_MEETS && answers[2] == SEMVER_PARSER_UNEXPECTED_END,
+            int none = is_of_tool() ? SEMVER_PARSER_NOT_A_VERSION : SEMVER_PARSER_UNEXPECTED_END;
+            int faulty = is_of_tool() ? SEMVER_PARSER_NOT_A_VERSION
+                         : refused    ? SEMVER_PARSER_VERSION_OUT_OF_MEMORY
+                                      : SEMVER_PARSER_UNEXPECTED_CHAR;
+            check(answers[0] == SEMVER_PARSER_MEETS && answers[2] == none,
                 "another version's answer", range, request);
-            check(answers[1] == (refused ? (int)SEMVER_PARSER_VERSION_OUT_OF_MEMORY
-                                         : (int)SEMVER_PARSER_UNEXPECTED_CHAR),
-                "the answer of a refusal", range, request);
+            check(answers[1] == faulty, "the answer of a refusal", range, request);
+            check(!refused || !is_of_tool(), "a version that takes memory", range, request);
             check(answers[3] == SEMVER_PARSER_DOES_NOT_MEET, "the answer behind a refusal", range,
                 request);
         } else {
@@ -251,12 +260,39 @@ static void many_take(const char *range, bool at_null, int32_t wanted) {
     check(!refused, "another number of requests", range, request);
 }
 
+/* A version takes none by any reading, nor does its fault by a tool's own. By the crate's the fault
+ * takes what is read before it. */
+static void versions_take_by_reading(void) {
+    const int32_t none = SEMVER_PARSER_NOT_A_VERSION;
+    const int32_t unexpected_end = is_of_tool() ? none : (int32_t)SEMVER_PARSER_UNEXPECTED_END;
+    const int32_t unexpected_char = is_of_tool() ? none : (int32_t)SEMVER_PARSER_UNEXPECTED_CHAR;
+    const int32_t more_input = is_of_tool() ? none : (int32_t)SEMVER_PARSER_MORE_INPUT;
+    version_takes("1.2.3", 0, SEMVER_PARSER_OK);
+    version_takes("1.2.3-rc.1+b", 0, SEMVER_PARSER_OK);
+    version_takes("1.2.3-1", 0, SEMVER_PARSER_OK);
+    version_takes("1.2.3-rc.1/", is_of_tool() ? 0 : 2, unexpected_char);
+    version_takes("1.2.3 a", is_of_tool() ? 0 : 1, more_input);
+    version_takes("1.2", 0, unexpected_end);
+    version_takes("\xFF", 0, SEMVER_PARSER_VERSION_NOT_UTF8);
+    order_takes("1.2.3-rc.1+b", "1.2.3", 0, SEMVER_PARSER_OK, true);
+    order_takes("1.2.3", "1.2.3+b.1", 0, SEMVER_PARSER_OK, true);
+    order_takes("1.2.3", "1.2.3-1", 1, SEMVER_PARSER_OK, true);
+    order_takes("1.2.3", "1.2.3-rc.1", 2, SEMVER_PARSER_OK, true);
+    order_takes("1.2.3", "1.2.3-rc.1/", is_of_tool() ? 0 : 2, unexpected_char, true);
+    order_takes("1.2.3-rc.1/", "1.2.3-rc", is_of_tool() ? 0 : 2, unexpected_char, false);
+    order_takes("1.2", "1.2.3-rc", 0, unexpected_end, false);
+    if (is_of_tool()) {
+        version_takes("1.2.3--a", 0, SEMVER_PARSER_OK);
+        order_takes("1.2.3--a", "1.2.3--a--b", 2, SEMVER_PARSER_OK, true);
+        order_takes("1.2.3--a", "1.2.3-01", 0, none, true);
+    }
+}
+
 /* What each call takes by the reading: the ranges of a text are parted by bars, and the comparators
  * by blanks or, as Cargo has them, by commas. The caret raises a bound, so the least pre-release of
  * 2.0.0 is gained where all pre-releases count. */
 static void takes_by_reading(void) {
     bool is_cargo = reading == SEMVER_PARSER_CARGO;
-    bool is_of_tool = is_cargo || reading == SEMVER_PARSER_NPM;
     const char *two = is_cargo ? "1.2.3-rc, 4" : "1.2.3-rc || 4";
     const char *three = is_cargo ? "1, 2, 3" : "1 || 2 || 3";
     const char *empty = is_cargo ? ">2.0.0, <1.0.0" : ">2.0.0 <1.0.0";
@@ -276,7 +312,8 @@ static void takes_by_reading(void) {
     }
     both_take("1.2.3", true, "1.2.3", 0, SEMVER_PARSER_OK, true);
     both_take("1.2.3", true, "1.2.3-rc", 0, SEMVER_PARSER_OK, false);
-    both_take("1.2.3", true, "1.2.3-rc.1/", 2, SEMVER_PARSER_UNEXPECTED_CHAR, false);
+    both_take("1.2.3", true, "1.2.3-rc.1/", is_of_tool() ? 0 : 2,
+        is_of_tool() ? SEMVER_PARSER_NOT_A_VERSION : SEMVER_PARSER_UNEXPECTED_CHAR, false);
     both_take("1.2.3", true, "1.2.3+b.rc", 0, SEMVER_PARSER_OK, true);
     both_take("1.2.3", true, "2.0.0-rc", 0, SEMVER_PARSER_OK, false);
     both_take("^", false, "1.2.3-rc", 0, SEMVER_PARSER_NOT_A_RANGE, false);
@@ -285,7 +322,7 @@ static void takes_by_reading(void) {
     least_takes(empty, true, SEMVER_PARSER_OK, 0);
     least_takes("^", false, SEMVER_PARSER_NOT_A_RANGE, 0);
     least_takes("<=18446744073709551615", false, SEMVER_PARSER_NUMBER_TOO_LARGE, 0);
-    comparison_takes("^1.2.0", ">=1.4.0", true, SEMVER_PARSER_OK, is_of_tool ? 15 : 17);
+    comparison_takes("^1.2.0", ">=1.4.0", true, SEMVER_PARSER_OK, is_of_tool() ? 15 : 17);
     comparison_takes("=1.2.3-a.b", "=1.2.3-b", true, SEMVER_PARSER_OK, 16);
     comparison_takes(empty, other_empty, true, SEMVER_PARSER_OK, 0);
     comparison_takes("^", "^1", false, SEMVER_PARSER_NOT_A_RANGE, 0);
@@ -302,6 +339,9 @@ static void takes_by_reading(void) {
 
 /* `reading` is the number of none then. */
 static void takes_nothing_by_no_reading(void) {
+    version_takes("1.2.3", 0, SEMVER_PARSER_NO_SUCH_READING);
+    version_takes("1.2.3-rc.1/", 0, SEMVER_PARSER_NO_SUCH_READING);
+    order_takes("1.2.3", "1.2.3-rc.1", 0, SEMVER_PARSER_NO_SUCH_READING, true);
     range_takes("^1.2", false, false, false, SEMVER_PARSER_NO_SUCH_READING);
     range_takes("^1.2", true, true, false, SEMVER_PARSER_NO_SUCH_READING);
     both_take("1.2.3", false, "1.2.3-rc.1/", 0, SEMVER_PARSER_NO_SUCH_READING, false);
@@ -311,20 +351,8 @@ static void takes_nothing_by_no_reading(void) {
 }
 
 int main(void) {
-    version_takes("1.2.3", 0, SEMVER_PARSER_OK);
-    version_takes("1.2.3-rc.1+b", 0, SEMVER_PARSER_OK);
-    version_takes("1.2.3-1", 0, SEMVER_PARSER_OK);
-    version_takes("1.2.3-rc.1/", 2, SEMVER_PARSER_UNEXPECTED_CHAR);
-    version_takes("1.2.3 a", 1, SEMVER_PARSER_MORE_INPUT);
-    version_takes("1.2", 0, SEMVER_PARSER_UNEXPECTED_END);
-    order_takes("1.2.3-rc.1+b", "1.2.3", 0, SEMVER_PARSER_OK, true);
-    order_takes("1.2.3", "1.2.3+b.1", 0, SEMVER_PARSER_OK, true);
-    order_takes("1.2.3", "1.2.3-1", 1, SEMVER_PARSER_OK, true);
-    order_takes("1.2.3", "1.2.3-rc.1", 2, SEMVER_PARSER_OK, true);
-    order_takes("1.2.3", "1.2.3-rc.1/", 2, SEMVER_PARSER_UNEXPECTED_CHAR, true);
-    order_takes("1.2.3-rc.1/", "1.2.3-rc", 2, SEMVER_PARSER_UNEXPECTED_CHAR, false);
-    order_takes("1.2", "1.2.3-rc", 0, SEMVER_PARSER_UNEXPECTED_END, false);
     for (reading = SEMVER_PARSER_CARGO; reading <= SEMVER_PARSER_CRATE_NPM; reading++) {
+        versions_take_by_reading();
         takes_by_reading();
     }
     takes_nothing_by_no_reading();

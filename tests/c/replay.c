@@ -49,55 +49,20 @@ static const char *range_fault(int32_t answer, int how) {
     }
 }
 
-/* Whether an identifier is a number: digits without a zero in front, up to 2^64 - 1. */
-static bool is_number(const char *bytes, size_t length) {
-    for (size_t at = 0; at < length; at++) {
-        if (bytes[at] < '0' || bytes[at] > '9') {
-            return false;
-        }
-    }
-    if (length > 1 && bytes[0] == '0') {
-        return false;
-    }
-    return length < 20 || (length == 20 && memcmp(bytes, "18446744073709551615", 20) <= 0);
-}
-
-/* Writes the identifiers between the dots by their variants. */
-static void say_identifiers(text *to, const char *bytes, size_t length) {
-    const char *end = bytes + length;
-    while (length > 0) {
-        const char *dot = (const char *)memchr(bytes, '.', (size_t)(end - bytes));
-        const char *stop = dot != NULL ? dot : end;
-        text_say(to, is_number(bytes, (size_t)(stop - bytes)) ? "Numeric(" : "AlphaNumeric(");
-        text_add(to, bytes, (size_t)(stop - bytes));
-        text_say(to, ")");
-        if (dot == NULL) {
-            return;
-        }
-        text_say(to, " ");
-        bytes = dot + 1;
-    }
-}
-
 static void say_version(text *to, const text *of) {
     semver_parser_version version;
-    int32_t answer = read_version(of, &version);
+    int32_t answer = read_version(of, SEMVER_PARSER_CRATE_CARGO, &version);
     if (answer != SEMVER_PARSER_OK) {
         text_say(to, "%s", version_fault(answer));
         return;
     }
-    text_say(to, "%" PRIu64 " %" PRIu64 " %" PRIu64 " pre[", version.major, version.minor,
-        version.patch);
-    say_identifiers(to, of->bytes + version.pre.offset, version.pre.length);
-    text_say(to, "] build[");
-    say_identifiers(to, of->bytes + version.build.offset, version.build.length);
-    text_say(to, "]");
+    say_fields(to, of, &version);
 }
 
 /* Writes the printed version, and answers whether there is one. */
 static int32_t say_printed_version(text *to, const text *of) {
     semver_parser_version version;
-    int32_t answer = read_version(of, &version);
+    int32_t answer = read_version(of, SEMVER_PARSER_CRATE_CARGO, &version);
     if (answer != SEMVER_PARSER_OK) {
         return answer;
     }

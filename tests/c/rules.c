@@ -53,7 +53,7 @@ static text long_text(const char *front, const char *unit, const char *end) {
     return made;
 }
 
-/* ---- versions */
+/* ---- versions, by the crate's readings, which read them alike */
 
 static semver_parser_part part(size_t offset, size_t length) {
     semver_parser_part made = {offset, length};
@@ -64,7 +64,7 @@ static void version_is(const char *bytes, uint64_t major, uint64_t minor, uint64
     semver_parser_part pre, semver_parser_part build) {
     text of = string(bytes);
     semver_parser_version read;
-    check(read_version(&of, &read) == SEMVER_PARSER_OK, "not read", &of);
+    check(read_version(&of, CRATE_CARGO, &read) == SEMVER_PARSER_OK, "not read", &of);
     check(read.major == major && read.minor == minor && read.patch == patch, "other numbers", &of);
     check(
         read.pre.offset == pre.offset && read.pre.length == pre.length, "another pre-release", &of);
@@ -76,7 +76,8 @@ static void version_is(const char *bytes, uint64_t major, uint64_t minor, uint64
 static void version_fault_is(const char *bytes, size_t length, int32_t fault) {
     text of = bytes_of(bytes, length);
     semver_parser_version read;
-    check(read_version(&of, &read) == fault, "another fault of a version", &of);
+    check(read_version(&of, CRATE_NPM, &read) == fault, "another fault of a version", &of);
+    check(read_version(&of, CRATE_CARGO, &read) == fault, "another fault of a version", &of);
     text_free(&of);
 }
 
@@ -151,9 +152,11 @@ static void order_is(const char *bytes, const char *other_bytes, int32_t wanted)
     text other = string(other_bytes);
     int32_t order;
     bool in_other;
-    check(precedence(&version, &other, &order, &in_other) == SEMVER_PARSER_OK && order == wanted,
+    check(precedence(&version, &other, CRATE_CARGO, &order, &in_other) == SEMVER_PARSER_OK
+              && order == wanted,
         "another order", &version);
-    check(precedence(&other, &version, &order, &in_other) == SEMVER_PARSER_OK && order == -wanted,
+    check(precedence(&other, &version, CRATE_NPM, &order, &in_other) == SEMVER_PARSER_OK
+              && order == -wanted,
         "another order the other way round", &version);
     text_free(&version);
     text_free(&other);
@@ -194,17 +197,20 @@ static void order_fault_is(const char *bytes, size_t length, int32_t fault) {
     text faulty = bytes_of(bytes, length);
     text version = string("1.2.3-rc.1+b");
     text empty = string("");
-    int32_t order;
-    bool in_other;
-    check(precedence(&faulty, &version, &order, &in_other) == fault && !in_other,
-        "another fault of a version", &faulty);
-    check(precedence(&version, &faulty, &order, &in_other) == fault && in_other,
-        "another fault of the other version", &faulty);
-    check(precedence(&faulty, &empty, &order, &in_other) == fault && !in_other,
-        "another fault of both", &faulty);
-    check(
-        precedence(&empty, &faulty, &order, &in_other) == SEMVER_PARSER_UNEXPECTED_END && !in_other,
-        "another fault of an empty text", &faulty);
+    for (int32_t reading = CRATE_CARGO; reading <= CRATE_NPM; reading++) {
+        int32_t order;
+        bool in_other;
+        check(precedence(&faulty, &version, reading, &order, &in_other) == fault && !in_other,
+            "another fault of a version", &faulty);
+        check(precedence(&version, &faulty, reading, &order, &in_other) == fault && in_other,
+            "another fault of the other version", &faulty);
+        check(precedence(&faulty, &empty, reading, &order, &in_other) == fault && !in_other,
+            "another fault of both", &faulty);
+        check(precedence(&empty, &faulty, reading, &order, &in_other)
+                      == SEMVER_PARSER_UNEXPECTED_END
+                  && !in_other,
+            "another fault of an empty text", &faulty);
+    }
     text_free(&faulty);
     text_free(&version);
     text_free(&empty);
@@ -551,9 +557,9 @@ static void very_many(int32_t reading, bool at_null) {
                                               SEMVER_PARSER_RELEASES_ALONE, texts, MANY, answers);
     check(answer == SEMVER_PARSER_OK, "another answer of very many", &range);
     for (int at = 0; at < MANY; at++) {
-        int wanted = at == 0 && at_null ? (int)SEMVER_PARSER_UNEXPECTED_END
-                     : at >= 1000       ? (int)YES
-                                        : (int)NO;
+        bool is_of_tool = reading == CARGO || reading == NPM;
+        int none = is_of_tool ? SEMVER_PARSER_NOT_A_VERSION : SEMVER_PARSER_UNEXPECTED_END;
+        int wanted = at == 0 && at_null ? none : at >= 1000 ? (int)YES : (int)NO;
         check(answers[at] == wanted, "another answer of one of very many", &range);
     }
     text_free(&range);
@@ -760,10 +766,10 @@ static void sentences(void) {
     text none = string("");
     check(strcmp(semver_parser_library_version(), SEMVER_PARSER_VERSION) == 0,
         "another version of the library", &none);
-    for (int32_t answer = -1; answer <= 21; answer++) {
+    for (int32_t answer = -1; answer <= 22; answer++) {
         const char *sentence = semver_parser_fault_text(answer);
         check(sentence != NULL && sentence[0] != 0, "no sentence", &none);
-        bool is_named = answer == 0 || (answer >= 2 && answer <= 20);
+        bool is_named = answer == 0 || (answer >= 2 && answer <= 21);
         check(is_named == (strcmp(sentence, semver_parser_fault_text(1)) != 0),
             "the sentence of no answer", &none);
         for (int32_t other = 0; other < answer && is_named; other++) {

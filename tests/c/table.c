@@ -1,5 +1,6 @@
 #include "table.h"
 
+#include <inttypes.h>
 #include <stdio.h>
 #include <stdlib.h>
 #include <string.h>
@@ -61,4 +62,41 @@ bool next_row(table *of, row *next) {
 void row_free(row *it) {
     text_free(&it->of);
     text_free(&it->steps);
+}
+
+/* Whether an identifier is a number: digits without a zero in front, up to 2^64 - 1. */
+static bool is_number(const char *bytes, size_t length) {
+    for (size_t at = 0; at < length; at++) {
+        if (bytes[at] < '0' || bytes[at] > '9') {
+            return false;
+        }
+    }
+    if (length > 1 && bytes[0] == '0') {
+        return false;
+    }
+    return length < 20 || (length == 20 && memcmp(bytes, "18446744073709551615", 20) <= 0);
+}
+
+void say_identifiers(text *to, const char *bytes, size_t length) {
+    const char *end = bytes + length;
+    while (length > 0) {
+        const char *dot = (const char *)memchr(bytes, '.', (size_t)(end - bytes));
+        const char *stop = dot != NULL ? dot : end;
+        text_say(to, is_number(bytes, (size_t)(stop - bytes)) ? "Numeric(" : "AlphaNumeric(");
+        text_add(to, bytes, (size_t)(stop - bytes));
+        text_say(to, ")");
+        if (dot == NULL) {
+            return;
+        }
+        text_say(to, " ");
+        bytes = dot + 1;
+    }
+}
+
+void say_fields(text *to, const text *of, const semver_parser_version *read) {
+    text_say(to, "%" PRIu64 " %" PRIu64 " %" PRIu64 " pre[", read->major, read->minor, read->patch);
+    say_identifiers(to, of->bytes + read->pre.offset, read->pre.length);
+    text_say(to, "] build[");
+    say_identifiers(to, of->bytes + read->build.offset, read->build.length);
+    text_say(to, "]");
 }

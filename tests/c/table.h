@@ -2,6 +2,7 @@
 #ifndef TABLE_H
 #define TABLE_H
 
+#include "../../crates/semver_parser_c/include/semver_parser.h"
 #include "texts.h"
 
 /* The files of the table, and where the next row begins in each. */
@@ -28,5 +29,11 @@ void table_free(table *it);
  * so does a file that ends before the other. */
 bool next_row(table *of, row *next);
 void row_free(row *it);
+
+/* Writes identifiers, which are joined by dots, as the table has them: by their variants. */
+void say_identifiers(text *to, const char *bytes, size_t length);
+
+/* Writes the fields of a version that was read from a text. */
+void say_fields(text *to, const text *of, const semver_parser_version *read);
 
 #endif

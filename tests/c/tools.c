@@ -3,7 +3,9 @@
  * `-as-npm`: `rewritten-as-npm` has a range text, of which the table has what it is rewritten to,
  * or the word of its error; `meant-as-npm` has versions too, of which the table has those that the
  * range means by the tool's own rule for pre-releases, and `meant-with-all-as-npm` those that it
- * means with all pre-releases. Ends with status 1 if a row differs or a call has few rows. */
+ * means with all pre-releases; `version-as-npm` has a version text, of which the table has the
+ * fields, or `none`. Of a call that begins with `sum-of-` the table has the checksum of the answer.
+ * Ends with status 1 if a row differs or a call has few rows. */
 #include "calls.h"
 #include "table.h"
 
@@ -11,11 +13,12 @@
 #include <stdio.h>
 #include <string.h>
 
-/* What a call asks: which versions are meant by a rule, or what a range is rewritten to. */
-enum { REWRITTEN = -1 };
+/* What a call asks: which versions are meant by a rule, what a range is rewritten to, or what a
+ * version is. */
+enum { REWRITTEN = -1, VERSION = -2 };
 
-/* A call of the table, its reading, its rule for pre-releases or REWRITTEN, how many rows it has at
- * least, and how many of them passed and failed. */
+/* A call of the table, its reading, its rule for pre-releases, REWRITTEN or VERSION, how many rows
+ * it has at least, and how many of them passed and failed. */
 typedef struct {
     const char *name;
     int32_t reading;
@@ -39,14 +42,25 @@ static text string(const char *bytes, size_t length) {
     return made;
 }
 
-/* Whether a version text has a pre-release. */
+/* Whether a version has a pre-release. Each text here is a version by Cargo's own reading. */
 static bool has_pre_release(const text *version) {
     semver_parser_version read;
-    return read_version(version, &read) == SEMVER_PARSER_OK && read.pre.length > 0;
+    return read_version(version, SEMVER_PARSER_CARGO, &read) == SEMVER_PARSER_OK
+           && read.pre.length > 0;
+}
+
+/* Whether a number of a version is too large for npm, which doesn't read it then. */
+static bool is_too_large(const text *version, int32_t reading) {
+    const uint64_t most = 9007199254740991;
+    semver_parser_version read;
+    return reading == SEMVER_PARSER_NPM
+           && read_version(version, SEMVER_PARSER_CARGO, &read) == SEMVER_PARSER_OK
+           && (read.major > most || read.minor > most || read.patch > most);
 }
 
 /* Writes those versions of a list that meet a range by a rule, as the table does, or the word of
- * the range's fault. The versions are parted by spaces. */
+ * the range's fault. The versions are parted by spaces. Those that are too large for npm have to be
+ * refused. */
 static void say_meant(text *to, const text *range, int32_t reading, int32_t rule,
                       const char *list) {
     text_say(to, "means");
@@ -54,7 +68,9 @@ static void say_meant(text *to, const text *range, int32_t reading, int32_t rule
         size_t length = strcspn(list, " ");
         text version = string(list, length);
         int32_t answer = meets(range, reading, rule, &version);
-        if (answer == SEMVER_PARSER_MEETS) {
+        if (answer == SEMVER_PARSER_NOT_A_VERSION && is_too_large(&version, reading)) {
+            answer = SEMVER_PARSER_DOES_NOT_MEET;
+        } else if (answer == SEMVER_PARSER_MEETS) {
             text_say(to, " ");
             text_add(to, version.bytes, version.length);
         } else if (answer != SEMVER_PARSER_DOES_NOT_MEET) {
@@ -69,14 +85,15 @@ static void say_meant(text *to, const text *range, int32_t reading, int32_t rule
     }
 }
 
-/* What the table has, without the versions that have a pre-release. */
-static text releases_of(const char *expected) {
+/* What the table has, without the versions that are too large for npm, and without those that have
+ * a pre-release where releases alone are asked for. */
+static text wanted_of(const char *expected, int32_t reading, bool releases) {
     text kept = {NULL, 0, 0};
     text_add(&kept, "", 0);
     while (*expected != 0) {
         size_t length = strcspn(expected, " ");
         text word = string(expected, length);
-        if (!has_pre_release(&word)) {
+        if (!is_too_large(&word, reading) && !(releases && has_pre_release(&word))) {
             text_say(&kept, kept.length > 0 ? " " : "");
             text_add(&kept, word.bytes, word.length);
         }
@@ -102,9 +119,11 @@ static bool replay_meaning(const row *of, int32_t reading, int32_t rule) {
     text alone = {NULL, 0, 0};
     say_meant(&by_rule, &of->of, reading, rule, of->steps.bytes);
     say_meant(&alone, &of->of, reading, SEMVER_PARSER_RELEASES_ALONE, of->steps.bytes);
-    text releases = releases_of(of->expected);
-    bool passed = is_answer(&by_rule, of->expected, of, "by the rule of the call")
+    text all = wanted_of(of->expected, reading, false);
+    text releases = wanted_of(of->expected, reading, true);
+    bool passed = is_answer(&by_rule, all.bytes, of, "by the rule of the call")
                   && is_answer(&alone, releases.bytes, of, "among releases only");
+    text_free(&all);
     text_free(&releases);
     text_free(&alone);
     text_free(&by_rule);
@@ -126,17 +145,46 @@ static bool replay_rewriting(const row *of, int32_t reading) {
     return passed;
 }
 
+static const char sum[] = "sum-of-";
+
+static bool is_sum(const char *call) { return strncmp(call, sum, strlen(sum)) == 0; }
+
+/* Replays a row on what a version is. */
+static bool replay_version(const row *of, int32_t reading) {
+    text fields = {NULL, 0, 0};
+    text checksum = {NULL, 0, 0};
+    semver_parser_version read;
+    int32_t answer = read_version(&of->of, reading, &read);
+    if (answer == SEMVER_PARSER_OK) {
+        say_fields(&fields, &of->of, &read);
+    } else {
+        text_say(&fields, answer == SEMVER_PARSER_NOT_A_VERSION ? "none" : "another number");
+    }
+    text_say_sum(&checksum, &fields);
+    bool passed =
+        is_answer(is_sum(of->call) ? &checksum : &fields, of->expected, of, "by the tool");
+    text_free(&fields);
+    text_free(&checksum);
+    return passed;
+}
+
 /* Replays a row of a call, and counts it. */
 static void replay(tool_call *by, const row *of) {
     bool passed = by->rule == REWRITTEN ? replay_rewriting(of, by->reading)
+                  : by->rule == VERSION ? replay_version(of, by->reading)
                                         : replay_meaning(of, by->reading, by->rule);
     by->passed += passed;
     by->failed += !passed;
 }
 
-/* The call of a name, or NULL. */
+/* The call of a name, or NULL. There are checksums of what a version is alone. */
 static tool_call *call_of(tool_call *calls, int count, const char *name) {
+    bool by_sum = is_sum(name);
+    name += by_sum ? strlen(sum) : 0;
     for (int at = 0; at < count; at++) {
+        if (by_sum && calls[at].rule != VERSION) {
+            continue;
+        }
         if (strcmp(name, calls[at].name) == 0) {
             return &calls[at];
         }
@@ -161,9 +209,11 @@ int main(int count, char **arguments) {
         {"rewritten-as-cargo", SEMVER_PARSER_CARGO, REWRITTEN, 81, 0, 0},
         {"meant-as-cargo", SEMVER_PARSER_CARGO, own, 50, 0, 0},
         {"meant-with-all-as-cargo", SEMVER_PARSER_CARGO, all, 50, 0, 0},
+        {"version-as-cargo", SEMVER_PARSER_CARGO, VERSION, 60, 0, 0},
         {"rewritten-as-npm", SEMVER_PARSER_NPM, REWRITTEN, 81, 0, 0},
         {"meant-as-npm", SEMVER_PARSER_NPM, own, 50, 0, 0},
         {"meant-with-all-as-npm", SEMVER_PARSER_NPM, all, 50, 0, 0},
+        {"version-as-npm", SEMVER_PARSER_NPM, VERSION, 100, 0, 0},
     };
     const int call_count = sizeof calls / sizeof *calls;
     bool passed = true;

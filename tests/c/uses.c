@@ -5,7 +5,7 @@
 #include <stdio.h>
 #include <string.h>
 
-#if SEMVER_PARSER_VERSION_MAJOR != 0 || SEMVER_PARSER_VERSION_MINOR < 3                            \
+#if SEMVER_PARSER_VERSION_MAJOR != 0 || SEMVER_PARSER_VERSION_MINOR < 4                            \
     || SEMVER_PARSER_VERSION_PATCH < 0
 #error "the version of another library"
 #endif
@@ -55,7 +55,7 @@ static int use_meeting(void) {
         != SEMVER_PARSER_OK) {
         return 1;
     }
-    return answers[0] == SEMVER_PARSER_MEETS && answers[1] == SEMVER_PARSER_UNEXPECTED_END ? 0 : 1;
+    return answers[0] == SEMVER_PARSER_MEETS && answers[1] == SEMVER_PARSER_NOT_A_VERSION ? 0 : 1;
 }
 
 static int use_least(void) {
@@ -72,14 +72,16 @@ static int use_least(void) {
 static int use_precedence(void) {
     int32_t order = 0;
     bool in_other = false;
-    if (semver_parser_precedence(bytes_of("1.2.3-rc.4"), 10, bytes_of("1.2.3-rc.11"), 11, &order,
-            &in_other) != SEMVER_PARSER_OK ||
-        order != -1) {
+    if (semver_parser_precedence(bytes_of("1.2.3-rc.4"), 10, bytes_of("1.2.3-rc.11"), 11,
+            SEMVER_PARSER_CARGO, &order, &in_other)
+            != SEMVER_PARSER_OK
+        || order != -1) {
         return 1;
     }
-    return semver_parser_precedence(bytes_of("1.2.3"), 5, NULL, 0, &order, &in_other) ==
-                       SEMVER_PARSER_UNEXPECTED_END &&
-                   in_other
+    return semver_parser_precedence(
+               bytes_of("1.2.3"), 5, NULL, 0, SEMVER_PARSER_CRATE_NPM, &order, &in_other)
+                       == SEMVER_PARSER_UNEXPECTED_END
+                   && in_other
                ? 0
                : 1;
 }
@@ -107,9 +109,10 @@ static int use_compare(void) {
 
 int main(void) {
     semver_parser_version version;
-    int32_t answer = semver_parser_parse_version(bytes_of("1.2"), 3, &version);
+    int32_t answer =
+        semver_parser_parse_version(bytes_of("1.2"), 3, SEMVER_PARSER_NPM, &version);
     int failed = strcmp(semver_parser_library_version(), SEMVER_PARSER_VERSION) != 0 ||
-                 answer != SEMVER_PARSER_UNEXPECTED_END;
+                 answer != SEMVER_PARSER_NOT_A_VERSION;
     failed |= use_rewriting() | use_meeting() | use_least() | use_precedence() | use_compare();
     printf("uses: %s\n", failed ? "failed" : "passed");
     return failed;

@@ -29,14 +29,15 @@ static const semver_parser_text *texts_at(const semver_parser_text *texts, size_
 }
 
 int32_t semver_parser_parse_version(
-    const uint8_t *text, size_t text_length, semver_parser_version *out) {
-    return semver_parser_proved_parse_version(text_at(text, text_length), text_length, out);
+    const uint8_t *text, size_t text_length, int32_t reading, semver_parser_version *out) {
+    return semver_parser_proved_parse_version(
+        text_at(text, text_length), text_length, reading, out);
 }
 
 int32_t semver_parser_precedence(const uint8_t *version, size_t version_length,
-    const uint8_t *other, size_t other_length, int32_t *order, bool *in_other) {
+    const uint8_t *other, size_t other_length, int32_t reading, int32_t *order, bool *in_other) {
     return semver_parser_proved_precedence(text_at(version, version_length), version_length,
-        text_at(other, other_length), other_length, order, in_other);
+        text_at(other, other_length), other_length, reading, order, in_other);
 }
 
 int32_t semver_parser_rewrite(const uint8_t *text, size_t text_length, int32_t reading, bool exact,
@@ -159,6 +160,7 @@ const char *semver_parser_fault_text(int32_t answer) {
     case SEMVER_PARSER_NEW_NUMBER_TOO_LARGE: return "the new range has a number that is too large";
     case SEMVER_PARSER_NEW_RANGE_OUT_OF_MEMORY: return "out of memory at two ranges";
     case SEMVER_PARSER_NO_SUCH_READING: return "no reading of range texts has this number";
+    case SEMVER_PARSER_NOT_A_VERSION: return "not a version";
     default: return "no call answers this number";
     }
 }

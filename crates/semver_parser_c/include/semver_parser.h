@@ -55,11 +55,11 @@
 
 /* The version of the library that this header belongs to. While the first number is 0 a call may
  * change, and the second number is raised where one does: since 0.3 the calls that read a range
- * take the number of a reading in place of a mode. */
+ * take the number of a reading in place of a mode, and since 0.4 those that read a version do. */
 #define SEMVER_PARSER_VERSION_MAJOR 0
-#define SEMVER_PARSER_VERSION_MINOR 3
-#define SEMVER_PARSER_VERSION_PATCH 2
-#define SEMVER_PARSER_VERSION "0.3.2"
+#define SEMVER_PARSER_VERSION_MINOR 4
+#define SEMVER_PARSER_VERSION_PATCH 0
+#define SEMVER_PARSER_VERSION "0.4.0"
 
 #ifdef __cplusplus
 extern "C" {
@@ -70,7 +70,8 @@ enum {
     /* What was asked for was done. */
     SEMVER_PARSER_OK = 0,
 
-    /* Faults of a version text. */
+    /* Faults of a version text: the first one by each reading, then those by the crate's two. By
+     * Cargo's own and npm's own there is SEMVER_PARSER_NOT_A_VERSION in place of these. */
 
     /* The bytes aren't UTF-8. */
     SEMVER_PARSER_VERSION_NOT_UTF8 = 2,
@@ -124,18 +125,27 @@ enum {
     /* Another fault of a call. */
 
     /* No reading of range texts has that number. */
-    SEMVER_PARSER_NO_SUCH_READING = 20
+    SEMVER_PARSER_NO_SUCH_READING = 20,
+
+    /* Another fault of a version text. */
+
+    /* By Cargo's own reading or npm's own: the text is no version to the tool, as `1.2.3-01`. */
+    SEMVER_PARSER_NOT_A_VERSION = 21
 };
 
-/* The readings of range texts, one of which is passed as `reading` (docs/MEANING.md, "Whose
- * reading?"). */
+/* The readings of range texts and of version texts, one of which is passed as `reading`
+ * (docs/MEANING.md, "Whose reading?"). */
 enum {
-    /* Cargo's own: `1.2` means `>=1.2.0 <2.0.0`, and commas part comparators. */
+    /* Cargo's own: `1.2` means `>=1.2.0 <2.0.0`, and commas part comparators. Its versions are
+     * those of SemVer 2.0.0. */
     SEMVER_PARSER_CARGO = 0,
-    /* npm's own: `1.2` means `>=1.2.0 <1.3.0`, and `>1.2` means `>=1.3.0`. */
+    /* npm's own: `1.2` means `>=1.2.0 <1.3.0`, and `>1.2` means `>=1.3.0`. Its versions are those
+     * of SemVer 2.0.0 with numbers up to 2^53 - 1, after `v` or nothing and between any white
+     * space. */
     SEMVER_PARSER_NPM = 1,
     /* That of the Rust crate semver-parser in its Cargo mode, which differs from Cargo's own: `1.2`
-     * means `>=1.2.0 <1.3.0`, and `>1.2` means `>1.2.0`. */
+     * means `>=1.2.0 <1.3.0`, and `>1.2` means `>1.2.0`. Its versions have no two hyphens in a row
+     * and none at an identifier's ends, and may have leading zeros in a pre-release. */
     SEMVER_PARSER_CRATE_CARGO = 2,
     /* That of the same crate in its npm mode, which differs from npm's own: `>1.2` means `>1.2.0`.
      * It reads as the one before, but that `1.2.3` means `=1.2.3`. */
@@ -246,17 +256,22 @@ const char *semver_parser_library_version(void);
  * Never null; it ends with a zero byte. */
 const char *semver_parser_fault_text(int32_t answer);
 
-/* Reads a version text of `text_length` bytes into `out`, which is never null.
+/* Reads a version text of `text_length` bytes into `out`, which is never null. `reading` is the
+ * number of a reading: docs/GRAMMAR.md has the versions of each.
  *
  * `1.2.3-rc.1+b5` gives 1, 2 and 3, the pre-release at offset 6 with length 4, and the build at
- * offset 11 with length 2. Spaces, tabs, line feeds and carriage returns may stand before the
- * version and behind it; the offsets count from the start of the text all the same.
+ * offset 11 with length 2. By npm's own reading and the crate's two there may be white space before
+ * and after the version; the offsets count from the start of the text all the same.
  *
  * Answers
  * - SEMVER_PARSER_OK exactly where the text spells a version. Then `out` has its numbers and parts.
- * - SEMVER_PARSER_VERSION_NOT_UTF8 exactly where the bytes aren't UTF-8.
- * - SEMVER_PARSER_UNEXPECTED_END, _UNEXPECTED_TOKEN, _UNEXPECTED_CHAR or _MORE_INPUT: the one fault
- *   that any other text has, want of memory aside.
+ * - SEMVER_PARSER_NO_SUCH_READING exactly where `reading` is the number of no reading, whatever the
+ *   text is.
+ * - SEMVER_PARSER_VERSION_NOT_UTF8 exactly where there is such a reading, and the bytes aren't
+ *   UTF-8.
+ * - By Cargo's own reading and npm's own SEMVER_PARSER_NOT_A_VERSION for any other text. By the
+ *   crate's two SEMVER_PARSER_UNEXPECTED_END, _UNEXPECTED_TOKEN, _UNEXPECTED_CHAR or _MORE_INPUT:
+ *   the one fault that any other text has, want of memory aside.
  * - SEMVER_PARSER_VERSION_OUT_OF_MEMORY never for a version: only in place of one of these four,
  *   where the text has an identifier of a pre-release or a build, or in place of _MORE_INPUT.
  *
@@ -266,11 +281,11 @@ const char *semver_parser_fault_text(int32_t answer);
  * front of it; or, where a version is followed by something else, for the tokens behind it that
  * tell SEMVER_PARSER_MORE_INPUT, 24 bytes for each byte.
  */
-int32_t semver_parser_parse_version(const uint8_t *text, size_t text_length,
+int32_t semver_parser_parse_version(const uint8_t *text, size_t text_length, int32_t reading,
                                     semver_parser_version *out);
 
-/* How a version text compares with another by precedence (SemVer 2.0.0, section 11). Neither
- * `order` nor `in_other` is null.
+/* How a version text compares with another by precedence (SemVer 2.0.0, section 11). Both are read
+ * by the reading of the number `reading`. Neither `order` nor `in_other` is null.
  *
  * 1.2.3-rc.4 is below 1.2.3-rc.11, and that is below 1.2.3. Builds don't count: 1.2.3+a and 1.2.3+b
  * are equal by precedence.
@@ -278,21 +293,24 @@ int32_t semver_parser_parse_version(const uint8_t *text, size_t text_length,
  * Answers
  * - SEMVER_PARSER_OK exactly where both texts spell versions, want of memory aside. Then `order` is
  *   -1 where the version is below the other one, 0 where both are equal, and 1 where it is above.
+ * - SEMVER_PARSER_NO_SUCH_READING exactly where `reading` is the number of no reading, whatever the
+ *   texts are.
  * - A fault of one of the texts, as those of `semver_parser_parse_version`:
- *   SEMVER_PARSER_VERSION_NOT_UTF8, _UNEXPECTED_END, _UNEXPECTED_TOKEN, _UNEXPECTED_CHAR,
- *   _MORE_INPUT or _VERSION_OUT_OF_MEMORY. `in_other` is then whether it is that of `other`: the
- *   first text is read first, so it holds exactly where that spells a version. Of two versions the
- *   answer is SEMVER_PARSER_VERSION_OUT_OF_MEMORY only where the other one has a pre-release.
+ *   SEMVER_PARSER_VERSION_NOT_UTF8, _NOT_A_VERSION, _UNEXPECTED_END, _UNEXPECTED_TOKEN,
+ *   _UNEXPECTED_CHAR, _MORE_INPUT or _VERSION_OUT_OF_MEMORY. `in_other` is then whether it is that
+ *   of `other`: the first text is read first, so it holds exactly where that spells a version. Of
+ *   two versions the answer is SEMVER_PARSER_VERSION_OUT_OF_MEMORY only where the other one has a
+ *   pre-release.
  *
- * After any answer but SEMVER_PARSER_OK `order` is as it was, and after SEMVER_PARSER_OK `in_other`
+ * After any answer but SEMVER_PARSER_OK `order` is as it was, and after the first two `in_other`
  * is.
  *
  * Memory: none for the first version, and the identifiers of the other one's pre-release. A build
  * takes none.
  */
 int32_t semver_parser_precedence(const uint8_t *version, size_t version_length,
-                                 const uint8_t *other, size_t other_length, int32_t *order,
-                                 bool *in_other);
+                                 const uint8_t *other, size_t other_length, int32_t reading,
+                                 int32_t *order, bool *in_other);
 
 /* Rewrites a range text of `text_length` bytes into plain comparators, and prints them into the
  * `room` bytes at `out`. `length` is never null.
@@ -357,8 +375,9 @@ int32_t semver_parser_comparators(const uint8_t *text, size_t text_length, int32
                                   size_t comparator_room, size_t *count, uint8_t *out, size_t room,
                                   size_t *length);
 
-/* Whether a version text meets a range text. `reading` is the number of a reading, and
- * `pre_releases` that of a rule for pre-releases that the reading has. `meets` is never null.
+/* Whether a version text meets a range text. `reading` is the number of a reading, by which both
+ * texts are read, and `pre_releases` that of a rule for pre-releases that the reading has. `meets`
+ * is never null.
  *
  * It goes by what the range means by itself (docs/MEANING.md), and not by the comparators that it
  * is rewritten to. A build never counts.
@@ -374,8 +393,8 @@ int32_t semver_parser_comparators(const uint8_t *text, size_t text_length, int32
  *   SEMVER_PARSER_RANGE_NOT_UTF8, _NOT_A_RANGE, _NUMBER_TOO_LARGE or _RANGE_OUT_OF_MEMORY. The
  *   range is read first.
  * - Where the range has none, a fault of the version, as those of `semver_parser_parse_version`:
- *   SEMVER_PARSER_VERSION_NOT_UTF8, _UNEXPECTED_END, _UNEXPECTED_TOKEN, _UNEXPECTED_CHAR,
- *   _MORE_INPUT or _VERSION_OUT_OF_MEMORY.
+ *   SEMVER_PARSER_VERSION_NOT_UTF8, _NOT_A_VERSION, _UNEXPECTED_END, _UNEXPECTED_TOKEN,
+ *   _UNEXPECTED_CHAR, _MORE_INPUT or _VERSION_OUT_OF_MEMORY.
  *
  * After any answer but SEMVER_PARSER_OK `meets` is as it was.
  *
@@ -394,9 +413,9 @@ int32_t semver_parser_meets(const uint8_t *range, size_t range_length, int32_t r
  * - SEMVER_PARSER_OK exactly where there is such a reading, it has that rule, and the range is
  *   read, want of memory aside. Then each byte of `answers` is what there is to say of the text at
  *   the same place of `versions`: SEMVER_PARSER_MEETS, SEMVER_PARSER_DOES_NOT_MEET, or its fault:
- *   SEMVER_PARSER_VERSION_NOT_UTF8, _UNEXPECTED_END, _UNEXPECTED_TOKEN, _UNEXPECTED_CHAR,
- *   _MORE_INPUT or _VERSION_OUT_OF_MEMORY. One text's want of memory leaves the others' answers as
- *   they are.
+ *   SEMVER_PARSER_VERSION_NOT_UTF8, _NOT_A_VERSION, _UNEXPECTED_END, _UNEXPECTED_TOKEN,
+ *   _UNEXPECTED_CHAR, _MORE_INPUT or _VERSION_OUT_OF_MEMORY. One text's want of memory leaves the
+ *   others' answers as they are.
  * - SEMVER_PARSER_NO_SUCH_READING, _NO_SUCH_RULE, _RANGE_NOT_UTF8, _NOT_A_RANGE, _NUMBER_TOO_LARGE
  *   or _RANGE_OUT_OF_MEMORY, as of `semver_parser_meets`.
  *

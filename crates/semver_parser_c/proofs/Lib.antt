@@ -1,6 +1,7 @@
 mod ToldComparators
 mod Steps
 mod RangeFaults
+mod Dialects
 mod LeastVersions
 mod ComparedVersions
 mod OneAnswer

@@ -1,22 +1,23 @@
 -- What the clauses of a call say of two answers, they say of one.
-use Rattle.std.proofs.Common.{◌≡◌, ◌≢◌, ◌⊎◌, ◌↔◌, ◌∙◌, ◌++◌, ℤ, Bool, true, false, List, [], ◌∷◌, Result, Err, arith, refl, sym, ap, ⊎_elim, inl, inr}
+use Rattle.std.proofs.Common.{◌≡◌, ◌≢◌, ◌⊎◌, ◌↔◌, ◌∙◌, ◌++◌, ℤ, Bool, true, false, List, [], ◌∷◌, arith, refl, sym, ap, ⊎_elim, inl, inr}
 use Rattle.std.proofs.Common.{to_z, of_z, w32}
 use Rattle.std.specs.Prelude.{⊤, IsUtf8, not, ◌&&◌, ◌||◌}
 use Rattle.std.specs.Bool.{Decides}
 use Rattle.std.specs.Ordering.{int_eq}
 use Rattle.std.proofs.lemmas.Bool.Decides.{Decides-int_eq, Decides-or, not_from_Decides}
 use Rattle.semver_parser.specs.Texts.{Text}
-use Rattle.semver_parser.specs.Versions.{VersionValue}
-use Rattle.semver_parser.specs.VersionGrammar.{IsVersionText}
-use Rattle.semver_parser.specs.VersionReading.{IsOutcomeOf}
-use Rattle.semver_parser.specs.ParserState.{Fault}
+use Rattle.semver_parser.specs.ToolVersions.{IsVersionTextIn}
+use Rattle.semver_parser.specs.declared.version.Dialect.{Dialect}
+use Rattle.semver_parser.specs.declared.version.Dialect.TheVariants as dialect
 use Rattle.semver_parser.proofs.WholeText.{one_outcome}
 use Rattle.tool_ranges.specs.declared.reading.Reading.{Reading}
 use Rattle.tool_ranges.specs.Meanings.{reading_of}
-use Rattle.tool_ranges.specs.Readings.{fits_as}
+use Rattle.tool_ranges.specs.Readings.{dialect_of, fits_as}
+use Rattle.semver_parser_c.specs.Readings.{IsDialect, IsReading}
 use Rattle.semver_parser_c.specs.Numbers as number
 use Rattle.semver_parser_c.specs.Faults.{IsAccepted, IsOneOf, RangeNumbers, RefusesBy, RefusesRange, RefusesText}
-use Rattle.semver_parser_c.specs.Faults.{new_range_numbers, fault_number, outcome_number, range_numbers}
+use Rattle.semver_parser_c.specs.Faults.{HasOutcomeIn, RefusedIn, new_range_numbers, outcome_number, range_numbers}
+use Rattle.semver_parser_c.proofs.Dialects.{refused_outcome}
 use Rattle.semver_parser_c.specs.OneAnswer.{AreOne, IsMemory, memory_numbers}
 
 -- tests of lists of numbers, which compute where a law names the lists: one has the number, one has each of another, and none
@@ -94,26 +95,44 @@ uncast n m e e' one = rw (e, e') one
 
 -- ---- version texts
 
--- the number is that of an outcome of what is no version, unless memory ran out
-abbrev pub HasOutcome : Text → ℤ → Type 0
-HasOutcome text n = IsUtf8 text → ¬ (IsVersionText text) → n ≢ number.version_out_of_memory
-    → (r : Result VersionValue Fault) × IsOutcomeOf text r × (n ≡ outcome_number r)
+-- a reading has that number, or none, and then both answers say so
+pub by_dialect : {reading : ℤ} {beside : List ℤ} {n m : ℤ} {IsSame : Type 0} → (n ≡ number.no_such_reading) ⊎ IsReading reading
+    → (m ≡ number.no_such_reading) ↔ ¬ (IsReading reading) → (n ≡ number.no_such_reading) ↔ ¬ (IsReading reading)
+    → (n ≡ number.no_such_reading → m ≡ number.no_such_reading → IsSame) → ((d : Dialect) → IsDialect d reading
+        → AreOne beside n m IsSame) → AreOne beside n m IsSame
+by_dialect (inl e) q p wrong by =
+    let e' = q.1 (p.0 e) in
+    record { same = λ _ _. (e ∙ sym e', wrong e e'); beside_memory = λ memory. grind arith }
+by_dialect (inr (r, is)) q p wrong by = by (dialect_of r) (r, is, refl)
 
-pub of_fault : (text : Text) {n : ℤ} → (IsUtf8 text → ¬ (IsVersionText text) → n ≢ number.version_out_of_memory
-    → (e : Fault) × IsOutcomeOf text (Err e) × (n ≡ fault_number e)) → HasOutcome text n
-of_fault text refused utf8 none found = let (e, is, eq) = refused utf8 none found in (Err e, is, eq)
+-- the number is that of an outcome of what is no version in the dialect, unless memory ran out
+abbrev pub HasOutcome : Dialect → Text → ℤ → Type 0
+HasOutcome d text n = IsUtf8 text → ¬ (IsVersionTextIn d text) → n ≢ number.version_out_of_memory → HasOutcomeIn d text n
+
+pub of_fault : (d : Dialect) (text : Text) {n : ℤ} → (IsUtf8 text → ¬ (IsVersionTextIn d text) → n ≢ number.version_out_of_memory
+    → RefusedIn d text n) → HasOutcome d text n
+of_fault d text refused utf8 none found = refused_outcome d text _ none (refused utf8 none found)
+
+tool_outcome : {P : Type 0} {n m k : ℤ} → ¬ P → (P × (n ≡ k)) ⊎ ((¬ P) × (n ≡ number.not_a_version))
+    → (P × (m ≡ k)) ⊎ ((¬ P) × (m ≡ number.not_a_version)) → n ≡ m
+tool_outcome none (inl is) q = absurd (none is.0)
+tool_outcome none (inr e) (inl is) = absurd (none is.0)
+tool_outcome none (inr e) (inr e') = e.1 ∙ sym e'.1
+
+same_outcome : (d : Dialect) (text : Text) {n m : ℤ} → ¬ (IsVersionTextIn d text) → HasOutcomeIn d text n → HasOutcomeIn d text m → n ≡ m
+same_outcome dialect.Crate text none (r, is, e) (s, is', e') = e ∙ ap outcome_number (one_outcome text r s is is') ∙ sym e'
+same_outcome dialect.Cargo text none p q = tool_outcome none p q
+same_outcome dialect.Npm text none p q = tool_outcome none p q
 
 -- two numbers of a text that tell bytes that are no UTF-8 exactly, and else the outcome of what is no version
-pub version_once : (text : Text) {n m : ℤ} → (n ≡ number.version_not_utf8) ↔ ¬ (IsUtf8 text)
-    → (m ≡ number.version_not_utf8) ↔ ¬ (IsUtf8 text) → (IsUtf8 text → IsVersionText text → n ≡ m) → HasOutcome text n
-    → HasOutcome text m → ¬ (IsMemory n) → ¬ (IsMemory m) → n ≡ m
-version_once text u u' read p q some some' =
+pub version_once : (d : Dialect) (text : Text) {n m : ℤ} → (n ≡ number.version_not_utf8) ↔ ¬ (IsUtf8 text)
+    → (m ≡ number.version_not_utf8) ↔ ¬ (IsUtf8 text) → (IsUtf8 text → IsVersionTextIn d text → n ≡ m) → HasOutcome d text n
+    → HasOutcome d text m → ¬ (IsMemory n) → ¬ (IsMemory m) → n ≡ m
+version_once d text u u' read p q some some' =
     known (λ other.
     other (carried u u' (u.1 (λ utf8.
-    let none : ¬ (IsVersionText text) = λ is. other (read utf8 is) in
-    let (r, is, e) = p utf8 none (λ e. some (inr (inl e))) in
-    let (s, is', e') = q utf8 none (λ e. some' (inr (inl e))) in
-    other (e ∙ ap outcome_number (one_outcome text r s is is') ∙ sym e')))))
+    let none : ¬ (IsVersionTextIn d text) = λ is. other (read utf8 is) in
+    other (same_outcome d text none (p utf8 none (λ e. some (inr (inl e)))) (q utf8 none (λ e. some' (inr (inl e)))))))))
 
 -- ---- range texts
 

@@ -1,9 +1,11 @@
 -- Which number stands for which fault and answer, and what is refused by which.
-use Rattle.std.specs.Prelude.{ℤ, Bool, false, ◌≡◌, ◌≢◌, ◌⊎◌, ◌↔◌, ⊤, IsTrue, IsUtf8, List}
-use Rattle.std.specs.Prelude.{[], ◌∷◌, Result, Ok, Err}
+use Rattle.std.specs.Prelude.{ℤ, Bool, false, ◌≡◌, ◌≢◌, ◌⊎◌, ◌↔◌, ◌<◌, ⊤, IsTrue, IsUtf8}
+use Rattle.std.specs.Prelude.{List, [], ◌∷◌, Result, Ok, Err, length}
 use Rattle.semver_parser.specs.Texts.{Text}
 use Rattle.semver_parser.specs.Versions.{VersionValue}
-use Rattle.semver_parser.specs.VersionGrammar.{SpellsVersion}
+use Rattle.semver_parser.specs.ToolVersions.{IsVersionTextIn, SpellsIn}
+use Rattle.semver_parser.specs.declared.version.Dialect.{Dialect}
+use Rattle.semver_parser.specs.declared.version.Dialect.TheVariants as dialect
 use Rattle.semver_parser.specs.VersionReading.{IsOutcomeOf, TextMayRunOut}
 use Rattle.semver_parser.specs.declared.RangeError.{RangeError}
 use Rattle.semver_parser.specs.declared.RangeError.TheVariants as range_error
@@ -50,7 +52,8 @@ IsOneOf (m ∷ ms) n = (n ≡ m) ⊎ IsOneOf ms n
 abbrev pub version_faults : List ℤ
 version_faults =
     number.version_not_utf8 ∷ number.unexpected_end ∷ number.unexpected_token
-    ∷ number.unexpected_char ∷ number.more_input ∷ number.version_out_of_memory ∷ []
+    ∷ number.unexpected_char ∷ number.more_input ∷ number.version_out_of_memory
+    ∷ number.not_a_version ∷ []
 
 -- the numbers of the faults of a range text
 pub record RangeNumbers : Type 0 where
@@ -136,16 +139,46 @@ abbrev pub RefusesNewRange : Type 0 → ℤ → ℤ → Text → ℤ → Type 0
 RefusesNewRange Asked reading rule text n = (m : Meaning) → IsNamed m reading rule
     → RefusesBy new_range_numbers Asked (reading_of m) text n
 
+-- the number is the error of a text that spells no version: in the crate's dialect that of its
+-- outcome, in a tool's the one that there is
+abbrev pub RefusedIn : Dialect → Text → ℤ → Type 0
+RefusedIn dialect.Crate text n = (e : Fault) × IsOutcomeOf text (Err e) × (n ≡ fault_number e)
+RefusedIn dialect.Cargo text n = n ≡ number.not_a_version
+RefusedIn dialect.Npm text n = n ≡ number.not_a_version
+
+-- a text spells a version, or it has the one error
+abbrev pub HasToolOutcome : Dialect → Text → ℤ → Type 0
+HasToolOutcome d text n = (IsVersionTextIn d text × (n ≡ number.ok))
+    ⊎ ((¬ (IsVersionTextIn d text)) × (n ≡ number.not_a_version))
+
+-- it spells a version with a pre-release
+abbrev pub HasPreRelease : Dialect → Text → Type 0
+HasPreRelease d text = (v : VersionValue) × SpellsIn d v text × (0 < length v.plain.pre)
+
+-- the number is that of the outcome of a text: it spells a version, or it has this error
+abbrev pub HasOutcomeIn : Dialect → Text → ℤ → Type 0
+HasOutcomeIn dialect.Crate text n =
+    (r : Result VersionValue Fault) × IsOutcomeOf text r × (n ≡ outcome_number r)
+HasOutcomeIn dialect.Cargo text n = HasToolOutcome dialect.Cargo text n
+HasOutcomeIn dialect.Npm text n = HasToolOutcome dialect.Npm text n
+
+-- memory may run out at a text: in the crate's dialect also where its error is sought, in a tool's
+-- at the pre-release of a version alone
+abbrev pub MayRunOutIn : Dialect → Text → Type 0
+MayRunOutIn dialect.Crate text = TextMayRunOut text
+MayRunOutIn dialect.Cargo text = HasPreRelease dialect.Cargo text
+MayRunOutIn dialect.Npm text = HasPreRelease dialect.Npm text
+
 -- what a call refuses of a version text by the number that it answers: bytes that are no UTF-8,
--- exactly; of a text that spells no version the fault that is its outcome; and a version for want
--- of memory alone. Memory runs out only where it may
-pub record RefusesVersion (text : Text) (n : ℤ) : Type 0 where
+-- exactly; a text that spells no version by its error; and a version for want of memory alone.
+-- Memory runs out only where it may
+pub record RefusesVersion (dialect : Dialect) (text : Text) (n : ℤ) : Type 0 where
   pub one : IsOneOf version_faults n
   pub not_utf8 : (n ≡ number.version_not_utf8) ↔ ¬ (IsUtf8 text)
-  pub accepted : (v : VersionValue) → IsUtf8 text → SpellsVersion v text → n ≡ version_out_of_memory
-  pub refused : IsUtf8 text → n ≢ version_out_of_memory
-      → (e : Fault) × IsOutcomeOf text (Err e) × (n ≡ fault_number e)
-  pub out_of_memory : n ≡ version_out_of_memory → TextMayRunOut text
+  pub accepted : (v : VersionValue) → IsUtf8 text → SpellsIn dialect v text
+      → n ≡ version_out_of_memory
+  pub refused : IsUtf8 text → n ≢ version_out_of_memory → RefusedIn dialect text n
+  pub out_of_memory : n ≡ version_out_of_memory → MayRunOutIn dialect text
 
 -- the text is a range that fits to a reading, and its memory was found
 pub record IsReadBy (by : RangeNumbers) (reading : Reading) (text : Text) (answer : ℤ)

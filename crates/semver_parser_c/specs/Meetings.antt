@@ -1,23 +1,21 @@
 -- What is written for each of many versions.
 use Rattle.std.specs.Prelude.{ℕ, pos, Bool, true, false, ◌≡◌, ◌≢◌, ◌⊎◌, ◌↔◌, IsUtf8}
-use Rattle.std.specs.Prelude.{Err}
 use Rattle.semver_parser.specs.Texts.{Text}
 use Rattle.semver_parser.specs.Versions.{VersionValue}
-use Rattle.semver_parser.specs.VersionGrammar.{IsVersionText, SpellsVersion}
-use Rattle.semver_parser.specs.VersionReading.{IsOutcomeOf, TextMayRunOut}
-use Rattle.semver_parser.specs.ParserState.{Fault}
+use Rattle.semver_parser.specs.ToolVersions.{IsVersionTextIn, SpellsIn}
 use Rattle.release_filter.specs.Filters.{FilterValue, passes}
 use Rattle.tool_ranges.specs.declared.meaning.Meaning.{Meaning}
-use Rattle.tool_ranges.specs.Readings.{TreeOf, SpellsAs}
+use Rattle.tool_ranges.specs.Readings.{TreeOf, SpellsAs, dialect_of}
 use Rattle.tool_ranges.specs.Meanings.{reading_of, meant_as}
 use Rattle.semver_parser_c.specs.Numbers as number
-use Rattle.semver_parser_c.specs.Faults.{IsOneOf, fault_number, version_faults}
+use Rattle.semver_parser_c.specs.Faults.{IsOneOf, MayRunOutIn, RefusedIn, version_faults}
 
--- what passes the filter is what the range text means
-abbrev pub IsFilterOf : FilterValue → Meaning → Text → Type 0
-IsFilterOf filter m range = (tree : TreeOf (reading_of m)) (v : VersionValue) (version : Text)
-    → SpellsAs (reading_of m) tree range → SpellsVersion v version
-    → passes filter v ≡ meant_as m tree v
+-- what passes the filter is what the range text means, of versions in the dialect of its reading
+pub record IsFilterOf (filter : FilterValue) (m : Meaning) (range : Text) : Type 0 where
+  pub dialect : filter.dialect ≡ dialect_of (reading_of m)
+  pub meaning : (tree : TreeOf (reading_of m)) (v : VersionValue) (version : Text)
+      → SpellsAs (reading_of m) tree range → SpellsIn (dialect_of (reading_of m)) v version
+      → passes filter v ≡ meant_as m tree v
 
 -- what is written for whether a version meets a range
 abbrev pub meeting_byte : Bool → ℕ
@@ -33,13 +31,14 @@ IsMeeting byte = (byte ≡ number.does_not_meet) ⊎ (byte ≡ number.meets)
 pub record IsAnswer (m : Meaning) (range version : Text) (byte : ℕ) : Type 0 where
   pub one : IsMeeting byte ⊎ IsOneOf version_faults (pos byte)
   pub meaning : IsMeeting byte → (tree : TreeOf (reading_of m)) (v : VersionValue)
-      → SpellsAs (reading_of m) tree range → SpellsVersion v version
+      → SpellsAs (reading_of m) tree range → SpellsIn (dialect_of (reading_of m)) v version
       → byte ≡ meeting_byte (meant_as m tree v)
-  pub read : IsMeeting byte → IsVersionText version
-  pub accepted : (v : VersionValue) → IsUtf8 version → SpellsVersion v version
-      → IsMeeting byte
+  pub read : IsMeeting byte → IsVersionTextIn (dialect_of (reading_of m)) version
+  pub accepted : (v : VersionValue) → IsUtf8 version
+      → SpellsIn (dialect_of (reading_of m)) v version → IsMeeting byte
   pub not_utf8 : (pos byte ≡ number.version_not_utf8) ↔ ¬ (IsUtf8 version)
-  pub refused : IsUtf8 version → ¬ (IsVersionText version)
+  pub refused : IsUtf8 version → ¬ (IsVersionTextIn (dialect_of (reading_of m)) version)
       → pos byte ≢ number.version_out_of_memory
-      → (e : Fault) × IsOutcomeOf version (Err e) × (pos byte ≡ fault_number e)
-  pub out_of_memory : pos byte ≡ number.version_out_of_memory → TextMayRunOut version
+      → RefusedIn (dialect_of (reading_of m)) version (pos byte)
+  pub out_of_memory : pos byte ≡ number.version_out_of_memory
+      → MayRunOutIn (dialect_of (reading_of m)) version

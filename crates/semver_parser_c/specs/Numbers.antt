@@ -82,6 +82,10 @@ new_range_out_of_memory = pos 19
 abbrev pub no_such_reading : ℤ
 no_such_reading = pos 20
 
+-- the version isn't one to the tool whose reading is asked for
+abbrev pub not_a_version : ℤ
+not_a_version = pos 21
+
 -- the readings of a range text: Cargo's own
 abbrev pub cargo : ℤ
 cargo = pos 0

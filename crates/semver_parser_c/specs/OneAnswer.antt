@@ -16,7 +16,7 @@ IsMemory n = IsOneOf memory_numbers n
 abbrev pub text_errors : List ℤ
 text_errors =
     number.unexpected_end ∷ number.unexpected_token ∷ number.unexpected_char ∷ number.more_input
-    ∷ number.version_out_of_memory ∷ []
+    ∷ number.version_out_of_memory ∷ number.not_a_version ∷ []
 
 -- two numbers are one, and so is what is told beside them, unless memory ran out; where it ran out
 -- by the first number, the other is one of these. It is said of any two answers, so also of the

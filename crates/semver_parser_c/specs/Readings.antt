@@ -9,6 +9,8 @@ use Rattle.tool_ranges.specs.declared.meaning.Meaning.{Meaning}
 use Rattle.tool_ranges.specs.declared.meaning.Meaning.TheVariants.{Cargo, CargoAll, CargoReleases}
 use Rattle.tool_ranges.specs.declared.meaning.Meaning.TheVariants.{Npm, NpmAll, NpmReleases, Crate}
 use Rattle.tool_ranges.specs.Meanings.{reading_of}
+use Rattle.tool_ranges.specs.Readings.{dialect_of}
+use Rattle.semver_parser.specs.declared.version.Dialect.{Dialect}
 use Rattle.semver_parser_c.specs.Numbers as number
 
 -- the number of a reading
@@ -17,6 +19,10 @@ reading_number reading.Cargo = number.cargo
 reading_number reading.Npm = number.npm
 reading_number (reading.Crate compat.Cargo) = number.crate_cargo
 reading_number (reading.Crate compat.Npm) = number.crate_npm
+
+-- the reading of a number has the dialect for versions
+abbrev pub IsDialect : Dialect → ℤ → Type 0
+IsDialect dialect n = (r : Reading) × (n ≡ reading_number r) × (dialect ≡ dialect_of r)
 
 -- the number of a rule of the crate's reading
 abbrev pub crate_rule_number : PreReleases → ℤ

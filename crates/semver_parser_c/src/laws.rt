@@ -14,20 +14,23 @@ use crate::{
     semver_parser_proved_meets_each, semver_parser_proved_parse_version,
     semver_parser_proved_precedence, semver_parser_proved_rewrite,
 };
+use semver_parser::laws::one_version_in;
 use std::alloc::Global;
 
 /// A text is read as one version, or has one error, in place of which memory may run out.
 pub fn one_parsed_version(
     alloc: Global,
     text: &[u8],
+    reading: i32,
     out: &mut ReadVersion,
     other_out: &mut ReadVersion,
 ) -> (i32, i32)
     requires { out.old ≡ other_out.old }
     ensures one { AreOne text_errors result.0 result.1 (out.new ≡ other_out.new) }
 {
-    let number = semver_parser_proved_parse_version(alloc, text, out);
-    let other = semver_parser_proved_parse_version(alloc, text, other_out);
+    one_version_in();
+    let number = semver_parser_proved_parse_version(alloc, text, reading, out);
+    let other = semver_parser_proved_parse_version(alloc, text, reading, other_out);
     (number, other)
 }
 
@@ -242,6 +245,7 @@ pub fn one_precedence(
     alloc: Global,
     version: &[u8],
     other: &[u8],
+    reading: i32,
     order: &mut i32,
     other_order: &mut i32,
     in_other: &mut bool,
@@ -255,11 +259,12 @@ pub fn one_precedence(
     ensures in_other { result.0 ≢ number.ok → result.1 ≢ number.ok
         → in_other.new ≡ other_in_other.new }
 {
-    let first = semver_parser_proved_precedence(alloc, version, other, order, in_other);
+    let first = semver_parser_proved_precedence(alloc, version, other, reading, order, in_other);
     let second = semver_parser_proved_precedence(
         alloc,
         version,
         other,
+        reading,
         other_order,
         other_in_other,
     );

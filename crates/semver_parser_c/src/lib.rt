@@ -19,25 +19,25 @@ mod sets;
 mod version_text;
 
 ghost use Rattle.std.specs.Prelude.{◌≡◌, ◌≢◌, ◌⊎◌, ◌↔◌, ◌<◌, ℕ, [], ◌∷◌, ◌++◌, IsTrue};
-ghost use Rattle.std.specs.Prelude.{IfSome, IsUtf8, Option, Result, drop, length, slice_get};
+ghost use Rattle.std.specs.Prelude.{IfSome, IsUtf8, Option, drop, length, slice_get};
 ghost use Rattle.std.specs.Prelude.{slice_index, take};
 ghost use Rattle.semver_parser.specs.Versions.{VersionValue};
 ghost use Rattle.semver_parser.specs.declared.version.Version.{Version};
-ghost use Rattle.semver_parser.specs.VersionGrammar.{IsVersionText, SpellsVersion};
-ghost use Rattle.semver_parser.specs.Outlines.{OutlineValue, IsOutlineOf, dotted_text};
+ghost use Rattle.semver_parser.specs.ToolVersions.{IsVersionTextIn, SpellsIn};
+ghost use Rattle.semver_parser.specs.declared.version.Dialect.{Dialect};
+ghost use Rattle.semver_parser.specs.Outlines.{OutlineValue, IsOutlineIn, dotted_text};
 ghost use Rattle.semver_parser.specs.Precedence.{precedence};
-ghost use Rattle.semver_parser.specs.VersionReading.{IsOutcomeOf, TextMayRunOut};
-ghost use Rattle.semver_parser.specs.ParserState.{Fault};
 ghost use Rattle.semver_parser.specs.PrintedRanges.{set_text};
 ghost use Rattle.tool_ranges.specs.declared.reading.Reading.{Reading};
 ghost use Rattle.tool_ranges.specs.declared.meaning.Meaning.{Meaning};
-ghost use Rattle.tool_ranges.specs.Readings.{SpellsAs, TreeOf, fits_as};
+ghost use Rattle.tool_ranges.specs.Readings.{SpellsAs, TreeOf, dialect_of, fits_as};
 ghost use Rattle.tool_ranges.specs.Meanings.{meant_as, reading_of};
 ghost use Rattle.semver_parser_c.specs.Numbers as number;
-ghost use Rattle.semver_parser_c.specs.Readings.{IsNamed, reading_number};
+ghost use Rattle.semver_parser_c.specs.Readings.{IsDialect, IsNamed, IsReading, reading_number};
 ghost use Rattle.semver_parser_c.specs.Faults.{IsAccepted, IsOneOf, NewRangeIsRead, RangeIsRead};
 ghost use Rattle.semver_parser_c.specs.Faults.{RefusesNewRange, RefusesRange, RefusesText};
-ghost use Rattle.semver_parser_c.specs.Faults.{named_faults, new_range_faults, outcome_number};
+ghost use Rattle.semver_parser_c.specs.Faults.{HasOutcomeIn, MayRunOutIn, RefusedIn};
+ghost use Rattle.semver_parser_c.specs.Faults.{named_faults, new_range_faults};
 ghost use Rattle.semver_parser_c.specs.Faults.{range_faults, set_for};
 ghost use Rattle.semver_parser_c.specs.Faults.{RefusesVersion, version_faults};
 ghost use Rattle.semver_parser_c.specs.Orders.{at_fault, order_number};
@@ -115,43 +115,57 @@ pub struct ComparedRanges {
 }
 
 // Answer: law semver_parser_c::laws::one_parsed_version.
-/// Reads a version text: `OK` with the version in `out`, or the number of a fault with `out` as it
-/// was.
+/// Reads a version text by the reading of a number: `OK` with the version in `out`, or the number
+/// of an error with `out` as it was. By `CARGO` the versions are those of SemVer 2.0.0, by `NPM`
+/// those of node-semver, and by `CRATE_CARGO` and `CRATE_NPM` the crate's.
 ///
 /// `1.2.3-rc.1+b5` gives the numbers 1, 2 and 3, the pre-release at offset 6 with length 4, and the
-/// build at offset 11 with length 2. White space may stand in front of the version and behind it;
-/// the offsets count from the start of the text.
+/// build at offset 11 with length 2. The offsets count from the start of the text, also where a
+/// reading takes white space or `v` before the version.
 ///
-/// # Faults
+/// # Errors
 ///
-/// `VERSION_NOT_UTF8`, and those of `semver_parser::version::parse`: `UNEXPECTED_END`,
-/// `UNEXPECTED_TOKEN`, `UNEXPECTED_CHAR`, `MORE_INPUT`, and `VERSION_OUT_OF_MEMORY`, which never
-/// comes for a version: memory is asked for only to tell the fault of a text that spells none.
+/// `NO_SUCH_READING`, whatever the text. Then `VERSION_NOT_UTF8`. A text that is no version is
+/// `NOT_A_VERSION` by a tool's reading. By the crate's it has one of the errors of
+/// `semver_parser::version::parse`: `UNEXPECTED_END`, `UNEXPECTED_TOKEN`, `UNEXPECTED_CHAR`,
+/// `MORE_INPUT`, and `VERSION_OUT_OF_MEMORY`, which is never returned for a version: memory is
+/// allocated only to find the error of a text that is none.
 #[unsafe(no_mangle)]
 pub extern "C" fn semver_parser_proved_parse_version(
     alloc: Global,
     text: &[u8],
+    reading: i32,
     out: &mut ReadVersion,
 ) -> i32
-    ensures numbers { IsOneOf (number.ok ∷ version_faults) result }
-    // What is read is the outline of the version that the text spells, with where it has its parts:
-    // there stand the identifiers, joined by dots. It takes no memory.
-    ensures version { result ≡ number.ok → (o : OutlineValue) × IsOutlineOf text.now o
-        × (out.new ≡ told o) }
-    ensures parts { result ≡ number.ok → (v : VersionValue) → SpellsVersion v text.now
+    ensures numbers { IsOneOf (number.ok ∷ number.no_such_reading ∷ version_faults) result }
+    // What is read is the outline of the version that the text spells in the dialect of the
+    // reading, with where it has its parts: there are the identifiers, joined by dots. It takes no
+    // memory.
+    ensures version { (d : Dialect) → IsDialect d reading → result ≡ number.ok
+        → (o : OutlineValue) × IsOutlineIn d text.now o × (out.new ≡ told o) }
+    ensures parts { (d : Dialect) → IsDialect d reading → result ≡ number.ok
+        → (v : VersionValue) → SpellsIn d v text.now
         → (bytes_at out.new.pre text.now ≡ dotted_text v.plain.pre)
         × (bytes_at out.new.build text.now ≡ dotted_text v.build) }
-    ensures accepted { (v : VersionValue) → IsUtf8 text.now → SpellsVersion v text.now
-        → result ≡ number.ok }
+    ensures accepted { (d : Dialect) → IsDialect d reading → (v : VersionValue)
+        → IsUtf8 text.now → SpellsIn d v text.now → result ≡ number.ok }
 
-    // Faults: the bytes, the outcome of the text, and want of memory.
-    ensures not_utf8 { (result ≡ number.version_not_utf8) ↔ ¬ (IsUtf8 text.now) }
-    ensures outcome { IsUtf8 text.now → result ≢ number.version_out_of_memory
-        → (r : Result VersionValue Fault) × IsOutcomeOf text.now r × (result ≡ outcome_number r) }
-    ensures out_of_memory { result ≡ number.version_out_of_memory → TextMayRunOut text.now }
+    // Errors: the reading, the bytes, the outcome of the text, and memory that ran out.
+    ensures named { (result ≡ number.no_such_reading) ⊎ IsReading reading }
+    ensures no_such_reading { (result ≡ number.no_such_reading) ↔ ¬ (IsReading reading) }
+    ensures not_utf8 { (d : Dialect) → IsDialect d reading
+        → (result ≡ number.version_not_utf8) ↔ ¬ (IsUtf8 text.now) }
+    ensures outcome { (d : Dialect) → IsDialect d reading → IsUtf8 text.now
+        → result ≢ number.version_out_of_memory → HasOutcomeIn d text.now result }
+    ensures out_of_memory { (d : Dialect) → IsDialect d reading
+        → result ≡ number.version_out_of_memory → MayRunOutIn d text.now }
     ensures unchanged { result ≢ number.ok → out.new ≡ out.old }
 {
-    match version_text::outline(alloc, text) {
+    let Some(reading) = readings::reading_of(reading) else {
+        return numbers::NO_SUCH_READING;
+    };
+    semver_parser::laws::one_outlined_version();
+    match version_text::outline(alloc, text, reading.dialect()) {
         Ok(outline) => {
             *out = ReadVersion {
                 major: outline.major(),
@@ -323,13 +337,14 @@ pub extern "C" fn semver_parser_proved_meets(
     // An answer is that of the range's own meaning, and comes where both texts are read.
     ensures meaning { result ≡ number.ok → (m : Meaning) → IsNamed m reading pre_releases
         → (tree : TreeOf (reading_of m)) (v : VersionValue)
-        → SpellsAs (reading_of m) tree range.now → SpellsVersion v version.now
+        → SpellsAs (reading_of m) tree range.now
+        → SpellsIn (dialect_of (reading_of m)) v version.now
         → meets.new ≡ meant_as m tree v }
-    ensures both_read { result ≡ number.ok
-        → RangeIsRead reading pre_releases range.now result × IsVersionText version.now }
+    ensures both_read { result ≡ number.ok → RangeIsRead reading pre_releases range.now result
+        × ((d : Dialect) → IsDialect d reading → IsVersionTextIn d version.now) }
     ensures accepted { RangeIsRead reading pre_releases range.now result
-        → (v : VersionValue) → IsUtf8 version.now → SpellsVersion v version.now
-        → result ≡ number.ok }
+        → (d : Dialect) → IsDialect d reading → (v : VersionValue) → IsUtf8 version.now
+        → SpellsIn d v version.now → result ≡ number.ok }
     ensures unchanged { result ≢ number.ok → meets.new ≡ meets.old }
 
     // Faults of the reading, of the rule, and of the range, whatever the version.
@@ -339,12 +354,11 @@ pub extern "C" fn semver_parser_proved_meets(
     ensures version_not_utf8 { RangeIsRead reading pre_releases range.now result
         → (result ≡ number.version_not_utf8) ↔ ¬ (IsUtf8 version.now) }
     ensures version_refused { RangeIsRead reading pre_releases range.now result
-        → IsUtf8 version.now → ¬ (IsVersionText version.now)
-        → result ≢ number.version_out_of_memory
-        → (e : Fault) × IsOutcomeOf version.now (Result.Err e)
-        × (result ≡ outcome_number (Result.Err e)) }
-    ensures version_out_of_memory { result ≡ number.version_out_of_memory
-        → TextMayRunOut version.now }
+        → (d : Dialect) → IsDialect d reading → IsUtf8 version.now
+        → ¬ (IsVersionTextIn d version.now) → result ≢ number.version_out_of_memory
+        → RefusedIn d version.now result }
+    ensures version_out_of_memory { (d : Dialect) → IsDialect d reading
+        → result ≡ number.version_out_of_memory → MayRunOutIn d version.now }
 {
     let filter = match meeting::filter_of(alloc, range, reading, pre_releases) {
         Ok(filter) => filter,
@@ -534,54 +548,67 @@ pub extern "C" fn semver_parser_proved_compare(
 // Answer: law semver_parser_c::laws::one_precedence.
 /// How a version compares with another by precedence (SemVer 2.0.0, section 11): `OK` with the
 /// answer in `order`, which is -1 where it is below the other, 0 where both are equal, and 1 where
-/// it is above. Builds don't count.
+/// it is above. Builds don't count. Both are read by the reading of a number.
 ///
-/// After a fault `in_other` tells whether it is that of `other`, and `order` is as it was. The
-/// first text is read first, so `in_other` holds exactly where that spells a version. After `OK`
-/// `in_other` is as it was.
+/// After an error of a text `in_other` says whether it is that of `other`, and `order` is as it
+/// was. The first text is read first, so `in_other` holds exactly where that spells a version.
+/// After `OK` and `NO_SUCH_READING` `in_other` is as it was.
 ///
-/// # Faults
+/// # Errors
 ///
-/// Those of `semver_parser_proved_parse_version`. `VERSION_OUT_OF_MEMORY` comes for two versions
-/// only where the other one has a pre-release: a build is checked where it stands in the text.
+/// Those of `semver_parser_proved_parse_version`. `VERSION_OUT_OF_MEMORY` is returned for two
+/// versions only where the other one has a pre-release: a build is checked where it is in the text.
 #[unsafe(no_mangle)]
 pub extern "C" fn semver_parser_proved_precedence(
     alloc: Global,
     version: &[u8],
     other: &[u8],
+    reading: i32,
     order: &mut i32,
     in_other: &mut bool,
 ) -> i32
-    ensures numbers { IsOneOf (number.ok ∷ version_faults) result }
+    ensures numbers { IsOneOf (number.ok ∷ number.no_such_reading ∷ version_faults) result }
     // What is answered is the precedence of the versions that both texts spell.
-    ensures precedence { result ≡ number.ok → (v w : VersionValue) → SpellsVersion v version.now
-        → SpellsVersion w other.now → order.new ≡ order_number (precedence v.plain w.plain) }
-    ensures both_read { result ≡ number.ok → IsVersionText version.now × IsVersionText other.now }
+    ensures precedence { (d : Dialect) → IsDialect d reading → result ≡ number.ok
+        → (v w : VersionValue) → SpellsIn d v version.now → SpellsIn d w other.now
+        → order.new ≡ order_number (precedence v.plain w.plain) }
+    ensures both_read { (d : Dialect) → IsDialect d reading → result ≡ number.ok
+        → IsVersionTextIn d version.now × IsVersionTextIn d other.now }
     ensures both_utf8 { result ≡ number.ok → IsUtf8 version.now × IsUtf8 other.now }
-    ensures accepted { (v w : VersionValue) → IsUtf8 version.now → SpellsVersion v version.now
-        → IsUtf8 other.now → SpellsVersion w other.now
+    ensures accepted { (d : Dialect) → IsDialect d reading → (v w : VersionValue)
+        → IsUtf8 version.now → SpellsIn d v version.now
+        → IsUtf8 other.now → SpellsIn d w other.now
         → IsOneOf (number.ok ∷ number.version_out_of_memory ∷ []) result }
     // Memory runs out at two versions only where the other has a pre-release.
-    ensures plain { (v w : VersionValue) → IsUtf8 version.now → SpellsVersion v version.now
-        → IsUtf8 other.now → SpellsVersion w other.now → w.plain.pre ≡ []
+    ensures plain { (d : Dialect) → IsDialect d reading → (v w : VersionValue)
+        → IsUtf8 version.now → SpellsIn d v version.now
+        → IsUtf8 other.now → SpellsIn d w other.now → w.plain.pre ≡ []
         → result ≡ number.ok }
 
-    // A fault is that of the first text, or of the other where the first spells a version.
-    ensures refused { result ≢ number.ok
-        → RefusesVersion (at_fault in_other.new version.now other.now) result }
-    ensures in_other { result ≢ number.ok
-        → (IsTrue in_other.new ↔ (IsUtf8 version.now × IsVersionText version.now)) }
+    // An error is that of the reading, of the first text, or of the other where the first spells a
+    // version.
+    ensures named { (result ≡ number.no_such_reading) ⊎ IsReading reading }
+    ensures no_such_reading { (result ≡ number.no_such_reading) ↔ ¬ (IsReading reading) }
+    ensures refused { (d : Dialect) → IsDialect d reading → result ≢ number.ok
+        → RefusesVersion d (at_fault in_other.new version.now other.now) result }
+    ensures in_other { (d : Dialect) → IsDialect d reading → result ≢ number.ok
+        → (IsTrue in_other.new ↔ (IsUtf8 version.now × IsVersionTextIn d version.now)) }
     ensures order_unchanged { result ≢ number.ok → order.new ≡ order.old }
-    ensures in_other_unchanged { result ≡ number.ok → in_other.new ≡ in_other.old }
+    ensures in_other_unchanged { IsOneOf (number.ok ∷ number.no_such_reading ∷ []) result
+        → in_other.new ≡ in_other.old }
 {
-    let first = match version_text::outline(alloc, version) {
+    let Some(reading) = readings::reading_of(reading) else {
+        return numbers::NO_SUCH_READING;
+    };
+    semver_parser::laws::one_outlined_version();
+    let first = match version_text::outline(alloc, version, reading.dialect()) {
         Ok(outline) => outline,
         Err(number) => {
             *in_other = false;
             return number;
         }
     };
-    match version_text::plain_version(alloc, other) {
+    match version_text::plain_version(alloc, other, reading.dialect()) {
         Ok(second) => {
             *order = order_number(first.cmp_precedence(&second));
             numbers::OK

@@ -4,7 +4,7 @@ ghost use Rattle.std.specs.Prelude.{◌≡◌, ◌<◌, ℕ, pos, length, drop};
 ghost use Rattle.std.specs.Prelude.{slice_get, slice_index, IfOk, IfErr, IfSome, IsUtf8};
 ghost use Rattle.semver_parser.specs.Texts.{Text};
 ghost use Rattle.semver_parser.specs.Versions.{VersionValue};
-ghost use Rattle.semver_parser.specs.VersionGrammar.{IsVersionText, SpellsVersion};
+ghost use Rattle.semver_parser.specs.ToolVersions.{IsVersionTextIn, SpellsIn};
 ghost use Rattle.tool_ranges.specs.declared.meaning.Meaning.{Meaning};
 ghost use Rattle.release_filter.specs.Filters.{passes};
 ghost use Rattle.semver_parser_c.specs.Readings.{IsNamed};
@@ -32,19 +32,20 @@ pub fn filter_of(
     ensures refused { IfErr result (λ n. IsRefused reading pre_releases range.now n) }
 {
     match sets::read(alloc, range, reading, pre_releases) {
-        Ok((_, set)) => Ok(Filter::of_versions(set)),
+        Ok((meaning, set)) => Ok(Filter::of_versions(set, meaning.reading().dialect())),
         Err(number) => Err(number),
     }
 }
 
 /// Whether a version text passes a filter, or the number of its fault.
 pub fn judge(alloc: Global, filter: &Filter, version: &[u8]) -> Result<bool, i32>
-    ensures met { IfOk result (λ met. (v : VersionValue) → SpellsVersion v version.now
+    ensures met { IfOk result (λ met. (v : VersionValue) → SpellsIn filter.now.dialect v version.now
         → met ≡ passes filter.now v) }
-    ensures read { IfOk result (λ met. IsVersionText version.now) }
+    ensures read { IfOk result (λ met. IsVersionTextIn filter.now.dialect version.now) }
     ensures utf8 { IfOk result (λ met. IsUtf8 version.now) }
-    ensures refused { IfErr result (RefusesVersion version.now) }
-    ensures none { IfErr result (λ _. IsUtf8 version.now → ¬ (IsVersionText version.now)) }
+    ensures refused { IfErr result (RefusesVersion filter.now.dialect version.now) }
+    ensures none { IfErr result (λ _. IsUtf8 version.now
+        → ¬ (IsVersionTextIn filter.now.dialect version.now)) }
 {
     let Ok(text) = std::str::from_utf8(version) else {
         return Err(numbers::VERSION_NOT_UTF8);
@@ -52,7 +53,7 @@ pub fn judge(alloc: Global, filter: &Filter, version: &[u8]) -> Result<bool, i32
     match filter.judge(text.as_bytes()) {
         Judged::Passes(_) => Ok(true),
         Judged::DoesNotPass => Ok(false),
-        Judged::NoVersion => Err(version_text::fault(alloc, text)),
+        Judged::NoVersion => Err(version_text::fault(alloc, text, filter.dialect())),
     }
 }
 

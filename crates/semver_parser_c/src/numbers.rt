@@ -41,6 +41,8 @@ pub const NEW_RANGE_OUT_OF_MEMORY: i32 = 19;
 
 /// No reading of range texts has that number.
 pub const NO_SUCH_READING: i32 = 20;
+/// The version is not one to the tool whose reading is asked for.
+pub const NOT_A_VERSION: i32 = 21;
 
 /// Cargo's own reading of a range text.
 pub const CARGO: i32 = 0;

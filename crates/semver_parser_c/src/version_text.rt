@@ -4,46 +4,50 @@ ghost use Rattle.std.specs.Prelude.{◌≡◌, ◌<◌, IfOk, IfErr, IsUtf8, len
 ghost use Rattle.semver_parser.specs.Texts.{Text};
 ghost use Rattle.semver_parser.specs.Versions.{VersionValue};
 ghost use Rattle.semver_parser.specs.VersionViews.{version_value};
-ghost use Rattle.semver_parser.specs.Outlines.{IsOutlineOf, StandsAt};
-ghost use Rattle.semver_parser.specs.VersionGrammar.{IsVersionText, SpellsVersion};
+ghost use Rattle.semver_parser.specs.Outlines.{IsOutlineIn, StandsAt};
+ghost use Rattle.semver_parser.specs.ToolVersions.{IsVersionTextIn, SpellsIn};
+ghost use Rattle.semver_parser.specs.VersionGrammar.{IsVersionText};
+ghost use Rattle.semver_parser.specs.declared.version.Dialect.TheVariants.{Crate};
 ghost use Rattle.semver_parser_c.specs.Faults.{RefusesVersion};
 ghost use Rattle.semver_parser_c.specs.Steps.VersionFaults.{IsErrorOf};
 
 use crate::numbers;
+use semver_parser::laws;
 use semver_parser::parser::Error;
-use semver_parser::version::{self, Outline, Version};
+use semver_parser::version::{self, Dialect, Outline, Version};
 use std::alloc::Global;
 
-/// The outline of a text, or the number of its fault.
-pub fn outline(alloc: Global, text: &[u8]) -> Result<Outline<'_>, i32>
-    ensures outlined { IfOk result (λ o. IsOutlineOf text.now o) }
+/// The outline of a text by a dialect, or the number of its error.
+pub fn outline(alloc: Global, text: &[u8], dialect: Dialect) -> Result<Outline<'_>, i32>
+    ensures outlined { IfOk result (λ o. IsOutlineIn dialect text.now o) }
     ensures utf8 { IfOk result (λ _. IsUtf8 text.now) }
     ensures places { IfOk result (λ o. StandsAt o.pre_offset o.pre text.now
         × StandsAt o.build_offset o.build text.now) }
-    ensures refused { IfErr result (RefusesVersion text.now) }
-    ensures none { IfErr result (λ _. IsUtf8 text.now → ¬ (IsVersionText text.now)) }
+    ensures refused { IfErr result (RefusesVersion dialect text.now) }
+    ensures none { IfErr result (λ _. IsUtf8 text.now → ¬ (IsVersionTextIn dialect text.now)) }
 {
     let Ok(text) = std::str::from_utf8(text) else {
         return Err(numbers::VERSION_NOT_UTF8);
     };
-    match version::outline(text) {
+    match version::outline_in(text.as_bytes(), dialect) {
         Some(outline) => Ok(outline),
-        None => Err(fault(alloc, text)),
+        None => Err(fault(alloc, text, dialect)),
     }
 }
 
-/// The version of a text without its build, or the number of its fault.
-pub fn plain_version(alloc: Global, text: &[u8]) -> Result<Version, i32>
-    ensures version { IfOk result (λ version. (v : VersionValue) → SpellsVersion v text.now
+/// The version of a text by a dialect without its build, or the number of its error.
+pub fn plain_version(alloc: Global, text: &[u8], dialect: Dialect) -> Result<Version, i32>
+    ensures version { IfOk result (λ version. (v : VersionValue) → SpellsIn dialect v text.now
         → (version_value version).plain ≡ v.plain) }
-    ensures read { IfOk result (λ _. IsVersionText text.now) }
+    ensures read { IfOk result (λ _. IsVersionTextIn dialect text.now) }
     ensures utf8 { IfOk result (λ _. IsUtf8 text.now) }
-    ensures refused { IfErr result (RefusesVersion text.now) }
+    ensures refused { IfErr result (RefusesVersion dialect text.now) }
     // Memory runs out at a version only where that has a pre-release.
     ensures plain { IfErr result (λ _. IsUtf8 text.now → (v : VersionValue)
-        → SpellsVersion v text.now → 0 < length v.plain.pre) }
+        → SpellsIn dialect v text.now → 0 < length v.plain.pre) }
 {
-    let outline = match outline(alloc, text) {
+    laws::one_outlined_version();
+    let outline = match outline(alloc, text, dialect) {
         Ok(outline) => outline,
         Err(number) => return Err(number),
     };
@@ -59,10 +63,22 @@ pub fn plain_version(alloc: Global, text: &[u8]) -> Result<Version, i32>
     }
 }
 
+/// The number of the error of a text that spells no version in a dialect: in the crate's by its
+/// tokens.
+pub fn fault(alloc: Global, text: &str, dialect: Dialect) -> i32
+    requires { ¬ (IsVersionTextIn dialect text.now) }
+    ensures { RefusesVersion dialect text.now result }
+{
+    match dialect {
+        Dialect::Crate => fault_by_tokens(alloc, text),
+        Dialect::Cargo | Dialect::Npm => numbers::NOT_A_VERSION,
+    }
+}
+
 /// The number of the fault of a text that spells no version, by its tokens.
-pub fn fault(alloc: Global, text: &str) -> i32
+fn fault_by_tokens(alloc: Global, text: &str) -> i32
     requires { ¬ (IsVersionText text.now) }
-    ensures { RefusesVersion text.now result }
+    ensures { RefusesVersion Crate text.now result }
 {
     let Err(error) = version::parse(alloc, text) else {
         unreachable!();
@@ -73,7 +89,7 @@ pub fn fault(alloc: Global, text: &str) -> i32
 /// The number of a fault.
 fn fault_number(error: &Error<'_>) -> i32
     ensures { (text : Text) → IsUtf8 text → ¬ (IsVersionText text) → IsErrorOf text error.now
-        → RefusesVersion text result }
+        → RefusesVersion Crate text result }
 {
     match error {
         Error::UnexpectedEnd => numbers::UNEXPECTED_END,

@@ -1,6 +1,11 @@
 use Rattle.std.proofs.Common.{◌≡◌, ◌≢◌, ◌∙◌, ◌++◌, ℤ, List, ◌∷◌, arith, inl, inr, rules, refl, sym}
 use Rattle.semver_parser_c.specs.Numbers as number
-use Rattle.semver_parser_c.specs.Faults.{IsOneOf, named_faults, version_faults}
+use Rattle.semver_parser.specs.Texts.{Text}
+use Rattle.semver_parser.specs.declared.version.Dialect.{Dialect}
+use Rattle.tool_ranges.specs.Meanings.{reading_of}
+use Rattle.tool_ranges.specs.Readings.{dialect_of}
+use Rattle.semver_parser_c.specs.Readings.{IsDialect}
+use Rattle.semver_parser_c.specs.Faults.{IsOneOf, RangeIsRead, named_faults, version_faults}
 use Rattle.semver_parser_c.specs.OneAnswer.{AreOne, text_errors}
 use Rattle.semver_parser_c.proofs.OneAnswer.{IsItself, accepted_where, apart, are_one, by_ok, known, of_fault, version_once}
 use Rattle.semver_parser_c.proofs.OneAnswer.{range_exact, range_once}
@@ -14,6 +19,10 @@ beside = number.ok ∷ number.range_out_of_memory ∷ version_faults
 left : (n : ℤ) → IsOneOf beside n → n ≢ number.ok → n ≢ number.version_not_utf8
     → IsOneOf (number.range_out_of_memory ∷ text_errors) n
 left n one wrong bytes = grind arith
+
+-- the dialect of the reading by which a range is read
+its_dialect : {reading rule n : ℤ} {text : Text} → RangeIsRead reading rule text n → (d : Dialect) × IsDialect d reading
+its_dialect (m, named, _) = (dialect_of (reading_of m), (reading_of m, named.0, refl))
 
 pub returns : goal.returns
 returns c =
@@ -29,12 +38,14 @@ returns c =
     known (λ other. accepted_where p.refusals (apart beside range_exact _ refl b) (λ accepted.
     let read = read_of _ _ _ n.result accepted (λ e. some (inl e)) in
     let read' = read_of _ _ _ m.result accepted (λ e. some' (inl e)) in
-    other (version_once _ (p.version_not_utf8 read) (q.version_not_utf8 read')
-    (λ utf8 is. p.accepted read is.0 utf8 is.1 ∙ sym (q.accepted read' is.0 utf8 is.1))
-    (of_fault _ (p.version_refused read)) (of_fault _ (q.version_refused read')) some some'))))
+    let d = its_dialect read in
+    other (version_once d.0 _ (p.version_not_utf8 read) (q.version_not_utf8 read')
+    (λ utf8 is. p.accepted read d.0 d.1 is.0 utf8 is.1 ∙ sym (q.accepted read' d.0 d.1 is.0 utf8 is.1))
+    (of_fault d.0 _ (p.version_refused read d.0 d.1)) (of_fault d.0 _ (q.version_refused read' d.0 d.1)) some some'))))
     (λ _. by_ok n.result m.result
     (λ ok ok'.
-    let ((meaning, named, read), (v, spelled)) = p.both_read ok in
+    let ((meaning, named, read), version) = p.both_read ok in
+    let (v, spelled) = version (dialect_of (reading_of meaning)) (reading_of meaning, named.0, refl) in
     p.meaning ok meaning named read.tree v read.spells spelled ∙ sym (q.meaning ok' meaning named read.tree v read.spells spelled))
     (λ no no'. p.unchanged no ∙ c.requires ∙ sym (q.unchanged no'))) in
     rw (as_it_is, as_it_is') (record {
@@ -44,9 +55,11 @@ returns c =
           let found : n.result ≢ number.range_out_of_memory = λ e'. cc in
           left _ b
           (λ ok.
-          let ((meaning, named, is), (v, spelled)) = q.both_read ok in
+          let ((meaning, named, is), version) = q.both_read ok in
+          let d : IsDialect (dialect_of (reading_of meaning)) _ = (reading_of meaning, named.0, refl) in
+          let (v, spelled) = version (dialect_of (reading_of meaning)) d in
           let read = read_of _ _ _ n.result (meaning, named, is.utf8, (is.tree, is.spells, is.fit)) found in
-          let bytes = (p.version_not_utf8 read).1 (λ utf8. let ok = p.accepted read v utf8 spelled in cc (e, ok)) in
+          let bytes = (p.version_not_utf8 read).1 (λ utf8. let ok = p.accepted read _ d v utf8 spelled in cc (e, ok)) in
           cc (e, bytes))
           (λ bytes. accepted_where q.refusals (apart beside range_exact _ refl b) (λ accepted.
           let read = read_of _ _ _ n.result accepted found in

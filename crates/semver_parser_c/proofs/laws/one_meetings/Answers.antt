@@ -4,7 +4,7 @@ use Rattle.std.specs.Prelude.{⊤}
 use Rattle.std.proofs.lemmas.Option.{slice_get_cases}
 use Rattle.semver_parser.specs.Texts.{Text}
 use Rattle.tool_ranges.specs.declared.meaning.Meaning.{Meaning}
-use Rattle.tool_ranges.specs.Readings.{TreeOf, SpellsAs}
+use Rattle.tool_ranges.specs.Readings.{TreeOf, SpellsAs, dialect_of}
 use Rattle.tool_ranges.specs.Meanings.{reading_of}
 use Rattle.semver_parser_c.specs.Numbers as number
 use Rattle.semver_parser_c.specs.Faults.{IsOneOf, named_faults, version_faults}
@@ -49,8 +49,9 @@ module _ {m : Meaning} {range version : Text} (tree : TreeOf (reading_of m)) (sp
       are_one (exact ++ text_errors) exact refl refl (sorted_byte _ p.one) (sorted_byte _ q.one) (λ e. byte_once p q (meeting_or _ e))
       (λ e. byte_once q p (meeting_or _ e))
       (λ _ _.
-      version_once version p.not_utf8 q.not_utf8 (λ utf8 is. byte_once p q (inl (p.accepted is.0 utf8 is.1)))
-      (of_fault _ p.refused) (of_fault _ q.refused))
+      version_once (dialect_of (reading_of m)) version p.not_utf8 q.not_utf8
+      (λ utf8 is. byte_once p q (inl (p.accepted is.0 utf8 is.1)))
+      (of_fault _ version p.refused) (of_fault _ version q.refused))
       (λ _ _. tt)
 
 -- what is so of a place of a list, twice

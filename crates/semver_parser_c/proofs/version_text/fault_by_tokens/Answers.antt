@@ -1,0 +1,13 @@
+use Rattle.std.proofs.Common.{rules, refl}
+use Rattle.semver_parser.specs.VersionViews.{version_value}
+use Rattle.semver_parser_c.proofs.version_text.fault_by_tokens.Goals as goal
+
+pub unreachable-requires : goal.unreachable-requires
+unreachable-requires c =
+    let v = version_value c.in_default.field-0 in
+    c.requires (v, (c.in_default.ensures.exact v).0 refl)
+
+pub returns : goal.returns
+returns c =
+    let told = c.in-Err.ensures in
+    search (rules, c.fault_number.ensures _ c.utf8.text c.requires (record { outcome = told.outcome; out_of_memory = told.out_of_memory }))
