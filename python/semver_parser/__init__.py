@@ -10,15 +10,15 @@
     >>> Filter("^1.2").greatest(["1.2.0", "1.9.0", "2.0.0"])
     '1.9.0'
 
-A range is read as Cargo itself reads it unless another `Reading` is given: npm's own, or that of
-the Rust crate `semver-parser` in one of its two modes. docs/GRAMMAR.md of the repository says which
-texts are versions and ranges, and docs/MEANING.md what a range means.
+A range and a version are read as Cargo itself reads them unless another `Reading` is given: npm's
+own, or that of the Rust crate `semver-parser` in one of its two modes. docs/GRAMMAR.md of the
+repository says which texts are versions and ranges, and docs/MEANING.md what a range means.
 
 Texts are `str` or `bytes` in UTF-8. A text that is refused raises `VersionError` or `RangeError`,
 and want of memory `MemoryError`. Everything may be called from several threads at once, and nothing
 from a signal handler or from a forked child of a process that has several threads.
 
-The calls are those of the shared library `libsemver_parser.so.0.3`, which is loaded when the
+The calls are those of the shared library `libsemver_parser.so.0.4`, which is loaded when the
 package is imported. It is looked for at the path that the environment variable
 SEMVER_PARSER_LIBRARY has; or else beside these modules, and then where the system looks for
 libraries.
@@ -41,7 +41,7 @@ from .values import (
     precedence,
 )
 
-__version__ = "0.3.2"
+__version__ = "0.4.0"
 
 __all__ = [
     "AnyVersion",

@@ -57,6 +57,10 @@ class VersionError(_TextError):
     given, counted from 0, and else None, and `name` is the name of its fault:
 
     - `not-utf8`: the bytes aren't UTF-8, or the `str` has a surrogate by itself.
+    - `not-a-version`: by Cargo's own reading or npm's own, the text is no version, as `1.2.3-01`.
+
+    By the crate's two readings there are these in place of `not-a-version`:
+
     - `unexpected-end`: the text ends where a version can't, as `1.2`.
     - `unexpected-token`: a token comes that can't come there, as in `1.2.3--1`.
     - `unexpected-char`: a character comes that begins no token, as `/`.
@@ -69,6 +73,7 @@ class VersionError(_TextError):
         "unexpected-token": 4,
         "unexpected-char": 5,
         "more-input": 6,
+        "not-a-version": 21,
     }
 
     def __init__(self, name: str, text: Text, index: Optional[int] = None) -> None:

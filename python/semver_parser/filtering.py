@@ -2,6 +2,7 @@
 
 Versions are given as texts or as `Version`s, and what is answered are those that were given. A
 range is given as its text, and judged by what that means by itself, and not by its comparators.
+Both are read by one reading.
 """
 
 import ctypes
@@ -28,9 +29,9 @@ def _text(version: AnyVersion) -> Text:
     return str(version) if isinstance(version, Version) else version
 
 
-def _precedence(version: AnyVersion) -> PrecedenceKey:
-    """What stands for a version in the order of precedence."""
-    return precedence(parse_version(_text(version)))
+def _precedence(version: AnyVersion, reading: Reading) -> PrecedenceKey:
+    """What stands for a version in the order of precedence. Its text is read by the reading."""
+    return precedence(version if isinstance(version, Version) else parse_version(version, reading))
 
 
 def meets(
@@ -39,8 +40,8 @@ def meets(
     reading: Reading = Reading.CARGO,
     pre_releases: Optional[PreReleases] = None,
 ) -> bool:
-    """Whether a version meets a range, by a reading and by a rule for pre-releases, which is the
-    reading's own where none is given. A build never counts.
+    """Whether a version meets a range, both by one reading, and by a rule for pre-releases, which
+    is the reading's own where none is given. A build never counts.
 
     Raises `RangeError` where the range is none, and else `VersionError` where the version is none.
     """
@@ -63,9 +64,10 @@ def meets(
 
 @dataclass(frozen=True)
 class Filter:
-    """A text of a range (`range`), the `reading` by which it is read, and the rule for pre-releases
-    (`pre_releases`), to be asked about many versions. Where no rule is given, it becomes the
-    reading's own: `OF_TOOL` for the tools' own readings, and `STATED` for the crate's.
+    """A text of a range (`range`), the `reading` by which it and the versions are read, and the
+    rule for pre-releases (`pre_releases`), to be asked about many versions. Where no rule is given,
+    it becomes the reading's own: `OF_TOOL` for the tools' own readings, and `STATED` for the
+    crate's.
 
     Raises `RangeError` where the range is none. `kept` and `greatest` read it once for all versions
     that they are given. `version in chosen` is what `meets` answers.
@@ -115,7 +117,7 @@ class Filter:
         choice among the versions that meet the range is Python code, and not proved.
         """
         kept = self.kept(versions, pass_over)
-        return max(kept, key=_precedence) if kept else None
+        return max(kept, key=lambda it: _precedence(it, self.reading)) if kept else None
 
     def _answers(self, texts: List[Text]) -> bytes:
         """What there is to say of each text, by one call: it meets, it doesn't, or its fault."""

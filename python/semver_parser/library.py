@@ -4,7 +4,7 @@ import ctypes
 import os
 from typing import List, Tuple
 
-FITTING = (0, 3)
+FITTING = (0, 4)
 """The major and minor number of the libraries that fit: while the major is 0, both decide."""
 
 NAME = "libsemver_parser.so." + ".".join(map(str, FITTING))
@@ -109,7 +109,7 @@ def _declare(library: ctypes.CDLL, path: str) -> None:
     counted, compared = ctypes.POINTER(ctypes.c_size_t), ctypes.POINTER(ComparedRanges)
     rooms = [ctypes.POINTER(ReadComparator), size, counted, ctypes.c_char_p, size, counted]
     calls = {
-        "parse_version": [*text, ctypes.POINTER(ReadVersion)],
+        "parse_version": [*text, number, ctypes.POINTER(ReadVersion)],
         "comparators": [*text, number, flag, *rooms],
         "meets": [*text, number, number, *text, ctypes.POINTER(flag)],
         "meets_each": [*text, number, number, ctypes.POINTER(TextItem), size, ctypes.c_char_p],

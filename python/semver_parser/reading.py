@@ -65,13 +65,18 @@ def _identifiers(text: bytes, part: Part) -> Tuple[Identifier, ...]:
     return tuple(map(identifier_of, joined.split(".")))
 
 
-def parse_version(text: Text) -> Version:
-    """Reads a version, with white space round it or without.
+def parse_version(text: Text, reading: Reading = Reading.CARGO) -> Version:
+    """Reads a version, as Cargo itself reads it unless another reading is given.
 
-    Raises `VersionError` where the text is none.
+    By Cargo's own reading versions are those of SemVer 2.0.0. By npm's own their numbers go up to
+    2**53 - 1, and there may be a `v` before them and white space around them. The crate's two
+    readings have one grammar (docs/GRAMMAR.md).
+
+    Raises `VersionError` if the text is no version.
     """
+    number = reading_number(reading)
     read, text_bytes = ReadVersion(), encoded(text)
-    answer = LIBRARY.semver_parser_parse_version(text_bytes, len(text_bytes), read)
+    answer = LIBRARY.semver_parser_parse_version(text_bytes, len(text_bytes), number, read)
     raise_fault(answer, version=text)
     pre, build = _identifiers(text_bytes, read.pre), _identifiers(text_bytes, read.build)
     return Version(read.major, read.minor, read.patch, pre, build)

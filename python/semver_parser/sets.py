@@ -9,8 +9,8 @@ from typing import Optional
 
 from .faults import NO_ROOM, Text, encoded, raise_fault
 from .library import LIBRARY, ComparedRanges, Part
-from .reading import numbers_of, parse_version
-from .values import PreReleases, Reading, Version
+from .reading import numbers_of
+from .values import PreReleases, Reading, Version, identifier_of
 
 # The room for printed versions that is tried first.
 _BYTES = 64
@@ -42,7 +42,7 @@ def least(
             length,
         )
     raise_fault(answer, range=range)
-    return parse_version(printed.raw[: length.value]) if length.value else None
+    return _version_of(printed.raw[: length.value]) if length.value else None
 
 
 @dataclass(frozen=True)
@@ -116,4 +116,12 @@ def compare_ranges(
 def _at(texts: bytes, part: Part) -> Optional[Version]:
     """The version whose text lies there, if there is one."""
     text = texts[part.offset : part.offset + part.length]
-    return parse_version(text) if text else None
+    return _version_of(text) if text else None
+
+
+def _version_of(printed: bytes) -> Version:
+    """The version that the library printed, which has no build. It is made of its parts: by the
+    crate's readings a range can have identifiers that no version text of theirs has."""
+    numbers, _, pre = printed.decode("ascii").partition("-")
+    major, minor, patch = map(int, numbers.split("."))
+    return Version(major, minor, patch, tuple(map(identifier_of, pre.split("."))) if pre else ())

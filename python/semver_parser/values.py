@@ -22,8 +22,8 @@ It is an `int` where it is the canonical decimal of a number up to 2**64 - 1, as
 _MOST = 2**64 - 1
 _LONGEST_NUMBER = len(str(_MOST))
 
-# An identifier of a version: runs of letters and digits, joined by single hyphens.
-_IDENTIFIER = re.compile(r"[0-9A-Za-z]+(-[0-9A-Za-z]+)*")
+# An identifier of a version, as SemVer 2.0.0 has it. Some readings take fewer.
+_IDENTIFIER = re.compile(r"[0-9A-Za-z-]+")
 
 
 def identifier_of(text: str) -> Identifier:
@@ -67,17 +67,21 @@ class Compat(enum.Enum):
 
 
 class Reading(enum.Enum):
-    """The readings of range texts: those of Cargo and of npm themselves, and that of the Rust crate
-    `semver-parser` in its two modes, which differ from both (docs/MEANING.md, "Whose reading?")."""
+    """The readings of range texts and of version texts: those of Cargo and of npm themselves, and
+    that of the Rust crate `semver-parser` in its two modes, which differ from both
+    (docs/MEANING.md, "Whose reading?")."""
 
     CARGO = 0
-    """Cargo's own: `1.2` is `>=1.2.0 <2.0.0`, and commas part what a version has to meet."""
+    """Cargo's own: `1.2` is `>=1.2.0 <2.0.0`, and commas part what a version has to meet. Versions
+    are those of SemVer 2.0.0."""
     NPM = 1
-    """npm's own: `1.2` is `>=1.2.0 <1.3.0`, and `>1.2` is `>=1.3.0`."""
+    """npm's own: `1.2` is `>=1.2.0 <1.3.0`, and `>1.2` is `>=1.3.0`. Versions are those of SemVer
+    2.0.0 with numbers up to 2**53 - 1, after a `v` or without, and between white space."""
     CRATE_CARGO = 2
-    """The crate's in Cargo mode: `1.2` is `>=1.2.0 <1.3.0`, and `1.2.3` is `>=1.2.3 <2.0.0`."""
+    """The crate's in Cargo mode: `1.2` is `>=1.2.0 <1.3.0`, and `1.2.3` is `>=1.2.3 <2.0.0`.
+    Versions have no two hyphens in a row, and may have `01` in a pre-release."""
     CRATE_NPM = 3
-    """The crate's in npm mode: `>1.2` is `>1.2.0`, and `1.2.3` is `=1.2.3`."""
+    """The crate's in npm mode: `>1.2` is `>1.2.0`, and `1.2.3` is `=1.2.3`. Versions as before."""
 
     @property
     def compat(self) -> Compat:
@@ -136,10 +140,14 @@ class Version:
     """A version: the numbers `major`, `minor` and `patch`, and the identifiers of its pre-release
     (`pre`) and its build (`build`).
 
-    Each is one that `parse_version` reads from its printed text. What no text spells raises when it
-    is made: `TypeError` where a number is no `int`, the identifiers are no `tuple`, or one is
-    neither `int` nor `str`; and `ValueError` where a number isn't from 0 to 2**64 - 1, or a `str`
-    is no identifier of a version, or one that is read as an `int`.
+    An identifier has one or more ASCII letters, digits and hyphens, so versions of every reading
+    can be made, printed and compared. Which of them `parse_version` reads from their printed text
+    depends on the reading: `1.2.3--a` is no version by the crate's two, and `1.2.3-01` is one by
+    these alone.
+
+    What no reading has raises when it is made: `TypeError` if a number is no `int`, the identifiers
+    are no `tuple`, or one is neither `int` nor `str`; and `ValueError` if a number isn't from 0 to
+    2**64 - 1, or a `str` is no identifier, or one that is read as an `int`.
 
     `<`, `<=`, `>` and `>=` go by precedence (SemVer 2.0.0, section 11), which doesn't see the
     build, and so do `sorted`, `min` and `max`. Two versions are equal (`==`) where all their fields
@@ -225,8 +233,8 @@ class RangeSet:
     reading. It is what the text means that was read, but for some pre-releases: those of a raised
     bound, unless bounds are exact; and by a tool's own reading those that the tool takes by a rule
     that comparators can't tell (docs/MEANING.md). So ask `meets` or `Filter`, where the text is
-    there. A version is given as its text or as a `Version`; a text that is none raises
-    `VersionError`.
+    there. A version is given as its text or as a `Version`; one that the crate's readings don't
+    take raises `VersionError`.
     """
 
     ranges: Tuple[Range, ...]
@@ -241,7 +249,8 @@ class RangeSet:
         from .reading import parse_version
 
         if not self.ranges:
-            parse_version(str(version) if isinstance(version, Version) else version)
+            text = str(version) if isinstance(version, Version) else version
+            parse_version(text, Reading.CRATE_CARGO)
             return False
         is_npm = self.compat is Compat.NPM
         return meets(str(self), version, Reading.CRATE_NPM if is_npm else Reading.CRATE_CARGO)

@@ -2,8 +2,8 @@
 
 `crates/replayed_cases` of the checkout has the rows in its `stdin` and the wanted answers in its
 `stdout`. How texts are escaped is told by its `src/text.rt`. Its calls that end with `-as-cargo`
-and `-as-npm` read ranges as these tools do, beside which their rows were made; all others read them
-by the crate's readings.
+and `-as-npm` read ranges and versions as these tools do, beside which their rows were made; all
+others read them by the crate's readings.
 """
 
 import re
@@ -102,7 +102,8 @@ def rows() -> Iterator[Row]:
 def rows_of_tools() -> Iterator[Tuple[str, str, Row]]:
     """The rows of the tools: what is asked, `cargo` or `npm`, and the row.
 
-    Asked is `rewritten`, `meant` or `meant-with-all`, which takes all pre-releases within bounds.
+    Asked is `rewritten`, `meant` or `meant-with-all`, which takes all pre-releases within bounds,
+    or `version`.
     """
     for row in rows():
         asked, _, tool = row.call.partition("-as-")
@@ -120,7 +121,8 @@ def _kinds(identifiers: Tuple[Identifier, ...]) -> str:
     return "[" + " ".join(f"{kind}({it})" for kind, it in zip(kinds, identifiers)) + "]"
 
 
-def _fields_of_version(version: Version) -> str:
+def fields_of_version(version: Version) -> str:
+    """How the table writes the fields of a version."""
     pre, build = _kinds(version.pre), _kinds(version.build)
     return f"{version.major} {version.minor} {version.patch} pre{pre} build{build}"
 
@@ -138,7 +140,7 @@ def _fields_of_set(answered: RangeSet) -> str:
 
 def _of_version(text: str, show: Callable[[Version], str], faults: Dict[str, str]) -> str:
     try:
-        return show(parse_version(text))
+        return show(parse_version(text, Reading.CRATE_CARGO))
     except VersionError as error:
         return faults[error.name]
 
@@ -173,7 +175,7 @@ def _of_filter(
         chosen = Filter(text, _reading(npm), pre_releases)
     except RangeError as error:
         return _RANGE_SENTENCES[error.name]
-    return show(chosen, [parse_version(item) for item in steps.split(" ") if item])
+    return show(chosen, [parse_version(it, chosen.reading) for it in steps.split(" ") if it])
 
 
 def _kept(chosen: Filter, versions: List[Version]) -> str:
@@ -193,7 +195,7 @@ def answer(call: str, text: str, steps: str) -> Optional[str]:
     npm = "npm" in call
     if call in ("version", "read"):
         faults = _VERSION_FAULTS if call == "version" else dict.fromkeys(_VERSION_FAULTS, "none")
-        return _of_version(text, _fields_of_version, faults)
+        return _of_version(text, fields_of_version, faults)
     if call == "version-text":
         return _of_version(text, str, _VERSION_FAULTS)
     if call in ("cargo", "npm"):

@@ -7,7 +7,7 @@ import pickle
 import threading
 import unittest
 from functools import partial
-from typing import List, Optional
+from typing import List, Optional, Tuple
 
 from semver_parser import (
     Compat,
@@ -230,8 +230,10 @@ class Meeting(unittest.TestCase):
             self.assertIn(version, RangeSet((Range((), Compat.NPM),), Compat.NPM))
             self.assertNotIn(version, RangeSet((), Compat.NPM))
         for answered in (parse_range("^1"), RangeSet((), Compat.CARGO)):
-            with self.assertRaises(VersionError):
-                "1.2" in answered
+            for no_version in ("1.2", "1.2.3--a", Version(1, 2, 3, ("-a",))):
+                with self.assertRaises(VersionError) as caught:
+                    no_version in answered
+                self.assertNotEqual(caught.exception.name, "not-a-version")
             with self.assertRaises(TypeError):
                 1 in answered
 
@@ -277,13 +279,19 @@ class Kept(unittest.TestCase):
 
     def test_faults(self) -> None:
         given = ["1.2.0", "1.2", "\ud800", "1.2.3/", "1.4.0"]
-        with self.assertRaises(VersionError) as caught:
-            Filter("^1.2").kept(given)
-        self.assertEqual((caught.exception.name, caught.exception.text), ("unexpected-end", "1.2"))
-        self.assertEqual(caught.exception.index, 1)
-        self.assertEqual(str(caught.exception), "the version ends too early, at index 1: '1.2'")
-        again = pickle.loads(pickle.dumps(caught.exception))
-        self.assertEqual((again.index, str(again)), (1, str(caught.exception)))
+        for reading, name, sentence in (
+            (Reading.CARGO, "not-a-version", "not a version"),
+            (Reading.NPM, "not-a-version", "not a version"),
+            (Reading.CRATE_CARGO, "unexpected-end", "the version ends too early"),
+            (Reading.CRATE_NPM, "unexpected-end", "the version ends too early"),
+        ):
+            with self.assertRaises(VersionError) as caught:
+                Filter("^1.2", reading).kept(given)
+            error = caught.exception
+            self.assertEqual((error.name, error.text, error.index), (name, "1.2", 1))
+            self.assertEqual(str(error), f"{sentence}, at index 1: '1.2'")
+            again = pickle.loads(pickle.dumps(error))
+            self.assertEqual((again.index, str(again)), (1, str(error)))
         self.assertEqual(Filter("^1.2").kept(given, pass_over=True), ["1.2.0", "1.4.0"])
         self.assertEqual(Filter("^1.2").greatest(given, pass_over=True), "1.4.0")
         with self.assertRaises(RangeError):
@@ -297,6 +305,57 @@ class Kept(unittest.TestCase):
         for one in ("1.2.3", b"1.2.3"):
             with self.assertRaises(TypeError):
                 Filter("^1").greatest(one)
+
+    def test_readings(self) -> None:
+        """The versions are read by the reading of the range, as docs/GRAMMAR.md has them."""
+        of_crate = (Reading.CRATE_CARGO, Reading.CRATE_NPM)
+        for text, takes in (
+            ("1.0.0--a", (Reading.CARGO, Reading.NPM)),
+            ("1.0.0-01", of_crate),
+            ("v1.2.3", (Reading.NPM,)),
+            (" 1.2.3 ", (Reading.NPM, *of_crate)),
+            ("\u00a01.2.3", (Reading.NPM,)),
+            ("9007199254740992.0.0", (Reading.CARGO, *of_crate)),
+        ):
+            for reading in Reading:
+                with self.subTest(text=text, reading=reading):
+                    chosen = Filter(">=1.0.0-0", reading)
+                    if reading in takes:
+                        self.assertTrue(chosen.meets(text))
+                        self.assertTrue(meets(">=1.0.0-0", text, reading))
+                        self.assertEqual(chosen.kept(["0.1.0", text]), [text])
+                        self.assertEqual(chosen.greatest(["0.1.0", text]), text)
+                        continue
+                    for call in (chosen.meets, lambda it, by=reading: meets(">=1.0.0-0", it, by)):
+                        with self.assertRaises(VersionError):
+                            call(text)
+                    for call in (chosen.kept, chosen.greatest):
+                        with self.assertRaises(VersionError) as caught:
+                            call(["0.1.0", text])
+                        self.assertEqual(caught.exception.index, 1)
+                    self.assertEqual(chosen.kept([text, "1.2.3"], pass_over=True), ["1.2.3"])
+
+    def test_canaries(self) -> None:
+        """Versions whose pre-release begins with a hyphen, as npm and Cargo have them."""
+        canary = "6.2.0--canary.14175.ab12.0"
+        given = ["6.2.0--canary.9.0", canary, "6.2.0--canary.14175.ab12", "6.2.1--canary.1"]
+        given.append("5.0.0")
+        for reading in (Reading.CARGO, Reading.NPM):
+            chosen = Filter("^6.2.0--canary.10", reading)
+            self.assertEqual(chosen.kept(given), [canary, given[2]])
+            self.assertEqual(chosen.greatest(given), canary)
+            made = list(map(parse_version, given))
+            self.assertEqual(chosen.greatest(made), made[1])
+            self.assertEqual(chosen.greatest([*given, "6.2.0"]), "6.2.0")
+            self.assertEqual(Filter("^6.2.0", reading).kept(given), [])
+            self.assertEqual(greatest("=" + canary, given, reading), canary)
+        for reading in (Reading.CRATE_CARGO, Reading.CRATE_NPM):
+            chosen = Filter("^6.2.0--canary.10", reading)
+            with self.assertRaises(VersionError) as caught:
+                chosen.greatest(given)
+            self.assertEqual(caught.exception.name, "unexpected-token")
+            self.assertEqual(caught.exception.index, 0)
+            self.assertEqual(chosen.kept([*given, "6.2.0"], pass_over=True), ["6.2.0"])
 
     def test_many(self) -> None:
         given = [f"1.{minor}.0" for minor in range(100_000)]
@@ -316,18 +375,25 @@ class Greatest(unittest.TestCase):
         for lower, higher in zip(versions, versions[1:]):
             self.assertLess(precedence(lower), precedence(higher))
 
-    def test_precedence_is_the_library_s(self) -> None:
-        """The order of the keys is that of the comparators, for identifiers of all kinds."""
-        ends = ["", "-0", "-1", "-10", "-2", "-01", "-a", "-A", "-a-b", "-a.0", "-a.a", "-a.0.0"]
-        ends += ["-18446744073709551615", "-18446744073709551616", "-99999999999999999999", "-a+b"]
+    def goes_as_comparators(self, ends: List[str], readings: Tuple[Reading, ...]) -> None:
+        """The order of the keys is that of the comparators."""
         versions = [f"1.2.3{end}" for end in ends]
-        for one in versions:
-            for other in versions:
-                if "-01" in other or "+" in other:
-                    continue  # a range has it as another identifier, or drops it
-                below = precedence(parse_version(one)) < precedence(parse_version(other))
-                wanted = meets(f"<{other}", one, Reading.CRATE_CARGO, PreReleases.INCLUDED)
-                self.assertIs(below, wanted, (one, other))
+        for reading in readings:
+            keys = {it: precedence(parse_version(it, reading)) for it in versions}
+            for one in versions:
+                for other in versions:
+                    if "-01" in other or "+" in other:
+                        continue  # a range has it as another identifier, or drops it
+                    wanted = meets(f"<{other}", one, reading, PreReleases.INCLUDED)
+                    self.assertIs(keys[one] < keys[other], wanted, (one, other, reading))
+
+    def test_precedence_is_the_library_s(self) -> None:
+        """For identifiers of all kinds."""
+        ends = ["", "-0", "-1", "-10", "-2", "-a", "-A", "-a-b", "-a.0", "-a.a", "-a.0.0", "-a+b"]
+        large = [f"-{number}" for number in (2**64 - 1, 2**64, 99999999999999999999)]
+        hyphens = ["--", "--a", "--1", "-a-", "-a--b", "-a.-", "---"]
+        self.goes_as_comparators([*ends, *large, "-01"], (Reading.CRATE_CARGO, Reading.CRATE_NPM))
+        self.goes_as_comparators([*ends, *hyphens], (Reading.CARGO, Reading.NPM))
 
     def test_other_types(self) -> None:
         for value in ("1.2.3", b"1.2.3", (1, 2, 3), 1, None):

@@ -4,6 +4,7 @@ import copy
 import dataclasses
 import pickle
 import unittest
+from typing import List, Optional, Tuple
 
 from semver_parser import (
     Comparator,
@@ -23,27 +24,118 @@ from semver_parser.faults import raise_fault
 
 MOST = 2**64 - 1
 
+# The greatest number of npm's versions.
+MOST_OF_NPM = 2**53 - 1
+
+CRATE = (Reading.CRATE_CARGO, Reading.CRATE_NPM)
+
+# A version text, and what docs/GRAMMAR.md has of it under "Versions of Cargo and npm" and under
+# "Version texts": the version by Cargo's own reading, by npm's own, and by the crate's two, or None
+# where it is none.
+VERSIONS: List[Tuple[Text, Tuple[Optional[Version], Optional[Version], Optional[Version]]]] = [
+    ("1.2.3", 3 * (Version(1, 2, 3),)),
+    (b"1.2.3-rc.1+b5.05", 3 * (Version(1, 2, 3, ("rc", 1), ("b5", "05")),)),
+    ("1.2.3-x-y.0a", 3 * (Version(1, 2, 3, ("x-y", "0a")),)),
+    ("1.0.0--a", (*2 * (Version(1, 0, 0, ("-a",)),), None)),
+    ("1.0.0-a--b", (*2 * (Version(1, 0, 0, ("a--b",)),), None)),
+    ("1.0.0--", (*2 * (Version(1, 0, 0, ("-",)),), None)),
+    ("1.0.0-alpha-", (*2 * (Version(1, 0, 0, ("alpha-",)),), None)),
+    ("1.0.0--01", (*2 * (Version(1, 0, 0, ("-01",)),), None)),
+    ("1.0.0+--", (*2 * (Version(1, 0, 0, (), ("--",)),), None)),
+    (
+        "6.2.0--canary.14175.ab12.0",
+        (*2 * (Version(6, 2, 0, ("-canary", 14175, "ab12", 0)),), None),
+    ),
+    ("1.2.3-01", (None, None, Version(1, 2, 3, ("01",)))),
+    ("1.2.3-a.00", (None, None, Version(1, 2, 3, ("a", "00")))),
+    ("1.2.3+01", 3 * (Version(1, 2, 3, (), ("01",)),)),
+    ("v1.2.3", (None, Version(1, 2, 3), None)),
+    (" v1.2.3--a ", (None, Version(1, 2, 3, ("-a",)), None)),
+    ("vv1.2.3", 3 * (None,)),
+    ("v 1.2.3", 3 * (None,)),
+    ("=1.2.3", 3 * (None,)),
+    (" 1.2.3 ", (None, *2 * (Version(1, 2, 3),))),
+    (b"\t1.2.3-a\r\n", (None, *2 * (Version(1, 2, 3, ("a",)),))),
+    ("\u00a01.2.3", (None, Version(1, 2, 3), None)),
+    (b"1.2.3+a\xc2\xa0", (None, Version(1, 2, 3, (), ("a",)), None)),
+    (f"{MOST_OF_NPM}.0.0", 3 * (Version(MOST_OF_NPM, 0, 0),)),
+    ("9007199254740992.0.0", (Version(2**53, 0, 0), None, Version(2**53, 0, 0))),
+    (f"0.0.{MOST}", (Version(0, 0, MOST), None, Version(0, 0, MOST))),
+    (f"0.0.{MOST + 1}", 3 * (None,)),
+    (f"1.0.0-{'a' * 250}", 3 * (Version(1, 0, 0, ("a" * 250,)),)),
+    (f"1.0.0-{'a' * 251}", (Version(1, 0, 0, ("a" * 251,)), None, Version(1, 0, 0, ("a" * 251,)))),
+    ("1.2.3-", 3 * (None,)),
+    ("1.2.3-a..b", 3 * (None,)),
+    ("01.2.3", 3 * (None,)),
+    ("1.2", 3 * (None,)),
+    ("latest", 3 * (None,)),
+    ("", 3 * (None,)),
+]
+
+
+class ByReading(unittest.TestCase):
+    """Versions by each reading."""
+
+    def test_readings(self) -> None:
+        for text, (by_cargo, by_npm, by_crate) in VERSIONS:
+            for reading, wanted in zip(Reading, (by_cargo, by_npm, by_crate, by_crate)):
+                with self.subTest(text=text, reading=reading):
+                    if wanted is not None:
+                        self.assertEqual(parse_version(text, reading), wanted)
+                        self.assertEqual(parse_version(str(wanted), reading), wanted)
+                        continue
+                    with self.assertRaises(VersionError) as caught:
+                        parse_version(text, reading)
+                    self.assertEqual(caught.exception.text, text)
+                    is_none = caught.exception.name == "not-a-version"
+                    self.assertIs(is_none, reading not in CRATE)
+
+    def test_default(self) -> None:
+        """It is Cargo's own reading."""
+        for text, (by_cargo, _, _) in VERSIONS:
+            if by_cargo is not None:
+                self.assertEqual(parse_version(text), by_cargo)
+                continue
+            with self.assertRaises(VersionError) as caught:
+                parse_version(text)
+            self.assertEqual(caught.exception.name, "not-a-version")
+
+    def test_sizes(self) -> None:
+        many = ".".join(["a", "1"] * 50_000)
+        read = parse_version(f"1.2.3-{many}+{many}")
+        self.assertEqual((read.pre, read.build), (("a", 1) * 50_000, ("a", 1) * 50_000))
+        self.assertEqual(parse_version("1.2.3-" + "-" * 100_000).pre, ("-" * 100_000,))
+        white_space = " " * 251
+        self.assertEqual(parse_version(f"{white_space}1.2.3", Reading.NPM), Version(1, 2, 3))
+        with self.assertRaises(VersionError):
+            parse_version(f"{white_space}1.2.30", Reading.NPM)
+
 
 class Versions(unittest.TestCase):
+    """Versions of the crate's grammar."""
+
     def test_fields(self) -> None:
-        self.assertEqual(parse_version("1.2.3"), Version(1, 2, 3, (), ()))
-        self.assertEqual(
-            parse_version("1.2.3-rc.1.07+b5.5"), Version(1, 2, 3, ("rc", 1, "07"), ("b5", 5))
-        )
-        self.assertEqual(parse_version(f"{MOST}.{MOST}.{MOST}"), Version(MOST, MOST, MOST))
+        for reading in CRATE:
+            self.assertEqual(parse_version("1.2.3", reading), Version(1, 2, 3, (), ()))
+            self.assertEqual(
+                parse_version("1.2.3-rc.1.07+b5.5", reading),
+                Version(1, 2, 3, ("rc", 1, "07"), ("b5", 5)),
+            )
+            read = parse_version(f"{MOST}.{MOST}.{MOST}", reading)
+            self.assertEqual(read, Version(MOST, MOST, MOST))
 
     def test_kinds_of_identifiers(self) -> None:
-        read = parse_version(f"0.0.0-0.00.{MOST}.{MOST + 1}.1a.1-2")
+        read = parse_version(f"0.0.0-0.00.{MOST}.{MOST + 1}.1a.1-2", Reading.CRATE_CARGO)
         self.assertEqual(read.pre, (0, "00", MOST, str(MOST + 1), "1a", "1-2"))
 
     def test_white_space_and_bytes(self) -> None:
         wanted = Version(1, 2, 3, ("a",), ("b",))
         for text in (" \t\r\n1.2.3-a+b \n", b"1.2.3-a+b", b"  1.2.3-a+b"):
-            self.assertEqual(parse_version(text), wanted)
+            self.assertEqual(parse_version(text, Reading.CRATE_CARGO), wanted)
 
     def test_printed(self) -> None:
         for text in ("1.2.3", "1.2.3-rc.1.07+b5.5", "0.0.0-0", "1.2.3+a-b.0"):
-            self.assertEqual(str(parse_version(f" {text} ")), text)
+            self.assertEqual(str(parse_version(f" {text} ", Reading.CRATE_NPM)), text)
 
     def refuses_parts(self, kind: type, part: object) -> None:
         """As a pre-release and as a build."""
@@ -52,16 +144,24 @@ class Versions(unittest.TestCase):
                 Version(1, 2, 3, *parts)
 
     def test_made_by_hand(self) -> None:
-        """A version is made exactly where its printed text is read as that version."""
-        numbers = (0, 7, MOST)
-        identifiers = (0, MOST, "a", "00", "1-2", "a-b-3", str(MOST + 1), "9" * 100)
-        for number in numbers:
-            for identifier in identifiers:
+        """The printed text of a version is read as that version by each reading that has it."""
+        of_all = (0, MOST, "a", "1-2", "a-b-3", str(MOST + 1), "9" * 100)
+        of_tools = ("-", "--", "-a", "a-", "a--b", "-1", "-01", "0-")
+        for number in (0, 7, MOST_OF_NPM):
+            for identifier in (*of_all, *of_tools):
                 for made in (
                     Version(number, 0, number, (identifier,)),
                     Version(0, number, 1, (), (identifier, "b")),
                 ):
-                    self.assertEqual(parse_version(str(made)), made)
+                    for reading in Reading:
+                        if identifier in of_tools and reading in CRATE:
+                            with self.assertRaises(VersionError):
+                                parse_version(str(made), reading)
+                        else:
+                            self.assertEqual(parse_version(str(made), reading), made)
+        for made in (Version(MOST, 0, MOST, ("a",)), Version(1, 2, 3, ("a", "00"), ("00",))):
+            for reading in CRATE:
+                self.assertEqual(parse_version(str(made), reading), made)
 
     def test_no_version(self) -> None:
         for wrong in (-1, MOST + 1):
@@ -72,7 +172,7 @@ class Versions(unittest.TestCase):
             for numbers in ((wrong, 0, 0), (0, wrong, 0), (0, 0, wrong)):
                 with self.assertRaises(TypeError):
                     Version(*numbers)
-        words = ("", "-", "a-", "-a", "a--b", "a.b", "a b", "a+b", "é", "١", "a\n", "\n", "a_b")
+        words = ("", "a.b", "a b", "a+b", "é", "١", "a\n", "\n", "a_b", "-\n", " -")
         for wrong in (*words, "7", "0", str(MOST), -1, MOST + 1):
             self.refuses_parts(ValueError, ("a", wrong))
         for wrong in (b"a", True, 1.0, None, ("a",)):
@@ -93,10 +193,11 @@ class Versions(unittest.TestCase):
 
     def test_sizes(self) -> None:
         many = ".".join(["a", "1"] * 50_000)
-        read = parse_version(f"1.2.3-{many}+{many}")
+        read = parse_version(f"1.2.3-{many}+{many}", Reading.CRATE_NPM)
         self.assertEqual(read.pre, ("a", 1) * 50_000)
         self.assertEqual(read.build, read.pre)
-        self.assertEqual(parse_version("1.2.3-" + "9" * 100_000).pre, ("9" * 100_000,))
+        nines = "9" * 100_000
+        self.assertEqual(parse_version(f"1.2.3-{nines}", Reading.CRATE_CARGO).pre, (nines,))
 
 
 class Ranges(unittest.TestCase):
@@ -211,9 +312,19 @@ READINGS = [
 
 class Faults(unittest.TestCase):
     def refuses_version(self, text: Text, name: str) -> None:
-        with self.assertRaises(VersionError) as caught:
-            parse_version(text)
-        self.assertEqual((caught.exception.name, caught.exception.text), (name, text))
+        """By the crate's readings the name is that of the fault, and by the tools' one."""
+        of_tool = name if name == "not-utf8" else "not-a-version"
+        for reading in Reading:
+            with self.assertRaises(VersionError) as caught:
+                parse_version(text, reading)
+            wanted = name if reading in CRATE else of_tool
+            self.assertEqual((caught.exception.name, caught.exception.text), (wanted, text))
+
+    def refuses_version_of_crate(self, text: Text, name: str) -> None:
+        for reading in CRATE:
+            with self.assertRaises(VersionError) as caught:
+                parse_version(text, reading)
+            self.assertEqual((caught.exception.name, caught.exception.text), (name, text))
 
     def refuses_range(self, text: Text, name: str) -> None:
         for reading in Reading:
@@ -224,8 +335,10 @@ class Faults(unittest.TestCase):
     def test_versions(self) -> None:
         for text in ("", "1.2", "1.2.3-", " "):
             self.refuses_version(text, "unexpected-end")
-        for text in ("1.2.3--1", "01.0.0", "a /", "v1.2.3"):
+        for text in ("01.0.0", "a /", "vv1.2.3"):
             self.refuses_version(text, "unexpected-token")
+        for text in ("1.2.3--1", "v1.2.3"):
+            self.refuses_version_of_crate(text, "unexpected-token")
         for text in ("/", "a/", "1.2.3\0", "1.2.3é"):
             self.refuses_version(text, "unexpected-char")
         for text in ("1.2.3 a.b", "1.2.3 4"):
@@ -248,14 +361,21 @@ class Faults(unittest.TestCase):
 
     def test_messages(self) -> None:
         with self.assertRaisesRegex(ValueError, r"^the version ends too early: '1\.2'$"):
-            parse_version("1.2")
+            parse_version("1.2", Reading.CRATE_CARGO)
+        for reading in (Reading.CARGO, Reading.NPM):
+            with self.assertRaisesRegex(ValueError, r"^not a version: '1\.2'$"):
+                parse_version("1.2", reading)
         with self.assertRaisesRegex(ValueError, r"^not a range: b'v1'$"):
             parse_range(b"v1")
         with self.assertRaisesRegex(ValueError, r"^not a range: 'v{79}\.\. \(of length 100000\)$"):
             parse_range("v" * 100_000)
 
     def test_errors_are_values(self) -> None:
-        for error in (VersionError("unexpected-end", "1.2"), RangeError("not-utf8", b"\xff")):
+        for error in (
+            VersionError("unexpected-end", "1.2"),
+            VersionError("not-a-version", "1.2", 7),
+            RangeError("not-utf8", b"\xff"),
+        ):
             again = pickle.loads(pickle.dumps(error))
             self.assertEqual((again.name, again.text), (error.name, error.text))
             self.assertEqual(str(again), str(error))
@@ -275,3 +395,6 @@ class Faults(unittest.TestCase):
         for reading in ("npm", True, 0, None, Compat.NPM):
             with self.assertRaisesRegex(TypeError, "^a reading is a Reading, and not "):
                 parse_range("1", reading)
+            for text in ("1.2.3", "1.2", b"\xff"):
+                with self.assertRaisesRegex(TypeError, "^a reading is a Reading, and not "):
+                    parse_version(text, reading)

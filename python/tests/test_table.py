@@ -1,5 +1,6 @@
 """The rows of the table: versions, ranges by each reading, printing, exact bounds, and filters."""
 
+import re
 import unittest
 from collections import Counter
 from typing import Counter as Counts
@@ -10,19 +11,26 @@ from semver_parser import (
     PreReleases,
     RangeError,
     Reading,
+    VersionError,
     meets,
     parse_range,
     parse_version,
 )
-from tests.table import answer, checksum, rows, rows_of_tools
+from tests.table import answer, checksum, fields_of_version, rows, rows_of_tools
 
 _SUM = "sum-of-"
+_VERSION = "version"
 _READINGS_OF_TOOLS = {"cargo": Reading.CARGO, "npm": Reading.NPM}
 # The rules for pre-releases that mean what is asked. None is the tool's own rule too.
 _RULES_OF_MEANT: Dict[str, Tuple[Optional[PreReleases], ...]] = {
     "meant": (None, PreReleases.OF_TOOL),
     "meant-with-all": (PreReleases.INCLUDED,),
 }
+
+
+def fits_npm(version: str) -> bool:
+    """Whether the numbers of a version are such that npm reads it."""
+    return all(int(it) < 2**53 for it in re.split("[-+]", version)[0].split("."))
 
 
 class Table(unittest.TestCase):
@@ -51,9 +59,12 @@ class Tools(unittest.TestCase):
     def test_rows(self) -> None:
         counts: Counts[Tuple[str, str]] = Counter()
         for asked, tool, row in rows_of_tools():
-            with self.subTest(call=row.call, text=row.text, steps=row.steps):
+            asked = asked.removeprefix(_SUM)
+            with self.subTest(call=row.call, text=row.text[:200], steps=row.steps):
                 reading = _READINGS_OF_TOOLS[tool]
-                if asked in _RULES_OF_MEANT:
+                if asked == _VERSION:
+                    self.check_version(row.call, row.text, reading, row.wanted)
+                elif asked in _RULES_OF_MEANT:
                     rules = _RULES_OF_MEANT[asked]
                     self.check_meaning(row.text, reading, rules, row.steps.split(" "), row.wanted)
                 else:
@@ -63,6 +74,16 @@ class Tools(unittest.TestCase):
             self.assertGreater(counts[tool, "rewritten"], 80)
             self.assertGreaterEqual(counts[tool, "meant"], 50)
             self.assertGreater(counts[tool, "meant-with-all"], 50)
+            self.assertGreater(counts[tool, _VERSION], 50)
+
+    def check_version(self, call: str, text: str, reading: Reading, wanted: str) -> None:
+        """The fields, or `none`; a long answer by its checksum."""
+        try:
+            answered = fields_of_version(parse_version(text, reading))
+        except VersionError as error:
+            self.assertEqual(error.name, "not-a-version")
+            answered = "none"
+        self.assertEqual(checksum(answered) if call.startswith(_SUM) else answered, wanted)
 
     def check_rewriting(self, text: str, reading: Reading, wanted: str) -> None:
         """By a tool's own reading bounds are exact, whatever is asked for."""
@@ -80,7 +101,8 @@ class Tools(unittest.TestCase):
         versions: List[str],
         wanted: str,
     ) -> None:
-        """By rules that mean the same, and of the releases among them."""
+        """By rules that mean the same, and of the releases among them. Versions whose numbers are
+        too large for npm are left out."""
         try:
             chosen = [Filter(text, reading, rule) for rule in rules]
             releases = Filter(text, reading, PreReleases.EXCLUDED)
@@ -89,8 +111,11 @@ class Tools(unittest.TestCase):
             return
         means, *meant = wanted.split(" ")
         self.assertEqual(means, "means")
+        if reading is Reading.NPM:
+            versions, meant = ([it for it in them if fits_npm(it)] for them in (versions, meant))
         for each in chosen:
             self.assertEqual(each.kept(versions), meant)
-        self.assertEqual(releases.kept(versions), [it for it in meant if not parse_version(it).pre])
+        without = [it for it in meant if not parse_version(it, reading).pre]
+        self.assertEqual(releases.kept(versions), without)
         for version in versions:
             self.assertIs(meets(text, version, reading, rules[0]), version in meant)
