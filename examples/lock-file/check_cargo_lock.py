@@ -32,16 +32,12 @@ to know:
     <TAB>VERSION<TAB>NAME VERSION asks for NAME<TAB>not asked for
     <TAB>VERSION<TAB>NAME<TAB>no version
 
-The first tells that a requirement has no edge, the second that an edge has no requirement, and the
-third that Cargo takes the text of a version for none. Standard error has a line for what can't be
-judged, which is no failure:
+    REQUIREMENT<TAB>VERSION<TAB>NAME VERSION asks for NAME<TAB>not read
 
-    passed over<TAB>NAME<TAB>REQUIREMENT
-
-With `--strict` that is a failure, and so is a dependency for any target that isn't there. What
-can't be judged has its line on standard output then:
-
-    REQUIREMENT<TAB>VERSION<TAB>NAME VERSION asks for NAME<TAB>passed over
+The first tells that a requirement has no edge, the second that an edge has no requirement, the
+third that Cargo takes the text of a version for none, and the last that the requirement isn't one
+that Cargo reads. So nothing passes that wasn't judged. With `--strict` a dependency for any target
+that isn't there is a failure too.
 
 Backslashes and control characters in these texts are written as JSON writes them.
 
@@ -65,7 +61,6 @@ from checking import (
     run,
     taking,
     tell_fault,
-    tell_passed_over,
     text_at,
 )
 from semver_parser import Reading
@@ -77,15 +72,15 @@ Lists the versions of a graph that Cargo resolved that aren't what the manifests
 ask for, and what is asked for and isn't there. METADATA.JSON is what
 cargo metadata --format-version 1 writes. - is standard input.
 
-    --strict    what can't be judged, and a dependency for any target that isn't
-                there, count and are listed
+    --strict    a dependency for any target that isn't there counts and is
+                listed
     -h, --help  write this
     --          end the options
 
 Its status is 0 where nothing is wrong, 1 where something is listed, and 2 after
 a fault, which standard error tells."""
 
-GREATEST_NUMBER = 2**64 - 1
+NOT_READ = "not read"
 
 Kind = Tuple[Optional[str], Optional[str]]
 """A kind of dependency, as `dev`, and a target. A usual one has neither."""
@@ -250,19 +245,16 @@ def has_to_be_there(need: Need, package: Package, targets: Set[Optional[str]]) -
 
 
 def is_asked_for(version: str, need: Need) -> Optional[bool]:
-    """Whether a version is what is asked for; None where that can't be told."""
+    """Whether a version is what is asked for; None if the requirement isn't read."""
     if need.requirement == "*" and not need.has_registry:
         return True
-    is_one = is_version(version, GREATEST_NUMBER)
-    # So what is no requirement stays told apart from a version that is none.
-    met = is_met(need.requirement, version if is_one else "0.0.0", Reading.CARGO)
-    return met if is_one or met is None else False
+    return is_met(need.requirement, version, Reading.CARGO)
 
 
 # ---- the lines
 
 
-def tell_need(package: Package, need: Need, is_required: bool, is_strict: bool) -> bool:
+def tell_need(package: Package, need: Need, is_required: bool) -> bool:
     """Writes what there is to say of what a package asks for. Whether something is wrong."""
     other = f" as {need.other_name}" if need.other_name is not None else ""
     who = f"{package.name} {package.version} asks for {need.name}{other}"
@@ -272,19 +264,15 @@ def tell_need(package: Package, need: Need, is_required: bool, is_strict: bool) 
     wrong = not edges and is_required
     for edge in edges:
         met = is_asked_for(edge.version, need)
-        if met is False:
-            tell_fault(need.requirement, edge.version, who)
-        elif met is None and is_strict:
-            tell_fault(need.requirement, edge.version, who, "passed over")
-        elif met is None:
-            tell_passed_over(need.name, need.requirement)
-        wrong |= met is False or (met is None and is_strict)
+        if not met:
+            tell_fault(need.requirement, edge.version, who, NOT_READ if met is None else "")
+            wrong = True
     return wrong
 
 
 def tell_version(package: Package) -> bool:
     """Writes where a package has a version that Cargo wouldn't take. Whether it has."""
-    if is_version(package.version, GREATEST_NUMBER):
+    if is_version(package.version, Reading.CARGO):
         return False
     tell_fault("", package.version, package.name, "no version")
     return True
@@ -302,21 +290,20 @@ def tell_edges(package: Package) -> bool:
 
 
 def check(options: Options) -> int:
-    """Writes what is wrong with a graph, and what is passed over. The status."""
+    """Writes what is wrong with a graph. The status."""
     with taking(options.path, "output of cargo metadata"):
         packages = list(packages_at(read_object(options.path)))
-    is_strict = "--strict" in options.given
     edges = (edge for package in packages for edge in package.edges)
     needs = (need for package in packages for need in package.needs)
     targets = {target for edge in edges for _, target in edge.kinds}
-    if is_strict:
+    if "--strict" in options.given:
         targets.update(need.kind[1] for need in needs)
     wrong = False
     for package in packages:
         wrong |= tell_version(package)
         for need in package.needs:
             is_required = has_to_be_there(need, package, targets)
-            wrong |= tell_need(package, need, is_required, is_strict)
+            wrong |= tell_need(package, need, is_required)
         wrong |= tell_edges(package)
     return int(wrong)
 

@@ -33,17 +33,18 @@ field tells what else there is to know:
     RANGE<TAB>VERSION<TAB>WHO asks for NAME<TAB>overridden
     npm:NAME@RANGE<TAB>OTHER NAME<TAB>WHO asks for NAME<TAB>another package
     <TAB>VERSION<TAB>PLACE<TAB>no version
+    RANGE<TAB><TAB>WHO asks for NAME<TAB>no version
+    RANGE<TAB>VERSION<TAB>WHO asks for NAME<TAB>not read; npm's loose mode may
 
 The range of the first is that of an override. The second tells that the package which is found has
 another name than is asked for, and the third that npm takes the text of a version for none. Such a
-text is never what is asked for. Standard error has a line for what can't be judged, which is no
-failure: what is asked for is no range but a tag, an address or a path, or the package that is found
-has no version or, in lockfileVersion 1, an address for one:
+text is never what is asked for. The fourth tells that the package has no version or, in
+lockfileVersion 1, an address for one; and the last that the range isn't one that npm's semver reads
+strictly. So of what is asked for by a range nothing passes that wasn't judged.
 
-    passed over<TAB>NAME<TAB>SPEC
-
-With `--strict` that is a failure, and so is a package that isn't there and isn't optional.
-Standard output has their lines then:
+What is asked for by no range, but by a tag, an address or a path, isn't judged. That is no failure,
+and one line on standard error counts it. With `--strict` it is a failure, and so is a package that
+isn't there and isn't optional. Standard output has their lines then:
 
     SPEC<TAB>VERSION<TAB>WHO asks for NAME<TAB>passed over
     SPEC<TAB><TAB>WHO asks for NAME<TAB>not there
@@ -73,7 +74,6 @@ from checking import (
     run,
     taking,
     tell_fault,
-    tell_passed_over,
     text_at,
 )
 from npm_lock import (
@@ -81,6 +81,7 @@ from npm_lock import (
     Ask,
     alias_of,
     asks_at,
+    is_no_range,
     is_pinned,
     packages_of,
     range_of,
@@ -95,8 +96,9 @@ usage: check_lock_file.py [--strict] [--package-json FILE] PACKAGE-LOCK.JSON
 Lists the versions of a lock file of npm that aren't what is asked for, by npm's
 own reading of ranges. - is standard input.
 
-    --strict             what can't be judged, and a package that isn't there
-                         and isn't optional, count and are listed
+    --strict             what is asked for by a tag, an address or a path, and
+                         a package that isn't there and isn't optional, count
+                         and are listed
     --package-json FILE  take the overrides from this package.json, and not from
                          that beside the lock file
     -h, --help           write this
@@ -105,23 +107,19 @@ own reading of ranges. - is standard input.
 Its status is 0 where nothing is wrong, 1 where something is listed, and 2 after
 a fault, which standard error tells."""
 
-# What npm's semver lets stand round a version, and how long and how great one may be.
-BLANKS = (
-    "\t\n\v\f\r \u00a0\u1680\u2000\u2001\u2002\u2003\u2004\u2005\u2006\u2007\u2008\u2009"
-    "\u200a\u2028\u2029\u202f\u205f\u3000\ufeff"
-)
-LONGEST_VERSION = 256
-GREATEST_NUMBER = 2**53 - 1
+# What a judgement of a version comes to, the worst first.
+VERDICTS = ("not met", "no version", "not read; npm's loose mode may", "passed over", "met")
+NOT_MET, NO_VERSION, NOT_READ, PASSED_OVER, MET = VERDICTS
 
 
 class Judgement(NamedTuple):
     """How what is asked for was judged: by which text, whether that is an override, whether the
-    package has the name that it asks for, and whether its version is met, if that can be told."""
+    package has the name that it asks for, and which of the verdicts its version has."""
 
     spec: str
     is_overridden: bool
     has_name: bool
-    is_met: Optional[bool]
+    verdict: str
 
 
 # ---- the files
@@ -153,12 +151,14 @@ def read_manifest(path: Optional[str]) -> Tuple[Entry, Rule]:
 # ---- the judgement
 
 
-def npm_version(text: str) -> Optional[str]:
-    """The version that npm's semver reads strictly from a text, if it does."""
-    bare = text.strip(BLANKS)
-    bare = bare[1:] if bare.startswith("v") else bare
-    is_one = len(text) <= LONGEST_VERSION and is_version(bare, GREATEST_NUMBER)
-    return bare if is_one else None
+def verdict_on(version: Optional[str], spec: str) -> str:
+    """The verdict on the version of a package, if it has one, by what is asked for."""
+    met = is_met(range_of(spec), version or "", Reading.NPM)
+    if met is None:
+        return PASSED_OVER if is_no_range(spec) else NOT_READ
+    if version is None:
+        return NO_VERSION
+    return MET if met else NOT_MET
 
 
 def judged_by(spec: str, is_overridden: bool, ask: Ask) -> Judgement:
@@ -166,14 +166,7 @@ def judged_by(spec: str, is_overridden: bool, ask: Ask) -> Judgement:
     alias = alias_of(spec)
     name, version = (None, None) if ask.found is None else ask.found[1:]
     has_name = alias is None or name is None or alias[0] == name
-    met = None
-    if version is not None:
-        bare = npm_version(version)
-        wanted = range_of(spec)
-        # So what is no range stays told apart from a version that is none.
-        met = is_met(wanted, bare or "0.0.0", Reading.NPM)
-        met = False if bare is None and met is not None else met
-    return Judgement(spec, is_overridden, has_name, met)
+    return Judgement(spec, is_overridden, has_name, verdict_on(version, spec))
 
 
 def judged(ask: Ask, rules: List[Rule], is_pinned: bool) -> Judgement:
@@ -181,7 +174,7 @@ def judged(ask: Ask, rules: List[Rule], is_pinned: bool) -> Judgement:
     the most is right."""
     return max(
         (judged_under(ask, rule, is_pinned) for rule in rules),
-        key=lambda it: (it.has_name, it.is_met is not False, it.is_met is not None),
+        key=lambda it: (it.has_name, VERDICTS.index(it.verdict)),
     )
 
 
@@ -207,30 +200,33 @@ def tell(ask: Ask, judgement: Judgement, is_strict: bool) -> bool:
         if is_wrong:
             tell_fault(spec, "", who, "not there")
         return is_wrong
-    version = ask.found.version or ""
+    verdict = judgement.verdict
+    is_right = verdict == MET or (verdict == PASSED_OVER and not is_strict)
     if not judgement.has_name:
         tell_fault(spec, ask.found.name or "", who, "another package")
-    if judgement.is_met is False:
-        tell_fault(spec, version, who, "overridden" if judgement.is_overridden else "")
-    elif judgement.is_met is None and is_strict:
-        tell_fault(spec, version, who, "passed over")
-    elif judgement.is_met is None:
-        tell_passed_over(ask.name, spec)
-    return not judgement.has_name or judgement.is_met is False or (
-        judgement.is_met is None and is_strict
-    )
+    if not is_right:
+        kind = verdict if verdict != NOT_MET else "overridden" if judgement.is_overridden else ""
+        tell_fault(spec, ask.found.version or "", who, kind)
+    return not judgement.has_name or not is_right
 
 
 def tell_version(place: str, version: Optional[str]) -> bool:
     """Writes where a package has a version that npm wouldn't take. Whether it has."""
-    if version is None or npm_version(version) is not None:
+    if version is None or is_version(version, Reading.NPM):
         return False
     tell_fault("", version, place or "the project", "no version")
     return True
 
 
+def tell_passed_over(count: int) -> None:
+    """Writes how many asks are passed over, if some are."""
+    if count > 0:
+        why = "asked for by a tag, an address or a path, and not judged"
+        print(f"{why}: {count}; --strict lists them", file=sys.stderr)
+
+
 def check(options: Options) -> int:
-    """Writes what is wrong with a lock file, and what is passed over. The status."""
+    """Writes what is wrong with a lock file, and how much is passed over. The status."""
     manifest_at = manifest_path(options)
     with taking(options.path, "lock file"):
         lock = read_object(options.path)
@@ -244,12 +240,16 @@ def check(options: Options) -> int:
         }
         held = where_rules_hold(packages, asks, outermost)
     is_strict = "--strict" in options.given
-    wrong = False
+    wrong, passed_over = False, 0
     for place in packages:
         wrong |= tell_version(place, versions[place])
         for ask in asks[place]:
             pinned = ask.found is not None and is_pinned(packages, ask.found.place)
-            wrong |= tell(ask, judged(ask, held[place], pinned), is_strict)
+            judgement = judged(ask, held[place], pinned)
+            wrong |= tell(ask, judgement, is_strict)
+            passed_over += ask.found is not None and judgement.verdict == PASSED_OVER
+    if not is_strict:
+        tell_passed_over(passed_over)
     return int(wrong)
 
 

@@ -2,13 +2,12 @@
 
 import json
 import os
-import re
 import sys
 from contextlib import contextmanager
 from typing import Any, Callable, Dict, Iterator, List, NamedTuple, NoReturn, Optional, Tuple
 
 try:
-    from semver_parser import RangeError, Reading, VersionError, meets
+    from semver_parser import RangeError, Reading, VersionError, meets, parse_version
 except ImportError as error:
     print(f"{os.path.basename(sys.argv[0])}: {error}", file=sys.stderr)
     sys.exit(2)
@@ -103,32 +102,27 @@ def text_at(value: Any, where: str) -> str:
     raise WrongShape(f": {where} isn't a text")
 
 
-# ---- versions
-
-_NUMBER = "(0|[1-9][0-9]*)"
-_PRE_PART = "(?:0|[1-9][0-9]*|[0-9]*[A-Za-z-][0-9A-Za-z-]*)"
-_BUILD_PART = "[0-9A-Za-z-]+"
-_VERSION = re.compile(
-    rf"{_NUMBER}\.{_NUMBER}\.{_NUMBER}"
-    rf"(?:-{_PRE_PART}(?:\.{_PRE_PART})*)?(?:\+{_BUILD_PART}(?:\.{_BUILD_PART})*)?"
-)
+# ---- versions and ranges
 
 
-def is_version(text: str, most: int) -> bool:
-    """Whether a text is a version by SemVer 2.0.0, with numbers up to `most`."""
-    spelt = _VERSION.fullmatch(text)
-    longest = len(str(most))
-    return spelt is not None and all(
-        len(number) <= longest and int(number) <= most for number in spelt.groups()
-    )
+def is_version(text: str, reading: Reading) -> bool:
+    """Whether a text is a version to a tool."""
+    try:
+        parse_version(text, reading)
+    except VersionError:
+        return False
+    return True
 
 
 def is_met(wanted: str, version: str, reading: Reading) -> Optional[bool]:
-    """Whether a version meets a range; None where one of them isn't read."""
+    """Whether a version meets a range; None if the range isn't read. What is no version meets
+    none."""
     try:
         return meets(wanted, version, reading)
-    except (RangeError, VersionError):
+    except RangeError:
         return None
+    except VersionError:
+        return False
 
 
 # ---- what is written
@@ -143,11 +137,6 @@ def tell_fault(asked: str, found: str, who: str, kind: str = "") -> None:
     """Writes a line for what is wrong."""
     fields = [asked, found, who, kind] if kind else [asked, found, who]
     print("\t".join(escaped(field) for field in fields))
-
-
-def tell_passed_over(name: str, asked: str) -> None:
-    """Writes a line for what can't be judged."""
-    print(f"passed over\t{escaped(name)}\t{escaped(asked)}", file=sys.stderr)
 
 
 def open_output() -> None:

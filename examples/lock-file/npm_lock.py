@@ -4,6 +4,7 @@ Packages are told by their places, as in lockfileVersion 2 and 3: the folders fr
 and nothing for the project itself.
 """
 
+import re
 from typing import Dict, Iterator, NamedTuple, Optional, Tuple
 
 from checking import Entry, WrongShape, object_at, objects_at, text_at
@@ -13,6 +14,11 @@ Packages = Dict[str, Entry]
 ASKS_OF_EACH = ("dependencies", "optionalDependencies", "peerDependencies")
 ASKS_OF_TOPS = (*ASKS_OF_EACH, "devDependencies")
 ASKS_OF_OLD_PROJECTS = ("dependencies", "optionalDependencies", "devDependencies")
+
+# What npm takes for an address or a path, and for a tag. A tag begins with a letter here, and not
+# as a version does: so a range that isn't read is never taken for one.
+ELSEWHERE = re.compile(r"(?!npm:)(?:git\+)?[a-z]+:|\.|.*/|.*\.(?:tgz|tar|tar\.gz)\Z", re.I | re.S)
+TAG = re.compile(r"(?!v[0-9]|v?x\.)[a-z_][0-9a-z_.!~*'()-]*", re.I | re.A)
 
 
 class Package(NamedTuple):
@@ -142,6 +148,13 @@ def range_of(spec: str) -> str:
     """What stands in the place of the range in what is asked for."""
     alias = alias_of(spec)
     return spec if alias is None else alias[1]
+
+
+def is_no_range(spec: str) -> bool:
+    """Whether npm takes what is asked for, which isn't read as a range, for something else: a tag,
+    an address or a path. An alias has a range or a tag."""
+    is_address = alias_of(spec) is None and ELSEWHERE.match(spec) is not None
+    return is_address or TAG.fullmatch(range_of(spec).strip()) is not None
 
 
 def behind_links(packages: Packages, place: str) -> Optional[str]:
