@@ -1,4 +1,4 @@
-"""Compares release-filter with the rules of docs/DECISIONS.md and docs/MEANING.md: python3 lines-in-pieces.py PROGRAM COUNT SEED.
+"""Compares release-filter with the rules of docs/DECISIONS.md, docs/GRAMMAR.md and docs/MEANING.md: python3 lines-in-pieces.py PROGRAM COUNT SEED.
 
 It makes COUNT random texts of lines, each with a range and options, and tells by code of its own what is written, what is reported of lines without a
 version, and the status. Each text is cut in 100 random ways, and the program gets each piece by a read of its own: standard input is a socket that keeps
@@ -12,26 +12,49 @@ import subprocess
 import sys
 
 CUTS = 100
-IDENTIFIER = rb"[0-9A-Za-z]+(?:-[0-9A-Za-z]+)*"
 NUMBER = rb"(0|[1-9][0-9]*)"
-IDENTIFIERS = rb"(%s(?:\.%s)*)" % (IDENTIFIER, IDENTIFIER)
-VERSION = re.compile(
-    rb"[ \t\r\n]*%s\.%s\.%s(?:-%s)?(?:\+%s)?[ \t\r\n]*" % (NUMBER, NUMBER, NUMBER, IDENTIFIERS, IDENTIFIERS)
-)
+
+
+def versions(before, pre, build, after):
+    """Versions with such texts around them, and with such identifiers."""
+    return re.compile(rb"%s%s\.%s\.%s(?:-(%s(?:\.%s)*))?(?:\+(%s(?:\.%s)*))?%s" % (before, NUMBER, NUMBER, NUMBER, pre, pre, build, build, after))
+
+
+# The crate's versions, those of SemVer 2.0.0, and npm's, by docs/GRAMMAR.md.
+RUNS = rb"[0-9A-Za-z]+(?:-[0-9A-Za-z]+)*"
+NO_ZERO = rb"(?:0|[1-9][0-9]*|[0-9]*[A-Za-z-][0-9A-Za-z-]*)"
+CRATE = versions(rb"[ \t\r\n]*", RUNS, RUNS, rb"[ \t\r\n]*")
+SEMVER = versions(rb"", NO_ZERO, rb"[0-9A-Za-z-]+", rb"")
+BLANK = "[\t-\r \u00a0\u1680\u2000-\u200a\u2028\u2029\u202f\u205f\u3000\ufeff]*"
+AROUND = re.compile(f"{BLANK}v?(.*?){BLANK}", re.DOTALL)
+
+
+def read_as_npm(text):
+    """What a text is as npm reads it."""
+    try:
+        text = text.decode()
+    except UnicodeDecodeError:
+        return None
+    read = SEMVER.fullmatch(AROUND.fullmatch(text)[1].encode()) if len(text) <= 256 else None
+    return read if read and all(int(number) < 2**53 for number in read.groups()[:3]) else None
+
+
+DIALECTS = {"cargo": SEMVER.fullmatch, "npm": read_as_npm, "crate-cargo": CRATE.fullmatch}
 MARK = b"\xef\xbb\xbf"
 
 NUMBERS = (b"0", b"1", b"1", b"2", b"3", b"10")
-QUALIFIERS = (b"", b"", b"", b"-a", b"-b", b"-a.1", b"-b.0", b"-0", b"-rc-1", b"-a+x", b"+x", b"+y", b"-a.b.c+x.y")
+QUALIFIERS = (b"", b"", b"", b"-a", b"-b", b"-a.1", b"-b.0", b"-0", b"-rc-1", b"-a+x", b"+x", b"+y", b"-a.b.c+x.y", b"-a--b", b"-01", b"--", b"-b-", b"+-.01", b"-a+b--x")
 PREFIXES = (b"", b"", b"v", b"v", b"pkg@", b"version ")
 ENDS = (b"\n", b"\n", b"\n", b"\n", b"\r\n")
-NO_VERSIONS = (b"", b"", b"x", b"main", b"1.2", b"1.2.3-", b"01.2.3", b"1.2.3 4", b"v", b"1.2.3.4", b"\xff\xfe", b"1.2.\xc3\xa9", b"1.2.3-a..b", b"1.2.18446744073709551616", b" ", b"\r")
+NO_VERSIONS = (b"", b"", b"x", b"main", b"1.2", b"1.2.3-", b"01.2.3", b"1.2.3 4", b"v", b"1.2.3.4", b"\xff\xfe", b"1.2.\xc3\xa9", b"1.2.3-a..b", b"1.2.18446744073709551616", b" ", b"\r", b"1.2.9007199254740992")
+BLANKS = (b" ", b"\t", b"  ", b"\xc2\xa0", b"\xe2\x80\x83", MARK, b"\xc2\x85")
 
 
 def precedence(version):
-    """By SemVer 2.0.0, section 11."""
+    """By SemVer 2.0.0, section 11. A number past 64 bits is kept as a text, and so is one with a leading zero."""
     numbers, pre = version
-    parts = [(0, int(part), b"") if part.isdigit() and (part == b"0" or part[:1] != b"0") else (1, 0, part) for part in pre.split(b".")] if pre else []
-    return numbers, not pre, parts
+    parts = [(0, int(part), b"") if part.isdigit() and b"%d" % int(part) == part and int(part) < 2**64 else (1, 0, part) for part in pre.split(b".")]
+    return numbers, not pre, parts if pre else []
 
 
 def between(least, end, pre_of=None, pre_from=b""):
@@ -53,32 +76,33 @@ ALL = ((0, 0, 0), (2**64, 0, 0))
 RANGES = (
     (["*"], between(*ALL)),
     (["^1.2"], between((1, 2, 0), (2, 0, 0))),
-    (["--npm", ">1.2 <3"], between((1, 3, 0), (3, 0, 0))),
+    (["--as", "npm", ">1.2 <3"], between((1, 3, 0), (3, 0, 0))),
     ([">=1.2.0-b, <2"], between((1, 2, 0), (2, 0, 0), (1, 2, 0), b"b")),
     (["--releases", ">=1.2.0-b, <2"], between((1, 2, 0), (2, 0, 0))),
     (["--pre", "*"], within(*ALL)),
-    (["--pre", "--npm", "*"], within(*ALL)),
+    (["--pre", "--as", "npm", "*"], within(*ALL)),
     (["--pre", "^1.2"], within((1, 2, 0), (2, 0, 0))),
+    (["--as", "crate-cargo", "--pre", ">=0.0.1-0"], within((0, 0, 1), ALL[1])),
 )
 
 
-def version_of(text, prefixes):
+def version_of(text, prefixes, dialect):
     """The version of a line's text: what is after the first prefix after which there is one."""
     for prefix in prefixes:
-        read = VERSION.fullmatch(text[len(prefix):]) if text.startswith(prefix) else None
+        read = DIALECTS[dialect](text[len(prefix):]) if text.startswith(prefix) else None
         if read and all(int(number) < 2**64 for number in read.groups()[:3]):
             return tuple(int(number) for number in read.groups()[:3]), read[4] or b""
     return None
 
 
-def told(text, holds, wanted, prefixes, is_strict):
+def told(text, holds, wanted, prefixes, dialect, is_strict):
     """What the program writes, what it reports, and its status."""
     lines = text.removeprefix(MARK).split(b"\n")
     lines = [line + b"\n" for line in lines[:-1]] + [line for line in lines[-1:] if line]
     kept, invalid, empty = [], [], 0
     for at, line in enumerate(lines):
         spelled = line.removesuffix(b"\n").removesuffix(b"\r")
-        version = version_of(spelled, prefixes)
+        version = version_of(spelled, prefixes, dialect)
         if version and holds(version):
             kept.append((precedence(version), line))
         elif not version and spelled:
@@ -113,7 +137,7 @@ def random_line(draw, prefixes):
     if kind == 0:
         line = draw.choice(PREFIXES) + draw.choice(NO_VERSIONS)
     elif kind == 1:
-        line = draw.choice((b" ", b"\t", b"  ")) + line + draw.choice((b"", b" ", b"\r"))
+        line = draw.choice(BLANKS) + line + draw.choice((b"", b" ", b"\r", *BLANKS))
     elif kind == 2:
         at = draw.randrange(len(line))
         line = line[:at] + draw.choice((b"x", b"-", b".", b"+", b"\x00", b"\x80")) + line[at + 1:]
@@ -158,13 +182,14 @@ def main():
     kept = reported = 0
     for at in range(count):
         arguments, holds = draw.choice(RANGES)
+        dialect = arguments[arguments.index("--as") + 1] if "--as" in arguments else "cargo"
         wanted = draw.choice(("", "", "--greatest", "--least", "--sort"))
         prefixes = draw.choice(([], [], [b"v"], [b"v", b""], [b"", b"v"], [b"pkg@", b"v", b"version "]))
         is_strict = draw.randrange(5) == 0
         text = random_text(draw, prefixes or [b""])
         options = [*([wanted] if wanted else []), *(["--strict"] if is_strict else [])]
         options += [it for prefix in prefixes for it in ("--prefix", prefix.decode())]
-        expected = told(text, holds, wanted, prefixes or [b""], is_strict)
+        expected = told(text, holds, wanted, prefixes or [b""], dialect, is_strict)
         kept += expected[2] == 0
         reported += bool(expected[1])
         for _ in range(CUTS):

@@ -23,6 +23,7 @@ use checksum::Checksum;
 use filtering::write_greatest as greatest;
 use release_filter::PreReleases;
 use semver_parser::version;
+use semver_parser::version::Dialect;
 use std::alloc::Global;
 use std::io;
 use std::io::{BufRead, BufReader, BufWriter, Write};
@@ -74,6 +75,8 @@ fn answer<W: Write>(
         "parser" => parsing::write_steps(alloc, text, steps, out),
         "version" => versions::write_version(&version::parse(alloc, text), out),
         "read" => versions::write_read(alloc, text, out),
+        "version-as-cargo" => versions::write_read_in(alloc, text, Dialect::Cargo, out),
+        "version-as-npm" => versions::write_read_in(alloc, text, Dialect::Npm, out),
         "outline" => versions::write_outline(text, out),
         "version-text" => versions::write_printed(alloc, text, out),
         "error-text" => versions::write_error_text(alloc, text, out),

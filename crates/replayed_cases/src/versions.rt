@@ -3,7 +3,7 @@
 use super::parsing;
 use semver_parser::parser::{Error, Parser};
 use semver_parser::version;
-use semver_parser::version::{Identifier, Version};
+use semver_parser::version::{Dialect, Identifier, Version};
 use std::alloc::Global;
 use std::io;
 use std::io::Write;
@@ -21,6 +21,22 @@ pub fn write_read<W: Write>(alloc: Global, text: &str, out: &mut W) -> io::Resul
     match version::read(alloc, text) {
         Ok(Some(version)) => write_fields(&version, out),
         Ok(None) => write!(out, "none"),
+        Err(_) => write!(out, "OutOfMemory"),
+    }
+}
+
+/// Writes the fields of the version that a text spells in a dialect, or `none` if it spells none.
+pub fn write_read_in<W: Write>(
+    alloc: Global,
+    text: &str,
+    dialect: Dialect,
+    out: &mut W,
+) -> io::Result<()> {
+    let Some(outline) = version::outline_in(text.as_bytes(), dialect) else {
+        return write!(out, "none");
+    };
+    match outline.version(alloc) {
+        Ok(version) => write_fields(&version, out),
         Err(_) => write!(out, "OutOfMemory"),
     }
 }

@@ -1,0 +1,38 @@
+//! Reads versions with `Version::parse` of the crate `semver`: for each line of standard input, with
+//! the escapes `\n`, `\r`, `\t` and `\\`, it writes `none`, or the numbers, the pre-release after `-`
+//! and the build after `+`, separated by spaces.
+
+use semver::Version;
+use std::io::{BufRead, BufWriter, Write};
+
+/// The text of a line, as a field of `replayed_cases` has it.
+fn expanded(line: &str) -> String {
+    let mut characters = line.chars();
+    let mut text = String::new();
+    while let Some(character) = characters.next() {
+        text.push(match character {
+            '\\' => match characters.next().expect("an escape has a character") {
+                'n' => '\n',
+                'r' => '\r',
+                't' => '\t',
+                other => other,
+            },
+            _ => character,
+        });
+    }
+    text
+}
+
+fn main() -> std::io::Result<()> {
+    let mut out = BufWriter::new(std::io::stdout());
+    for line in std::io::stdin().lock().split(b'\n') {
+        let line = String::from_utf8(line?).expect("lines are UTF-8");
+        match Version::parse(&expanded(&line)) {
+            Ok(Version { major, minor, patch, pre, build }) => {
+                writeln!(out, "{major}.{minor}.{patch} -{pre} +{build}")?
+            }
+            Err(_) => writeln!(out, "none")?,
+        }
+    }
+    out.flush()
+}
