@@ -99,7 +99,7 @@ uncast n m e e' one = rw (e, e') one
 pub by_dialect : {reading : ℤ} {beside : List ℤ} {n m : ℤ} {IsSame : Type 0} → (n ≡ number.no_such_reading) ⊎ IsReading reading
     → (m ≡ number.no_such_reading) ↔ ¬ (IsReading reading) → (n ≡ number.no_such_reading) ↔ ¬ (IsReading reading)
     → (n ≡ number.no_such_reading → m ≡ number.no_such_reading → IsSame) → ((d : Dialect) → IsDialect d reading
-        → AreOne beside n m IsSame) → AreOne beside n m IsSame
+    → AreOne beside n m IsSame) → AreOne beside n m IsSame
 by_dialect (inl e) q p wrong by =
     let e' = q.1 (p.0 e) in
     record { same = λ _ _. (e ∙ sym e', wrong e e'); beside_memory = λ memory. grind arith }

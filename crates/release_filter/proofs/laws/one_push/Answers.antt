@@ -17,7 +17,7 @@ pub returns-clause-one_line : goal.returns-clause-one_line
 returns-clause-one_line c = λ states bytes. both_err c.push.result c.push-2.result _ _ _
     (one_line c.one_version_in.ensures.same_version c.precedence_is_total.ensures.total c.args.first.now c.args.second.now
     c.push.new.self c.push-2.new.self c.args.piece.now c.args.kept.now.items c.args.other.now.items c.push.new.kept.items
-        c.push-2.new.kept.items states
+    c.push-2.new.kept.items states
     bytes)
     c.push.ensures.stops c.push-2.ensures.stops
 

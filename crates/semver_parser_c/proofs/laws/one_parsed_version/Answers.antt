@@ -44,7 +44,7 @@ returns c =
     record {
       one = uncast n.result m.result (search rules) (search rules)
           (by_dialect p.named q.no_such_reading p.no_such_reading (λ e e'. p.unchanged (λ ok. cc) ∙ c.requires
-              ∙ sym (q.unchanged (λ ok. cc))) (λ d is.
+          ∙ sym (q.unchanged (λ ok. cc))) (λ d is.
           are_one (number.ok ∷ number.no_such_reading ∷ version_faults) exact refl refl p.numbers q.numbers
           (once d (p.version d is) (p.not_utf8 d is) (q.not_utf8 d is) (q.accepted d is) (carried p.no_such_reading q.no_such_reading))
           (once d (q.version d is) (q.not_utf8 d is) (p.not_utf8 d is) (p.accepted d is) (carried q.no_such_reading p.no_such_reading))
@@ -53,6 +53,6 @@ returns c =
           (λ utf8 w. p.accepted d is w.0 utf8 w.1 ∙ sym (q.accepted d is w.0 utf8 w.1))
           (λ utf8 _. p.outcome d is utf8) (λ utf8 _. q.outcome d is utf8))
           (λ _. by_ok n.result m.result (λ ok ok'. same_read c.one_version_in.ensures.same_version d _ _ _ (p.version d is ok)
-              (q.version d is ok'))
+          (q.version d is ok'))
           (λ no no'. p.unchanged no ∙ c.requires ∙ sym (q.unchanged no')))));
     }
