@@ -1,8 +1,9 @@
 //! What there is to tell of a range text that is refused: the place of the first byte that no range
-//! could have there, with a caret under it, and a hint where another reading takes what stands
-//! there.
+//! could have there, with a caret under it, and a hint where another reading takes it or a known
+//! rule is broken.
 #![tactic(auto)]
 
+mod ending;
 mod hints;
 mod place;
 mod shown;
@@ -24,7 +25,7 @@ use tool_ranges::reading::Reading;
 /// ```text
 /// not a range: "1.2 || 3"
 ///     1.2 || 3
-///         ^ at byte 4: Cargo parts comparators by commas; --as npm takes two bars
+///         ^ at byte 4: Cargo takes no ||; --as npm does
 /// ```
 pub fn told(
     alloc: Global,
@@ -42,12 +43,15 @@ pub fn told(
     let shown = Shown::round(text, place);
     write!(told, "{error}: {shown}")?;
     shown.write_pointed(&mut told)?;
+    let hint = hint(reading, text, place);
     if place < text.len() {
         write!(told, "at byte {place}")?;
+    } else if hint.is_some() {
+        write!(told, "at the end")?;
     } else {
         write!(told, "something is missing at the end")?;
     }
-    if let Some(hint) = hint(reading, text, place) {
+    if let Some(hint) = hint {
         write!(told, ": {hint}")?;
     }
     Ok(told)

@@ -182,10 +182,11 @@ fn report_invalid(rt: &impl Eprint, counts: &Counts) {
         return;
     };
     let all = counts.lines.saturating_sub(counts.empty);
+    let lines = if all == 1 { "line" } else { "lines" };
     let are = if counts.invalid == 1 { "is" } else { "are" };
     let (shown, more) = shown(first.front.as_slice());
     let _ = eprintln!(rt;
-        "release-filter: {} of {all} lines {are} no version; the first, line {}: {}{more}",
+        "release-filter: {} of {all} {lines} {are} no version; the first, line {}: {}{more}",
         counts.invalid,
         first.number,
         shown.escape_ascii()
