@@ -12,7 +12,12 @@ from itertools import product
 from multiprocessing import Pool
 
 CHARACTERS = "1.-*>|,va "
-CALLS = {"cargo": "rewritten-as-cargo", "npm": "rewritten-as-npm", "crate-npm": "npm-exact"}
+# The call that reads a text, and what it answers where that is no range.
+CALLS = {
+    "cargo": ("rewritten-as-cargo", "not-a-range"),
+    "npm": ("rewritten-as-npm", "not-a-range"),
+    "crate-npm": ("npm-exact", "not a range"),
+}
 AT_THE_END = re.compile(r"at the end(: .*)?$")
 AT_A_BYTE = re.compile(r"at byte (\d+)(: .*)?$")
 
@@ -24,11 +29,12 @@ def texts(length):
 
 def ranges(cases, dialect, of):
     """Those of the texts that are ranges."""
-    asked = "".join(f"-\t{CALLS[dialect]}\t{text}\n" for text in of)
+    call, refusal = CALLS[dialect]
+    asked = "".join(f"-\t{call}\t{text}\n" for text in of)
     ran = subprocess.run([cases], input=asked, capture_output=True, text=True, check=True)
     answered = ran.stdout.split("\n")
     assert len(answered) == len(of) + 1
-    return [text for text, answer in zip(of, answered) if answer != "-: not-a-range"]
+    return [text for text, answer in zip(of, answered) if answer != f"-: {refusal}"]
 
 
 def named(program, dialect, text):

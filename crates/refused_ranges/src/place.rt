@@ -6,10 +6,9 @@ use std::alloc::{AllocError, Global};
 use tool_ranges::reading::{self, Reading};
 
 /// What the front of a range text is gone on with, if it can be: nothing is missing after a number;
-/// a component after an operator or a dot, a wildcard behind a wildcard of Cargo's; a part after a
-/// hyphen or a plus; another bar after a bar, or two; and a blank and the right side after the
-/// hyphen of a hyphen range.
-const RESTS: [&str; 7] = ["", "1", "*", "a", "|", "||", " 1"];
+/// a wildcard after a dot; an identifier after a hyphen or a plus; another bar after a bar; and a
+/// space and a number after an operator, a comma and the hyphen of a hyphen range.
+const RESTS: [&str; 5] = ["", "*", "a", "|", " 1"];
 
 /// The place of the first byte of a refused text that no range text of the reading has behind what
 /// stands before it: 4 in `1.2 || 3` as Cargo reads it. It is the length of the text where
