@@ -1,8 +1,9 @@
 //! Reads versions with `Version::parse` of the crate `semver`: for each line of standard input, with
 //! the escapes `\n`, `\r`, `\t` and `\\`, it writes `none`, or the numbers, the pre-release after `-`
-//! and the build after `+`, separated by spaces.
+//! and the build after `+`, separated by spaces. Of a line that begins with a requirement and a tab
+//! it writes whether `VersionReq::matches` holds, or `none` where one of them isn't read.
 
-use semver::Version;
+use semver::{Version, VersionReq};
 use std::io::{BufRead, BufWriter, Write};
 
 /// The text of a line, as a field of `replayed_cases` has it.
@@ -27,6 +28,13 @@ fn main() -> std::io::Result<()> {
     let mut out = BufWriter::new(std::io::stdout());
     for line in std::io::stdin().lock().split(b'\n') {
         let line = String::from_utf8(line?).expect("lines are UTF-8");
+        if let Some((requirement, version)) = line.split_once('\t') {
+            match (VersionReq::parse(requirement), Version::parse(&expanded(version))) {
+                (Ok(requirement), Ok(version)) => writeln!(out, "{}", requirement.matches(&version))?,
+                _ => writeln!(out, "none")?,
+            }
+            continue;
+        }
         match Version::parse(&expanded(&line)) {
             Ok(Version { major, minor, patch, pre, build }) => {
                 writeln!(out, "{major}.{minor}.{patch} -{pre} +{build}")?

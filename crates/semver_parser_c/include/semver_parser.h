@@ -97,8 +97,7 @@ enum {
     /* The text isn't in the range grammar, which is that of the reading: `1.2.3 -4` is in none, and
      * `v1.2.3` in that of npm's own alone. docs/GRAMMAR.md says which texts each reading takes. */
     SEMVER_PARSER_NOT_A_RANGE = 11,
-    /* It is, and a number that it states, or an upper bound that is raised by one, is above 2^64 -
-     * 1. */
+    /* It is, and a number that it states, or a bound that is raised by one, is above 2^64 - 1. */
     SEMVER_PARSER_NUMBER_TOO_LARGE = 12,
     /* Memory ran out at the range. */
     SEMVER_PARSER_RANGE_OUT_OF_MEMORY = 13,
@@ -116,8 +115,7 @@ enum {
     SEMVER_PARSER_NEW_RANGE_NOT_UTF8 = 16,
     /* The text isn't in the range grammar. */
     SEMVER_PARSER_NEW_NOT_A_RANGE = 17,
-    /* It is, and a number that it states, or an upper bound that is raised by one, is above 2^64 -
-     * 1. */
+    /* It is, and a number that it states, or a bound that is raised by one, is above 2^64 - 1. */
     SEMVER_PARSER_NEW_NUMBER_TOO_LARGE = 18,
     /* Memory ran out where two ranges are compared, at either of them or later. */
     SEMVER_PARSER_NEW_RANGE_OUT_OF_MEMORY = 19,
