@@ -15,7 +15,7 @@ own, or that of the Rust crate `semver-parser` in one of its two modes. docs/GRA
 repository says which texts are versions and ranges, and docs/MEANING.md what a range means.
 
 Texts are `str` or `bytes` in UTF-8. A text that is refused raises `VersionError` or `RangeError`,
-and want of memory `MemoryError`. Everything may be called from several threads at once, and nothing
+and out of memory is `MemoryError`. Everything may be called from several threads at once, and nothing
 from a signal handler or from a forked child of a process that has several threads.
 
 The calls are those of the shared library `libsemver_parser.so.0.4`, which is loaded when the

@@ -95,7 +95,7 @@ class Filter:
 
         A text that is no version raises `VersionError`, whose `index` tells its place among the
         versions; with `pass_over=True` it counts as one that doesn't meet the range. What is no
-        text raises `TypeError`, and want of memory `MemoryError`, also then.
+        text raises `TypeError`, and out of memory is `MemoryError`, also then.
         """
         if isinstance(versions, (str, bytes)):
             raise TypeError("versions are an iterable of versions, and not one text")
@@ -150,7 +150,7 @@ def _item_text(index: int, version: object) -> Text:
 
 
 def _refuse(answer: int, text: Text, index: int, pass_over: bool) -> None:
-    """Raises the fault of a version, unless it is passed over. Want of memory never is."""
+    """Raises the fault of a version, unless it is passed over. Out of memory never is."""
     try:
         raise_fault(answer, version=text, index=index)
     except ValueError:
