@@ -158,11 +158,11 @@ enum {
 enum {
     /* No version with a pre-release meets any range. */
     SEMVER_PARSER_RELEASES_ALONE = 0,
-    /* A pre-release meets a range by precedence (SemVer 2.0.0, section 11), and only where a term
-     * of that range states the same three numbers and a pre-release. 1.2.3-rc meets `^1.2.3-beta`,
-     * and neither `>=1.2.0` nor `^1.2.0 || =1.2.3-beta`. */
+    /* A pre-release meets a range that means it, and only if a term of that range states the same
+     * three numbers and a pre-release. 1.2.3-rc meets `^1.2.3-beta`, and neither `>=1.2.0` nor
+     * `^1.2.0 || =1.2.3-beta`. */
     SEMVER_PARSER_STATED_PRE_RELEASES = 1,
-    /* A pre-release meets a range by precedence, as any version does: 2.0.0-alpha meets `>=1.0.0`,
+    /* A pre-release meets a range that means it, as any version does: 2.0.0-alpha meets `>=1.0.0`,
      * and neither `^1.0.0` nor `>=2.0.0`. As Cargo and npm read it, a range of fewer than three
      * numbers begins with the pre-releases of these, but for npm's `~1.2`: 2.0.0-alpha meets `>=2`,
      * and each version meets `*`. */
