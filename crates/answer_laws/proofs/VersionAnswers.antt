@@ -19,11 +19,11 @@ use Rattle.semver_texts.proofs.DottedParts.{IsSplit}
 use Rattle.semver_tokens.specs.Tokens.{TokenValue, AreTokensOf, IsBadStart}
 use Rattle.semver_tokens.specs.ParserState.{ParserState, Fault, IsStateOf}
 use Rattle.semver_tokens.specs.ParserState as fault
-use Rattle.semver_steps.specs.ParserViews.{UnlessOutOfMemory, IfOutOfMemory, answer_of, step_of, fault_of}
-use Rattle.semver_steps.specs.VersionReading.{IsIdentifierShape, IsVersionShape, Reads, ReadsIdentifier, ReadsVersion}
-use Rattle.semver_steps.specs.declared.parser.Error.{Error}
-use Rattle.semver_steps.specs.declared.parser.Error.TheVariants as error
-use Rattle.semver_steps.proofs.ReadingSteps.{reads_once}
+use Rattle.semver_tokens.specs.ParserViews.{UnlessOutOfMemory, IfOutOfMemory, answer_of, step_of, fault_of}
+use Rattle.semver_tokens.specs.VersionReading.{IsIdentifierShape, IsVersionShape, Reads, ReadsIdentifier, ReadsVersion}
+use Rattle.semver_tokens.specs.declared.parser.Error.{Error}
+use Rattle.semver_tokens.specs.declared.parser.Error.TheVariants as error
+use Rattle.semver_tokens.proofs.ReadingSteps.{reads_once}
 use Rattle.semver_versions.proofs.OneVersion.{one_core, same_identifier}
 use Rattle.answer_laws.specs.OneAnswer.{AreOne}
 use Rattle.answer_laws.proofs.OneAnswer.{one_found, one_made, said}

@@ -5,14 +5,14 @@ ghost use Rattle.std.specs.Prelude.{option_map};
 ghost use Rattle.semver_texts.specs.Texts.{BeginsWithNumbers, Text};
 ghost use Rattle.semver_texts.specs.VersionViews.{identifier_value, version_value};
 ghost use Rattle.semver_tokens.specs.ParserState.{OutOfMemory};
-ghost use Rattle.semver_steps.specs.ParserViews.{IfOutOfMemory, UnlessOutOfMemory};
-ghost use Rattle.semver_steps.specs.ParserViews.{answer_of, step_of};
+ghost use Rattle.semver_tokens.specs.ParserViews.{IfOutOfMemory, UnlessOutOfMemory};
+ghost use Rattle.semver_tokens.specs.ParserViews.{answer_of, step_of};
 ghost use Rattle.answer_laws.specs.OneAnswer.{AreOne};
 
-use semver_steps::parser::{self, Parser};
+use semver_parser::version::{self, Dialect, Outline};
 use semver_texts::version::{Identifier, Version};
 use semver_tokens::lexer::Lexer;
-use semver_versions::version::{self, Dialect, Outline};
+use semver_tokens::parser::{self, Parser};
 use std::alloc::{AllocError, Global};
 
 /// A text has one lexer.
@@ -157,6 +157,6 @@ pub fn one_version_parse(
     ensures one { UnlessOutOfMemory result.0 (UnlessOutOfMemory result.1
         (answer_of version_value result.0 ≡ answer_of version_value result.1)) }
 {
-    semver_versions::laws::one_outcome();
+    semver_parser::laws::one_outcome();
     (version::parse(alloc, input), version::parse(alloc, input))
 }

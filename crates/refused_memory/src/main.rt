@@ -1,4 +1,4 @@
-//! Calls what takes memory, and checks that each call answers in full or for want of memory, and
+//! Calls what allocates, and checks that each call returns in full or out of memory, and
 //! leaves what it promises. Standard input is the number of requests to make first. Where it is
 //! empty, every call has to answer in full; else the one request that is refused has to be met by
 //! exactly one call, which is named.
@@ -25,7 +25,7 @@ use version_sets::VersionSet;
 enum Ending {
     /// With the full answer.
     Full,
-    /// For want of memory, and what it promises then holds.
+    /// Out of memory, and what it promises then holds.
     Refused,
     /// In any other way.
     Wrong,

@@ -5,7 +5,7 @@ use super::fixed::Fixed;
 use semver_parser::report;
 use std::alloc::Global;
 
-/// A line whose value can't be read or printed for want of memory says so, and the report goes on.
+/// A line whose value can't be read or printed, out of memory, says so, and the report goes on.
 pub fn report(alloc: Global) -> Ending {
     let mut out = Fixed::new();
     let ran = report::run(alloc, "1.2.3", &mut out);

@@ -18,7 +18,7 @@ use tool_ranges::reading::Reading;
 
 /// The text that tells a refusal: the error and the range text, and of one that is no range two
 /// lines more, with the place, and with a hint where there is one. A long text is shortened. `Err`
-/// is want of memory.
+/// is out of memory.
 ///
 /// Of `1.2 || 3` as Cargo reads it:
 ///

@@ -15,7 +15,7 @@ const RESTS: [&str; 5] = ["", "*", "a", "|", " 1"];
 /// something is missing at the end, as in `>=`.
 ///
 /// It takes time in n log n for n bytes, and memory for the comparators that are answered. `Err` is
-/// want of memory.
+/// out of memory.
 pub fn fault_place(alloc: Global, reading: Reading, text: &str) -> Result<usize, AllocError> {
     if goes_on(alloc, reading, text)? {
         return Ok(text.len());

@@ -17,7 +17,7 @@ impl Filter {
     /// 2.5.0 and 2.5.0 again, a filter of `^0.2 || 2.x` keeps 0.2.0, 2.5.0 and 2.5.0.
     ///
     /// Each version is judged once. Memory is asked for as the answer grows, and not at all where
-    /// no version passes. `Err` is want of it.
+    /// no version passes. `Err` is out of memory.
     pub fn kept<'v>(
         &self,
         alloc: Global,
@@ -40,7 +40,7 @@ impl Filter {
     }
 
     /// Adds those of a few versions that pass. All are judged, and the places of those that pass
-    /// put in front, before one is added: so nothing but the end of a loop hangs on how they were
+    /// put in front, before one is added: so nothing but the end of a loop depends on how they were
     /// judged.
     fn keep<'v>(
         &self,

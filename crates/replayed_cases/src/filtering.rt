@@ -7,7 +7,8 @@ use std::alloc::{AllocError, Global};
 use std::io;
 use std::io::Write;
 
-/// Writes the versions of a list, parted by blanks, that are kept of it, or the fault of the text.
+/// Writes the versions of a list, separated by blanks, that are kept of it, or the fault of the
+/// text.
 pub fn write_kept<W: Write>(
     alloc: Global,
     text: &str,
@@ -21,8 +22,8 @@ pub fn write_kept<W: Write>(
     }
 }
 
-/// Writes the versions of a list, parted by blanks, that pass a filter, or the fault of the text.
-/// Where the filter reads other ones of the texts itself, that is told behind them.
+/// Writes the versions of a list, separated by blanks, that pass a filter, or the fault of the
+/// text. Where the filter reads other ones of the texts itself, that is told behind them.
 pub fn write_passed<W: Write>(
     alloc: Global,
     text: &str,
@@ -207,8 +208,8 @@ fn write_answer<W: Write>(kept: &Result<Vec<&Version>, RangeError>, out: &mut W)
     }
 }
 
-/// Writes the versions of a list, parted by blanks, that meet the set of a text, pre-releases too,
-/// or the fault of the text.
+/// Writes the versions of a list, separated by blanks, that meet the set of a text, pre-releases
+/// too, or the fault of the text.
 pub fn write_met<W: Write>(
     alloc: Global,
     text: &str,

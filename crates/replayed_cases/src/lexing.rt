@@ -57,7 +57,7 @@ pub fn write_token<W: Write>(token: &Token<'_>, out: &mut W) -> io::Result<()> {
     }
 }
 
-/// Writes tokens, parted by spaces.
+/// Writes tokens, separated by spaces.
 pub fn write_tokens<W: Write>(tokens: &[Token<'_>], out: &mut W) -> io::Result<()> {
     for (i, token) in tokens.iter().enumerate() {
         if i > 0 {

@@ -11,8 +11,8 @@ use version_sets::{PreReleases, VersionSet};
 /// A rule for pre-releases, and a mode.
 pub type Reading = (PreReleases, Compat);
 
-/// Writes the versions of a list, parted by blanks, that are in the set of a text, then its least
-/// version and its least release, or the fault of the text.
+/// Writes the versions of a list, separated by blanks, that are in the set of a text, then its
+/// least version and its least release, or the fault of the text.
 pub fn write_set<W: Write>(
     alloc: Global,
     reading: Reading,
@@ -43,8 +43,8 @@ pub fn write_set<W: Write>(
 }
 
 /// Writes how the sets of two texts stand to each other, or the fault of a text. The second text
-/// may have a semicolon behind it and then versions, parted by blanks: of each is written what it
-/// is in.
+/// may have a semicolon behind it and then versions, separated by blanks: of each is written what
+/// it is in.
 pub fn write_pair<W: Write>(
     alloc: Global,
     reading: Reading,

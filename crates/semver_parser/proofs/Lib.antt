@@ -1,8 +1,11 @@
 pub mod RowFacts
 pub mod Writes
 pub mod ReportSteps
+pub mod ParseFacts
+pub mod VersionExamples
+pub mod VersionMemory
+pub mod VersionTokens
+pub mod WholeText
 pub use Rattle.semver_tokens.proofs.TokenLists
 pub use Rattle.semver_versions.proofs.OneVersion
-pub use Rattle.semver_versions.proofs.VersionMemory
-pub use Rattle.semver_versions.proofs.WholeText
 pub use Rattle.semver_ranges.proofs.ReadingComplete

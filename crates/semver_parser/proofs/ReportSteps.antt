@@ -9,11 +9,11 @@ use Rattle.semver_ranges.specs.declared.range_set.RangeError.TheVariants.{NotARa
 use Rattle.semver_texts.specs.Texts.{Text}
 use Rattle.semver_texts.specs.Versions.{VersionValue}
 use Rattle.semver_texts.specs.PrintedText.{version_text}
-use Rattle.semver_steps.specs.ParserViews.{fault_of, answer_of, UnlessOutOfMemory, IfOutOfMemory}
+use Rattle.semver_tokens.specs.ParserViews.{fault_of, answer_of, UnlessOutOfMemory, IfOutOfMemory}
 use Rattle.semver_texts.specs.VersionViews.{version_value}
-use Rattle.semver_steps.specs.VersionReading.{IsOutcomeOf, TextMayRunOut}
-use Rattle.semver_steps.specs.declared.parser.Error.{Error}
-use Rattle.semver_steps.specs.declared.parser.Error.TheVariants as error
+use Rattle.semver_tokens.specs.VersionReading.{IsOutcomeOf, TextMayRunOut}
+use Rattle.semver_tokens.specs.declared.parser.Error.{Error}
+use Rattle.semver_tokens.specs.declared.parser.Error.TheVariants as error
 use Rattle.semver_texts.specs.declared.version.Version.{Version}
 use Rattle.semver_ranges.specs.RangeTree.{SetTree, Spells}
 use Rattle.semver_ranges.specs.RangeTexts.{RefusesExactly}
@@ -27,7 +27,7 @@ use Rattle.semver_parser.specs.Steps.Shown.{shown_text, is_value_of}
 use Rattle.semver_parser.specs.declared.report.Shown.{Shown}
 use Rattle.semver_parser.specs.declared.report.Shown.TheVariants.{Value, Fault}
 
--- a version that was read shows as its printed text, or as want of memory
+-- a version that was read shows as its printed text, or as out of memory
 pub shows_version : (text : Text) (shown : Shown) (v : VersionValue) → IsOutcomeOf text (Ok v)
     → (is_value_of shown ≡ true → shown_text shown ≡ version_text v)
     → (is_value_of shown ≡ false → shown_text shown ≡ codes "out-of-memory")
@@ -44,7 +44,7 @@ pub shows_fault : (text : Text) (e : Error) → UnlessOutOfMemory {T = Version} 
 shows_fault text error.OutOfMemory outcome memory word is = rw is (version_unread text memory)
 shows_fault text _ outcome memory word is = rw is (version_refused text _ outcome)
 
--- a set that was read shows as its printed text, or as want of memory
+-- a set that was read shows as its printed text, or as out of memory
 pub shows_set : (mode : Compat) (text : Text) (shown : Shown) (set : PlainSet) (tree : SetTree) → Spells tree text → IsTrue (fits mode tree)
     → set ≡ rewritten mode tree
     → (is_value_of shown ≡ true → shown_text shown ≡ set_text set) → (is_value_of shown ≡ false → shown_text shown ≡ codes "out-of-memory")

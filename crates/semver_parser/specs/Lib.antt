@@ -9,11 +9,11 @@ pub use Rattle.semver_texts.specs.Steps.PrecedenceLaws
 pub use Rattle.semver_tokens.specs.Tokens
 pub use Rattle.semver_tokens.specs.ParserState
 pub use Rattle.semver_tokens.specs.Views
-pub use Rattle.semver_steps.specs.ParserSteps
-pub use Rattle.semver_steps.specs.ParserViews
+pub use Rattle.semver_tokens.specs.ParserSteps
+pub use Rattle.semver_tokens.specs.ParserViews
 pub use Rattle.semver_texts.specs.VersionGrammar
 pub use Rattle.semver_texts.specs.ToolVersions
-pub use Rattle.semver_steps.specs.VersionReading
+pub use Rattle.semver_tokens.specs.VersionReading
 pub use Rattle.semver_texts.specs.VersionViews
 pub use Rattle.semver_texts.specs.Precedence
 pub use Rattle.semver_versions.specs.Outlines

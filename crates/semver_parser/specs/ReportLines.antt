@@ -12,7 +12,7 @@ use Rattle.semver_texts.specs.Versions.{VersionValue}
 use Rattle.semver_texts.specs.PrintedText.{version_text}
 use Rattle.semver_tokens.specs.ParserState as fault
 use Rattle.semver_tokens.specs.ParserState.{Fault}
-use Rattle.semver_steps.specs.VersionReading.{IsOutcomeOf, TextMayRunOut}
+use Rattle.semver_tokens.specs.VersionReading.{IsOutcomeOf, TextMayRunOut}
 use Rattle.semver_ranges.specs.RangeTexts.{IsRangeText}
 use Rattle.semver_ranges.specs.RangeTree.{SetTree, Spells}
 use Rattle.semver_ranges.specs.RewritingTable.{fits, rewritten}

@@ -1,9 +1,12 @@
 //! Laws over the definitions: each is the contract of a function that does nothing.
-ghost use Rattle.std.specs.Prelude.{[], ◌∷◌, true, false, codes};
+ghost use Rattle.std.specs.Prelude.{◌≡◌, [], ◌∷◌, true, false, codes, Result};
 ghost use Rattle.semver_ranges.specs.declared.range.Compat.{Compat};
 ghost use Rattle.semver_ranges.specs.declared.range.Compat.TheVariants.{Cargo, Npm};
+ghost use Rattle.semver_texts.specs.Texts.{Text};
 ghost use Rattle.semver_texts.specs.Versions.{VersionValue, numeric, alphanumeric};
 ghost use Rattle.semver_texts.specs.VersionGrammar.{IsVersionText, SpellsVersion};
+ghost use Rattle.semver_tokens.specs.ParserState.{Fault};
+ghost use Rattle.semver_tokens.specs.VersionReading.{IsOutcomeOf};
 ghost use Rattle.semver_parser.specs.Examples.{IsMet, IsMetAsStated, release, version};
 
 pub use semver_ranges::laws::{
@@ -12,7 +15,13 @@ pub use semver_ranges::laws::{
 };
 pub use semver_texts::laws::precedence_is_total;
 pub use semver_tokens::laws::one_token_list;
-pub use semver_versions::laws::{one_outcome, one_outlined_version, one_version, one_version_in};
+pub use semver_versions::laws::{one_outlined_version, one_version, one_version_in};
+
+/// Reading a text as a version has one outcome.
+pub fn one_outcome()
+    ensures same_outcome { (text : Text) (x y : Result VersionValue Fault) → IsOutcomeOf text x
+        → IsOutcomeOf text y → x ≡ y }
+{}
 
 /// What some versions meet: first by the text's own meaning, and then by its comparators.
 pub fn row_facts()

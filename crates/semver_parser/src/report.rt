@@ -6,15 +6,15 @@ ghost use Rattle.semver_parser.specs.ReportLines.{range_fault_word, line, lines,
 ghost use Rattle.semver_parser.specs.ReportLines.{status_of};
 ghost use Rattle.semver_ranges.specs.RangeViews.{set_of};
 ghost use Rattle.semver_ranges.specs.PrintedRanges.{set_text};
-ghost use Rattle.semver_steps.specs.ParserViews.{fault_of};
+ghost use Rattle.semver_tokens.specs.ParserViews.{fault_of};
 ghost use Rattle.semver_texts.specs.VersionViews.{version_value};
 ghost use Rattle.semver_texts.specs.PrintedText.{version_text};
 ghost use Rattle.semver_parser.specs.Steps.Shown.{shown_text, is_value_of};
 
+use crate::parser;
+use crate::version::{self, Version};
 use crate::writing::write_whole;
 use semver_ranges::{Compat, RangeError, RangeSet};
-use semver_steps::parser;
-use semver_versions::version::{self, Version};
 use std::alloc::Global;
 use std::io::{self, Write};
 
@@ -91,7 +91,7 @@ fn version_shown(alloc: Global, text: &str) -> Shown
     }
 }
 
-/// The printed version, or the word for want of memory.
+/// The printed version, or the word for out of memory.
 fn printed_version(alloc: Global, version: &Version) -> Shown
     ensures value { is_value_of result ≡ true → shown_text result
         ≡ version_text (version_value version.now) }
@@ -124,7 +124,7 @@ fn range_fault_word(error: &RangeError) -> &'static str
     }
 }
 
-/// The printed set, or the word for want of memory.
+/// The printed set, or the word for out of memory.
 fn printed_set(alloc: Global, set: &RangeSet) -> Shown
     ensures value { is_value_of result ≡ true → shown_text result ≡ set_text (set_of set.now) }
     ensures fault { is_value_of result ≡ false → shown_text result ≡ codes "out-of-memory" }

@@ -122,7 +122,7 @@ SpellsSimple d s t =
     (front : Text) × (back : Text) × SpellsForm d s.form front × SpellsWord d s.partial back
     × (t ≡ front ++ back)
 
--- one or more simples, parted by one or more blanks
+-- one or more simples, separated by one or more blanks
 abbrev pub SpellsSimples : Dialect → Simple → List Simple → Text → Type 0
 SpellsSimples d first [] t = SpellsSimple d first t
 SpellsSimples d first (next ∷ others) t = (front : Text) × (gap : Text) × (back : Text)
@@ -143,7 +143,7 @@ SpellsPadded d r t = (before : Text) × (inner : Text) × (after : Text)
     × AreBlanks d before × SpellsRange d r inner × AreBlanks d after
     × (t ≡ before ++ inner ++ after)
 
--- a tree spells a text of a dialect: one or more ranges between blanks, parted by `||`
+-- a tree spells a text of a dialect: one or more ranges between blanks, separated by `||`
 abbrev pub SpellsIn : Dialect → SetTree → Text → Type 0
 SpellsIn d [] t = ⊥
 SpellsIn d (range ∷ []) t = SpellsPadded d range t

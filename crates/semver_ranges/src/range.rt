@@ -105,7 +105,7 @@ impl fmt::Display for Comparator {
 
     ghost output = { λ c. Some (comparator_text (comparator_of c)) };
 
-    /// Writes the operator and all three numbers, parted by dots; then, where there is a
+    /// Writes the operator and all three numbers, separated by dots; then, where there is a
     /// pre-release, `-` and its identifiers joined by dots: `>=1.2.3-beta.4`. It takes no memory,
     /// and its only fault is the writer's.
     fn fmt<W: fmt::Write>(&self, f: &mut fmt::Formatter<W>) -> fmt::Result {

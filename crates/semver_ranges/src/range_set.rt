@@ -56,7 +56,7 @@ pub enum RangeError {
     /// 2^64 - 1.
     #[error("number too large")]
     NumberTooLarge,
-    /// The text is in the grammar and its numbers fit, but a growth was refused.
+    /// The text is in the grammar and its numbers fit, but an allocation failed.
     #[error("out of memory")]
     OutOfMemory,
 }
@@ -65,8 +65,8 @@ impl RangeSet {
     // Answer: law answer_laws::ranges::one_parse.
     /// Reads a range text, as `>=1.2 <2 || 3.x`, into plain comparators.
     ///
-    /// The text is one or more ranges parted by `||`. A range is nothing, one or more simples
-    /// parted by blanks, or two partials round a hyphen between blanks; a simple is a partial
+    /// The text is one or more ranges separated by `||`. A range is nothing, one or more simples
+    /// separated by blanks, or two partials round a hyphen between blanks; a simple is a partial
     /// behind `=`, `<`, `<=`, `>`, `>=`, `~`, `~>`, `^` or no operator. A blank is a space or a
     /// tab. `docs/GRAMMAR.md` states the whole grammar, and `docs/MEANING.md` which comparators
     /// stand for which simple, and what they mean.
@@ -90,7 +90,7 @@ impl RangeSet {
     /// - `NumberTooLarge` exactly where it is, and a number before the first wildcard of its
     ///   partial, or an upper bound that is raised by one, is above 2^64 - 1, as
     ///   `<=18446744073709551615`.
-    /// - `OutOfMemory` where a growth was refused. The first two answers take no memory, so this
+    /// - `OutOfMemory` if an allocation failed. The first two answers take no memory, so this
     ///   one stands in place of a set alone.
     pub fn parse(alloc: Global, input: &str, compat: Compat) -> Result<RangeSet, RangeError>
         // What isn't in the grammar and what is too large is refused, exactly; all else is read.

@@ -5,4 +5,5 @@ pub mod Lists
 pub mod Numerals
 pub mod Numbers
 pub mod PartRuns
+pub mod Runs
 pub mod SpelledVersions

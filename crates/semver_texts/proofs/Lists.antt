@@ -31,6 +31,9 @@ pub by_test : {A : Type 0} (b : Bool) → (b ≡ true → A) → (b ≡ false �
 by_test true f g = f refl
 by_test false f g = g refl
 
+pub never : {b : Bool} → b ≡ true → b ≡ false → ⊥
+never t f = cc
+
 -- and what is made of the first
 pub zip_mapped : {A B C : Type 0} {R : A → B → Type 0} {P : B → Type 0} (S : C → B → Type 0) (f : A → C)
     → ((a : A) (b : B) → R a b → P b → S (f a) b) → (xs : List A) (ys : List B) → AllZip R xs ys → AllByRecursion P ys

@@ -8,7 +8,7 @@ use Rattle.std.proofs.lemmas.List.Folds.{list_all-map}
 use Rattle.semver_texts.specs.Texts.{Text, IsRun, has_no_leading_zero, is_part, is_part_byte, marked}
 use Rattle.semver_texts.specs.Versions.{IdentifierValue, numeric, alphanumeric, VersionValue, numbers}
 use Rattle.semver_texts.specs.PrintedText.{identifier_text, version_text}
-use Rattle.semver_texts.specs.VersionGrammar.{IsIdentifierText, SpellsCore, SpellsIdentifier}
+use Rattle.semver_texts.specs.VersionGrammar.{IsIdentifierText, SpellsCore, SpellsIdentifier, SpellsPart}
 use Rattle.semver_texts.specs.ToolVersions.{AreWhiteSpaces, IsKeptAs, SpellsNpm, SpellsSemver, characters}
 use Rattle.semver_texts.proofs.Lists.{Passes, all_more, joined_pass}
 
@@ -23,6 +23,21 @@ kept_texts [] [] all = refl
 kept_texts [] (t ∷ texts) all = absurd all
 kept_texts (id ∷ ids) [] all = absurd all
 kept_texts (id ∷ ids) (t ∷ texts) all = (λ i. kept_text id t all.0 i ∷ kept_texts ids texts all.1 i)
+
+spelled_text : (id : IdentifierValue) (text : Text) → SpellsIdentifier id text → text ≡ identifier_text id
+spelled_text (numeric n) text w = w.1
+spelled_text (alphanumeric kept) text w = w.0
+
+pub spelled_texts : (ids : List IdentifierValue) (texts : List Text) → AllZip SpellsIdentifier ids texts
+    → texts ≡ map identifier_text ids
+spelled_texts [] [] all = refl
+spelled_texts [] (t ∷ texts) all = absurd all
+spelled_texts (id ∷ ids) [] all = absurd all
+spelled_texts (id ∷ ids) (t ∷ texts) all = (λ i. spelled_text id t all.0 i ∷ spelled_texts ids texts all.1 i)
+
+pub part_text : (mark : Text) (ids : List IdentifierValue) (text : Text) → SpellsPart mark ids text
+    → text ≡ marked mark (map identifier_text ids)
+part_text mark ids text w = w.joined ∙ rw (spelled_texts ids w.texts w.each)
 
 pub semver_printed : (v : VersionValue) (text : Text) → SpellsSemver v text → text ≡ version_text v
 semver_printed v text w =

@@ -1,8 +1,8 @@
 //! Versions as plain data, and their printed texts.
 //!
-//! What is printed are three numbers parted by dots, then where there is a pre-release `-` and its
-//! identifiers, then where there is a build `+` and its identifiers, each list parted by dots:
-//! `1.2.3-rc.1+5aedf`.
+//! What is printed are three numbers separated by dots, then where there is a pre-release `-` and
+//! its identifiers, then where there is a build `+` and its identifiers, each list separated by
+//! dots: `1.2.3-rc.1+5aedf`.
 ghost use Rattle.std.specs.Prelude.{◌≡◌, ◌++◌, Some, IfOk, IfErr, decimal, string_bytes};
 ghost use Rattle.semver_texts.specs.Versions.{alphanumeric};
 ghost use Rattle.semver_texts.specs.PrintedText.{identifier_text};
@@ -50,7 +50,7 @@ impl Identifier {
     /// `Numeric(7)` and `"a"` give `AlphaNumeric("7a")`, and `Numeric(7)` and `""` give
     /// `AlphaNumeric("7")`.
     ///
-    /// It takes memory once, for all of the new text. `Err` is want of memory, and gives the
+    /// It takes memory once, for all of the new text. `Err` is out of memory, and gives the
     /// unchanged identifier back.
     pub fn concat(self, alloc: Global, add_str: &str) -> Result<Identifier, Identifier>
         ensures joined { IfOk result (λ id.
@@ -73,7 +73,7 @@ impl Identifier {
     }
 }
 
-/// The number's decimal and then the text, in one growth.
+/// The number's decimal and then the text, in one allocation.
 fn number_and(alloc: Global, number: u64, text: &str) -> Result<String, AllocError>
     ensures { IfOk result (λ whole. string_bytes whole ≡ decimal number ++ text.now) }
 {

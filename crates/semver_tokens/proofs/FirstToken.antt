@@ -13,16 +13,14 @@ use Rattle.semver_tokens.specs.Tokens.{Numeric, AlphaNumeric, token_text, is_sig
 use Rattle.semver_tokens.specs.Steps.Scanning.{component, sign, first_token}
 use Rattle.semver_texts.proofs.Numbers.{decimal_canonical, canonical_from_IsNumber}
 use Rattle.semver_tokens.proofs.Components.{component_cases}
-pub use Rattle.semver_texts.proofs.Lists.{by_test, all_of_prefix, prefix_stops}
+pub use Rattle.semver_texts.proofs.Lists.{by_test, all_of_prefix, never, prefix_stops}
+pub use Rattle.semver_texts.proofs.Runs.{run_is_no_space, run_is_part}
 use Rattle.std.proofs.lemmas.List.Folds.{length-prefix_len}
 
 -- nothing, or some value
 pub option_cases : {A G : Type 0} (o : Option A) → (o ≡ None → G) → ((x : A) → o ≡ Some x → G) → G
 option_cases None f g = f refl
 option_cases (Some x) f g = g x refl
-
-pub never : {b : Bool} → b ≡ true → b ≡ false → ⊥
-never t f = cc
 
 -- the byte would lengthen the token
 abbrev pub continues : TokenValue → ℕ → Bool
@@ -50,12 +48,6 @@ space_is_no_run b h = grind (arith, nat_tests)
 
 pub space_is_no_eq : (b : ℕ) → is_space b ≡ true → eqb b 61 ≡ false
 space_is_no_eq b h = grind (arith, nat_tests)
-
-pub run_is_no_space : (b : ℕ) → is_ascii_alphanumeric b ≡ true → is_space b ≡ false
-run_is_no_space b h = grind (arith, nat_tests)
-
-pub run_is_part : (b : ℕ) → is_ascii_alphanumeric b ≡ true → is_part_byte b ≡ true
-run_is_part b h = rw h refl
 
 pub run_is_no_eq : (b : ℕ) → is_ascii_alphanumeric b ≡ true → eqb b 61 ≡ false
 run_is_no_eq b h = grind (arith, nat_tests)

@@ -4,3 +4,9 @@ pub mod LexerItems
 pub mod LexerSteps
 pub mod Components
 pub mod TokenLists
+pub mod IdentifierSteps
+pub mod IdentifierTexts
+pub mod TokenAhead
+pub mod ReadingSteps
+pub mod VersionSteps
+pub mod VersionTaking

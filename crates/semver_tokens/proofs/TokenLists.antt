@@ -1,12 +1,11 @@
 -- The tokens of a text are one list: it is found from the left, and no other is it.
-use Rattle.std.proofs.Common.{◌≡◌, ℕ, zero, suc, ◌+◌, ◌-◌, ◌^◌, ◌<◌, ◌≤◌, Bool, true, false, eqb, ◌||◌, not, List, [], ◌∷◌, ◌++◌}
+use Rattle.std.proofs.Common.{◌≡◌, ℕ, zero, suc, ◌+◌, ◌-◌, ◌<◌, ◌≤◌, Bool, true, false, eqb, ◌||◌, not, List, [], ◌∷◌, ◌++◌}
 use Rattle.std.proofs.Common.{length, take, drop, Some, None, sym, refl, ap, ◌∙◌, inl, inr, arith, decimal, ◌⊎◌}
 use Rattle.std.proofs.Common.{append_assoc, length-append, length-drop, length-take-le}
 use Rattle.std.specs.Prelude.{is_some, slice_get, IsTrue, slice_range, slice_index}
 use Rattle.std.specs.List.{prefix_len, AllByRecursion}
-use Rattle.std.specs.Char.{is_ascii_alphanumeric, is_ascii_digit}
+use Rattle.std.specs.Char.{is_ascii_alphanumeric}
 use Rattle.std.proofs.lemmas.List.{take_at, drop_at, drop-drop, get_or_append_left, drop_all}
-use Rattle.std.proofs.lemmas.Fmt.{decimal_nonempty}
 use Rattle.std.proofs.lemmas.Bool.{not-true, not_from_false}
 use Rattle.std.proofs.lemmas.Bool.Decides.{nat_tests}
 use Rattle.semver_texts.specs.Texts.{is_space, IsRun}
@@ -15,17 +14,13 @@ use Rattle.semver_tokens.specs.Tokens.{Numeric, AlphaNumeric, token_text, tokens
 use Rattle.semver_tokens.specs.Tokens.{AreInPlace, is_component, is_whitespace, is_eq, merges, NoneMerge, AreTokensFrom}
 use Rattle.semver_tokens.specs.Steps.Scanning.{component, sign, first_token, scan}
 pub use Rattle.semver_texts.proofs.Lists.{prefix_is}
-use Rattle.semver_texts.proofs.Lists.{all_more}
-use Rattle.semver_texts.proofs.Numbers.{canonical_decimal, all_digits}
+pub use Rattle.semver_texts.proofs.Runs.{decimal_is_run}
 use Rattle.semver_tokens.proofs.Components.{component_decimal, component_text}
 use Rattle.semver_tokens.proofs.FirstToken.{never, option_cases, IsFront, IsFound, continues_into, continues, first_token-found}
 use Rattle.semver_tokens.proofs.FirstToken.{is_some-first_token, first_token-at_run, first_token-at_space, first_token-at_other}
 use Rattle.semver_tokens.proofs.FirstToken.{space_is_no_run, space_is_no_eq, run_is_no_space, run_is_no_eq}
 
 -- ---- a front that is a token is what is found
-
-digit_is_run : (b : ℕ) → is_ascii_digit b ≡ true → is_ascii_alphanumeric b ≡ true
-digit_is_run b h = grind (arith, nat_tests)
 
 pub first_token-empty : (place : ℕ) (bs : List ℕ) → slice_get bs 0 ≡ None → first_token place bs ≡ None
 unfolding first_token
@@ -67,10 +62,6 @@ first_token-space place [] more some all stop = absurd (omega (arith, some))
 first_token-space place (b ∷ bs) more some all stop =
     first_token-at_space place b (bs ++ more) all.0
     ∙ ap (λ n. Some (Whitespace place (place + n), n)) (prefix_is is_space (b ∷ bs) more all refl stop)
-
-pub decimal_is_run : (n : ℕ) → n < 2 ^ 64 → IsRun (decimal n)
-decimal_is_run n small =
-    (decimal_nonempty n small, all_more digit_is_run (decimal n) (all_digits (decimal n) (canonical_decimal n small).digits))
 
 -- a whitespace token within the text is as long as its places say
 length_slice : (text : List ℕ) (first after : ℕ) → first < after → after ≤ length text

@@ -14,11 +14,9 @@ use Rattle.semver_texts.specs.VersionGrammar.{IsIdentifierText}
 use Rattle.semver_texts.specs.declared.dotted.Hyphens.TheVariants.{BetweenRuns}
 use Rattle.semver_texts.specs.Steps.DottedParts.{runs_stand, marked_part}
 use Rattle.semver_versions.specs.Steps.Cutting.{AreIdentifiers, BeginsWithIdentifiers, IsPart}
-use Rattle.semver_texts.proofs.Lists.{Passes, all_more, by_test, passes_append, joined_pass}
+use Rattle.semver_texts.proofs.Lists.{Passes, all_more, by_test, passes_append, joined_pass, prefix_stops, prefix_is}
 use Rattle.semver_texts.proofs.DottedParts.{found_same}
 use Rattle.semver_versions.proofs.OneVersion.{IsPartText, joined_runs, joined_some, split_joined}
-use Rattle.semver_tokens.proofs.FirstToken.{prefix_stops}
-use Rattle.semver_tokens.proofs.TokenLists.{prefix_is}
 
 -- ---- one run more
 

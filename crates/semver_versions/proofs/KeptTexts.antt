@@ -22,8 +22,7 @@ use Rattle.semver_texts.proofs.Lists.{Passes, all_more, by_test, joined_pass, pr
 use Rattle.semver_texts.proofs.Numbers.{IsCanonical, canonical_from_IsNumber, decimal_canonical}
 use Rattle.semver_texts.proofs.PartRuns.{runs_ahead}
 use Rattle.semver_texts.proofs.SpelledVersions.{all_passes, identifier_is_part, kept_texts}
-use Rattle.semver_tokens.proofs.FirstToken.{run_is_part}
-use Rattle.semver_tokens.proofs.TokenLists.{decimal_is_run}
+use Rattle.semver_texts.proofs.Runs.{run_is_part, decimal_is_run}
 use Rattle.semver_versions.specs.Outlines.{identifier_of, dotted_text}
 use Rattle.semver_versions.specs.Steps.Cutting.{ArePartTexts}
 use Rattle.semver_versions.proofs.CutIdentifiers.{marked_cut, some_cut}

@@ -5,12 +5,7 @@ pub mod KeptTexts
 pub mod OneVersion
 pub mod OutlineVersions
 pub mod OutlinedTexts
-pub mod ParseFacts
 pub mod SpelledParts
 pub mod ToolOutlines
 pub mod ToolParts
-pub mod VersionExamples
-pub mod VersionMemory
-pub mod VersionTokens
-pub mod WholeText
 pub mod WhiteSpaces

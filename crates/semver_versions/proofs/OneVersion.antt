@@ -12,10 +12,9 @@ use Rattle.std.proofs.lemmas.Bool.Decides.{nat_tests}
 use Rattle.semver_texts.specs.Texts.{marked, is_part_byte, IsRun, is_space, is_dot, BeginsWithNumbers}
 use Rattle.semver_texts.specs.Versions.{IdentifierValue, numeric, alphanumeric, VersionValue}
 use Rattle.semver_texts.specs.VersionGrammar.{SpellsIdentifier, SpellsPart, SpellsCore, SpellsVersion}
-use Rattle.semver_texts.proofs.Lists.{tails, Passes, all_more, all_zipped, joined_pass, marked_passes}
+use Rattle.semver_texts.proofs.Lists.{tails, Passes, all_more, all_zipped, joined_pass, marked_passes, prefix_is}
 use Rattle.semver_texts.proofs.Numbers.{same_numbers}
-use Rattle.semver_tokens.proofs.FirstToken.{run_is_no_space, run_is_part}
-use Rattle.semver_tokens.proofs.TokenLists.{prefix_is, decimal_is_run}
+use Rattle.semver_texts.proofs.Runs.{run_is_no_space, run_is_part, decimal_is_run}
 
 -- equal texts that begin with bytes that pass a test, and go on with one that fails it, are equal in both parts
 peel : (p : ℕ → Bool) (xs zs ys ws : List ℕ) → p 0 ≡ false → Passes p xs → Passes p zs → p (slice_index ys 0) ≡ false

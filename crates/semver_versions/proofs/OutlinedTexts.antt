@@ -17,7 +17,7 @@ use Rattle.semver_texts.specs.Texts.{cut_at_dots}
 use Rattle.semver_versions.proofs.CutIdentifiers.{cut_texts, marked_cut}
 use Rattle.semver_versions.proofs.OneVersion.{one_version, numbers_first, identifiers_bytes, joined_some, same_identifiers}
 use Rattle.semver_versions.proofs.SpelledParts.{spell_some, spells_version, spaced, unspaced, space_before, spelled_are}
-use Rattle.semver_versions.proofs.WholeText.{spelled_texts, part_text}
+use Rattle.semver_texts.proofs.SpelledVersions.{spelled_texts, part_text}
 
 -- ---- the text of identifiers
 

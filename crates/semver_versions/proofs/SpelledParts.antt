@@ -14,9 +14,8 @@ use Rattle.semver_versions.specs.Steps.Cutting.{AreIdentifiers, AreSpaces, IsPar
 use Rattle.semver_texts.specs.Texts.{cut_at_dots, is_dotted_byte}
 use Rattle.semver_texts.proofs.Numbers.{is_number_true, canonical_from_is_number, canonical_from_IsNumber, IsNumber-from_canonical}
 use Rattle.semver_texts.proofs.Numbers.{same_numbers}
-use Rattle.semver_texts.proofs.Lists.{all_zipped, passes_append}
-use Rattle.semver_tokens.proofs.FirstToken.{all_of_prefix, never}
-use Rattle.semver_tokens.proofs.TokenLists.{prefix_is, decimal_is_run}
+use Rattle.semver_texts.proofs.Lists.{all_zipped, passes_append, all_of_prefix, never, prefix_is}
+use Rattle.semver_texts.proofs.Runs.{decimal_is_run}
 use Rattle.semver_versions.proofs.OneVersion.{begins_marked, space_begins, numbers_first, at_numbers, behind_numbers, behind_spaces}
 use Rattle.semver_versions.proofs.OneVersion.{core_begins}
 use Rattle.semver_versions.proofs.CutIdentifiers.{identifier_part, cut_texts, run_identifier, part_found, part_is}

@@ -1,5 +1,5 @@
 //! Laws over the definitions: each is the contract of a function that does nothing.
-ghost use Rattle.std.specs.Prelude.{◌≡◌, ◌↔◌, Result};
+ghost use Rattle.std.specs.Prelude.{◌≡◌, ◌↔◌};
 ghost use Rattle.semver_texts.specs.Texts.{Text};
 ghost use Rattle.semver_texts.specs.Versions.{VersionValue};
 ghost use Rattle.semver_texts.specs.ToolVersions.{SpellsIn};
@@ -8,8 +8,6 @@ ghost use Rattle.semver_texts.specs.declared.dialect.Dialect.{Dialect};
 ghost use Rattle.semver_texts.specs.declared.dialect.Dialect.TheVariants.{Crate};
 ghost use Rattle.semver_versions.specs.Outlines.{IsOutlineIn, IsOutlineOf, OutlineValue};
 ghost use Rattle.semver_versions.specs.Outlines.{version_of};
-ghost use Rattle.semver_tokens.specs.ParserState.{Fault};
-ghost use Rattle.semver_steps.specs.VersionReading.{IsOutcomeOf};
 
 /// No text spells two versions.
 pub fn one_version()
@@ -30,10 +28,4 @@ pub fn one_outlined_version()
     // In the crate's dialect an outline is that of the crate's grammar.
     ensures same_outline { (o : OutlineValue) (text : Text)
         → IsOutlineIn Crate text o ↔ IsOutlineOf text o }
-{}
-
-/// Reading a text as a version has one outcome.
-pub fn one_outcome()
-    ensures same_outcome { (text : Text) (x y : Result VersionValue Fault) → IsOutcomeOf text x
-        → IsOutcomeOf text y → x ≡ y }
 {}

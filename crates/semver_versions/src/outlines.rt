@@ -137,7 +137,7 @@ impl<'t> Outline<'t> {
     /// The identifiers of the pre-release: `"rc"` and 4 of `1.2.3-rc.4+5aedf`.
     ///
     /// Memory is asked for where there are some: for their list, and for each that isn't a number.
-    /// `Err` is want of it.
+    /// `Err` is out of memory.
     #[inline(always)]
     pub fn pre_identifiers(&self, alloc: Global) -> Result<Vec<Identifier>, AllocError>
         // They are those of each version text that has this outline.
@@ -174,7 +174,7 @@ impl<'t> Outline<'t> {
     /// `"rc"`, 4 and the build `"5aedf"`.
     ///
     /// Memory is asked for where there is a pre-release or a build: for the lists of identifiers,
-    /// and for each identifier that isn't a number. `Err` is want of it.
+    /// and for each identifier that isn't a number. `Err` is out of memory.
     #[inline(always)]
     pub fn version(&self, alloc: Global) -> Result<Version, AllocError>
         // Each text that has this outline spells the version.

@@ -33,7 +33,7 @@ impl VersionSet {
     /// gained.
     ///
     /// Memory is asked for what is in one set or in both, and for a pre-release that is answered,
-    /// and not at all where both sets are empty. `Err` is want of it.
+    /// and not at all where both sets are empty. `Err` is out of memory.
     pub fn compare(&self, alloc: Global, new: &VersionSet) -> Result<Comparison, AllocError>
         ensures lost { IfOk result (λ answer.
             TellsLeast (IsInFirstAlone self.now new.now) answer.lost) }

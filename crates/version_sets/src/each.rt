@@ -23,7 +23,7 @@ pub(crate) fn has(set: &VersionSet, versions: &[Version], answers: &mut [bool])
 }
 
 /// Whether each version is a release that isn't below one, and that is below another, where there
-/// is another. No answer hangs on a branch.
+/// is another. No answer depends on a branch.
 pub(crate) fn is_release_between(
     from: Release,
     to: Option<Release>,

@@ -20,7 +20,7 @@ impl VersionSet {
     /// The least version in the set by precedence, without a build; `None` exactly where the set is
     /// empty. That of `>1.0.0-rc.1 || >=2.0.0` has 1.0.0-rc.1.0, where pre-releases count.
     ///
-    /// Memory is asked for only where a pre-release is answered. `Err` is want of it.
+    /// Memory is asked for only where a pre-release is answered. `Err` is out of memory.
     pub fn least(&self, alloc: Global) -> Result<Option<Version>, AllocError>
         ensures least { IfOk result (λ least. IfSome least (λ version.
             IsLeast Fits self.now (version_value version).plain)) }

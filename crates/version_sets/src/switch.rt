@@ -18,7 +18,7 @@ pub(crate) trait Switch: Drop {
     fn compare(&self, other: &Self) -> Ordering
         ensures { result ≡ precedence (place self.now) (place other.now) };
 
-    /// A switch at the same place. `Err` is want of memory.
+    /// A switch at the same place. `Err` is out of memory.
     fn at_same_place(&self, alloc: Global) -> Result<Self, AllocError>
         ensures { IfOk result (λ switch. place switch ≡ place self.now) };
 }
@@ -53,7 +53,7 @@ impl Switch for Version {
     }
 }
 
-/// A version with the same numbers and the same pre-release, and no build. `Err` is want of memory,
+/// A version with the same numbers and the same pre-release, and no build. `Err` is out of memory,
 /// which is asked for only for the pre-release.
 pub(crate) fn without_build(version: &Version, alloc: Global) -> Result<Version, AllocError>
     ensures { IfOk result (λ same. version_value same

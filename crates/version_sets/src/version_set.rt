@@ -90,7 +90,7 @@ impl VersionSet {
         let release = Release::of(version);
         let is_release = version.pre.is_empty();
         if self.pre_releases.is_empty() {
-            // Both are asked, so that the answer hangs on no branch.
+            // Both are asked, so that the answer depends on no branch.
             return is_release & self.has_release(release);
         }
         if is_release {
@@ -102,7 +102,7 @@ impl VersionSet {
     // Answer: equation.
     /// Whether each of some versions is in the set, as [`VersionSet::has`] tells of one. Of many
     /// versions it is quicker to ask so: where the set has no pre-release and at most two switches
-    /// of releases, as that of `^1.2.0` has, no answer hangs on a branch. It takes no memory.
+    /// of releases, as that of `^1.2.0` has, no answer depends on a branch. It takes no memory.
     ///
     /// `answers` has to have as many places as there are versions. Of 1.1.0, 1.9.0 and 2.0.0 the
     /// set of `^1.2.0` answers `false`, `true` and `false`.

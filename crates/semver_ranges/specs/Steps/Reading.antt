@@ -230,7 +230,7 @@ abbrev pub onto : RangeTree → Option SetTree → Option SetTree
 onto r None = None
 onto r (Some tree) = Some (r ∷ tree)
 
--- ranges parted by bars up to the end; the number bounds how many are looked for
+-- ranges separated by bars up to the end; the number bounds how many are looked for
 abbrev pub more_ranges : (Text → Option SetTree) → RangeTree → Option Text → Option SetTree
 more_ranges others r None = None
 more_ranges others r (Some t) = onto r (others t)

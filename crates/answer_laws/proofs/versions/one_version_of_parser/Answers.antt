@@ -1,8 +1,8 @@
 use Rattle.std.proofs.Common.{subst, sym}
 use Rattle.semver_texts.specs.VersionViews.{version_value}
 use Rattle.semver_tokens.specs.ParserState.{ParserState}
-use Rattle.semver_steps.specs.ParserViews.{UnlessOutOfMemory, step_of}
-use Rattle.semver_steps.specs.VersionReading.{ReadsVersion}
+use Rattle.semver_tokens.specs.ParserViews.{UnlessOutOfMemory, step_of}
+use Rattle.semver_tokens.specs.VersionReading.{ReadsVersion}
 use Rattle.answer_laws.proofs.VersionAnswers.{one_version}
 use Rattle.answer_laws.proofs.versions.one_version_of_parser.Goals as goal
 

@@ -3,8 +3,7 @@ use Rattle.std.specs.List.{prefix_len}
 use Rattle.std.proofs.Math.Seq.{take-length}
 use Rattle.std.proofs.lemmas.Bool.{eqb-true, eq-eqb}
 use Rattle.semver_texts.specs.Texts.{is_space}
-use Rattle.semver_tokens.proofs.FirstToken.{all_of_prefix}
-use Rattle.semver_tokens.proofs.TokenLists.{prefix_is}
+use Rattle.semver_texts.proofs.Lists.{all_of_prefix, prefix_is}
 use Rattle.semver_versions.specs.Steps.Cutting.{AreSpaces}
 use Rattle.semver_versions.proofs.from_bytes.are_spaces.Goals as goal
 

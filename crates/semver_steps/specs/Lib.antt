@@ -1,4 +1,0 @@
-pub mod ParserSteps
-pub mod ParserViews
-pub mod VersionReading
-pub mod Steps

@@ -1,0 +1,57 @@
+-- What a call of a parser answered, without where it lies in memory.
+use Rattle.std.specs.Prelude.{map, codes, Option, Some, None, Result, Ok, Err, ⊤, ◌++◌, option_map}
+use Rattle.std.specs.Prelude.{option_to_list}
+use Rattle.semver_texts.specs.Texts.{Text}
+use Rattle.semver_tokens.specs.ParserState as spec
+use Rattle.semver_tokens.specs.ParserState.{ParserState, Fault}
+use Rattle.semver_tokens.specs.ParserSteps.{Step}
+use Rattle.semver_tokens.specs.Views.{token_value}
+use Rattle.semver_tokens.specs.declared.lexer.Token.{Token}
+use Rattle.semver_tokens.specs.declared.lexer.Error.TheVariants as lexer_error
+use Rattle.semver_tokens.specs.declared.parser.Error.{Error}
+use Rattle.semver_tokens.specs.declared.parser.Error.TheVariants as error
+
+-- a token ahead of what a lexer has left
+abbrev pub ahead : Option Token → ParserState → ParserState
+ahead o s =
+    record {
+      remaining = option_to_list (option_map token_value o)
+          ++ s.remaining;
+      pending = s.pending;
+    }
+
+abbrev pub fault_of : Error → Fault
+fault_of error.UnexpectedEnd = spec.UnexpectedEnd
+fault_of (error.UnexpectedToken t) = spec.UnexpectedToken (token_value t)
+fault_of (error.Lexer (lexer_error.UnexpectedChar c)) = spec.Lexer c
+fault_of (error.MoreInput ts) = spec.MoreInput (map token_value ts.items)
+fault_of error.EmptyPredicate = spec.EmptyPredicate
+fault_of error.EmptyRange = spec.EmptyRange
+fault_of error.OutOfMemory = spec.OutOfMemory
+
+-- a result, seen by a view of its value
+abbrev pub answer_of : {T A : Type 0} → (T → A) → Result T Error → Result A Fault
+answer_of view (Ok x) = Ok (view x)
+answer_of view (Err e) = Err (fault_of e)
+
+-- a result and the state after it, seen by a view of its value
+abbrev pub step_of : {T A : Type 0} → (T → A) → Result T Error → ParserState → Step A
+step_of view (Ok x) s = (Ok (view x), s)
+step_of view (Err e) s = (Err (fault_of e), s)
+
+-- P, unless memory ran out; and P where it did
+abbrev pub UnlessOutOfMemory : {T : Type 0} → Result T Error → Type 0 → Type 0
+UnlessOutOfMemory (Err error.OutOfMemory) P = ⊤
+UnlessOutOfMemory _ P = P
+
+abbrev pub IfOutOfMemory : {T : Type 0} → Result T Error → Type 0 → Type 0
+IfOutOfMemory (Err error.OutOfMemory) P = P
+IfOutOfMemory _ P = ⊤
+
+-- the sentence of an error, where it is one for all errors of its kind
+abbrev pub fixed_text : Error → Option Text
+fixed_text error.UnexpectedEnd = Some (codes "expected more input")
+fixed_text error.EmptyPredicate = Some (codes "encountered empty predicate")
+fixed_text error.EmptyRange = Some (codes "encountered empty range")
+fixed_text error.OutOfMemory = Some (codes "out of memory")
+fixed_text _ = None

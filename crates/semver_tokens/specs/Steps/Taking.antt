@@ -1,0 +1,172 @@
+-- Taking identifiers and versions token by token. This is how the parser goes, and a means of
+-- proof: `VersionReading` says what reading answers.
+use Prim.Native.Char.{code}
+use Rattle.std.specs.Prelude.{◌≡◌, ℕ, ◌<◌, ◌⊎◌, Bool, true, false, List, [], ◌∷◌, ◌++◌, length}
+use Rattle.std.specs.Prelude.{Option, Some, None, Result, Ok, Err, IfOk, option_and_then}
+use Rattle.std.specs.Prelude.{if◌then◌else◌}
+use Rattle.std.specs.List.{AllZip, join_with_byte}
+use Rattle.semver_tokens.specs.Tokens.{TokenValue, Hyphen, Dot, Plus, Whitespace, Numeric}
+use Rattle.semver_tokens.specs.Tokens.{AlphaNumeric, is_component}
+use Rattle.semver_tokens.specs.ParserState.{ParserState, Fault}
+use Rattle.semver_texts.specs.Texts.{Text}
+use Rattle.semver_texts.specs.Versions.{IdentifierValue}
+use Rattle.semver_tokens.specs.ParserSteps.{Step, pop, look, and_then, expect, number_of, numeric}
+use Rattle.semver_tokens.specs.ParserSteps.{dot_numeric}
+use Rattle.semver_texts.specs.VersionGrammar.{SpellsIdentifier}
+use Rattle.semver_tokens.specs.VersionReading.{Reads, IsIdentifierShape, ReadsVersion}
+use Rattle.semver_tokens.specs.VersionReading.{MayRunOutInVersion, inner_text, inner_texts}
+
+-- where the tokens lead, if each leads on
+abbrev pub run : {S : Type 0} → (S → TokenValue → Option S) → S → List TokenValue → Option S
+run step s [] = Some s
+run step s (t ∷ ts) = option_and_then (λ u. run step u ts) (step s t)
+
+-- from the state s this front was taken, which leads to the place, and t is left
+pub record IsTaken {S : Type 0} (step : S → TokenValue → Option S) (start : S) (s : ParserState)
+    (front : List TokenValue) (place : S) (t : ParserState) : Type 0 where
+  pub split : s.remaining ≡ front ++ t.remaining
+  pub leads : run step start front ≡ Some place
+  pub pending : t.pending ≡ s.pending
+  -- the last token before a pending character wasn't taken
+  pub known : (front ≡ []) ⊎ ((0 < length t.remaining) ⊎ (t.pending ≡ None))
+
+-- what holds of a step: P of a value and the state behind it, and F of a fault and the state behind
+-- that
+abbrev pub Gives : {A : Type 0} → (Fault → ParserState → Type 0) → (A → ParserState → Type 0)
+    → Step A → Type 0
+Gives F P (Ok x, t) = P x t
+Gives F P (Err e, t) = F e t
+
+-- ---- identifiers
+
+-- the number of a run of letters and digits, where it is one
+abbrev pub run_of : TokenValue → Option (Option ℕ)
+run_of (Numeric n) = Some (Some n)
+run_of (AlphaNumeric text) = Some None
+run_of _ = None
+
+-- a run of letters and digits
+abbrev pub expect_run : ParserState → Step (Option ℕ)
+expect_run s = expect run_of s
+
+-- the number of tokens that are one number alone
+abbrev pub lone_number : List TokenValue → Option ℕ
+lone_number [] = None
+lone_number (t ∷ []) = number_of t
+lone_number (t ∷ u ∷ ts) = None
+
+-- reading an identifier, whatever its value
+abbrev pub PassesIdentifier : ParserState → Result (Option ℕ) Fault → ParserState → Type 0
+PassesIdentifier s r t = Reads IsIdentifierShape (λ (n : Option ℕ) text. Unit {0}) s r t
+
+-- and the number where it is one alone
+pub record TakesIdentifier (s : ParserState) (r : Result (Option ℕ) Fault)
+    (t : ParserState) : Type 0 where
+  pub passes : PassesIdentifier s r t
+  pub number : IfOk r (λ n. n ≡ lone_number passes.front)
+
+-- ---- versions
+
+-- the three numbers of a version, and its two parts
+pub data Number : Type 0 where
+  major : Number
+  minor : Number
+  patch : Number
+
+pub data Part : Type 0 where
+  pre_release : Part
+  build : Part
+
+-- a place in a version
+pub data Place : Type 0 where
+  start : Place
+  at_number : Number → Place
+  behind_number : Number → Place
+  at_run : Part → Place
+  behind_run : Part → Place
+  end : Place
+
+abbrev pub if_component : Place → TokenValue → Option Place
+if_component next t = if is_component t then Some next else None
+
+-- where a token leads from a place, if it may stand there
+abbrev pub step : Place → TokenValue → Option Place
+step start (Whitespace a b) = Some (at_number major)
+step start (Numeric n) = Some (behind_number major)
+step (at_number k) (Numeric n) = Some (behind_number k)
+step (behind_number major) Dot = Some (at_number minor)
+step (behind_number minor) Dot = Some (at_number patch)
+step (behind_number patch) Hyphen = Some (at_run pre_release)
+step (behind_number patch) Plus = Some (at_run build)
+step (behind_number patch) (Whitespace a b) = Some end
+step (at_run part) t = if_component (behind_run part) t
+step (behind_run part) Hyphen = Some (at_run part)
+step (behind_run part) Dot = Some (at_run part)
+step (behind_run part) (Whitespace a b) = Some end
+step (behind_run pre_release) Plus = Some (at_run build)
+step _ _ = None
+
+-- a version may end at the place
+abbrev pub accepts : Place → Bool
+accepts (behind_number patch) = true
+accepts (behind_run part) = true
+accepts end = true
+accepts _ = false
+
+-- from the state s a front with this text was taken that leads to the place, and t is left
+pub record IsTakenTo (s : ParserState) (place : Place) (text : Text)
+    (t : ParserState) : Type 0 where
+  pub front : List TokenValue
+  pub taken : IsTaken step start s front place t
+  pub text_is : inner_texts front ≡ text
+
+-- what comes next is a sign or a dot that leads to the part, with this text before and in it
+pub record IsAtMark (s : ParserState) (part : Part) (text : Text) (t : ParserState) : Type 0 where
+  pub from : Place
+  pub mark : TokenValue
+  pub before : Text
+  pub taken : IsTakenTo s from before t
+  pub next : look t ≡ Some mark
+  pub leads : step from mark ≡ Some (at_run part)
+  pub text_is : before ++ inner_text mark ≡ text
+
+-- identifiers joined by dots were taken, and no dot or hyphen comes next
+pub record ArePassed (s : ParserState) (part : Part) (text : Text) (ids : List IdentifierValue)
+    (t : ParserState) : Type 0 where
+  pub texts : List Text
+  pub some : 0 < length texts
+  pub each : AllZip SpellsIdentifier ids texts
+  pub taken : IsTakenTo s (behind_run part) (text ++ join_with_byte (code ".") texts) t
+  pub no_hyphen : ¬ (look t ≡ Some Hyphen)
+  pub no_dot : ¬ (look t ≡ Some Dot)
+
+-- in any version in which a mark comes next
+abbrev pub AtMark : ParserState → (ParserState → Part → Text → Type 0) → Type 0
+AtMark t P = (s : ParserState) (part : Part) (text : Text) → IsAtMark s part text t → P s part text
+
+-- taking a part of a version: nothing where it isn't there; else its mark and its identifiers,
+-- whatever was taken before
+abbrev pub TakesPart : Bool → ParserState → Step (List IdentifierValue) → Type 0
+TakesPart false t step = step ≡ (Ok [], t)
+TakesPart true t step =
+    AtMark t (λ s part text. Gives (λ e u. ReadsVersion s (Err e) u) (ArePassed s part text) step)
+
+-- and without memory
+abbrev pub PartMayRunOut : Bool → ParserState → ParserState → Type 0
+PartMayRunOut false t u = ⊥
+PartMayRunOut true t u = AtMark t (λ s part text. MayRunOutInVersion s u)
+
+-- a white space, if it comes next
+abbrev pub skip_at : Option TokenValue → ParserState → Step (Unit {0})
+skip_at (Some (Whitespace first after)) s = and_then (pop s) (λ t u. (Ok tt, u))
+skip_at _ s = (Ok tt, s)
+
+abbrev pub skip_whitespace : ParserState → Step (Unit {0})
+skip_whitespace s = skip_at (look s) s
+
+-- white space, if it comes next, and three numbers joined by dots
+abbrev pub numbers : ParserState → Step (ℕ × ℕ × ℕ)
+numbers s =
+    and_then (skip_whitespace s) (λ _ t. and_then (numeric t)
+    (λ a u. and_then (dot_numeric u) (λ b v. and_then (dot_numeric v)
+    (λ c w. (Ok (a, b, c), w)))))

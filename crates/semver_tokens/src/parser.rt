@@ -1,0 +1,501 @@
+//! Numbers, components, identifiers and versions, read from the tokens of a text with one token
+//! ahead.
+//!
+//! The state of a parser is the list of tokens that remain, and a pending character where the text
+//! goes on with one that opens no token. Taking a token reads the next one first: so the last token
+//! before a bad character is never given, and what is refused as `Lexer` or `UnexpectedEnd` leaves
+//! the parser as it stood. An unexpected token is consumed.
+//!
+//! On `.x.01`, `dot_component` answers `(None, true)`; then `dot_numeric` answers
+//! `UnexpectedToken(AlphaNumeric("01"))`, and no token remains.
+ghost use Rattle.std.specs.Prelude.{◌≡◌, true, ◌+◌, ◌↔◌, [], Some, None, IfOk, IfSome};
+ghost use Rattle.std.specs.Prelude.{string_bytes, IfErr, IsErr, ℕ, IsTrue, option_map, map, length};
+ghost use Rattle.std.specs.Prelude.{◌<◌, ◌≤◌, ◌++◌, ◌∷◌, vec_len, vec_capacity};
+ghost use Rattle.semver_tokens.specs.Tokens.{IsBadStart};
+ghost use Rattle.semver_tokens.specs.Tokens as spec_token;
+ghost use Rattle.semver_tokens.specs.ParserState as fault;
+ghost use Rattle.semver_tokens.specs.ParserState.{IsStateOf};
+ghost use Rattle.semver_tokens.specs.ParserSteps as spec;
+ghost use Rattle.semver_tokens.specs.Views.{token_value};
+ghost use Rattle.std.specs.Prelude.{take_while};
+ghost use Rattle.semver_texts.specs.Texts.{Text, is_part_byte};
+ghost use Rattle.semver_texts.specs.Versions.{alphanumeric};
+ghost use Rattle.semver_tokens.specs.VersionReading.{ReadsIdentifier, ReadsVersion};
+ghost use Rattle.semver_tokens.specs.VersionReading.{MayRunOutInIdentifier, MayRunOutInVersion};
+ghost use Rattle.semver_texts.specs.VersionViews.{identifier_value, version_value};
+ghost use Rattle.semver_tokens.specs.Steps.Taking.{TakesIdentifier, AtMark, TakesPart};
+ghost use Rattle.semver_tokens.specs.Steps.Taking.{PartMayRunOut, expect_run, skip_whitespace};
+ghost use Rattle.semver_tokens.specs.Steps.Taking.{numbers};
+ghost use Rattle.semver_tokens.specs.ParserViews.{fault_of, fixed_text, step_of, UnlessOutOfMemory};
+ghost use Rattle.semver_tokens.specs.ParserViews.{IfOutOfMemory};
+
+use crate::lexer::{self, Lexer, Token, copy, count_tokens, rest};
+use semver_texts::bytes::part_len;
+use semver_texts::version::{Identifier, Version};
+use std::alloc::{AllocError, Global};
+use std::fmt;
+use std::marker::Model;
+
+/// Why a call of a parser, or of `version::parse`, gives no value. It borrows the input.
+#[derive(Debug, PartialEq, Eq, PartialOrd, Ord, Drop)]
+pub enum Error<'input> {
+    /// A token was needed, and the text is at its end.
+    UnexpectedEnd,
+    /// This token is none that can stand here. It has been consumed.
+    UnexpectedToken(Token<'input>),
+    /// The text goes on with a character that opens no token.
+    Lexer(lexer::Error),
+    /// These tokens stand behind the version.
+    MoreInput(Vec<Token<'input>>),
+    /// Kept for its name: no call answers it.
+    EmptyPredicate,
+    /// Kept for its name: no call answers it.
+    EmptyRange,
+    /// An allocation failed.
+    OutOfMemory,
+}
+
+// Answer: equation.
+impl<'input> From<lexer::Error> for Error<'input> {
+    ghost use Rattle.std.specs.Prelude.{◌≡◌};
+    ghost use Rattle.semver_tokens.specs.declared.parser.Error.TheVariants as error;
+
+    ghost from_gives = { λ value e. e ≡ error.Lexer value };
+
+    /// The fault of the lexer, as `Lexer`.
+    #[inline(always)]
+    fn from(value: lexer::Error) -> Self {
+        Error::Lexer(value)
+    }
+}
+
+// Answer: free, debug text inside some sentences: must-fail/error_prints_another_sentence.edit.
+impl<'input> fmt::Display for Error<'input> {
+    ghost use Rattle.semver_tokens.specs.ParserViews.{fixed_text};
+
+    ghost output = { fixed_text };
+
+    /// Writes a sentence for a person, as `expected more input`. It takes no memory, and its only
+    /// fault is the writer's.
+    fn fmt<W: fmt::Write>(&self, f: &mut fmt::Formatter<W>) -> fmt::Result {
+        match self {
+            Error::UnexpectedEnd => f.write_str("expected more input"),
+            Error::UnexpectedToken(token) => write!(f, "encountered unexpected token: {token:?}"),
+            Error::Lexer(error) => write!(f, "lexer error: {error:?}"),
+            Error::MoreInput(tokens) => write!(f, "expected end of input, but got: {tokens:?}"),
+            Error::EmptyPredicate => f.write_str("encountered empty predicate"),
+            Error::EmptyRange => f.write_str("encountered empty range"),
+            Error::OutOfMemory => f.write_str("out of memory"),
+        }
+    }
+}
+
+impl<'input> Error<'input> {
+    // Answer: free, debug text inside some sentences: must-fail/text_of_an_error_is_empty.edit.
+    /// The text that `Display` writes, for use where the Rust crate turns an error into a `String`.
+    ///
+    /// Of `UnexpectedEnd` it is `expected more input`. `Err` is out of memory; the error itself
+    /// stays as it was.
+    pub fn text(&self, alloc: Global) -> Result<String, AllocError>
+        ensures fixed { IfOk result (λ text. IfSome (fixed_text self.now)
+            (λ fixed. string_bytes text ≡ fixed)) }
+    {
+        self.to_string(alloc)
+    }
+}
+
+/// Reads a text token by token, one token ahead.
+#[derive(Drop)]
+pub struct Parser<'input> {
+    lexer: Lexer<'input>,
+    // The first of the tokens that remain.
+    lookahead: Option<Token<'input>>,
+    // The text from that token on.
+    rest: &'input str,
+}
+
+impl<'input> Model for Parser<'input> {
+    ghost use Rattle.std.specs.Prelude.{◌≡◌, ◌++◌, [], option_to_list, option_map, IfNone};
+    ghost use Rattle.semver_tokens.specs.ParserState.{ParserState};
+    ghost use Rattle.semver_tokens.specs.Views.{token_value};
+    ghost use Rattle.semver_tokens.specs.ParserViews.{ahead};
+    ghost use Rattle.semver_tokens.specs.ParserState.{IsStateFrom};
+
+    ghost Value = { ParserState };
+
+    ghost view = { λ p. ahead p.lookahead p.lexer };
+
+    ghost invariant = { λ p. record {
+      none : IfNone p.lookahead
+          (p.lexer.remaining ≡ []);
+      spelled : IsStateFrom p.rest.now (ahead p.lookahead p.lexer);
+    } };
+}
+
+impl<'input> Parser<'input> {
+    // Answer: law answer_laws::versions::one_parser.
+    /// A parser at the start of the text: all its tokens remain, and where it ends in a character
+    /// that opens no token, that character is pending. It takes no memory.
+    ///
+    /// `Lexer` exactly where the text begins with such a character, as `/` does; `1 /` and the
+    /// empty text are read.
+    pub fn new(input: &'input str) -> Result<Parser<'input>, Error<'input>>
+        ensures ok { IfOk result (λ p. IsStateOf input.now p) }
+        ensures lexer { IfErr result (λ e. (c : ℕ) × (fault_of e ≡ fault.Lexer c)
+            × IsStateOf input.now (record { remaining = []; pending = Some c })) }
+        ensures bad_start { IsErr result ↔ IsBadStart input.now }
+    {
+        let mut lexer = Lexer::new(input);
+        let lookahead = lexer.next().transpose()?;
+        Ok(Parser {
+            lexer,
+            lookahead,
+            rest: input,
+        })
+    }
+
+    /// Takes the first token. The one behind it is read first, so a fault changes nothing.
+    #[inline(always)]
+    fn pop(&mut self) -> Result<Token<'input>, Error<'input>>
+        ensures { step_of token_value result self.new ≡ spec.pop self.old }
+    {
+        let rest = rest(&self.lexer);
+        let mut lexer = copy(&self.lexer);
+        let behind = lexer.next().transpose()?;
+        let Some(first) = self.lookahead.take() else {
+            return Err(Error::UnexpectedEnd);
+        };
+        self.lexer = lexer;
+        self.lookahead = behind;
+        self.rest = rest;
+        Ok(first)
+    }
+
+    // Answer: equation.
+    /// Takes a number: on `1.2` it answers 1, and `.` and `2` remain.
+    ///
+    /// `UnexpectedToken` of any other token, which is consumed; `UnexpectedEnd` where no token
+    /// remains, and `Lexer` where a character is pending behind at most one token: both leave the
+    /// parser as it was. It takes no memory.
+    #[inline(always)]
+    pub fn numeric(&mut self) -> Result<u64, Error<'input>>
+        ensures step { step_of (λ n. n) result self.new ≡ spec.numeric self.old }
+    {
+        match self.pop()? {
+            Token::Numeric(number) => Ok(number),
+            token => Err(Error::UnexpectedToken(token)),
+        }
+    }
+
+    /// The first token, which stays.
+    fn peek(&self) -> Option<&Token<'input>>
+        ensures { option_map (λ t. token_value t.now) result ≡ spec.look self.now }
+    {
+        self.lookahead.as_ref()
+    }
+
+    // Answer: equation.
+    /// Takes a number, or a wildcard as `None`: on `X.1` it answers `None`, and `.` and `1` remain.
+    ///
+    /// It refuses as `numeric` does, and takes no memory.
+    #[inline(always)]
+    pub fn component(&mut self) -> Result<Option<u64>, Error<'input>>
+        ensures step { step_of (λ n. n) result self.new ≡ spec.component self.old }
+    {
+        match self.pop()? {
+            Token::Numeric(number) => Ok(Some(number)),
+            token => {
+                if token.is_wildcard() {
+                    Ok(None)
+                } else {
+                    Err(Error::UnexpectedToken(token))
+                }
+            }
+        }
+    }
+
+    // Answer: equation.
+    /// Where a dot comes next, takes it and a component: `(Some(n), false)` for a number, `(None,
+    /// true)` for a wildcard. Where none comes next, it answers `(None, false)` and takes nothing.
+    ///
+    /// It refuses as `component` does; the dot is then consumed, but where it is itself the last
+    /// token before a pending character. It takes no memory. On `.1.x` two calls answer `(Some(1),
+    /// false)` and `(None, true)`.
+    #[inline(always)]
+    pub fn dot_component(&mut self) -> Result<(Option<u64>, bool), Error<'input>>
+        ensures step { step_of (λ n. n) result self.new ≡ spec.dot_component self.old }
+    {
+        if !self.at_dot() {
+            return Ok((None, false));
+        }
+        let _dot = self.pop()?;
+        let component = self.component()?;
+        Ok((component, component.is_none()))
+    }
+
+    // Answer: equation.
+    /// Takes a dot and a number: on `.7` it answers 7.
+    ///
+    /// It refuses as `numeric` does, of either token; what it took before the refusal stays
+    /// consumed. It takes no memory.
+    #[inline(always)]
+    pub fn dot_numeric(&mut self) -> Result<u64, Error<'input>>
+        ensures step { step_of (λ n. n) result self.new ≡ spec.dot_numeric self.old }
+    {
+        match self.pop()? {
+            Token::Dot => self.numeric(),
+            token => Err(Error::UnexpectedToken(token)),
+        }
+    }
+
+    // Answer: equation.
+    /// Whether no token remains. A character may still be pending. It changes nothing.
+    ///
+    /// On the empty text it is true; on `1` it is false until `numeric` took the number.
+    #[inline(always)]
+    pub fn is_eof(&mut self) -> bool
+        ensures answer { IsTrue result ↔ (self.old.remaining ≡ []) }
+        ensures after { self.new ≡ self.old }
+    {
+        self.lookahead.is_none()
+    }
+
+    /// Takes a run of letters and digits, and tells its number where it is one.
+    #[inline(always)]
+    fn run(&mut self) -> Result<Option<u64>, Error<'input>>
+        ensures { step_of (λ n. n) result self.new ≡ expect_run self.old }
+    {
+        match self.pop()? {
+            Token::Numeric(number) => Ok(Some(number)),
+            Token::AlphaNumeric(_) => Ok(None),
+            token => Err(Error::UnexpectedToken(token)),
+        }
+    }
+
+    /// A hyphen comes next.
+    #[inline(always)]
+    fn at_hyphen(&self) -> bool
+        ensures { IsTrue result ↔ (spec.look self.now ≡ Some spec_token.Hyphen) }
+    {
+        matches!(self.peek(), Some(Token::Hyphen))
+    }
+
+    /// A plus comes next.
+    #[inline(always)]
+    fn at_plus(&self) -> bool
+        ensures { IsTrue result ↔ (spec.look self.now ≡ Some spec_token.Plus) }
+    {
+        matches!(self.peek(), Some(Token::Plus))
+    }
+
+    /// A dot comes next.
+    #[inline(always)]
+    fn at_dot(&self) -> bool
+        ensures { IsTrue result ↔ (spec.look self.now ≡ Some spec_token.Dot) }
+    {
+        matches!(self.peek(), Some(Token::Dot))
+    }
+
+    /// Takes the runs of an identifier and the hyphens between them, and tells its number where it
+    /// is one number alone.
+    fn pass_identifier(&mut self) -> Result<Option<u64>, Error<'input>>
+        ensures { TakesIdentifier self.old (step_of (λ n. n) result self.new).0 self.new }
+    {
+        let mut number = self.run()?;
+        while self.at_hyphen() {
+            self.pop()?;
+            self.run()?;
+            number = None;
+        }
+        Ok(number)
+    }
+
+    // Answer: law answer_laws::versions::one_identifier.
+    /// An identifier of a version: one or more runs of ASCII letters and digits, joined by single
+    /// hyphens. A lone run that is the canonical decimal of a number up to 18446744073709551615 is
+    /// given as `Numeric`, anything else as `AlphaNumeric` with its text: `7` is `Numeric(7)`, `07`
+    /// is `AlphaNumeric("07")`, `1-2` is `AlphaNumeric("1-2")`. Its tokens are taken, and no more.
+    ///
+    /// Refusals, and the tokens that remain then:
+    ///
+    /// - `UnexpectedToken`: another token comes where a run has to, at the start or behind a
+    ///   hyphen. It is taken too.
+    /// - `UnexpectedEnd`: no token remains there. What came before stays taken.
+    /// - `Lexer`: a bad character is pending and at most one token remains. That token stays, since
+    ///   it can't be told whether the identifier ends with it.
+    /// - `OutOfMemory`: there is no memory for the text, which is taken at once. Its tokens stay
+    ///   taken, and no more. A number takes no memory.
+    pub fn identifier(&mut self, alloc: Global) -> Result<Identifier, Error<'input>>
+        ensures answer { UnlessOutOfMemory result
+            (ReadsIdentifier self.old (step_of identifier_value result self.new).0 self.new) }
+        // Without memory an end part of the tokens is left, and the longest front holds a run.
+        ensures out_of_memory { IfOutOfMemory result (MayRunOutInIdentifier self.old self.new) }
+        // With it a text would be answered, and what is left then is left now.
+        ensures text_taken { IfOutOfMemory result ((text : Text)
+            × ReadsIdentifier self.old (Ok (alphanumeric text)) self.new) }
+    {
+        let text = self.rest;
+        if let Some(number) = self.pass_identifier()? {
+            return Ok(Identifier::Numeric(number));
+        }
+        let Ok(kept) = String::from_str(alloc, identifier_front(text)) else {
+            return Err(Error::OutOfMemory);
+        };
+        Ok(Identifier::AlphaNumeric(kept))
+    }
+
+    /// Takes what comes next and an identifier behind it, and so on at each dot.
+    fn identifiers(&mut self, alloc: Global) -> Result<Vec<Identifier>, Error<'input>>
+        ensures answer { UnlessOutOfMemory result
+            (TakesPart true self.old (step_of (λ ids. map identifier_value ids.items) result
+            self.new)) }
+        ensures out_of_memory { IfOutOfMemory result (PartMayRunOut true self.old self.new) }
+    {
+        let mut identifiers = Vec::new(alloc);
+        loop {
+            self.pop()?;
+            let identifier = self.identifier(alloc)?;
+            let Ok(()) = identifiers.push(identifier) else {
+                return Err(Error::OutOfMemory);
+            };
+            if !self.at_dot() {
+                return Ok(identifiers);
+            }
+        }
+    }
+
+    /// The identifiers of a part whose mark comes next, if it is there, and else none.
+    #[inline(always)]
+    fn part(&mut self, alloc: Global, there: bool) -> Result<Vec<Identifier>, Error<'input>>
+        ensures answer { UnlessOutOfMemory result
+            (TakesPart there self.old (step_of
+            (λ ids. map identifier_value ids.items) result self.new)) }
+        ensures out_of_memory { IfOutOfMemory result (PartMayRunOut there self.old self.new) }
+    {
+        if there {
+            self.identifiers(alloc)
+        } else {
+            Ok(Vec::new(alloc))
+        }
+    }
+
+    /// Takes white space, if it comes next.
+    #[inline(always)]
+    fn skip_whitespace(&mut self) -> Result<(), Error<'input>>
+        ensures { step_of (λ _. tt) result self.new ≡ skip_whitespace self.old }
+    {
+        if self.peek().is_some_and(|token| token.is_whitespace()) {
+            self.pop()?;
+        }
+        Ok(())
+    }
+
+    /// Takes white space, if it comes next, and three numbers joined by dots.
+    #[inline(always)]
+    fn numbers(&mut self) -> Result<(u64, u64, u64), Error<'input>>
+        ensures { step_of (λ n. (n.0, n.1, n.2)) result self.new ≡ numbers self.old }
+    {
+        self.skip_whitespace()?;
+        let major = self.numeric()?;
+        let minor = self.dot_numeric()?;
+        let patch = self.dot_numeric()?;
+        Ok((major, minor, patch))
+    }
+
+    // Answer: law answer_laws::versions::one_version_of_parser.
+    /// A version and the white space round it: `1.2.3-rc.4+5aedf` gives the numbers 1, 2 and 3, the
+    /// pre-release `"rc"`, 4 and the build `"5aedf"`. It ends where no further token fits, and the
+    /// tokens behind it remain: of `1.2.3 a` the token `AlphaNumeric("a")`.
+    ///
+    /// Refusals, and the tokens that remain then:
+    ///
+    /// - `UnexpectedToken`: another token comes where a number, a dot or an identifier has to. It
+    ///   is taken too.
+    /// - `UnexpectedEnd`: no token remains there. What came before stays taken.
+    /// - `Lexer`: a bad character is pending and at most one token remains. That token stays.
+    /// - `OutOfMemory`: an allocation failed for an identifier's text or for a list of identifiers.
+    ///   What was taken stays taken. A version without pre-release and build takes no memory.
+    pub fn version(&mut self, alloc: Global) -> Result<Version, Error<'input>>
+        ensures answer { UnlessOutOfMemory result
+            (ReadsVersion self.old (step_of version_value result self.new).0 self.new) }
+        // Without memory an end part of the tokens is left, and the longest front holds a run of an
+        // identifier.
+        ensures out_of_memory { IfOutOfMemory result (MayRunOutInVersion self.old self.new) }
+    {
+        let (major, minor, patch) = self.numbers()?;
+        let has_pre = self.at_hyphen();
+        let pre = self.part(alloc, has_pre)?;
+        let has_build = self.at_plus();
+        let build = self.part(alloc, has_build)?;
+        self.skip_whitespace()?;
+        Ok(Version {
+            major,
+            minor,
+            patch,
+            pre,
+            build,
+        })
+    }
+
+    // Answer: equation.
+    /// All tokens that remain, in order; then none remains. On `a.b` it answers
+    /// `AlphaNumeric("a")`, `Dot` and `AlphaNumeric("b")`.
+    ///
+    /// With a character pending it answers `Lexer` of it: no token remains then, and the character
+    /// stays pending. `OutOfMemory` if its one allocation failed: nothing is changed then. It
+    /// asks for memory only where tokens remain and no character is pending, once, for exactly
+    /// their number.
+    pub fn tail(&mut self, alloc: Global) -> Result<Vec<Token<'input>>, Error<'input>>
+        ensures answer { UnlessOutOfMemory result
+            (step_of (λ tokens. map token_value tokens.items) result self.new
+            ≡ spec.tail self.old) }
+        // Without memory nothing changes. It is asked for only where tokens remain and no character
+        // is pending.
+        ensures out_of_memory { IfOutOfMemory result
+            ((self.new ≡ self.old) × (self.old.pending ≡ None) × (0 < length self.old.remaining)) }
+    {
+        let (count, end) = count_tokens(&self.lexer);
+        if let Err(error) = copy(&end).next().transpose() {
+            self.rest = rest(&end);
+            self.lexer = end;
+            self.lookahead = None;
+            return Err(Error::Lexer(error));
+        }
+        if self.lookahead.is_none() {
+            return Ok(Vec::new(alloc));
+        }
+        let Ok(mut tokens) = Vec::with_capacity(alloc, count + 1) else {
+            return Err(Error::OutOfMemory);
+        };
+        if let Some(first) = self.lookahead.take() {
+            push_within(&mut tokens, first);
+        }
+        let mut lexer = copy(&self.lexer);
+        while let Some(Ok(token)) = lexer.next() {
+            push_within(&mut tokens, token);
+        }
+        self.rest = rest(&end);
+        self.lexer = end;
+        Ok(tokens)
+    }
+}
+
+/// The longest front of letters, digits and hyphens.
+fn identifier_front(text: &str) -> &str
+    ensures { result.now ≡ take_while is_part_byte text.now }
+{
+    let len = part_len(text.as_bytes());
+    &text[..len]
+}
+
+/// Appends where there is room.
+fn push_within<'input>(tokens: &mut Vec<Token<'input>>, token: Token<'input>)
+    requires { vec_len tokens.old < vec_capacity tokens.old }
+    ensures items { tokens.new.items ≡ tokens.old.items ++ token.entry ∷ [] }
+    ensures len { vec_len tokens.new ≡ vec_len tokens.old + 1 }
+    ensures capacity { vec_capacity tokens.old ≤ vec_capacity tokens.new }
+{
+    let Ok(()) = tokens.push(token) else {
+        unreachable!()
+    };
+}
