@@ -2,7 +2,7 @@
 use Rattle.std.proofs.Common.{arith}
 use Rattle.std.proofs.Common.{◌≡◌, false, List, [], ◌∷◌, Some, None, refl}
 use Rattle.semver_texts.specs.declared.dialect.Dialect.{Dialect}
-use Rattle.semver_ranges.specs.RangeTree.{PartialTree, one, two, three, Form}
+use Rattle.semver_ranges.specs.RangeTree.{PartialTree, one, two, three, Form, behind_form}
 use Rattle.semver_texts.specs.Texts.{Text}
 use Rattle.semver_ranges.specs.Steps.Reading.{behind_blanks, operator, partial, simple, behind_pre}
 use Rattle.semver_texts.specs.Texts.{begins_with}
@@ -44,7 +44,8 @@ major_end a [] e = refl
 major_end a (m ∷ t) e = rw e
 
 -- a simple of its operator and its partial
-pub simple_found : (d : Dialect) (t u v w : Text) (form : Form) (p : PartialTree) → (form, u) ≡ operator d t → partial d u ≡ Some (p, v)
+pub simple_found : (d : Dialect) (t u v w : Text) (form : Form) (p : PartialTree) → (form, u) ≡ operator d t
+    → partial d (behind_form form) u ≡ Some (p, v)
     → w ≡ behind_blanks d v
     → simple d t ≡ Some (record { form = form; partial = p }, w)
 simple_found d t u v w form p sign found blanks = rw (← sign, found, blanks)

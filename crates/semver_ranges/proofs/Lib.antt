@@ -10,6 +10,7 @@ pub mod ExactLaws
 pub mod FoundEvents
 pub mod Fronts
 pub mod KeptParts
+pub mod LongWords
 pub mod Meanings
 pub mod OnlySimples
 pub mod PartRuns

@@ -4,7 +4,7 @@ use Rattle.std.proofs.Common.{append_assoc, append-nil, arith}
 use Rattle.std.proofs.lemmas.Bool.{or_left, or_right, and_parts, eqb-true, not_from_false}
 use Rattle.std.proofs.lemmas.Bool.Decides.{nat_tests}
 use Rattle.semver_texts.specs.declared.dialect.Dialect.{Dialect}
-use Rattle.semver_ranges.specs.RangeTree.{PartialTree, Form, bare, tilde, Simple, RangeTree}
+use Rattle.semver_ranges.specs.RangeTree.{PartialTree, Form, bare, tilde, Simple, RangeTree, behind_form, behind_hyphen}
 use Rattle.semver_ranges.specs.RangeTree.{empty, hyphen, simples, SetTree, is_blank, AreBlanks, AreSomeBlanks, SpellsWord, SpellsForm}
 use Rattle.semver_ranges.specs.RangeTree.{SpellsSimple, SpellsSimples, SpellsRange, SpellsPadded, SpellsIn}
 use Rattle.semver_texts.specs.Texts.{Text}
@@ -48,7 +48,7 @@ module _ (d : Dialect) where
 
   simple_starts : (s : Simple) (w u : Text) → SpellsSimple d s w → starts is_simple_byte (w ++ u) ≡ true
   simple_starts s w u (sign, text, form, spelled, whole) =
-      rw whole (starts-append is_simple_byte (sign ++ text) u (form_starts s.form sign text form (word_starts d s.partial text spelled)))
+      rw whole (starts-append is_simple_byte (sign ++ text) u (form_starts s.form sign text form (word_starts d (behind_form s.form) s.partial text spelled)))
 
   simples_start : (first : Simple) (others : List Simple) (w u : Text) → SpellsSimples d first others w
       → starts is_simple_byte (w ++ u) ≡ true
@@ -102,7 +102,7 @@ module _ (d : Dialect) where
       }
 
   -- the right side of a hyphen range
-  right_read : (p : PartialTree) (gap w blanks u : Text) → AreSomeBlanks d gap → SpellsWord d p w → AreBlanks d blanks
+  right_read : (p : PartialTree) (gap w blanks u : Text) → AreSomeBlanks d gap → SpellsWord d behind_hyphen p w → AreBlanks d blanks
       → ends_range u ≡ true → right_side d (45 ∷ (gap ++ (w ++ (blanks ++ u)))) ≡ Some (p, u)
   right_read p [] w blanks u (some, g) h b e = cc
   right_read p (c ∷ gap) w blanks u (some, g) h b e =
@@ -110,8 +110,8 @@ module _ (d : Dialect) where
       rw (
         parts.0,
         blanks_behind d gap (w ++ (blanks ++ u)) parts.1
-            (no_blank d (w ++ (blanks ++ u)) (starts-append is_word_byte w _ (word_starts d p w h))),
-        partial_read d p w (blanks ++ u) h (blanks_end blanks u b e),
+            (no_blank d (w ++ (blanks ++ u)) (starts-append is_word_byte w _ (word_starts d behind_hyphen p w h))),
+        partial_read d behind_hyphen p w (blanks ++ u) h (blanks_end blanks u b e),
         blanks_behind d blanks u b (end_stops u e),
         e,
       )

@@ -1,6 +1,6 @@
 -- What the reader finds at the front of a text stands there: components, parts, partials, operators and simples.
 use Rattle.std.proofs.Common.{◌≡◌, ℕ, Bool, true, false, ◌&&◌, ◌||◌, ◌==◌, ◌⊎◌, List, [], ◌∷◌, ◌++◌, codes, refl, sym, ap, ◌∙◌, inl}
-use Rattle.std.proofs.Common.{arith, inr, Option, Some, None, append_assoc}
+use Rattle.std.proofs.Common.{arith, inr, Option, Some, None, append_assoc, ◌-◌, length, length-append, subst}
 use Rattle.std.proofs.lemmas.Bool.{and_parts, or_left, eqb-true}
 use Rattle.std.proofs.lemmas.Bool.Decides.{nat_tests}
 use Rattle.std.proofs.lemmas.List.Splits.{join_with_byte-slice_split}
@@ -13,6 +13,7 @@ use Rattle.semver_texts.specs.declared.dialect.Dialect.{Dialect}
 use Rattle.semver_texts.specs.declared.dialect.Dialect.TheVariants.{Crate, Cargo, Npm}
 use Rattle.semver_ranges.specs.RangeTree.{PartialTree, one, two, three, Form, Simple, is_blank, is_wildcard, is_component}
 use Rattle.semver_ranges.specs.RangeTree.{AreBlanks, SpellsPartial, SpellsWord, IsSignAndBlanks, SpellsForm, SpellsSimple}
+use Rattle.semver_ranges.specs.RangeTree.{Role, behind_form, is_word_of_npm}
 use Rattle.semver_texts.specs.Texts.{is_part}
 use Rattle.semver_texts.specs.Texts.{Text, is_empty, marked, is_dot}
 use Rattle.semver_ranges.specs.Steps.Reading.{front, back, behind_blanks, ends_range, ends_word, component, parts}
@@ -145,11 +146,11 @@ partial_starts (two a b) t (h, k, e) = rw (e, append_assoc) (component_starts a 
 partial_starts (three a b c pre build) t (h, k, e) = rw (e, append_assoc) (component_starts a _ (grind arith))
 
 -- a word: a partial behind what may stand in front of it
-pub record Word (d : Dialect) (p : PartialTree) (t : Text) : Type 0 where
+pub record Word (d : Dialect) (role : Role) (p : PartialTree) (t : Text) : Type 0 where
   pub front : Text
   pub back : Text
   pub spelled : SpellsPartial p back
-  pub taken : takes d p ≡ true
+  pub taken : takes d role p (length t) ≡ true
   pub behind : (u : Text) → behind_v d (t ++ u) ≡ back ++ u
   pub text : t ≡ front ++ back
 
@@ -158,14 +159,14 @@ no_v : (t : Text) → starts is_component_byte t ≡ true → behind_v Npm t ≡
 no_v [] e = refl
 no_v (b ∷ t) e = grind (arith, nat_tests)
 
-pub word_parts : (d : Dialect) (p : PartialTree) (t : Text) → SpellsWord d p t → Word d p t
-word_parts Crate p t h = record { front = []; back = t; spelled = h; taken = refl; behind = λ u. refl; text = refl }
-word_parts Cargo p t h = record { front = []; back = t; spelled = h; taken = refl; behind = λ u. refl; text = refl }
-word_parts Npm p t (front, back, mark, spelled, zeros, text) = record {
+pub word_parts : (d : Dialect) (role : Role) (p : PartialTree) (t : Text) → SpellsWord d role p t → Word d role p t
+word_parts Crate role p t h = record { front = []; back = t; spelled = h; taken = refl; behind = λ u. refl; text = refl }
+word_parts Cargo role p t h = record { front = []; back = t; spelled = h; taken = refl; behind = λ u. refl; text = refl }
+word_parts Npm role p t (front, back, mark, spelled, taken, text) = record {
   front = front;
   back = back;
   spelled = spelled;
-  taken = zeros;
+  taken = taken;
   behind = λ u. rw text (elim mark [
     | inl e ↦ rw e (no_v (back ++ u) (starts-append is_component_byte back u (partial_starts p back spelled)))
     | inr e ↦ rw e
@@ -181,39 +182,53 @@ pub component_word : (t : Text) → starts is_component_byte t ≡ true → star
 component_word [] e = cc
 component_word (b ∷ t) e = or_left _ _ e
 
-pub word_starts : (d : Dialect) (p : PartialTree) (t : Text) → SpellsWord d p t → starts is_word_byte t ≡ true
-word_starts Crate p t h = component_word t (partial_starts p t h)
-word_starts Cargo p t h = component_word t (partial_starts p t h)
-word_starts Npm p t (front, back, mark, spelled, zeros, text) = rw text (elim mark [
+pub word_starts : (d : Dialect) (role : Role) (p : PartialTree) (t : Text) → SpellsWord d role p t → starts is_word_byte t ≡ true
+word_starts Crate role p t h = component_word t (partial_starts p t h)
+word_starts Cargo role p t h = component_word t (partial_starts p t h)
+word_starts Npm role p t (front, back, mark, spelled, taken, text) = rw text (elim mark [
   | inl e ↦ rw e (component_word back (partial_starts p back spelled))
   | inr e ↦ rw e
 ])
 
 -- a partial that is a whole word
-abbrev pub WordAt : Dialect → Text → Option (PartialTree × Text) → Type 0
-WordAt d t None = Unit {0}
-WordAt d t (Some found) = (w : Text) × SpellsWord d found.0 w × (t ≡ w ++ found.1) × (ends_word d found.1 ≡ true)
+abbrev pub WordAt : Dialect → Role → Text → Option (PartialTree × Text) → Type 0
+WordAt d role t None = Unit {0}
+WordAt d role t (Some found) =
+    (w : Text) × SpellsWord d role found.0 w × (t ≡ w ++ found.1) × (ends_word d found.1 ≡ true)
 
-word_spelled : (d : Dialect) (p : PartialTree) (t back u : Text) → SpellsPartial p back → takes d p ≡ true → behind_v d t ≡ back ++ u
-    → (w : Text) × SpellsWord d p w × (t ≡ w ++ u)
-word_spelled Crate p t back u spelled taken e = (back, spelled, e)
-word_spelled Cargo p t back u spelled taken e = (back, spelled, e)
-word_spelled Npm p [] back u spelled taken e = (back, ([], back, inl refl, spelled, taken, refl), e)
-word_spelled Npm p (b ∷ t) back u spelled taken e = by_test (b == 118)
-    (λ y. (118 ∷ back, (118 ∷ [], back, inr refl, spelled, taken, refl), cc (eqb-true b 118 y, rw y at e)))
-    (λ n. (back, ([], back, inl refl, spelled, taken, refl), rw n at e))
+-- how long what stands before a rest is
+pub length_before : (t w u : Text) → t ≡ w ++ u → length t - length u ≡ length w
+length_before t w u e = omega (arith, simp length-append at (ap length e))
+
+taken_word : (role : Role) (p : PartialTree) (t w u : Text) → t ≡ w ++ u → takes Npm role p (length t - length u) ≡ true
+    → is_word_of_npm role p (length w) ≡ true
+taken_word role p t w u e taken = subst (λ n. is_word_of_npm role p n ≡ true) (length_before t w u e) taken
+
+word_spelled : (d : Dialect) (role : Role) (p : PartialTree) (t back u : Text) → SpellsPartial p back
+    → takes d role p (length t - length u) ≡ true → behind_v d t ≡ back ++ u → (w : Text) × SpellsWord d role p w × (t ≡ w ++ u)
+word_spelled Crate role p t back u spelled taken e = (back, spelled, e)
+word_spelled Cargo role p t back u spelled taken e = (back, spelled, e)
+word_spelled Npm role p [] back u spelled taken e =
+    (back, ([], back, inl refl, spelled, taken_word role p [] back u e taken, refl), e)
+word_spelled Npm role p (b ∷ t) back u spelled taken e = by_test (b == 118)
+    (λ y. let whole : b ∷ t ≡ (118 ∷ back) ++ u = cc (eqb-true b 118 y, rw y at e) in
+    (118 ∷ back, (118 ∷ [], back, inr refl, spelled, taken_word role p (b ∷ t) (118 ∷ back) u whole taken, refl), whole))
+    (λ n. let whole : b ∷ t ≡ back ++ u = rw n at e in
+    (back, ([], back, inl refl, spelled, taken_word role p (b ∷ t) back u whole taken, refl), whole))
 
 module _ (d : Dialect) where
-  word_sound : (t : Text) (o : Option (PartialTree × Text)) → PartialAt (behind_v d t) o → WordAt d t (whole_word d o)
-  word_sound t None h = tt
-  word_sound t (Some found) (back, spelled, text) = by_test (takes d found.0 && ends_word d found.1)
+  word_sound : (role : Role) (t : Text) (o : Option (PartialTree × Text)) → PartialAt (behind_v d t) o
+      → WordAt d role t (whole_word d role (length t) o)
+  word_sound role t None h = tt
+  word_sound role t (Some found) (back, spelled, text) =
+      by_test (takes d role found.0 (length t - length found.1) && ends_word d found.1)
       (λ e. let parts = and_parts _ _ e in
-      let word = word_spelled d found.0 t back found.1 spelled parts.0 text in
+      let word = word_spelled d role found.0 t back found.1 spelled parts.0 text in
       rw e (word.0, word.1, word.2, parts.1))
       (λ e. rw e tt)
 
-  pub partial_sound : (t : Text) → WordAt d t (partial d t)
-  partial_sound t = let u = behind_v d t in word_sound t _ (first_sound u _ (component_sound u))
+  pub partial_sound : (role : Role) (t : Text) → WordAt d role t (partial d role t)
+  partial_sound role t = let u = behind_v d t in word_sound role t _ (first_sound u _ (component_sound u))
 
   -- an operator: its sign, and the blanks behind it
   abbrev pub FormAt : Text → Form × Text → Type 0
@@ -271,8 +286,8 @@ module _ (d : Dialect) where
   SimpleAt t None = Unit {0}
   SimpleAt t (Some found) = (w : Text) × (gap : Text) × SpellsSimple d found.0 w × IsGap gap found.1 × (t ≡ w ++ (gap ++ found.1))
 
-  form_sound : (t : Text) (found : Form × Text) (o : Option (PartialTree × Text)) → FormAt t found → WordAt d found.1 o
-      → SimpleAt t (with_form d found.0 o)
+  form_sound : (t : Text) (found : Form × Text) (o : Option (PartialTree × Text)) → FormAt t found
+      → WordAt d (behind_form found.0) found.1 o → SimpleAt t (with_form d found.0 o)
   form_sound t found None h k = tt
   form_sound t found (Some (p, u)) (sign, form, text) (w, spelled, text', ends) = (
     sign ++ w,
@@ -283,4 +298,4 @@ module _ (d : Dialect) where
   )
 
   pub simple_sound : (t : Text) → SimpleAt t (simple d t)
-  simple_sound t = form_sound t (operator d t) _ (operator_sound t) (partial_sound (operator d t).1)
+  simple_sound t = form_sound t (operator d t) _ (operator_sound t) (partial_sound (behind_form (operator d t).0) (operator d t).1)

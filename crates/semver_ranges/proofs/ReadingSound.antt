@@ -1,11 +1,11 @@
 -- What the reader finds spells the text.
 use Rattle.std.proofs.Common.{◌≡◌, ℕ, zero, suc, true, false, ◌&&◌, ◌==◌, List, [], ◌∷◌, ◌++◌, codes, length, refl, ◌∙◌}
-use Rattle.std.proofs.Common.{Option, Some, None, append_assoc, append-nil}
+use Rattle.std.proofs.Common.{Option, Some, None, append_assoc, append-nil, subst}
 use Rattle.std.proofs.lemmas.Bool.{and_parts, and_from, eqb-true}
 use Rattle.std.proofs.Common.{arith}
 use Rattle.std.proofs.lemmas.Bool.Decides.{nat_tests}
 use Rattle.semver_texts.specs.declared.dialect.Dialect.{Dialect}
-use Rattle.semver_ranges.specs.RangeTree.{PartialTree, Form, bare, Simple, RangeTree}
+use Rattle.semver_ranges.specs.RangeTree.{PartialTree, Form, bare, Simple, RangeTree, behind_form, behind_hyphen}
 use Rattle.semver_ranges.specs.RangeTree.{SetTree, is_blank, AreBlanks, AreSomeBlanks, SpellsWord, SpellsForm, SpellsSimple, SpellsSimples}
 use Rattle.semver_ranges.specs.RangeTree.{SpellsRange, SpellsPadded, SpellsIn}
 use Rattle.semver_texts.specs.Texts.{Text}
@@ -18,11 +18,15 @@ use Rattle.semver_ranges.proofs.ReadingPieces.{front-back, front_all, WordAt, pa
 use Rattle.semver_texts.proofs.Lists.{by_test}
 
 -- a bare simple is a partial
-bare_partial : (d : Dialect) (s : Simple) (w : Text) → is_bare s.form ≡ true → SpellsSimple d s w → SpellsWord d s.partial w
-bare_partial d s w e (sign, text, form, spelled, whole) = rw (whole, nothing s.form e form) spelled where
-  nothing : (f : Form) → is_bare f ≡ true → SpellsForm d f sign → sign ≡ []
-  nothing bare e h = h
-  nothing _ e h = cc
+form_bare : (f : Form) → is_bare f ≡ true → f ≡ bare
+form_bare bare e = refl
+form_bare _ e = cc
+
+bare_partial : (d : Dialect) (s : Simple) (w : Text) → is_bare s.form ≡ true → SpellsSimple d s w
+    → SpellsWord d (behind_form bare) s.partial w
+bare_partial d s w e (sign, text, form, spelled, whole) =
+    let nothing : sign ≡ [] = subst (λ f. SpellsForm d f sign) (form_bare s.form e) form in
+    rw (whole, nothing) (subst (λ f. SpellsWord d (behind_form f) s.partial text) (form_bare s.form e) spelled)
 
 -- a hyphen ends no range
 no_end : (t : Text) → begins_with 45 t ≡ true → ends_range t ≡ false
@@ -80,11 +84,12 @@ module _ (d : Dialect) where
   abbrev RightAt : Text → Option (PartialTree × Text) → Type 0
   RightAt t None = Unit {0}
   RightAt t (Some found) =
-      (gap : Text) × (w : Text) × (after : Text) × AreSomeBlanks d gap × SpellsWord d found.0 w × AreBlanks d after
+      (gap : Text) × (w : Text) × (after : Text) × AreSomeBlanks d gap × SpellsWord d behind_hyphen found.0 w
+      × AreBlanks d after
       × (t ≡ codes "-" ++ (gap ++ (w ++ (after ++ found.1))))
 
   end_sound : (blank : ℕ) (t : Text) (o : Option (PartialTree × Text)) → is_blank d blank ≡ true
-      → WordAt d (behind_blanks d t) o → RightAt (45 ∷ blank ∷ t) (range_end d o)
+      → WordAt d behind_hyphen (behind_blanks d t) o → RightAt (45 ∷ blank ∷ t) (range_end d o)
   end_sound blank t None e h = tt
   end_sound blank t (Some (p, u)) e (w, spelled, text, ends) = by_test (ends_range (behind_blanks d u))
       (λ stops. rw stops (
@@ -103,7 +108,7 @@ module _ (d : Dialect) where
   right_sound (dash ∷ []) = tt
   right_sound (dash ∷ blank ∷ t) = by_test ((dash == 45) && is_blank d blank)
       (λ e. let p = and_parts _ _ e in
-      rw (e, eqb-true dash 45 p.0) (end_sound blank t _ p.1 (partial_sound d (behind_blanks d t))))
+      rw (e, eqb-true dash 45 p.0) (end_sound blank t _ p.1 (partial_sound d behind_hyphen (behind_blanks d t))))
       (λ e. rw e tt)
 
   hyphen_sound : (s : Simple) (w gap t : Text) (o : Option (PartialTree × Text)) → SpellsSimple d s w → AreSomeBlanks d gap

@@ -3,7 +3,7 @@ use Rattle.std.proofs.Common.{◌≡◌, ℕ, zero, suc, ◌<◌, ◌≤◌, Boo
 use Rattle.std.proofs.Common.{ap, Option, Some, None, arith, length-append}
 use Rattle.semver_texts.specs.declared.dialect.Dialect.{Dialect}
 use Rattle.semver_texts.specs.declared.dialect.Dialect.TheVariants.{Crate, Cargo, Npm}
-use Rattle.semver_ranges.specs.RangeTree.{PartialTree, Simple, RangeTree, SetTree, is_blank}
+use Rattle.semver_ranges.specs.RangeTree.{PartialTree, Simple, RangeTree, SetTree, is_blank, Role, behind_form, behind_hyphen}
 use Rattle.semver_texts.specs.Texts.{Text}
 use Rattle.semver_ranges.proofs.ReadingPieces.{front-back, WordAt, partial_sound, starts, is_word_byte, word_starts, SimpleAt}
 use Rattle.semver_ranges.proofs.ReadingPieces.{simple_sound}
@@ -47,9 +47,9 @@ Stops n None = Unit {0}
 Stops n (Some found) = Stopped n found.1
 
 module _ (d : Dialect) where
-  partial_leaves : (n : ℕ) (t : Text) → length t ≤ n → Leaves n (partial d t)
-  partial_leaves n t h = left (partial d t) (partial_sound d t) where
-    left : (o : Option (PartialTree × Text)) → WordAt d t o → Leaves n o
+  partial_leaves : (role : Role) (n : ℕ) (t : Text) → length t ≤ n → Leaves n (partial d role t)
+  partial_leaves role n t h = left (partial d role t) (partial_sound d role t) where
+    left : (o : Option (PartialTree × Text)) → WordAt d role t o → Leaves n o
     left None k = tt
     left (Some found) (w, spelled, text, ends) = omega (arith, simp length-append at (ap length text))
 
@@ -58,7 +58,7 @@ module _ (d : Dialect) where
     left : (o : Option (Simple × Text)) → SimpleAt d t o → Leaves n o
     left None k = tt
     left (Some found) (w, gap, (sign, text, form, spelled, whole), gapped, e) =
-        let some = some_bytes is_word_byte text (word_starts d found.0.partial text spelled) in
+        let some = some_bytes is_word_byte text (word_starts d (behind_form found.0.form) found.0.partial text spelled) in
         omega (arith, simp length-append at (ap length e), simp length-append at (ap length whole))
 
   pub shorter_simple : (t u : Text) (s : Simple) → simple d t ≡ Some (s, u) → length u < length t
@@ -90,7 +90,11 @@ module _ (d : Dialect) where
   right_side_stops n [] h = tt
   right_side_stops n (dash ∷ []) h = tt
   right_side_stops n (dash ∷ blank ∷ t) h = let k = back_shorter (is_blank d) t in
-      grind (arith, range_end_stops n (partial d (behind_blanks d t)) (partial_leaves n (behind_blanks d t) (omega arith)))
+      grind (
+        arith,
+        range_end_stops n (partial d behind_hyphen (behind_blanks d t))
+            (partial_leaves behind_hyphen n (behind_blanks d t) (omega arith)),
+      )
 
   right_stops : (n : ℕ) (s : Simple) (o : Option (PartialTree × Text)) → Stops n o → Stops n (with_right s o)
   right_stops n s None h = tt

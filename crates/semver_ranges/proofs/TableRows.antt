@@ -1,6 +1,6 @@
 -- The comparators of a simple that was read, by the columns of the table.
 use Rattle.std.proofs.Common.{arith}
-use Rattle.std.proofs.Common.{◌≡◌, true, false, List, [], refl, sym, ◌∙◌}
+use Rattle.std.proofs.Common.{◌≡◌, true, false, ◌&&◌, List, [], refl, sym, ap, ◌∙◌}
 use Rattle.std.proofs.lemmas.Bool.{and_parts, and_left}
 use Rattle.semver_ranges.specs.declared.partial.Partial.{Partial}
 use Rattle.semver_ranges.specs.declared.partial.PartialKind.TheVariants.{XRangeOnly}
@@ -11,7 +11,8 @@ use Rattle.semver_ranges.specs.declared.rewriting.Bounds.{Bounds}
 use Rattle.semver_ranges.specs.declared.rewriting.Bounds.TheVariants.{Against, Below, Between}
 use Rattle.semver_ranges.specs.RangeTree.{Form, bare, Simple}
 use Rattle.semver_texts.specs.Versions.{IdentifierValue}
-use Rattle.semver_ranges.specs.Partials.{stated, zero_filled, zero_version}
+use Rattle.std.specs.List.{list_all}
+use Rattle.semver_ranges.specs.Partials.{fits_u64, stated, zero_filled, zero_version}
 use Rattle.semver_ranges.specs.RewritingTable.{cell, nothing_stated, cell_raised, written_cell, bound_fits, written_simple}
 use Rattle.semver_ranges.specs.Steps.PartialViews.{stated_of, version_of, states_none, pre_of}
 use Rattle.semver_ranges.specs.Steps.CursorViews.{form_of, IsSimpleOf}
@@ -21,7 +22,7 @@ use Rattle.semver_texts.proofs.Lists.{by_test}
 
 -- the column where nothing is stated raises no bound, and compares with 0.0.0
 nothing_raised : (form : Form)
-    → bound_fits (cell_raised (with_version (nothing_stated form)) []) ≡ bound_fits (cell_raised (nothing_stated form) [])
+    → cell_raised (with_version (nothing_stated form)) [] ≡ cell_raised (nothing_stated form) []
 nothing_raised bare = refl
 nothing_raised _ = refl
 
@@ -45,8 +46,7 @@ cell_comparators raised (Between place) p = refl
 -- cells that agree wherever the numbers fit
 row_of : (mode : Compat) (s : Simple) (simple : read.Simple) (b : Bounds) → IsPlaced b simple.partial → IsSimpleOf s simple
     → (simple.partial.fits ≡ true
-    → bound_fits (cell_raised (cell_of b) (stated s.partial))
-    ≡ bound_fits (cell_raised (cell mode s.form (stated s.partial)) (stated s.partial)))
+    → cell_raised (cell_of b) (stated s.partial) ≡ cell_raised (cell mode s.form (stated s.partial)) (stated s.partial))
     → (simple.partial.fits ≡ true → (bound_pre : List IdentifierValue)
     → written_cell bound_pre (cell_of b) (stated s.partial) (zero_filled s.partial) ≡ written_simple bound_pre mode s)
     → IsRow mode s simple.partial b
@@ -55,13 +55,14 @@ row_of mode s simple b placed is raised comparators = (
   by_test p.fits fits (λ n. and_left _ _ n ∙ sym (and_left _ _ (is.1.0 ∙ n))),
   λ all bounds. let f = (and_parts p.fits _ all).0 in
       cell_comparators bounds b p ∙ rw ((is.1.1 f).0, (is.1.1 f).1) (comparators f (pre_of bounds)),
+  λ f. rw ((is.1.1 f).0) (raised f),
 )
   where
     p : Partial
     p = simple.partial
 
     fits : p.fits ≡ true → bounds_fit b p ≡ simple_fits mode s
-    fits f = rw (← is.1.0, (is.1.1 f).0, raised f)
+    fits f = rw ((is.1.1 f).0, sym is.1.0) (ap (λ bound. list_all fits_u64 (stated s.partial) && bound_fits bound) (raised f))
 
 -- the column where nothing is stated
 pub row_of_nothing : (mode : Compat) (s : Simple) (simple : read.Simple) (b : Bounds) → simple.partial.kind ≡ XRangeOnly

@@ -1,6 +1,6 @@
 -- Each written piece, before a text that ends it, is read back: components, parts, partials, operators and simples.
 use Rattle.std.proofs.Common.{◌≡◌, ℕ, Bool, true, false, not, ◌||◌, ◌==◌, List, [], ◌∷◌, ◌++◌, codes, refl, ap, ◌∙◌, inl, inr}
-use Rattle.std.proofs.Common.{Some, All, append_assoc, append-nil, arith}
+use Rattle.std.proofs.Common.{Some, All, append_assoc, append-nil, arith, ◌-◌, length, subst, sym}
 use Rattle.std.proofs.lemmas.Bool.Decides.{nat_tests}
 use Rattle.std.proofs.lemmas.Bool.{or_left, not_from_false}
 use Rattle.std.proofs.lemmas.List.Elements.{All-nil, All-cons}
@@ -15,14 +15,14 @@ use Rattle.semver_texts.specs.declared.dialect.Dialect.TheVariants.{Crate, Cargo
 use Rattle.semver_ranges.specs.RangeTree.{PartialTree, one, two, three, Form, bare, less, greater, tilde}
 use Rattle.semver_ranges.specs.RangeTree.{Simple, is_blank, is_component, AreBlanks}
 use Rattle.semver_texts.specs.Texts.{is_part}
-use Rattle.semver_ranges.specs.RangeTree.{SpellsPartial, SpellsWord, SpellsForm, SpellsSimple}
+use Rattle.semver_ranges.specs.RangeTree.{Role, behind_form, SpellsPartial, SpellsWord, SpellsForm, SpellsSimple}
 use Rattle.semver_texts.specs.Texts.{is_part_byte, Text, marked, is_dot}
 use Rattle.semver_ranges.specs.Steps.Reading.{front, back, behind_blanks, ends_word, component, parts, behind_pre}
 use Rattle.semver_texts.specs.Texts.{is_dotted_byte}
 use Rattle.semver_ranges.specs.Steps.Reading.{with_pre, behind_three, behind_two, behind_one, with_first}
-use Rattle.semver_ranges.specs.Steps.Reading.{partial, after_less, after_greater, after_tilde, operator, simple}
+use Rattle.semver_ranges.specs.Steps.Reading.{partial, takes, after_less, after_greater, after_tilde, operator, simple}
 use Rattle.semver_ranges.proofs.Tests.{list_all-weaker}
-use Rattle.semver_ranges.proofs.ReadingPieces.{starts, starts-append, is_word_byte, word_starts, word_parts}
+use Rattle.semver_ranges.proofs.ReadingPieces.{starts, starts-append, is_word_byte, word_starts, word_parts, length_before}
 
 -- a text at which a run of such bytes stops
 abbrev pub stops : (ℕ → Bool) → Text → Bool
@@ -160,10 +160,13 @@ first_read (three a b c pre build) w u (h, k, text) e =
     (rw (component_read b (46 ∷ (c ++ rest)) (grind arith) refl)
     (rw (component_read c rest (grind arith) (stops_at_qualifier pre build u e)) (behind_three_read a b c pre build u k.0 k.1 e)))
 
-pub partial_read : (d : Dialect) (p : PartialTree) (w u : Text) → SpellsWord d p w → ends_word d u ≡ true → partial d (w ++ u) ≡ Some (p, u)
-partial_read d p w u h e =
-    let word = word_parts d p w h in
-    rw (word.behind u, first_read p word.back u word.spelled (word_ends_partial d u e), word.taken, e)
+pub partial_read : (d : Dialect) (role : Role) (p : PartialTree) (w u : Text) → SpellsWord d role p w → ends_word d u ≡ true
+    → partial d role (w ++ u) ≡ Some (p, u)
+partial_read d role p w u h e =
+    let word = word_parts d role p w h in
+    let taken : takes d role p (length (w ++ u) - length u) ≡ true =
+    subst (λ n. takes d role p n ≡ true) (sym (length_before (w ++ u) w u refl)) word.taken in
+    rw (word.behind u, first_read p word.back u word.spelled (word_ends_partial d u e), taken, e)
 
 -- an operator, before a word
 module _ (d : Dialect) where
@@ -222,6 +225,6 @@ module _ (d : Dialect) where
         whole,
         append_assoc,
         operator_read s.form sign (text ++ (gap ++ u)) form
-            (starts-append is_word_byte text (gap ++ u) (word_starts d s.partial text spelled)),
+            (starts-append is_word_byte text (gap ++ u) (word_starts d (behind_form s.form) s.partial text spelled)),
       )
-      (rw (partial_read d s.partial text (gap ++ u) spelled ends, blanks_behind gap u blanks first))
+      (rw (partial_read d (behind_form s.form) s.partial text (gap ++ u) spelled ends, blanks_behind gap u blanks first))

@@ -1,3 +1,4 @@
+pub mod NpmLengths
 pub mod RangeTree
 pub mod Partials
 pub mod Terms

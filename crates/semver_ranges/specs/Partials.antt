@@ -3,7 +3,8 @@ use Rattle.std.specs.Prelude.{ℕ, suc, ◌^◌, ◌&&◌, Bool, if◌then◌els
 use Rattle.std.specs.Prelude.{◌∷◌, length, map, take_while, slice_index}
 use Rattle.std.specs.Str.{all_ascii_digits}
 use Rattle.std.specs.Str.Parse.{digits_value}
-use Rattle.semver_ranges.specs.RangeTree.{PartialTree, one, two, three, components, is_wildcard}
+use Rattle.semver_ranges.specs.RangeTree.{PartialTree, components, is_wildcard}
+pub use Rattle.semver_ranges.specs.RangeTree.{pre_parts}
 use Rattle.semver_texts.specs.Texts.{Text, is_empty}
 use Rattle.semver_texts.specs.Versions.{IdentifierValue, numeric, alphanumeric, PlainVersion}
 
@@ -25,12 +26,6 @@ stated p = map (digits_value 10) (take_while (λ c. not (is_wildcard c)) (compon
 -- whether a partial states no number
 abbrev pub states_nothing : PartialTree → Bool
 states_nothing p = is_empty (stated p)
-
--- the parts of the pre-release, whether it counts or not
-abbrev pub pre_parts : PartialTree → List Text
-pre_parts (one a) = []
-pre_parts (two a b) = []
-pre_parts (three a b c pre build) = pre
 
 -- the pre-release that counts: the parts as they are kept where three numbers are stated, else none
 abbrev pub pre_release : PartialTree → List IdentifierValue

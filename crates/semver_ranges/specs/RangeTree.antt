@@ -1,16 +1,18 @@
 -- A range set as a tree, and the texts that spell it in two dialects. The crate's is node-semver's
 -- published range grammar, and beside it `~>` for `~`, tabs, repeated blanks, and blanks after an
 -- operator and round the whole set. What npm itself reads differs in its blanks, in a `v` before a
--- partial, and in leading zeros of a pre-release.
+-- partial, in leading zeros of a pre-release, and in what is too long.
 use Prim.Native.Char.{code}
-use Rattle.std.specs.Prelude.{◌≡◌, ℕ, Bool, true, false, ◌||◌, not, ◌==◌, ◌⊎◌, List, []}
-use Rattle.std.specs.Prelude.{◌∷◌, ◌++◌, codes, IsTrue}
+use Rattle.std.specs.Prelude.{◌≡◌, ℕ, Bool, true, false, ◌&&◌, ◌||◌, not, ◌==◌, ◌⊎◌, List, []}
+use Rattle.std.specs.Prelude.{◌∷◌, ◌++◌, codes, IsTrue, length, if◌then◌else◌}
 use Rattle.std.specs.Int.{is_in_range}
 use Rattle.std.specs.List.{list_all, join_with_byte}
 use Rattle.semver_texts.specs.declared.dialect.Dialect.{Dialect}
 use Rattle.semver_texts.specs.declared.dialect.Dialect.TheVariants.{Crate, Cargo, Npm}
 use Rattle.semver_texts.specs.Texts.{Text, has_no_leading_zero, is_empty, is_number, is_part}
 use Rattle.semver_texts.specs.Texts.{marked}
+use Rattle.semver_ranges.specs.NpmLengths.{is_short_number, is_short_pre, is_short_build}
+use Rattle.semver_ranges.specs.NpmLengths.{is_short_version}
 
 -- a partial: one to three components; behind three, the parts of a pre-release and of a build
 pub data PartialTree : Type 0 where
@@ -68,6 +70,17 @@ components (one a) = a ∷ []
 components (two a b) = a ∷ b ∷ []
 components (three a b c pre build) = a ∷ b ∷ c ∷ []
 
+-- the parts of the pre-release, whether it counts or not, and those of the build
+abbrev pub pre_parts : PartialTree → List Text
+pre_parts (one a) = []
+pre_parts (two a b) = []
+pre_parts (three a b c pre build) = pre
+
+abbrev pub build_parts : PartialTree → List Text
+build_parts (one a) = []
+build_parts (two a b) = []
+build_parts (three a b c pre build) = build
+
 -- what follows the components: `-` and the pre-release, then `+` and the build, each where there is
 -- one
 abbrev pub qualifier : PartialTree → Text
@@ -87,19 +100,60 @@ SpellsPartial p t =
     IsTrue (list_all is_component (components p)) × HasParts p
     × (t ≡ join_with_byte (code ".") (components p) ++ qualifier p)
 
--- whether no part of a partial's pre-release has one
+-- whether no part of a partial's pre-release has a leading zero
 abbrev pub has_no_leading_zeros : PartialTree → Bool
 has_no_leading_zeros (one a) = true
 has_no_leading_zeros (two a b) = true
 has_no_leading_zeros (three a b c pre build) = list_all has_no_leading_zero pre
 
--- a partial's text in a range: to npm one `v` may stand in front of it, and no part of its
--- pre-release has a leading zero
-abbrev pub SpellsWord : Dialect → PartialTree → Text → Type 0
-SpellsWord Crate p t = SpellsPartial p t
-SpellsWord Cargo p t = SpellsPartial p t
-SpellsWord Npm p t = (front : Text) × (back : Text) × ((front ≡ []) ⊎ (front ≡ codes "v"))
-    × SpellsPartial p back × IsTrue (has_no_leading_zeros p) × (t ≡ front ++ back)
+-- whether none of its numbers and identifiers is too long
+abbrev pub has_short_parts : PartialTree → Bool
+has_short_parts p = list_all is_short_number (components p)
+    && (list_all is_short_pre (pre_parts p) && list_all is_short_build (build_parts p))
+
+-- whether it states three numbers
+abbrev pub states_three : PartialTree → Bool
+states_three (one a) = false
+states_three (two a b) = false
+states_three (three a b c pre build) = not (is_wildcard a || (is_wildcard b || is_wildcard c))
+
+-- what a word, which is a partial's text in a range, stands behind: what is before it in a simple,
+-- nothing at the left of a hyphen range, and the hyphen at its right
+pub data Role : Type 0 where
+  behind_form : Form → Role
+  behind_hyphen : Role
+
+-- whether node-semver takes a word of three stated numbers over into its comparator with its `v`
+-- and its build: not behind `~` and `^`, and not behind a hyphen if it has a pre-release
+abbrev pub is_taken_whole : Role → PartialTree → Bool
+is_taken_whole (behind_form tilde) p = false
+is_taken_whole (behind_form caret) p = false
+is_taken_whole (behind_form _) p = true
+is_taken_whole behind_hyphen p = is_empty (pre_parts p)
+
+-- the version of that comparator, if the word isn't taken over whole
+abbrev pub numbers_and_pre : PartialTree → Text
+numbers_and_pre p = join_with_byte (code ".") (components p) ++ marked (codes "-") (pre_parts p)
+
+-- whether it isn't too long, of a word of so many characters
+abbrev pub has_short_version : Role → PartialTree → ℕ → Bool
+has_short_version role p n = not (states_three p)
+    || is_short_version (if is_taken_whole role p then n else length (numbers_and_pre p))
+
+-- whether nothing of the word is too long to npm, and whether npm reads it: no part of its
+-- pre-release has a leading zero besides
+abbrev pub is_short_word : Role → PartialTree → ℕ → Bool
+is_short_word role p n = has_short_parts p && has_short_version role p n
+
+abbrev pub is_word_of_npm : Role → PartialTree → ℕ → Bool
+is_word_of_npm role p n = has_no_leading_zeros p && is_short_word role p n
+
+-- a word: to npm one `v` may stand in front of the partial
+abbrev pub SpellsWord : Dialect → Role → PartialTree → Text → Type 0
+SpellsWord Crate role p t = SpellsPartial p t
+SpellsWord Cargo role p t = SpellsPartial p t
+SpellsWord Npm role p t = (front : Text) × (back : Text) × ((front ≡ []) ⊎ (front ≡ codes "v"))
+    × SpellsPartial p back × IsTrue (is_word_of_npm role p (length t)) × (t ≡ front ++ back)
 
 -- a sign, then any blanks
 abbrev pub IsSignAndBlanks : Dialect → Text → Text → Type 0
@@ -119,8 +173,8 @@ SpellsForm d caret t = IsSignAndBlanks d (codes "^") t
 -- a simple's text: what stands before the partial, and the partial's
 abbrev pub SpellsSimple : Dialect → Simple → Text → Type 0
 SpellsSimple d s t =
-    (front : Text) × (back : Text) × SpellsForm d s.form front × SpellsWord d s.partial back
-    × (t ≡ front ++ back)
+    (front : Text) × (back : Text) × SpellsForm d s.form front
+    × SpellsWord d (behind_form s.form) s.partial back × (t ≡ front ++ back)
 
 -- one or more simples, separated by one or more blanks
 abbrev pub SpellsSimples : Dialect → Simple → List Simple → Text → Type 0
@@ -133,8 +187,9 @@ SpellsSimples d first (next ∷ others) t = (front : Text) × (gap : Text) × (b
 abbrev pub SpellsRange : Dialect → RangeTree → Text → Type 0
 SpellsRange d empty t = t ≡ []
 SpellsRange d (hyphen left right) t = (front : Text) × (gap : Text) × (gap' : Text)
-    × (back : Text) × SpellsWord d left front × AreSomeBlanks d gap × AreSomeBlanks d gap'
-    × SpellsWord d right back × (t ≡ front ++ gap ++ codes "-" ++ gap' ++ back)
+    × (back : Text) × SpellsWord d (behind_form bare) left front × AreSomeBlanks d gap
+    × AreSomeBlanks d gap' × SpellsWord d behind_hyphen right back
+    × (t ≡ front ++ gap ++ codes "-" ++ gap' ++ back)
 SpellsRange d (simples first others) t = SpellsSimples d first others t
 
 -- a range's text between any blanks

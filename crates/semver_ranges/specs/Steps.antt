@@ -4,3 +4,4 @@ pub mod Answers
 pub mod PartialViews
 pub mod CursorViews
 pub mod BoundsViews
+pub mod NpmLimits

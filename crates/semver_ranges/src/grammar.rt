@@ -4,7 +4,7 @@
 //! read is `None`.
 
 ghost use Rattle.semver_texts.specs.Texts.{is_dot};
-ghost use Rattle.std.specs.Prelude.{◌≡◌, ◌||◌, ◌<◌, ◌≤◌, ◌+◌, ◌*◌, ◌++◌, ℕ, Some, None, [], ◌∷◌};
+ghost use Rattle.std.specs.Prelude.{◌≡◌, ◌||◌, ◌<◌, ◌≤◌, ◌+◌, ◌-◌, ◌*◌, ◌++◌, ℕ, Some, None, [], ◌∷◌};
 ghost use Rattle.std.specs.Prelude.{length, take, drop, codes, false, true, List, MatchOption};
 ghost use Rattle.std.specs.Prelude.{IfSome};
 ghost use Rattle.std.specs.List.{list_all, slice_split};
@@ -13,7 +13,7 @@ ghost use Rattle.std.specs.Char.{is_ascii_digit};
 ghost use Rattle.semver_texts.specs.Texts.{Text, is_part_byte as part_byte};
 ghost use Rattle.semver_ranges.specs.RangeTree.{one, two, three, is_blank as blank};
 ghost use Rattle.semver_texts.specs.Texts.{is_part};
-ghost use Rattle.semver_ranges.specs.RangeTree.{PartialTree};
+ghost use Rattle.semver_ranges.specs.RangeTree.{PartialTree, has_no_leading_zeros, is_short_word};
 ghost use Rattle.semver_texts.specs.declared.dialect.Dialect.TheVariants as dialect;
 ghost use Rattle.semver_ranges.specs.Steps.Reading.{behind_v, takes};
 ghost use Rattle.semver_ranges.specs.Steps.Reading.{back, ends_range, ends_word};
@@ -28,12 +28,17 @@ ghost use Rattle.semver_ranges.specs.Steps.PartialViews.{IsValue, IsComponentOf}
 ghost use Rattle.semver_texts.specs.Texts.{cut_at_dots};
 ghost use Rattle.semver_ranges.specs.Steps.PartialViews.{AreWritten, IsPartialOf};
 ghost use Rattle.semver_ranges.specs.Steps.CursorViews.{form_of, marked_parts, Finds, FindsPre};
-ghost use Rattle.semver_ranges.specs.Steps.CursorViews.{IsSimpleOf};
+ghost use Rattle.semver_ranges.specs.Steps.CursorViews.{IsSimpleOf, role_of};
+ghost use Rattle.semver_ranges.specs.Steps.NpmLimits.{IsBefore};
 
+use crate::limits::is_short_word;
 use crate::partial::{Component, Components, Partial};
 use semver_texts::decimals;
 use semver_texts::dialect::Dialect;
 use semver_texts::dotted::{Hyphens, behind_mark, have_no_leading_zeros, marked_part};
+
+/// A word of so many bytes is never too long to npm.
+const SHORT: usize = 250;
 
 /// What stands before a partial: nothing, or an operator.
 #[derive(Clone, Copy, PartialEq, Eq)]
@@ -54,6 +59,15 @@ pub enum Form {
     Tilde,
     /// `^`.
     Caret,
+}
+
+/// What a word stands behind, which is a partial and its `v`.
+#[derive(Clone, Copy)]
+pub(crate) enum Role {
+    /// What stands before it in a simple, or nothing at the left of a hyphen range.
+    BehindForm(Form),
+    /// The hyphen of a hyphen range.
+    BehindHyphen,
 }
 
 /// A partial and what stands before it.
@@ -86,7 +100,8 @@ pub(crate) fn read_right_side(behind: &[u8], dialect: Dialect) -> Option<(Partia
     ensures { Finds IsPartialOf (right_side dialect (codes "-" ++ behind.now)) result }
 {
     let text = behind_blank(behind, dialect)?;
-    let (right, rest) = read_partial(behind_blanks(text, dialect), dialect)?;
+    let text = behind_blanks(text, dialect);
+    let (right, rest) = read_partial(text, dialect, Role::BehindHyphen)?;
     let rest = behind_blanks(rest, dialect);
     if ends_range(rest) {
         Some((right, rest))
@@ -102,7 +117,7 @@ pub(crate) fn read_simple(text: &[u8], dialect: Dialect) -> Option<(Simple<'_>, 
     ensures { Finds IsSimpleOf (simple dialect text.now) result }
 {
     let (form, rest) = read_operator(text, dialect);
-    let (partial, rest) = read_partial(rest, dialect)?;
+    let (partial, rest) = read_partial(rest, dialect, Role::BehindForm(form))?;
     Some((Simple { form, partial }, behind_blanks(rest, dialect)))
 }
 
@@ -128,11 +143,12 @@ pub fn read_operator(text: &[u8], dialect: Dialect) -> (Form, &[u8])
 
 /// The partial at the front of a text, up to the end of its word, and what follows it.
 #[inline(always)]
-fn read_partial(text: &[u8], dialect: Dialect) -> Option<(Partial<'_>, &[u8])>
-    ensures { Finds IsPartialOf (partial dialect text.now) result }
+fn read_partial(text: &[u8], dialect: Dialect, role: Role) -> Option<(Partial<'_>, &[u8])>
+    ensures { Finds IsPartialOf (partial dialect (role_of role) text.now) result }
 {
-    let (written, rest) = read_components(behind_v(text, dialect))?;
-    if takes(&written, dialect) && ends_word(rest, dialect) {
+    let behind = behind_v(text, dialect);
+    let (written, rest) = read_components(behind)?;
+    if takes(text, behind, rest, &written, dialect, role) && ends_word(rest, dialect) {
         Some((
             Partial::new(written.major, written.minor, written.patch, written.pre),
             rest,
@@ -153,15 +169,48 @@ fn behind_v(text: &[u8], dialect: Dialect) -> &[u8]
     }
 }
 
-/// Whether the parts of a pre-release are read: to npm none that is digits alone begins with `0`.
+/// Whether the word is read that stands before what follows it. `behind` is what follows its `v`.
 #[inline(always)]
-fn takes(written: &Components<'_>, dialect: Dialect) -> bool
-    ensures { (p : PartialTree) → AreWritten p written.now → result ≡ takes dialect p }
+fn takes(
+    text: &[u8],
+    behind: &[u8],
+    rest: &[u8],
+    written: &Components<'_>,
+    dialect: Dialect,
+    role: Role,
+) -> bool
+    requires { (p : PartialTree) × IsBefore p written.now text.now behind.now rest.now }
+    ensures { (p : PartialTree) → IsBefore p written.now text.now behind.now rest.now
+        → result ≡ takes dialect (role_of role) p (length text.now - length rest.now) }
 {
     match dialect {
         Dialect::Crate | Dialect::Cargo => true,
-        Dialect::Npm => written.count < 3 || have_no_leading_zeros(written.pre),
+        Dialect::Npm => {
+            has_no_leading_zeros(written) && is_short(text, behind, rest, written, role)
+        }
     }
+}
+
+/// Whether no part of the pre-release that is digits alone begins with `0`.
+#[inline(always)]
+fn has_no_leading_zeros(written: &Components<'_>) -> bool
+    ensures { (p : PartialTree) → AreWritten p written.now → result ≡ has_no_leading_zeros p }
+{
+    written.count < 3 || have_no_leading_zeros(written.pre)
+}
+
+/// Whether the word isn't too long to npm.
+#[inline(always)]
+fn is_short(text: &[u8], behind: &[u8], rest: &[u8], written: &Components<'_>, role: Role) -> bool
+    requires { (p : PartialTree) × IsBefore p written.now text.now behind.now rest.now }
+    ensures { (p : PartialTree) → IsBefore p written.now text.now behind.now rest.now
+        → result ≡ is_short_word (role_of role) p (length text.now - length rest.now) }
+{
+    let len = text.len() - rest.len();
+    if len <= SHORT {
+        return true;
+    }
+    is_short_word(len, &behind[..behind.len() - rest.len()], written, role)
 }
 
 // Answer: equation.
@@ -177,6 +226,7 @@ pub fn read_components(text: &[u8]) -> Option<(Components<'_>, &[u8])>
         patch: Component::Wildcard,
         count: 1,
         pre: &[],
+        build: &[],
         is_qualified: false,
     };
     let Some(behind) = behind_mark(rest, b'.') else {
@@ -192,11 +242,12 @@ pub fn read_components(text: &[u8]) -> Option<(Components<'_>, &[u8])>
         return Some((two, rest));
     };
     let (patch, qualifier) = read_component(behind)?;
-    let (pre, rest) = read_qualifier(qualifier)?;
+    let (pre, build, rest) = read_qualifier(qualifier)?;
     let three = Components {
         patch,
         count: 3,
         pre,
+        build,
         is_qualified: begins_qualifier(qualifier),
         ..two
     };
@@ -211,26 +262,26 @@ fn begins_qualifier(text: &[u8]) -> bool
     matches!(text, [b'-' | b'+', ..])
 }
 
-/// The pre-release at the front of a text, and what follows it and the build behind it, each where
-/// it is there.
+/// The pre-release at the front of a text and the build behind it, each where it is there, and what
+/// follows them.
 #[inline(always)]
-fn read_qualifier(text: &[u8]) -> Option<(&[u8], &[u8])>
+fn read_qualifier(text: &[u8]) -> Option<(&[u8], &[u8], &[u8])>
     ensures { FindsPre text.now result }
 {
     match text {
         [b'-' | b'+', ..] => read_pre(text),
-        _ => Some((&[], text)),
+        _ => Some((&[], &[], text)),
     }
 }
 
 /// The same where one of them is there, which is seldom.
 #[inline(never)]
-fn read_pre(text: &[u8]) -> Option<(&[u8], &[u8])>
+fn read_pre(text: &[u8]) -> Option<(&[u8], &[u8], &[u8])>
     ensures { FindsPre text.now result }
 {
     let (pre, rest) = marked_part(text, b'-', Hyphens::Any)?;
-    let (_, rest) = marked_part(rest, b'+', Hyphens::Any)?;
-    Some((pre, rest))
+    let (build, rest) = marked_part(rest, b'+', Hyphens::Any)?;
+    Some((pre, build, rest))
 }
 
 /// The component at the front of a text, and what follows it.

@@ -10,6 +10,7 @@
 pub mod events;
 pub mod grammar;
 pub mod laws;
+mod limits;
 pub mod partial;
 mod range;
 mod range_set;

@@ -1,7 +1,7 @@
 //! Partials: the numbers that one states, and its pre-release as a slice of the text.
 
 ghost use Rattle.std.specs.Prelude.{◌≡◌, ◌+◌, ◌-◌, ◌^◌, ◌<◌, ◌≤◌, Some, true, List, [], map};
-ghost use Rattle.std.specs.Prelude.{length, IsTrue, IfOk, ◌==◌, not};
+ghost use Rattle.std.specs.Prelude.{length, IsTrue, IfOk, ◌&&◌, ◌==◌, nat_le, not};
 ghost use Rattle.std.specs.List.{count_by, list_all, slice_split};
 ghost use Rattle.std.specs.Str.{IsUtf8};
 ghost use Rattle.semver_texts.specs.Texts.{Text, is_dot, is_empty};
@@ -13,7 +13,7 @@ ghost use Rattle.semver_ranges.specs.ExactBounds.{exact_bound};
 ghost use Rattle.semver_ranges.specs.RangeViews.{comparator_of, identifier_of};
 ghost use Rattle.semver_ranges.specs.Steps.PartialViews.{states_none, stated_of};
 ghost use Rattle.semver_texts.specs.Texts.{cut_at_dots};
-ghost use Rattle.semver_ranges.specs.Steps.PartialViews.{version_of, place_number, pre_of};
+ghost use Rattle.semver_ranges.specs.Steps.PartialViews.{number_at, place_number, pre_of, version_of};
 ghost use Rattle.semver_ranges.specs.Steps.PartialViews.{AreComponentsOf, IsPartialOf};
 ghost use Rattle.semver_ranges.specs.Steps.PartialViews.{PartsPass, begun_as};
 
@@ -41,6 +41,8 @@ pub struct Components<'input> {
     pub count: usize,
     /// The parts of the pre-release behind three, joined by dots.
     pub pre: &'input [u8],
+    /// Those of the build.
+    pub build: &'input [u8],
     /// Whether a pre-release or a build is written behind three.
     pub is_qualified: bool,
 }
@@ -247,6 +249,36 @@ impl<'input> Partial<'input> {
         ensures { result ≡ not (is_empty (version_of self.now).pre) }
     {
         !self.pre.is_empty()
+    }
+
+    // Answer: equation.
+    /// Whether the numbers that are stated are at most this one.
+    #[inline(always)]
+    pub fn states_at_most(&self, most: u64) -> bool
+        ensures { result ≡ (self.now.fits && list_all (λ n. nat_le n most) (stated_of self.now)) }
+    {
+        self.fits
+            && match self.kind {
+                PartialKind::XRangeOnly => true,
+                PartialKind::MajorOnly => self.major <= most,
+                PartialKind::MajorMinor => self.major <= most && self.minor <= most,
+                PartialKind::MajorMinorPatch => self.major <= most
+                    && self.minor <= most
+                    && self.patch <= most,
+            }
+    }
+
+    // Answer: equation.
+    /// The number at a place.
+    #[inline(always)]
+    pub fn number(&self, place: Place) -> u64
+        ensures { result ≡ number_at place self.now }
+    {
+        match place {
+            Place::Major => self.major,
+            Place::Minor => self.minor,
+            Place::Patch => self.patch,
+        }
     }
 
     // Answer: equation.

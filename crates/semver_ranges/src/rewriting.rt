@@ -61,6 +61,18 @@ impl Bounds {
         }
     }
 
+    // Answer: equation.
+    /// The place of the bound that is raised, where there is one.
+    #[inline(always)]
+    pub fn raised(&self) -> Option<Place>
+        ensures { result ≡ place_of self.now }
+    {
+        match self {
+            Bounds::Against(_) => None,
+            Bounds::Below(place) | Bounds::Between(place) => Some(*place),
+        }
+    }
+
     /// The operator that the partial is compared by, and the place of the raised bound, each where
     /// there is one.
     #[inline(always)]

@@ -8,6 +8,7 @@ mod ReadRows
 mod PreReleaseMeanings
 mod PreReleaseRows
 mod ReadSets
+mod SafeNumbers
 mod ToolRows
 mod NpmMeanings
 mod NpmSets

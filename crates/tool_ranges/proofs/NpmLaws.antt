@@ -19,7 +19,7 @@ use Rattle.tool_ranges.specs.NpmGrammar.{may_stand, SpellsNpm}
 use Rattle.tool_ranges.specs.NpmTable.{npm_fits, rewritten_npm}
 use Rattle.tool_ranges.specs.NpmTexts.{HasNpmSet, IsNpmTooLarge, RefusesNpm}
 use Rattle.tool_ranges.specs.Steps.NpmReading.{HasRanges, IsNpmRefusal}
-use Rattle.tool_ranges.proofs.ToolRows.{tool_prints}
+use Rattle.tool_ranges.proofs.ToolRows.{npm_prints}
 
 -- what is read is the one tree
 pub npm_read : (t : Text) (tree : SetTree) → SpellsNpm tree t → read Npm t ≡ Some tree
@@ -80,4 +80,4 @@ set_of_text t x (tree, h, fit) = answered t h.characters x (length tree) (tree, 
 
 -- what it is rewritten to is printable
 pub npm_printable : (t : Text) (tree : SetTree) → read Npm t ≡ Some tree → npm_fits tree ≡ true → IsPrintableSet (rewritten_npm tree)
-npm_printable t tree e fit = set_printable Npm (tool_prints compat.Npm) compat.Npm tree t (read_sound Npm t tree e) fit
+npm_printable t tree e fit = set_printable Npm npm_prints compat.Npm tree t (read_sound Npm t tree e) fit

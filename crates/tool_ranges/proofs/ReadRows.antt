@@ -17,13 +17,14 @@ use Rattle.semver_ranges.specs.Partials.{stated, pre_release, zero_filled, fits_
 use Rattle.semver_ranges.specs.RewritingTable.{comparator, with_pre_release, cell, cell_raised}
 use Rattle.semver_ranges.specs.ExactBounds.{lowest_pre_release}
 use Rattle.semver_ranges.specs.Steps.PartialViews.{stated_of, place_number, PartsPass}
-use Rattle.semver_ranges.specs.Steps.BoundsViews.{IsRow}
+use Rattle.semver_ranges.specs.Steps.BoundsViews.{IsRow, place_of, cell_of as table_cell}
+use Rattle.semver_ranges.specs.declared.rewriting.Bounds.TheVariants.{Against, Below, Between}
 use Rattle.semver_ranges.specs.Steps.CursorViews.{form_of, IsSimpleOf}
 use Rattle.semver_texts.proofs.Lists.{by_test}
 use Rattle.tool_ranges.specs.declared.rows.Cell.{Cell}
 use Rattle.tool_ranges.specs.declared.rows.Cell.TheVariants.{Above, BelowAll, Shared}
-use Rattle.tool_ranges.specs.ToolTable.{begins_above, ends_at, ends_below, fits_in, is_greater, states_some, written_in}
-use Rattle.tool_ranges.specs.Steps.Cells.{cell_fits, cell_written, IsCellOf, IsPlacedAt}
+use Rattle.tool_ranges.specs.ToolTable.{begins_above, ends_at, ends_below, fits_in, is_greater, raised_in, states_some, written_in}
+use Rattle.tool_ranges.specs.Steps.Cells.{bound_at, cell_fits, cell_place, cell_written, IsCellOf, IsPlacedAt}
 
 -- whether it is `>` of one or two numbers, as it was read
 abbrev pub above : read.Simple → Bool
@@ -74,10 +75,11 @@ module _ (mode : Compat) (s : Simple) (simple : read.Simple) (is : IsSimpleOf s 
   by_fit : (c : Cell) → IsPlacedAt c simple.partial → (simple.partial.fits ≡ false → cell_fits c simple.partial ≡ false)
       → (simple.partial.fits ≡ true → (cell_fits c simple.partial ≡ fits_in mode s)
       × (cell_fits c simple.partial ≡ true → cell_written c simple.partial ≡ written_in mode s))
+      → (simple.partial.fits ≡ true → bound_at (cell_place c) simple.partial ≡ raised_in mode s)
       → IsCellOf mode s simple.partial c
-  by_fit c placed none some = by_test simple.partial.fits
-      (λ f. ((parts, placed), (some f).0, (some f).1))
-      (λ f. ((parts, placed), none f ∙ sym (unfit mode s (is.1.0 ∙ f)), λ e. absurd (both_ways _ (none f) e)))
+  by_fit c placed none some bound = by_test simple.partial.fits
+      (λ f. ((parts, placed), (some f).0, (some f).1, bound))
+      (λ f. ((parts, placed), none f ∙ sym (unfit mode s (is.1.0 ∙ f)), λ e. absurd (both_ways _ (none f) e), bound))
 
   pub above_cell : (place : Place) → above simple ≡ true → place_number place ≡ length (stated_of simple.partial)
       → IsCellOf mode s simple.partial (Above place)
@@ -85,6 +87,9 @@ module _ (mode : Compat) (s : Simple) (simple : read.Simple) (is : IsSimpleOf s 
       (λ f. let y : begins_above s ≡ true = sym (same_above s simple is f) ∙ here in
       let number : place_number place ≡ length (stated s.partial) = at ∙ ap length (is.1.1 f).0 in
       rw (y, number, (is.1.1 f).0, is.1.0) (refl, λ e. refl))
+      (λ f. let y : begins_above s ≡ true = sym (same_above s simple is f) ∙ here in
+      let number : place_number place ≡ length (stated s.partial) = at ∙ ap length (is.1.1 f).0 in
+      rw (y, number, (is.1.1 f).0) refl)
 
   pub below_cell : above simple ≡ false → ends mode simple ≡ true → IsCellOf mode s simple.partial BelowAll
   below_cell other below = by_fit BelowAll tt (λ f. f)
@@ -96,6 +101,9 @@ module _ (mode : Compat) (s : Simple) (simple : read.Simple) (is : IsSimpleOf s 
         λ e. ap (λ (v : PlainVersion). comparator Lt (with_pre_release (v.pre ++ lowest_pre_release) v) ∷ []) (is.1.1 f).1
             ∙ ap (λ p. comparator Lt (with_pre_release (p ++ lowest_pre_release) (zero_filled s.partial)) ∷ []) none ∙ rw (n, y) refl,
       ))
+      (λ f. let n : begins_above s ≡ false = sym (same_above s simple is f) ∙ other in
+      let y : ends_below mode s ≡ true = sym (same_ends mode s simple is f) ∙ below in
+      rw n (sym (few mode s.form (stated s.partial) y).1))
 
   pub shared_cell : (bounds : Bounds) → above simple ≡ false → ends mode simple ≡ false → IsRow mode s simple.partial bounds
       → IsCellOf mode s simple.partial (Shared bounds)
@@ -103,6 +111,12 @@ module _ (mode : Compat) (s : Simple) (simple : read.Simple) (is : IsSimpleOf s 
       (λ f. let n : begins_above s ≡ false = sym (same_above s simple is f) ∙ other in
       let m : ends_below mode s ≡ false = sym (same_ends mode s simple is f) ∙ high in
       (rw n row.1, λ e. rw (n, m) (row.2 e Exact)))
+      (λ f. let n : begins_above s ≡ false = sym (same_above s simple is f) ∙ other in rw n (bound_of bounds ∙ row.3 f))
+    where
+      bound_of : (b : Bounds) → bound_at (place_of b) simple.partial ≡ cell_raised (table_cell b) (stated_of simple.partial)
+      bound_of (Against op) = refl
+      bound_of (Below place) = refl
+      bound_of (Between place) = refl
 
 -- what is answered says what follows from it
 pub if_ok : {A E : Type 0} {P Q : A → Type 0} (r : Result A E) → ((x : A) → P x → Q x) → IfOk r P → IfOk r Q

@@ -13,9 +13,11 @@ use Rattle.semver_ranges.proofs.SetMeanings.{stated_shape}
 use Rattle.semver_ranges.proofs.AnsweredLaws.{filled_fits, Prints, port_prints}
 use Rattle.semver_ranges.proofs.PrintedLaws.{are_printable}
 use Rattle.semver_texts.proofs.Lists.{by_test}
+use Rattle.tool_ranges.specs.NpmTable.{is_safe_simple}
 use Rattle.tool_ranges.specs.ToolTable.{begins_above, ends_below, written_in, fits_in}
+use Rattle.tool_ranges.proofs.SafeNumbers.{safe_fits}
 
-pub npm_table : IsTable (fits_in Npm) (written_in Npm)
+pub npm_table : IsTable is_safe_simple (written_in Npm)
 npm_table = record {
   left = λ p e. rw e refl;
   right = λ p e. rw e refl;
@@ -48,3 +50,6 @@ some_written mode s = by_test (begins_above s)
 
 pub tool_prints : (mode : Compat) → Prints (fits_in mode) (written_in mode)
 tool_prints mode = record { each = each_printable mode; some = some_written mode }
+
+pub npm_prints : Prints is_safe_simple (written_in Npm)
+npm_prints = record { each = λ s h e. each_printable Npm s h (safe_fits s e); some = some_written Npm }

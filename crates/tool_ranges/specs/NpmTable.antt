@@ -1,15 +1,31 @@
 -- The comparators that stand for a range text as npm reads it: those of each range by the tool's
 -- table in npm's mode, `>=0.0.0` where it asks nothing.
-use Rattle.std.specs.Prelude.{Bool}
+use Rattle.std.specs.Prelude.{ℕ, ◌-◌, ◌^◌, Bool, true, ◌&&◌, nat_le, Option, Some, None}
+use Rattle.std.specs.List.{list_all}
+use Rattle.semver_texts.specs.Versions.{numbers, PlainVersion}
 use Rattle.semver_ranges.specs.declared.range.Compat.TheVariants.{Npm}
-use Rattle.semver_ranges.specs.RangeTree.{SetTree}
+use Rattle.semver_ranges.specs.RangeTree.{SetTree, Simple}
+use Rattle.semver_ranges.specs.Partials.{stated}
 use Rattle.semver_ranges.specs.RewritingTable.{PlainSet, set_by, fits_by}
-use Rattle.tool_ranges.specs.ToolTable.{written_in, fits_in}
+use Rattle.tool_ranges.specs.ToolTable.{raised_in, written_in}
 
 -- the set that a text is rewritten to: its ranges in order, in npm mode
 abbrev pub rewritten_npm : SetTree → PlainSet
 rewritten_npm tree = set_by (written_in Npm) Npm tree
 
--- whether the numbers that a text states, and those of its raised bounds, are at most 2^64 - 1
+-- whether a number is at most 2^53 - 1: `Number.MAX_SAFE_INTEGER` of JavaScript
+abbrev pub is_safe : ℕ → Bool
+is_safe n = nat_le n (2 ^ 53 - 1)
+
+-- whether the numbers of a bound are, where there is one
+abbrev pub is_safe_bound : Option PlainVersion → Bool
+is_safe_bound None = true
+is_safe_bound (Some bound) = list_all is_safe (numbers bound)
+
+-- whether the numbers that a simple states, and those of its raised bound, are
+abbrev pub is_safe_simple : Simple → Bool
+is_safe_simple s = list_all is_safe (stated s.partial) && is_safe_bound (raised_in Npm s)
+
+-- whether those of a text are
 abbrev pub npm_fits : SetTree → Bool
-npm_fits tree = fits_by (fits_in Npm) tree
+npm_fits tree = fits_by is_safe_simple tree

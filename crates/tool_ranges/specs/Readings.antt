@@ -33,7 +33,8 @@ SpellsAs Cargo tree t = SpellsRequirement tree t
 SpellsAs Npm tree t = SpellsNpm tree t
 SpellsAs (Crate mode) tree t = Spells tree t
 
--- whether the numbers that a tree states, and those of its raised bounds, are at most 2^64 - 1
+-- whether the numbers that a tree states, and those of its raised bounds, are at most 2^64 - 1, or
+-- to npm 2^53 - 1
 abbrev pub fits_as : (reading : Reading) → TreeOf reading → Bool
 fits_as Cargo tree = requirement_fits tree
 fits_as Npm tree = npm_fits tree

@@ -3,7 +3,7 @@
 -- bound that is raised. And what is below fewer than three numbers is to npm below every
 -- pre-release of them.
 use Rattle.std.specs.Prelude.{ℕ, Bool, true, false, not, ◌&&◌, ◌==◌, if◌then◌else◌, List, []}
-use Rattle.std.specs.Prelude.{◌∷◌, length, Some}
+use Rattle.std.specs.Prelude.{◌∷◌, length, Option, Some}
 use Rattle.std.specs.List.{list_all}
 use Rattle.semver_ranges.specs.declared.range.Op.TheVariants.{Lt, Gte}
 use Rattle.semver_ranges.specs.declared.range.Compat.{Compat}
@@ -12,7 +12,9 @@ use Rattle.semver_texts.specs.Texts.{is_empty}
 use Rattle.semver_ranges.specs.RangeTree.{Form, less, greater, Simple}
 use Rattle.semver_ranges.specs.Partials.{stated, zero_filled, fits_u64}
 use Rattle.semver_ranges.specs.RewritingTable.{PlainComparator, comparator, up, bound_fits}
-use Rattle.semver_ranges.specs.RewritingTable.{written_simple, simple_fits}
+use Rattle.semver_ranges.specs.RewritingTable.{raised_bound, written_simple, simple_fits}
+use Rattle.semver_ranges.specs.Terms.{of_simple}
+use Rattle.semver_texts.specs.Versions.{PlainVersion}
 use Rattle.semver_ranges.specs.ExactBounds.{lowest_pre_release, exact_bound}
 
 -- whether one or two numbers are stated
@@ -46,6 +48,12 @@ written_in mode s =
     then comparator Gte (up (length (stated s.partial)) (stated s.partial)) ∷ []
     else (if ends_below mode s then comparator Lt (exact_bound (zero_filled s.partial)) ∷ []
     else written_simple lowest_pre_release mode s)
+
+-- the bound that is raised for a simple, where its row has one
+abbrev pub raised_in : Compat → Simple → Option PlainVersion
+raised_in mode s =
+    if begins_above s then Some (up (length (stated s.partial)) (stated s.partial))
+    else raised_bound mode (of_simple s)
 
 -- whether the numbers that a simple states, and those of its raised bound, are at most 2^64 - 1
 abbrev pub fits_in : Compat → Simple → Bool

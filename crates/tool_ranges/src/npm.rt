@@ -17,11 +17,10 @@ ghost use Rattle.semver_ranges.specs.Steps.RangeEvents.{Event as EventTree};
 ghost use Rattle.semver_ranges.specs.Steps.RangeEvents.{event_fits, range_simples, range_others};
 ghost use Rattle.semver_ranges.specs.Steps.CursorViews.{HasLeft};
 ghost use Rattle.semver_ranges.specs.Steps.BoundsViews.{range_of_simples};
-ghost use Rattle.tool_ranges.specs.ToolTable.{fits_in};
 ghost use Rattle.tool_ranges.specs.Steps.LowerBounds.{range_begun, set_begun, written_for};
 ghost use Rattle.tool_ranges.specs.NpmGrammar.{is_white_space, may_stand, SpellsNpm};
 ghost use Rattle.tool_ranges.specs.NpmMeaning.{meets_npm};
-ghost use Rattle.tool_ranges.specs.NpmTable.{rewritten_npm};
+ghost use Rattle.tool_ranges.specs.NpmTable.{is_safe_simple, rewritten_npm};
 ghost use Rattle.tool_ranges.specs.NpmTexts.{RefusesNpm};
 ghost use Rattle.tool_ranges.specs.Steps.NpmReading.{HasRanges, IsNpmRefusal};
 
@@ -51,9 +50,11 @@ use std::alloc::{AllocError, Global};
 ///
 /// # Errors
 ///
-/// - `NotARange` exactly where npm's grammar has no such text, as `>=1, <2` or `1.2.3-01`.
+/// - `NotARange` exactly where npm's grammar has no such text, as `>=1, <2` or `1.2.3-01`, or where
+///   something is too long for node-semver: the version of a comparator has at most 256 characters,
+///   and a build identifier at most 250.
 /// - `NumberTooLarge` exactly where it has, and a number that it states or a bound that is raised
-///   by one is above 2^64 - 1, as `>1.18446744073709551615`.
+///   by one is above 2^53 - 1, as `>1.9007199254740991`.
 /// - `OutOfMemory` where a growth was refused. The first two answers take no memory, so this one
 ///   stands in place of a set alone.
 pub fn rewrite(alloc: Global, range: &str) -> Result<RangeSet, RangeError>
@@ -134,7 +135,7 @@ fn survey(text: &[u8]) -> Result<usize, RangeError>
     while let Some(event) = events.next_in(Dialect::Npm) {
         match event? {
             Event::Simple(simple) => {
-                fit &= rows::cell_of(&simple, Compat::Npm).fits(&simple.partial);
+                fit &= rows::cell_of(&simple, Compat::Npm).is_safe(&simple.partial);
             }
             Event::NextRange => ended += 1,
         }
@@ -173,10 +174,10 @@ fn build_range(
     lower: LowerBounds,
 ) -> Result<Range, AllocError>
     requires { (es : List EventTree) × HasLeft dialect.Npm events.old (Some es)
-        × IsTrue (list_all (event_fits (fits_in Npm)) es) }
+        × IsTrue (list_all (event_fits is_safe_simple) es) }
     ensures { IfOk result (λ range. (es : List EventTree)
         → HasLeft dialect.Npm events.old (Some es)
-        → IsTrue (list_all (event_fits (fits_in Npm)) es) →
+        → IsTrue (list_all (event_fits is_safe_simple) es) →
         (range_of range ≡ range_of_simples (written_for lower Npm) Npm (range_simples es))
         × HasLeft dialect.Npm events.new (Some (range_others es))) }
 {

@@ -12,7 +12,8 @@ ghost use Rattle.semver_ranges.specs.RewritingTable.{bound_fits, up, up_with};
 ghost use Rattle.semver_ranges.specs.ExactBounds.{lowest_pre_release};
 ghost use Rattle.semver_ranges.specs.Steps.PartialViews.{version_of, PartsPass};
 ghost use Rattle.tool_ranges.specs.ToolTable.{fits_in, is_greater, states_some, ends_at};
-ghost use Rattle.tool_ranges.specs.Steps.Cells.{cell_fits, cell_written, IsBuildableAt, IsCellOf};
+ghost use Rattle.tool_ranges.specs.Steps.Cells.{cell_fits, cell_place, cell_written, is_safe_cell};
+ghost use Rattle.tool_ranges.specs.Steps.Cells.{IsBuildableAt, IsCellOf};
 ghost use Rattle.tool_ranges.specs.Steps.LowerBounds.{begins_lowest, begun, lower_where};
 ghost use Rattle.tool_ranges.specs.Steps.LowerBounds.{written_for};
 ghost use Rattle.semver_ranges.specs.declared.partial.RaisedBounds.TheVariants.{Exact};
@@ -23,6 +24,9 @@ use semver_ranges::partial::{LowerBounds, Partial, PartialKind, Place, RaisedBou
 use semver_ranges::rewriting::{Bounds, alone, rewritten};
 use semver_ranges::{Comparator, Compat, Identifier, Op};
 use std::alloc::{AllocError, Global};
+
+/// The greatest number that npm reads: JavaScript's `Number.MAX_SAFE_INTEGER`, 2^53 - 1.
+const MAX_SAFE: u64 = 9_007_199_254_740_991;
 
 /// The cell of a tool's table that has the comparators of a simple.
 #[derive(Drop)]
@@ -46,6 +50,31 @@ impl Cell {
             Cell::Above(place) => partial.fits() && partial.may_rise(*place),
             Cell::BelowAll => partial.fits(),
             Cell::Shared(bounds) => bounds.fits(partial),
+        }
+    }
+
+    /// Whether they are at most 2^53 - 1.
+    #[inline(always)]
+    pub(crate) fn is_safe(&self, partial: &Partial<'_>) -> bool
+        requires { IsBuildableAt self.now partial.now }
+        ensures { result ≡ is_safe_cell self.now partial.now }
+    {
+        partial.states_at_most(MAX_SAFE)
+            && match self.raised() {
+                Some(place) => partial.number(place) < MAX_SAFE,
+                None => true,
+            }
+    }
+
+    /// The place of the bound that is raised, if there is one.
+    #[inline(always)]
+    fn raised(&self) -> Option<Place>
+        ensures { result ≡ cell_place self.now }
+    {
+        match self {
+            Cell::Above(place) => Some(*place),
+            Cell::BelowAll => None,
+            Cell::Shared(bounds) => bounds.raised(),
         }
     }
 

@@ -7,6 +7,8 @@ use Rattle.std.specs.Borrow.{Bor}
 use Rattle.std.specs.List.{list_all}
 use Rattle.semver_ranges.specs.declared.grammar.Form.{Form}
 use Rattle.semver_ranges.specs.declared.grammar.Form.TheVariants as form
+use Rattle.semver_ranges.specs.declared.grammar.Role.{Role}
+use Rattle.semver_ranges.specs.declared.grammar.Role.TheVariants as role
 use Rattle.semver_ranges.specs.declared.grammar.Simple.{Simple}
 use Rattle.semver_ranges.specs.declared.events.Event.{Event}
 use Rattle.semver_ranges.specs.declared.events.Event.TheVariants as event
@@ -36,12 +38,13 @@ abbrev pub marked_parts : ℕ → Text → Option (List Text × Text)
 marked_parts mark [] = Some ([], [])
 marked_parts mark (b ∷ t) = if b == mark then parts t else Some ([], b ∷ t)
 
--- the parts of a pre-release that stand behind three components, and what follows them and a build
-abbrev pub FindsPre : Text → Option (Bor Text × Bor Text) → Type 0
+-- the parts of a pre-release and of a build that stand behind three components, and what follows
+-- them
+abbrev pub FindsPre : Text → Option (Bor Text × Bor Text × Bor Text) → Type 0
 FindsPre t None = (a b c : Text) → behind_three a b c t ≡ None
 FindsPre t (Some found) =
-    ((a b c : Text) → (build : List Text)
-    × (behind_three a b c t ≡ Some (three a b c (cut_at_dots found.0.now) build, found.1.now)))
+    ((a b c : Text) → behind_three a b c t
+    ≡ Some (three a b c (cut_at_dots found.0.now) (cut_at_dots found.1.now), found.2.now))
     × (list_all is_part (cut_at_dots found.0.now) ≡ true)
 
 -- what stands before a partial
@@ -54,6 +57,11 @@ form_of form.Greater = tree.greater
 form_of form.AtLeast = tree.at_least
 form_of form.Tilde = tree.tilde
 form_of form.Caret = tree.caret
+
+-- what a word stands behind
+abbrev pub role_of : Role → tree.Role
+role_of (role.BehindForm f) = tree.behind_form (form_of f)
+role_of role.BehindHyphen = tree.behind_hyphen
 
 -- the simple that was read
 abbrev pub IsSimpleOf : tree.Simple → Simple → Type 0

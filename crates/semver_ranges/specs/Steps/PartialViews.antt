@@ -19,7 +19,7 @@ use Rattle.semver_ranges.specs.declared.partial.LowerBounds.TheVariants.{Stated,
 use Rattle.semver_ranges.specs.declared.partial.Place.{Place}
 use Rattle.semver_ranges.specs.declared.partial.Place.TheVariants.{Major, Minor, Patch}
 use Rattle.semver_ranges.specs.RangeTree.{PartialTree, one, two, three, is_wildcard}
-use Rattle.semver_ranges.specs.RangeTree.{components, qualifier}
+use Rattle.semver_ranges.specs.RangeTree.{build_parts, components, pre_parts, qualifier}
 use Rattle.semver_texts.specs.Texts.{is_part}
 use Rattle.semver_texts.specs.Texts.{Text, is_empty, cut_at_dots}
 use Rattle.semver_texts.specs.Versions.{IdentifierValue, PlainVersion}
@@ -51,6 +51,11 @@ abbrev pub place_number : Place → ℕ
 place_number Major = 1
 place_number Minor = 2
 place_number Patch = 3
+
+abbrev pub number_at : Place → Partial → ℕ
+number_at Major p = p.major
+number_at Minor p = p.minor
+number_at Patch p = p.patch
 
 -- the pre-release of a raised bound
 abbrev pub pre_of : RaisedBounds → List IdentifierValue
@@ -100,9 +105,12 @@ AreComponentsOf (three a b c parts build) major minor patch pre =
     IsComponentOf a major × IsComponentOf b minor × IsComponentOf c patch
     × (parts ≡ cut_at_dots pre)
 
--- the same, with how many are written, and whether something is written behind three
+-- the same, with the bytes of the build, how many components are written, and whether something is
+-- written behind three
 pub record AreWritten (t : PartialTree) (c : Components) : Type 0 where
   pub stand : AreComponentsOf t c.major c.minor c.patch c.pre.now
+  pub pre : pre_parts t ≡ cut_at_dots c.pre.now
+  pub build : build_parts t ≡ cut_at_dots c.build.now
   pub parts : list_all is_part (cut_at_dots c.pre.now) ≡ true
   pub count : c.count ≡ length (components t)
   pub is_qualified : c.is_qualified ≡ not (is_empty (qualifier t))

@@ -2,14 +2,15 @@
 -- texts follows, from the left to the right. Each answers what stands at the front of a text, and
 -- what follows it; `read` answers the tree that a text spells, or none.
 use Prim.Native.Char.{code}
-use Rattle.std.specs.Prelude.{ℕ, zero, suc, Bool, true, false, ◌&&◌, ◌||◌, ◌==◌, if◌then◌else◌}
+use Rattle.std.specs.Prelude.{ℕ, zero, suc, ◌-◌, Bool, true, false, ◌&&◌, ◌||◌, ◌==◌, if◌then◌else◌}
 use Rattle.std.specs.Prelude.{Option, Some, None, List, [], ◌∷◌, length}
 use Rattle.std.specs.Char.{is_ascii_digit}
 use Rattle.std.specs.List.{list_all, slice_split}
 use Rattle.semver_ranges.specs.RangeTree.{PartialTree, one, two, three, Form, bare, equal, less}
 use Rattle.semver_ranges.specs.RangeTree.{at_most, greater, at_least, tilde, caret, Simple}
 use Rattle.semver_ranges.specs.RangeTree.{RangeTree, empty, hyphen, simples, SetTree, is_blank}
-use Rattle.semver_ranges.specs.RangeTree.{is_wildcard, has_no_leading_zeros}
+use Rattle.semver_ranges.specs.RangeTree.{Role, behind_form, behind_hyphen, is_wildcard}
+use Rattle.semver_ranges.specs.RangeTree.{is_word_of_npm}
 use Rattle.semver_texts.specs.Texts.{is_part}
 use Rattle.semver_texts.specs.declared.dialect.Dialect.{Dialect}
 use Rattle.semver_texts.specs.declared.dialect.Dialect.TheVariants.{Crate, Cargo, Npm}
@@ -103,26 +104,27 @@ abbrev pub with_first : Option (Text × Text) → Option (PartialTree × Text)
 with_first None = None
 with_first (Some found) = behind_one found.0 found.1
 
--- what follows one `v`, to npm; and whether the parts of a pre-release are read
+-- what follows one `v`, to npm; and whether a partial is read of a word of so many bytes
 abbrev pub behind_v : Dialect → Text → Text
 behind_v Crate t = t
 behind_v Cargo t = t
 behind_v Npm [] = []
 behind_v Npm (b ∷ t) = if b == code "v" then t else b ∷ t
 
-abbrev pub takes : Dialect → PartialTree → Bool
-takes Crate p = true
-takes Cargo p = true
-takes Npm p = has_no_leading_zeros p
+abbrev pub takes : Dialect → Role → PartialTree → ℕ → Bool
+takes Crate role p n = true
+takes Cargo role p n = true
+takes Npm role p n = is_word_of_npm role p n
 
--- a partial, up to the end of its word
-abbrev pub whole_word : Dialect → Option (PartialTree × Text) → Option (PartialTree × Text)
-whole_word d None = None
-whole_word d (Some found) =
-    if takes d found.0 && ends_word d found.1 then Some found else None
+-- a partial, up to the end of its word, at the front of a text of so many bytes
+abbrev pub whole_word : Dialect → Role → ℕ → Option (PartialTree × Text)
+    → Option (PartialTree × Text)
+whole_word d role n None = None
+whole_word d role n (Some found) =
+    if takes d role found.0 (n - length found.1) && ends_word d found.1 then Some found else None
 
-abbrev pub partial : Dialect → Text → Option (PartialTree × Text)
-partial d t = whole_word d (with_first (component (behind_v d t)))
+abbrev pub partial : Dialect → Role → Text → Option (PartialTree × Text)
+partial d role t = whole_word d role (length t) (with_first (component (behind_v d t)))
 
 -- the operator at the front of a text, and what follows it and its blanks
 abbrev pub after_less : Dialect → Text → Form × Text
@@ -157,7 +159,8 @@ with_form d form (Some found) =
     Some (record { form = form; partial = found.0 }, behind_blanks d found.1)
 
 abbrev pub simple : Dialect → Text → Option (Simple × Text)
-simple d t = with_form d (operator d t).0 (partial d (operator d t).1)
+simple d t =
+    with_form d (operator d t).0 (partial d (behind_form (operator d t).0) (operator d t).1)
 
 -- simples up to the end of their range; the number bounds how many are looked for
 abbrev pub put_before : Simple → Option (List Simple × Text) → Option (List Simple × Text)
@@ -188,7 +191,8 @@ abbrev pub right_side : Dialect → Text → Option (PartialTree × Text)
 right_side d [] = None
 right_side d (dash ∷ []) = None
 right_side d (dash ∷ blank ∷ t) =
-    if (dash == code "-") && is_blank d blank then range_end d (partial d (behind_blanks d t))
+    if (dash == code "-") && is_blank d blank
+    then range_end d (partial d behind_hyphen (behind_blanks d t))
     else None
 
 -- a hyphen range of a first simple, which has to be bare, and a right side

@@ -1,7 +1,10 @@
 -- A means of proof, which no public clause cites: what private contracts see of the cells of the
 -- tools' tables.
-use Rattle.std.specs.Prelude.{◌≡◌, ◌≤◌, ◌++◌, Bool, true, ◌&&◌, Some, List, [], ◌∷◌, length}
+use Rattle.std.specs.Prelude.{◌≡◌, ◌≤◌, ◌++◌, Bool, true, ◌&&◌, Option, Some, None, List, []}
+use Rattle.std.specs.Prelude.{◌∷◌, length}
+use Rattle.std.specs.List.{list_all}
 use Rattle.semver_ranges.specs.declared.partial.Partial.{Partial}
+use Rattle.semver_ranges.specs.declared.partial.Place.{Place}
 use Rattle.semver_ranges.specs.declared.partial.RaisedBounds.TheVariants.{Exact}
 use Rattle.semver_ranges.specs.declared.range.Compat.{Compat}
 use Rattle.semver_ranges.specs.declared.range.Op.TheVariants.{Lt, Gte}
@@ -10,10 +13,12 @@ use Rattle.semver_ranges.specs.ExactBounds.{lowest_pre_release}
 use Rattle.semver_ranges.specs.RewritingTable.{PlainComparator, comparator, up, up_with, bound_fits}
 use Rattle.semver_ranges.specs.RewritingTable.{with_pre_release}
 use Rattle.semver_ranges.specs.Steps.PartialViews.{stated_of, version_of, place_number, PartsPass}
-use Rattle.semver_ranges.specs.Steps.BoundsViews.{bounds_fit, comparators_of, IsPlaced}
+use Rattle.semver_ranges.specs.Steps.BoundsViews.{bounds_fit, comparators_of, place_of, IsPlaced}
+use Rattle.semver_texts.specs.Versions.{PlainVersion}
 use Rattle.tool_ranges.specs.declared.rows.Cell.{Cell}
 use Rattle.tool_ranges.specs.declared.rows.Cell.TheVariants.{Above, BelowAll, Shared}
-use Rattle.tool_ranges.specs.ToolTable.{fits_in, written_in}
+use Rattle.tool_ranges.specs.NpmTable.{is_safe, is_safe_bound}
+use Rattle.tool_ranges.specs.ToolTable.{fits_in, raised_in, written_in}
 
 -- the place of a raised bound is one of those that are stated
 abbrev pub IsPlacedAt : Cell → Partial → Type 0
@@ -31,6 +36,20 @@ cell_fits (Above place) p = p.fits && bound_fits (Some (up (place_number place) 
 cell_fits BelowAll p = p.fits
 cell_fits (Shared bounds) p = bounds_fit bounds p
 
+-- the place of the raised bound, and the bound
+abbrev pub cell_place : Cell → Option Place
+cell_place (Above place) = Some place
+cell_place BelowAll = None
+cell_place (Shared bounds) = place_of bounds
+
+abbrev pub bound_at : Option Place → Partial → Option PlainVersion
+bound_at None p = None
+bound_at (Some place) p = Some (up (place_number place) (stated_of p))
+
+-- whether the numbers and the raised bound are at most 2^53 - 1
+abbrev pub is_safe_cell : Cell → Partial → Bool
+is_safe_cell c p = (p.fits && list_all is_safe (stated_of p)) && is_safe_bound (bound_at (cell_place c) p)
+
 -- the comparators
 abbrev pub cell_written : Cell → Partial → List PlainComparator
 cell_written (Above place) p =
@@ -39,7 +58,8 @@ cell_written BelowAll p = comparator Lt
     (with_pre_release ((version_of p).pre ++ lowest_pre_release) (version_of p)) ∷ []
 cell_written (Shared bounds) p = comparators_of Exact bounds p
 
--- the cell of a simple, and its comparators where it fits
+-- the cell of a simple, and its comparators and its raised bound where it fits
 abbrev pub IsCellOf : Compat → Simple → Partial → Cell → Type 0
 IsCellOf mode s p c = IsBuildableAt c p × (cell_fits c p ≡ fits_in mode s)
     × (cell_fits c p ≡ true → cell_written c p ≡ written_in mode s)
+    × (p.fits ≡ true → bound_at (cell_place c) p ≡ raised_in mode s)

@@ -10,7 +10,7 @@ returns-in_default c =
     let major = c.in_ok-major.ensures in (
       one major.0,
       rw major.1 (major_end major.0 c.in_ok-major.rest.now c.in_default.ensures),
-      record { stand = (major.2, refl, refl); parts = refl; count = refl; is_qualified = refl },
+      record { stand = (major.2, refl, refl); pre = refl; build = refl; parts = refl; count = refl; is_qualified = refl },
     )
 
 pub returns-in_default-behind_mark : goal.returns-in_default-behind_mark
@@ -19,7 +19,7 @@ returns-in_default-behind_mark c =
     let minor = c.in_ok-minor.ensures in (
       two major.0 minor.0,
       rw (major.1, c.in-Some.ensures, minor.1) (minor_end major.0 minor.0 c.in_ok-minor.rest.now c.in_default-behind_mark.ensures),
-      record { stand = (major.2, minor.2, refl); parts = refl; count = refl; is_qualified = refl },
+      record { stand = (major.2, minor.2, refl); pre = refl; build = refl; parts = refl; count = refl; is_qualified = refl },
     )
 
 pub returns : goal.returns
@@ -28,14 +28,17 @@ returns c =
     let minor = c.in_ok-minor.ensures in
     let patch = c.in_ok-patch.ensures in
     let behind = c.in_ok-pre.ensures.0 major.0 minor.0 patch.0 in
-    let pre = cut_at_dots c.in_ok-pre.pre.now in (
-      three major.0 minor.0 patch.0 pre behind.0,
-      rw (major.1, c.in-Some.ensures, minor.1, c.in-Some-behind_mark.ensures, patch.1) behind.1,
+    let pre = cut_at_dots c.in_ok-pre.pre.now in
+    let build = cut_at_dots c.in_ok-pre.build.now in (
+      three major.0 minor.0 patch.0 pre build,
+      rw (major.1, c.in-Some.ensures, minor.1, c.in-Some-behind_mark.ensures, patch.1) behind,
       record {
         stand = (major.2, minor.2, patch.2, refl);
+        pre = refl;
+        build = refl;
         parts = c.in_ok-pre.ensures.1;
         count = refl;
         is_qualified = c.begins_qualifier.ensures
-            ∙ qualified major.0 minor.0 patch.0 pre behind.0 c.in_ok-patch.qualifier.now c.in_ok-pre.rest.now behind.1;
+            ∙ qualified major.0 minor.0 patch.0 pre build c.in_ok-patch.qualifier.now c.in_ok-pre.rest.now behind;
       },
     )

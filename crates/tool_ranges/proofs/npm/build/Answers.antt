@@ -7,7 +7,7 @@ use Rattle.semver_ranges.specs.RangeViews.{range_of}
 use Rattle.semver_ranges.specs.Steps.RangeEvents.{events_of}
 use Rattle.semver_ranges.proofs.EventLists.{set_fits}
 use Rattle.semver_ranges.proofs.EventSums.{one_range_more}
-use Rattle.tool_ranges.specs.ToolTable.{fits_in}
+use Rattle.tool_ranges.specs.NpmTable.{is_safe_simple}
 use Rattle.tool_ranges.specs.Steps.LowerBounds.{range_begun, written_for}
 use Rattle.tool_ranges.proofs.ToolRows.{npm_table}
 use Rattle.tool_ranges.proofs.npm.build.Goals as goal
@@ -22,7 +22,7 @@ loop-at-preserved c =
     let built = c.in_ok-build_range.ensures (events_of c.args.lower so_far.1) so_far.6
     (set_fits npm_table c.args.lower so_far.1 ∙ so_far.3) in
     let within : c.loop-at.at < length so_far.0 = omega (arith, so_far.5, c.loop-at-test.true) in
-    let more = one_range_more dialect.Npm c.args.lower (fits_in Npm) (written_for c.args.lower Npm) Npm (range_begun c.args.lower)
+    let more = one_range_more dialect.Npm c.args.lower is_safe_simple (written_for c.args.lower Npm) Npm (range_begun c.args.lower)
     (λ x. refl) so_far.0 so_far.1 (map range_of c.loop-at.ranges.items)
     (range_of c.in_ok-build_range.field-0) c.build_range.new.events c.loop-at.at so_far.3 so_far.4 within so_far.7 built.0 built.1 in
     let pushed : map range_of c.push.new.self.items ≡ map range_of c.loop-at.ranges.items ++ range_of c.in_ok-build_range.field-0 ∷ [] =

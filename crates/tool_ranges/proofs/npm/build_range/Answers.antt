@@ -10,7 +10,8 @@ use Rattle.semver_ranges.specs.RangeViews.{comparator_of}
 use Rattle.semver_ranges.specs.Steps.RangeEvents.{Event, event_fits, range_simples, range_others}
 use Rattle.semver_ranges.specs.Steps.CursorViews.{HasLeft}
 use Rattle.semver_ranges.proofs.FoundEvents.{NextSimple, next_simple, RangeEnd, range_end}
-use Rattle.tool_ranges.specs.ToolTable.{fits_in}
+use Rattle.tool_ranges.specs.NpmTable.{is_safe_simple}
+use Rattle.tool_ranges.proofs.SafeNumbers.{safe_fits}
 use Rattle.tool_ranges.specs.Steps.LowerBounds.{written_for}
 use Rattle.tool_ranges.proofs.npm.build_range.Goals as goal
 use Rattle.tool_ranges.proofs.npm.build_range.Goals.{In-Some-Ok-Simple}
@@ -27,13 +28,14 @@ pub push-requires : goal.push-requires
 push-requires c =
     let so_far = c.loop-simple.invariant c.requires.0 c.requires.1 c.requires.2 in
     let first = taken (goal.at.push-requires c).In-Some-Ok-Simple so_far.0 so_far.1 in
-    (first.s, first.is, (and_parts (fits_in Npm first.s) _ (sym (ap (list_all (event_fits (fits_in Npm))) first.whole) ∙ so_far.2)).0)
+    let fit = and_parts (is_safe_simple first.s) _ (sym (ap (list_all (event_fits is_safe_simple)) first.whole) ∙ so_far.2) in
+    (first.s, first.is, safe_fits first.s fit.0)
 
 pub loop-simple-preserved : goal.loop-simple-preserved
 loop-simple-preserved c = λ es has fits.
     let so_far = c.loop-simple.invariant es has fits in
     let first = taken (goal.at.loop-simple-preserved c).In-Some-Ok-Simple so_far.0 so_far.1 in
-    let fit = and_parts (fits_in Npm first.s) _ (sym (ap (list_all (event_fits (fits_in Npm))) first.whole) ∙ so_far.2) in
+    let fit = and_parts (is_safe_simple first.s) _ (sym (ap (list_all (event_fits is_safe_simple)) first.whole) ∙ so_far.2) in
     let before : List PlainComparator = map comparator_of c.loop-simple.comparator_set.items in
     let here : List PlainComparator = written_for c.args.lower Npm first.s in
     let behind : List PlainComparator = flat_map (written_for c.args.lower Npm) (range_simples first.behind) in (
@@ -41,7 +43,7 @@ loop-simple-preserved c = λ es has fits.
       first.has,
       fit.1,
       sym (ap range_others first.whole) ∙ so_far.3,
-      ap (λ l. l ++ behind) (c.in_ok-push.ensures first.s first.is fit.0)
+      ap (λ l. l ++ behind) (c.in_ok-push.ensures first.s first.is (safe_fits first.s fit.0))
           ∙ append_assoc before here behind
           ∙ sym (ap (λ l. before ++ flat_map (written_for c.args.lower Npm) (range_simples l)) first.whole) ∙ so_far.4,
     )

@@ -6,14 +6,14 @@ use Rattle.semver_ranges.specs.declared.range.Compat.TheVariants.{Npm}
 use Rattle.semver_ranges.specs.RangeViews.{comparator_of}
 use Rattle.semver_ranges.specs.Steps.RangeEvents.{Event, event_fits, range_simples, range_others}
 use Rattle.semver_ranges.specs.Steps.CursorViews.{HasLeft, size_left}
-use Rattle.tool_ranges.specs.ToolTable.{fits_in}
+use Rattle.tool_ranges.specs.NpmTable.{is_safe_simple}
 use Rattle.tool_ranges.specs.Steps.LowerBounds.{written_for}
 use Rattle.tool_ranges.proofs.npm.build_range.Given as goal
 
 abbrev pub invariant-loop-simple : goal.invariant-loop-simple
 invariant-loop-simple l = (es : List Event) → HasLeft dialect.Npm l.initial.events (Some es)
-    → IsTrue (list_all (event_fits (fits_in Npm)) es)
-    → (left : List Event) × HasLeft dialect.Npm l.events (Some left) × IsTrue (list_all (event_fits (fits_in Npm)) left)
+    → IsTrue (list_all (event_fits is_safe_simple) es)
+    → (left : List Event) × HasLeft dialect.Npm l.events (Some left) × IsTrue (list_all (event_fits is_safe_simple) left)
     × (range_others left ≡ range_others es)
     × (map comparator_of l.comparator_set.items ++ flat_map (written_for l.lower Npm) (range_simples left)
     ≡ flat_map (written_for l.lower Npm) (range_simples es))

@@ -1,9 +1,17 @@
-use Rattle.std.proofs.Common.{sym, ap, ◌∙◌, arith}
+use Rattle.std.proofs.Common.{◌≡◌, ℕ, Bool, true, Option, Some, None, refl, sym, ap, ◌∙◌, arith, subst}
+use Rattle.std.specs.Prelude.{Result, Ok, Err, IsErrAnd, MatchResult}
+use Rattle.semver_ranges.specs.declared.range_set.RangeError.{RangeError}
+use Rattle.tool_ranges.specs.Steps.NpmReading.{HasRanges, IsNpmRefusal}
+use Rattle.semver_texts.specs.Texts.{Text}
+use Rattle.semver_ranges.specs.declared.partial.LowerBounds.TheVariants.{Stated}
+use Rattle.semver_ranges.specs.RangeTree.{SetTree}
+use Rattle.semver_ranges.specs.Steps.RangeEvents.{events, set_events}
+use Rattle.semver_ranges.specs.Steps.Reading.{read}
 use Rattle.semver_texts.specs.declared.dialect.Dialect.TheVariants as dialect
-use Rattle.semver_ranges.specs.declared.range.Compat.TheVariants.{Npm}
 use Rattle.semver_ranges.proofs.EventSums.{summed, sum_more, sum_end}
 use Rattle.semver_ranges.proofs.FoundEvents.{FirstSimple, first_simple}
-use Rattle.tool_ranges.specs.ToolTable.{fits_in}
+use Rattle.tool_ranges.specs.NpmTable.{is_safe_simple}
+use Rattle.tool_ranges.proofs.SafeNumbers.{safe_cell}
 use Rattle.tool_ranges.proofs.ToolRows.{npm_table}
 use Rattle.tool_ranges.proofs.npm.survey.Goals as goal
 use Rattle.tool_ranges.proofs.npm.survey.Goals.{In-Simple}
@@ -15,8 +23,8 @@ taken c =
     first_simple dialect.Npm so_far.0 c.in-Simple.simple c.next_in.new.self (rw (c.in_ok-simple.was, c.in-Simple.is) at
     (c.in-Some.ensures.gives.0 so_far.0 so_far.1))
 
-pub fits-fit-requires : goal.fits-fit-requires
-fits-fit-requires c = let first = taken (goal.at.fits-fit-requires c).In-Simple in (c.cell_of.ensures first.s first.is).0
+pub is_safe-fit-requires : goal.is_safe-fit-requires
+is_safe-fit-requires c = let first = taken (goal.at.is_safe-fit-requires c).In-Simple in (c.cell_of.ensures first.s first.is).0
 
 pub loop-event-preserved-in-Simple : goal.loop-event-preserved-in-Simple
 loop-event-preserved-in-Simple c =
@@ -24,8 +32,9 @@ loop-event-preserved-in-Simple c =
     let first = taken (goal.at.loop-event-preserved-in-Simple c).In-Simple in (
       first.left,
       first.has,
-      sum_more (fits_in Npm) _ c.loop-event.fit c.fits-fit.result c.loop-event.ended so_far.0 first.left first.s so_far.2 first.whole
-          (c.fits-fit.ensures ∙ (c.cell_of.ensures first.s first.is).1),
+      sum_more is_safe_simple _ c.loop-event.fit c.is_safe-fit.result c.loop-event.ended so_far.0 first.left first.s so_far.2 first.whole
+          (c.is_safe-fit.ensures
+          ∙ safe_cell first.s c.in-Simple.simple c.cell_of.result first.is (c.cell_of.ensures first.s first.is)),
       omega (arith, so_far.3, c.in-Some.ensures.gives.1),
     )
 
@@ -34,7 +43,7 @@ returns-then-not-fit c =
     let so_far = c.loop-event.invariant in
     let end = c.in_default.ensures.gives.0 so_far.0 so_far.1 in
     let found = sum_end dialect.Npm npm_table c.args.text.now c.loop-event.fit c.loop-event.ended (so_far.2
-    ∙ ap (summed (fits_in Npm) c.loop-event.fit c.loop-event.ended) end.0) in
+    ∙ ap (summed is_safe_simple c.loop-event.fit c.loop-event.ended) end.0) in
     (found.0, found.1, found.2 ∙ c.if-not-fit.true)
 
 pub returns : goal.returns
@@ -42,5 +51,28 @@ returns c =
     let so_far = c.loop-event.invariant in
     let end = c.in_default.ensures.gives.0 so_far.0 so_far.1 in
     let found = sum_end dialect.Npm npm_table c.args.text.now c.loop-event.fit c.loop-event.ended (so_far.2
-    ∙ ap (summed (fits_in Npm) c.loop-event.fit c.loop-event.ended) end.0) in
+    ∙ ap (summed is_safe_simple c.loop-event.fit c.loop-event.ended) end.0) in
     (found.0, found.1, found.2 ∙ c.if-not-fit.false, sym found.3)
+
+-- a text that isn't read
+none_read : (t : Text) (fit : Bool) (ended : ℕ) → summed is_safe_simple true 0 (events dialect.Npm Stated t) ≡ summed is_safe_simple fit ended None
+    → read dialect.Npm t ≡ None
+none_read t fit ended e = at (read dialect.Npm t) refl e where
+  at : (o : Option SetTree) → read dialect.Npm t ≡ o → summed is_safe_simple true 0 (set_events Stated o) ≡ None → read dialect.Npm t ≡ None
+  at None is e = is
+  at (Some tree) is e = cc
+
+-- an error that is given on
+given : (t : Text) (r : Result ℕ RangeError) (P : RangeError → Type 0) → IsErrAnd r P → ((e : RangeError) → P e → IsNpmRefusal t e)
+    → MatchResult r (λ count. HasRanges t count) (λ e. IsNpmRefusal t e)
+given t (Ok count) P h f = absurd h
+given t (Err e) P h f = f e h
+
+pub returns-in_err-simple : goal.returns-in_err-simple
+returns-in_err-simple c =
+    let so_far = c.loop-event.invariant in
+    let stop = rw c.in_err-simple.was at (c.in-Some.ensures.gives.0 so_far.0 so_far.1) in
+    let none = none_read c.args.text.now c.loop-event.fit c.loop-event.ended (so_far.2
+    ∙ ap (summed is_safe_simple c.loop-event.fit c.loop-event.ended) stop.0) in
+    given c.args.text.now c.from_residual.result _ c.from_residual.ensures.1
+    (λ e same. subst (λ x. IsNpmRefusal c.args.text.now x) (sym (same ∙ stop.1)) none)

@@ -1,0 +1,220 @@
+-- Words that are too long to npm: what their bytes say of their numbers and identifiers, and that no word of up to 250 bytes is one.
+use Rattle.std.proofs.Common.{◌≡◌, ℕ, ◌+◌, ◌-◌, ◌≤◌, Bool, true, false, ◌&&◌, ◌||◌, not, List, [], ◌∷◌, ◌++◌, codes, length, take, refl, sym, ap, ◌∙◌}
+use Rattle.std.proofs.Common.{All, Some, None, arith, length-append, subst}
+use Rattle.std.specs.Prelude.{nat_le, if◌then◌else◌, ◌==◌}
+use Rattle.std.specs.Char.{is_ascii_digit}
+use Rattle.std.specs.List.{list_all, slice_split, join_with_byte}
+use Rattle.std.specs.Str.{all_ascii_digits}
+use Rattle.std.proofs.lemmas.Bool.Decides.{nat_tests}
+use Rattle.std.proofs.lemmas.Bool.{and_parts, and_from}
+use Rattle.std.proofs.lemmas.List.Elements.{All-nil, All-cons}
+use Rattle.std.proofs.lemmas.List.Splits.{join_with_byte-slice_split, slice_split_none, slice_split_at}
+use Rattle.std.proofs.lemmas.List.Sums.{prefix_len-le-length}
+use Rattle.semver_texts.specs.Texts.{Text, cut_at_dots, is_dot, is_empty, marked}
+use Rattle.semver_texts.proofs.Lists.{by_test}
+use Rattle.semver_ranges.specs.declared.partial.Components.{Components}
+use Rattle.semver_ranges.specs.RangeTree.{PartialTree, one, two, three, Role, SpellsPartial, is_component, components, pre_parts, build_parts}
+use Rattle.semver_ranges.specs.RangeTree.{qualifier, has_short_parts, states_three, is_taken_whole, numbers_and_pre, is_short_word}
+use Rattle.semver_ranges.specs.NpmLengths.{is_short_number, is_short_pre, is_short_build, is_short_version, leading_digits}
+use Rattle.semver_texts.specs.declared.dialect.Dialect.{Dialect}
+use Rattle.semver_texts.specs.declared.dialect.Dialect.TheVariants.{Crate, Cargo, Npm}
+use Rattle.semver_ranges.specs.Steps.NpmLimits.{are_short_parts, marked_length, IsBefore}
+use Rattle.semver_ranges.specs.Steps.Reading.{behind_v, component, with_first, whole_word, partial, takes, ends_word}
+use Rattle.semver_ranges.proofs.ReadingPieces.{PartialAt, component_sound, first_sound}
+use Rattle.semver_ranges.specs.Steps.PartialViews.{AreWritten}
+
+-- ---- a partial's text: its numbers, its pre-release, its build
+
+qualified : (p : PartialTree) → qualifier p ≡ marked (codes "-") (pre_parts p) ++ marked (codes "+") (build_parts p)
+qualified (one a) = refl
+qualified (two a b) = refl
+qualified (three a b c pre build) = refl
+
+abbrev numbers_of : PartialTree → Text
+numbers_of p = join_with_byte 46 (components p)
+
+spelled_parts : (p : PartialTree) (t : Text) → SpellsPartial p t
+    → t ≡ numbers_of p ++ (marked (codes "-") (pre_parts p) ++ marked (codes "+") (build_parts p))
+spelled_parts p t h = h.2 ∙ ap (λ q. numbers_of p ++ q) (qualified p)
+
+-- components have no dot, and so come back where the text is cut at its dots
+no_dot_in_digits : (t : Text) → all_ascii_digits t ≡ true → All (λ b. is_dot b ≡ false) t
+no_dot_in_digits [] e = All-nil _
+no_dot_in_digits (b ∷ t) e = All-cons (λ b. is_dot b ≡ false) b t (grind (arith, nat_tests)) (no_dot_in_digits t (grind arith))
+
+no_dot : (t : Text) → is_component t ≡ true → All (λ b. is_dot b ≡ false) t
+no_dot [] e = All-nil _
+no_dot (b ∷ []) e = All-cons (λ b. is_dot b ≡ false) b [] (grind (arith, nat_tests)) (All-nil _)
+no_dot (b ∷ c ∷ t) e = no_dot_in_digits (b ∷ c ∷ t) (grind arith)
+
+components_split : (x : Text) (xs : List Text) → list_all is_component (x ∷ xs) ≡ true
+    → slice_split is_dot (join_with_byte 46 (x ∷ xs)) ≡ x ∷ xs
+components_split x [] e = slice_split_none is_dot x (no_dot x (and_parts _ _ e).0)
+components_split x (y ∷ ys) e =
+    let parts = and_parts (is_component x) _ e in
+    slice_split_at is_dot x 46 (join_with_byte 46 (y ∷ ys)) (no_dot x parts.0) refl ∙ rw (components_split y ys parts.1)
+
+some_component : (x : Text) (t : Text) → is_component x ≡ true → is_empty (x ++ t) ≡ false
+some_component [] t e = cc
+some_component (b ∷ x) t e = refl
+
+some_joined : (x : Text) (xs : List Text) → is_component x ≡ true → is_empty (join_with_byte 46 (x ∷ xs)) ≡ false
+some_joined [] [] e = cc
+some_joined (b ∷ x) [] e = refl
+some_joined x (y ∷ ys) e = some_component x (46 ∷ join_with_byte 46 (y ∷ ys)) e
+
+cut_some : (t : Text) → is_empty t ≡ false → cut_at_dots t ≡ slice_split is_dot t
+cut_some [] e = cc
+cut_some (b ∷ t) e = refl
+
+cut_components : (x : Text) (xs : List Text) → list_all is_component (x ∷ xs) ≡ true
+    → cut_at_dots (join_with_byte 46 (x ∷ xs)) ≡ x ∷ xs
+cut_components x xs e =
+    cut_some (join_with_byte 46 (x ∷ xs)) (some_joined x xs (and_parts _ _ e).0) ∙ components_split x xs e
+
+pub numbers_cut : (p : PartialTree) → list_all is_component (components p) ≡ true → cut_at_dots (numbers_of p) ≡ components p
+numbers_cut (one a) e = cut_components a [] e
+numbers_cut (two a b) e = cut_components a (b ∷ []) e
+numbers_cut (three a b c pre build) e = cut_components a (b ∷ c ∷ []) e
+
+-- ---- how long they are
+
+joined_cut : (t : Text) → join_with_byte 46 (cut_at_dots t) ≡ t
+joined_cut [] = refl
+joined_cut (b ∷ t) = join_with_byte-slice_split 46 (b ∷ t)
+
+-- parts behind a mark of one byte
+marked_is : (mark : ℕ) (xs : List Text) (t : Text) → xs ≡ cut_at_dots t → length (marked (mark ∷ []) xs) ≡ marked_length t
+marked_is mark [] [] e = refl
+marked_is mark [] (b ∷ t) e =
+    let same : length (b ∷ t) ≡ 0 = sym (ap length (joined_cut (b ∷ t))) ∙ ap (λ l. length (join_with_byte 46 l)) (sym e) in
+    absurd (omega (arith, same))
+marked_is mark (x ∷ xs) [] e = cc
+marked_is mark (x ∷ xs) (b ∷ t) e =
+    let same : length (join_with_byte 46 (x ∷ xs)) ≡ length (b ∷ t) =
+    ap (λ l. length (join_with_byte 46 l)) e ∙ ap length (joined_cut (b ∷ t)) in
+    omega (arith, same)
+
+-- the bytes that were read of a word
+pub record Sizes (p : PartialTree) (c : Components) (t : Text) : Type 0 where
+  pub numbers : length t ≡ length (numbers_of p) + marked_length c.pre.now + marked_length c.build.now
+  pub version : length (numbers_of p ++ marked (codes "-") (pre_parts p)) ≡ length (numbers_of p) + marked_length c.pre.now
+  pub front : take (length (numbers_of p)) t ≡ numbers_of p
+
+take_front : (s t : Text) → take (length s) (s ++ t) ≡ s
+take_front [] t = refl
+take_front (b ∷ s) t = rw (take_front s t)
+
+pub sizes : (p : PartialTree) (c : Components) (t : Text) → SpellsPartial p t → AreWritten p c → Sizes p c t
+sizes p c t h w =
+    let whole = spelled_parts p t h in
+    let pre = marked_is 45 (pre_parts p) c.pre.now w.pre in
+    let build = marked_is 43 (build_parts p) c.build.now w.build in record {
+      numbers = rw (whole, length-append, length-append, pre, build) (omega arith);
+      version = rw (length-append, pre) refl;
+      front = rw whole (take_front (numbers_of p) (marked (codes "-") (pre_parts p) ++ marked (codes "+") (build_parts p)));
+    }
+
+-- ---- up to 250 bytes
+
+within : (n m : ℕ) → n ≤ m → nat_le n m ≡ true
+within n m h = grind (arith, nat_tests)
+
+joined_short : (passes : Text → Bool) (n : ℕ) → ((t : Text) → length t ≤ n → passes t ≡ true) → (x : Text) (xs : List Text)
+    → length (join_with_byte 46 (x ∷ xs)) ≤ n → list_all passes (x ∷ xs) ≡ true
+joined_short passes n each x [] short = and_from _ _ (each x short) refl
+joined_short passes n each x (y ∷ ys) short =
+    let size = length-append x (46 ∷ join_with_byte 46 (y ∷ ys)) in
+    and_from _ _ (each x (omega (arith, size))) (joined_short passes n each y ys (omega (arith, size)))
+
+marked_short : (passes : Text → Bool) (n : ℕ) → ((t : Text) → length t ≤ n → passes t ≡ true) → (mark : ℕ) (xs : List Text)
+    → length (marked (mark ∷ []) xs) ≤ n → list_all passes xs ≡ true
+marked_short passes n each mark [] short = refl
+marked_short passes n each mark (x ∷ xs) short = joined_short passes n each x xs (omega arith)
+
+short_pre : (t : Text) → length t ≤ 250 → is_short_pre t ≡ true
+short_pre t h =
+    let digits = prefix_len-le-length is_ascii_digit t in
+    by_test (leading_digits t == length t)
+    (λ y. rw y (within (length t) 257 (omega arith)))
+    (λ n. rw n (and_from _ _ (within (leading_digits t) 256 (omega (arith, digits)))
+    (within (length t) (leading_digits t + 251) (omega (arith, digits)))))
+
+components_short : (p : PartialTree) → length (numbers_of p) ≤ 250 → list_all is_short_number (components p) ≡ true
+components_short (one a) h = joined_short is_short_number 250 (λ t e. within (length t) 257 (omega arith)) a [] h
+components_short (two a b) h = joined_short is_short_number 250 (λ t e. within (length t) 257 (omega arith)) a (b ∷ []) h
+components_short (three a b c pre build) h =
+    joined_short is_short_number 250 (λ t e. within (length t) 257 (omega arith)) a (b ∷ c ∷ []) h
+
+-- what is told of the parts and the version
+pub parts_told : (p : PartialTree) (c : Components) (t front : Text) (n : ℕ) → SpellsPartial p t → AreWritten p c
+    → n ≡ length t - marked_length c.build.now - marked_length c.pre.now → front ≡ take n t
+    → are_short_parts front c.pre.now c.build.now ≡ has_short_parts p
+parts_told p c t front n h w e is =
+    let size = sizes p c t h w in
+    let count : n ≡ length (numbers_of p) = omega (arith, e, size.numbers) in
+    let numbers : front ≡ numbers_of p = is ∙ ap (λ k. take k t) count ∙ size.front in
+    rw (numbers, numbers_cut p h.0, sym w.pre, sym w.build) refl
+
+pub version_is : (p : PartialTree) (c : Components) (t : Text) → SpellsPartial p t → AreWritten p c
+    → length t - marked_length c.build.now ≡ length (numbers_and_pre p)
+version_is p c t h w = let size = sizes p c t h w in omega (arith, size.numbers, size.version)
+
+pub marks_within : (p : PartialTree) (c : Components) (t : Text) → SpellsPartial p t → AreWritten p c
+    → marked_length c.pre.now + marked_length c.build.now ≤ length t
+marks_within p c t h w = let size = sizes p c t h w in omega (arith, size.numbers)
+
+pub short_word : (role : Role) (p : PartialTree) (t : Text) (n : ℕ) → SpellsPartial p t → length t ≤ n → n ≤ 250
+    → is_short_word role p n ≡ true
+short_word role p t n h less small =
+    let pre = marked (codes "-") (pre_parts p) in
+    let build = marked (codes "+") (build_parts p) in
+    let whole : length t ≡ length (numbers_of p) + (length pre + length build) =
+    ap length (spelled_parts p t h) ∙ length-append (numbers_of p) (pre ++ build) ∙ ap (λ k. length (numbers_of p) + k) (length-append pre build) in
+    let parts : has_short_parts p ≡ true = and_from _ _ (components_short p (omega (arith, whole)))
+    (and_from _ _ (marked_short is_short_pre 250 short_pre 45 (pre_parts p) (omega (arith, whole)))
+    (marked_short is_short_build 250 (λ t e. within (length t) 250 e) 43 (build_parts p) (omega (arith, whole)))) in
+    let version : is_short_version (if is_taken_whole role p then n else length (numbers_and_pre p)) ≡ true = by_test (is_taken_whole role p)
+    (λ y. rw y (within n 256 (omega arith)))
+    (λ no. rw no (within (length (numbers_of p ++ pre)) 256 (omega (arith, whole, length-append (numbers_of p) pre)))) in
+    and_from _ _ parts (rw version (or_true (not (states_three p)))) where
+      or_true : (b : Bool) → (b || true) ≡ true
+      or_true true = refl
+      or_true false = refl
+
+-- ---- a word before its rest, as it was read
+
+behind_v_short : (d : Dialect) (t : Text) → length (behind_v d t) ≤ length t
+behind_v_short Crate t = omega arith
+behind_v_short Cargo t = omega arith
+behind_v_short Npm [] = omega arith
+behind_v_short Npm (b ∷ t) = grind (arith, nat_tests)
+
+pub before_rest : (d : Dialect) (text behind rest : Text) (p : PartialTree) (c : Components) → behind ≡ behind_v d text
+    → with_first (component behind) ≡ Some (p, rest) → AreWritten p c → IsBefore p c text behind rest
+before_rest d text behind rest p c e found w =
+    let at : PartialAt behind (Some (p, rest)) = subst (λ o. PartialAt behind o) found (first_sound behind _ (component_sound behind)) in record {
+      word = at.0;
+      spelled = at.1;
+      written = w;
+      behind_is = at.2;
+      within = subst (λ b. length b ≤ length text) (sym e) (behind_v_short d text);
+    }
+
+pub rest_within : (p : PartialTree) (c : Components) (text behind rest : Text) (w : IsBefore p c text behind rest)
+    → length w.word ≤ length text - length rest
+rest_within p c text behind rest w =
+    omega (arith, w.within, simp length-append at (ap length w.behind_is))
+
+-- a partial that is read, and one that isn't
+module _ (d : Dialect) (role : Role) (text behind rest : Text) (p : PartialTree) (e : behind ≡ behind_v d text)
+    (found : with_first (component behind) ≡ Some (p, rest)) where
+  word_found : partial d role text ≡ whole_word d role (length text) (Some (p, rest))
+  word_found = ap (λ t. whole_word d role (length text) (with_first (component t))) (sym e) ∙ ap (whole_word d role (length text)) found
+
+  pub word_is_read : takes d role p (length text - length rest) ≡ true → ends_word d rest ≡ true
+      → partial d role text ≡ Some (p, rest)
+  word_is_read taken ends = word_found ∙ rw (taken, ends) refl
+
+  pub word_is_no_word : (takes d role p (length text - length rest) && ends_word d rest) ≡ false → partial d role text ≡ None
+  word_is_no_word other = word_found ∙ rw other refl

@@ -1,0 +1,29 @@
+-- How long the numbers and identifiers of a range text may be to npm. They are the bounds of
+-- node-semver 7, by its constants `MAX_LENGTH`, 256, and `MAX_SAFE_BUILD_LENGTH`, 250.
+use Rattle.std.specs.Prelude.{ℕ, ◌+◌, Bool, ◌&&◌, ◌==◌, if◌then◌else◌, nat_le, length}
+use Rattle.std.specs.Char.{is_ascii_digit}
+use Rattle.std.specs.List.{prefix_len}
+use Rattle.semver_texts.specs.Texts.{Text}
+
+-- a number: at most 257 digits, a first and 256 more
+abbrev pub is_short_number : Text → Bool
+is_short_number t = nat_le (length t) 257
+
+-- how many digits a text begins with
+abbrev pub leading_digits : Text → ℕ
+leading_digits t = prefix_len is_ascii_digit t
+
+-- an identifier of a pre-release: a number; or at most 256 digits, a letter or a hyphen, and at
+-- most 250 characters more
+abbrev pub is_short_pre : Text → Bool
+is_short_pre t =
+    if leading_digits t == length t then is_short_number t
+    else nat_le (leading_digits t) 256 && nat_le (length t) (leading_digits t + 251)
+
+-- an identifier of a build: at most 250 characters
+abbrev pub is_short_build : Text → Bool
+is_short_build t = nat_le (length t) 250
+
+-- the version of a comparator: at most 256 characters
+abbrev pub is_short_version : ℕ → Bool
+is_short_version n = nat_le n 256

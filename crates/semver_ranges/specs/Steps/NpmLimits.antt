@@ -1,0 +1,34 @@
+-- A means of proof, which no public clause cites: what private contracts see of a long word.
+use Rattle.std.specs.Prelude.{◌≡◌, ◌≤◌, ℕ, ◌+◌, ◌++◌, Bool, ◌&&◌, if◌then◌else◌, length}
+use Rattle.std.specs.List.{list_all}
+use Rattle.semver_ranges.specs.declared.limits.Kind.{Kind}
+use Rattle.semver_ranges.specs.declared.limits.Kind.TheVariants.{Number, PreRelease, Build}
+use Rattle.semver_ranges.specs.declared.partial.Components.{Components}
+use Rattle.semver_texts.specs.Texts.{Text, cut_at_dots, is_empty}
+use Rattle.semver_ranges.specs.RangeTree.{PartialTree, SpellsPartial}
+use Rattle.semver_ranges.specs.Steps.PartialViews.{AreWritten}
+use Rattle.semver_ranges.specs.NpmLengths.{is_short_number, is_short_pre, is_short_build}
+
+-- whether a part isn't too long
+abbrev pub is_short_as : Kind → Text → Bool
+is_short_as Number t = is_short_number t
+is_short_as PreRelease t = is_short_pre t
+is_short_as Build t = is_short_build t
+
+-- whether the numbers, the pre-release and the build, each cut at its dots, have none that is
+abbrev pub are_short_parts : Text → Text → Text → Bool
+are_short_parts numbers pre build = list_all (is_short_as Number) (cut_at_dots numbers)
+    && (list_all (is_short_as PreRelease) (cut_at_dots pre)
+    && list_all (is_short_as Build) (cut_at_dots build))
+
+-- how many bytes parts take with their mark
+abbrev pub marked_length : Text → ℕ
+marked_length t = if is_empty t then 0 else length t + 1
+
+-- a word that ends before a rest: its partial, whose components were read, and behind what it is
+pub record IsBefore (p : PartialTree) (c : Components) (text behind rest : Text) : Type 0 where
+  pub word : Text
+  pub spelled : SpellsPartial p word
+  pub written : AreWritten p c
+  pub behind_is : behind ≡ word ++ rest
+  pub within : length behind ≤ length text

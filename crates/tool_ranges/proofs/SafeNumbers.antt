@@ -1,0 +1,94 @@
+-- Numbers that are at most 2^53 - 1: they fit 64 bits, and the cell of a simple says whether its numbers are.
+use Rattle.std.proofs.Common.{◌≡◌, ℕ, ◌≤◌, ◌-◌, ◌^◌, true, false, ◌&&◌, List, length, refl, sym, ap, ◌∙◌, arith}
+use Rattle.std.proofs.Common.{Option, Some, None}
+use Rattle.std.specs.Prelude.{nat_lt}
+use Rattle.std.specs.List.{list_all}
+use Rattle.std.proofs.lemmas.Bool.{and_parts, and_from, and_left, both_ways}
+use Rattle.std.proofs.lemmas.Bool.Decides.{nat_tests}
+use Rattle.semver_texts.proofs.Lists.{by_test}
+use Rattle.semver_texts.specs.Versions.{PlainVersion, numbers}
+use Rattle.semver_ranges.specs.declared.grammar.Simple as read
+use Rattle.semver_ranges.specs.declared.partial.Partial.{Partial}
+use Rattle.semver_ranges.specs.declared.partial.PartialKind.{PartialKind}
+use Rattle.semver_ranges.specs.declared.partial.PartialKind.TheVariants.{XRangeOnly, MajorOnly, MajorMinor, MajorMinorPatch}
+use Rattle.semver_ranges.specs.declared.partial.Place.{Place}
+use Rattle.semver_ranges.specs.declared.partial.Place.TheVariants.{Major, Minor, Patch}
+use Rattle.semver_ranges.specs.declared.range.Compat.TheVariants.{Npm}
+use Rattle.semver_ranges.specs.RangeTree.{Simple}
+use Rattle.semver_ranges.specs.Partials.{stated, fits_u64}
+use Rattle.semver_ranges.specs.RewritingTable.{up, bound_fits}
+use Rattle.semver_ranges.specs.Steps.PartialViews.{number_at, place_number, stated_at, stated_of}
+use Rattle.semver_ranges.specs.Steps.CursorViews.{IsSimpleOf}
+use Rattle.semver_ranges.proofs.Tests.{list_all-weaker}
+use Rattle.tool_ranges.specs.declared.rows.Cell.{Cell}
+use Rattle.tool_ranges.specs.NpmTable.{is_safe, is_safe_bound, is_safe_simple}
+use Rattle.tool_ranges.specs.ToolTable.{begins_above, fits_in, raised_in}
+use Rattle.tool_ranges.specs.Steps.Cells.{bound_at, cell_place, is_safe_cell, IsCellOf}
+
+-- they fit 64 bits
+safe_number : (n : ℕ) → is_safe n ≡ true → fits_u64 n ≡ true
+safe_number n e = grind (arith, nat_tests)
+
+safe_numbers : (ns : List ℕ) → list_all is_safe ns ≡ true → list_all fits_u64 ns ≡ true
+safe_numbers = list_all-weaker is_safe fits_u64 safe_number
+
+safe_bound : (bound : Option PlainVersion) → is_safe_bound bound ≡ true → bound_fits bound ≡ true
+safe_bound None e = refl
+safe_bound (Some bound) e = safe_numbers (numbers bound) e
+
+pub safe_fits : (s : Simple) → is_safe_simple s ≡ true → fits_in Npm s ≡ true
+safe_fits s e =
+    let parts = and_parts _ _ e in
+    let all = safe_numbers (stated s.partial) parts.0 in
+    let bound = safe_bound (raised_in Npm s) parts.1 in
+    by_test (begins_above s)
+    (λ y. rw y (and_from _ _ all (rw y at bound)))
+    (λ n. rw n (and_from _ _ all (rw n at bound)))
+
+-- a number below the greatest stays safe where it is raised
+number_of : Place → ℕ → ℕ → ℕ → ℕ
+number_of Major a b c = a
+number_of Minor a b c = b
+number_of Patch a b c = c
+
+raised_safe : (kind : PartialKind) (place : Place) (a b c : ℕ) → place_number place ≤ length (stated_at kind a b c)
+    → list_all is_safe (stated_at kind a b c) ≡ true
+    → nat_lt (number_of place a b c) (2 ^ 53 - 1) ≡ is_safe_bound (Some (up (place_number place) (stated_at kind a b c)))
+unfolding number_of
+raised_safe XRangeOnly Major a b c within e = absurd (omega (arith, within))
+raised_safe XRangeOnly Minor a b c within e = absurd (omega (arith, within))
+raised_safe XRangeOnly Patch a b c within e = absurd (omega (arith, within))
+raised_safe MajorOnly Major a b c within e = grind (arith, nat_tests)
+raised_safe MajorOnly Minor a b c within e = absurd (omega (arith, within))
+raised_safe MajorOnly Patch a b c within e = absurd (omega (arith, within))
+raised_safe MajorMinor Major a b c within e = grind (arith, nat_tests)
+raised_safe MajorMinor Minor a b c within e = grind (arith, nat_tests)
+raised_safe MajorMinor Patch a b c within e = absurd (omega (arith, within))
+raised_safe MajorMinorPatch Major a b c within e = grind (arith, nat_tests)
+raised_safe MajorMinorPatch Minor a b c within e = grind (arith, nat_tests)
+raised_safe MajorMinorPatch Patch a b c within e = grind (arith, nat_tests)
+
+same_number : (place : Place) (p : Partial) → number_at place p ≡ number_of place p.major p.minor p.patch
+unfolding number_of
+same_number Major p = refl
+same_number Minor p = refl
+same_number Patch p = refl
+
+pub safe_where_raised : (place : Place) (p : Partial) → place_number place ≤ length (stated_of p)
+    → list_all is_safe (stated_of p) ≡ true
+    → nat_lt (number_at place p) (2 ^ 53 - 1) ≡ is_safe_bound (Some (up (place_number place) (stated_of p)))
+safe_where_raised place p within e =
+    ap (λ n. nat_lt n (2 ^ 53 - 1)) (same_number place p) ∙ raised_safe p.kind place p.major p.minor p.patch within e
+
+-- the cell of a simple that was read
+pub safe_cell : (s : Simple) (simple : read.Simple) (c : Cell) → IsSimpleOf s simple → IsCellOf Npm s simple.partial c
+    → is_safe_cell c simple.partial ≡ is_safe_simple s
+safe_cell s simple c is of = by_test simple.partial.fits
+    (λ f. let p : Partial = simple.partial in
+    ap (λ fits. (fits && list_all is_safe (stated_of p)) && is_safe_bound (bound_at (cell_place c) p)) f
+    ∙ ap (λ bound. list_all is_safe (stated_of p) && is_safe_bound bound) (of.3 f)
+    ∙ ap (λ ns. list_all is_safe ns && is_safe_bound (raised_in Npm s)) (is.1.1 f).0)
+    (λ n. let large : list_all fits_u64 (stated s.partial) ≡ false = is.1.0 ∙ n in
+    let unsafe_numbers : list_all is_safe (stated s.partial) ≡ false = by_test (list_all is_safe (stated s.partial))
+    (λ y. absurd (both_ways _ large (safe_numbers (stated s.partial) y))) (λ no. no) in
+    rw n (sym (and_left _ _ unsafe_numbers)))
