@@ -243,6 +243,33 @@ impl<'input> Partial<'input> {
     }
 
     // Answer: equation.
+    /// The second number, or 0 where none is stated.
+    #[inline(always)]
+    pub fn minor(&self) -> u64
+        ensures { result ≡ self.now.minor }
+    {
+        self.minor
+    }
+
+    // Answer: equation.
+    /// The third number, or 0 where none is stated.
+    #[inline(always)]
+    pub fn patch(&self) -> u64
+        ensures { result ≡ self.now.patch }
+    {
+        self.patch
+    }
+
+    // Answer: equation.
+    /// The parts of the pre-release that is stated after three numbers, joined by dots.
+    #[inline(always)]
+    pub fn pre(&self) -> &'input [u8]
+        ensures { map kept (cut_at_dots result.now) ≡ (version_of self.now).pre }
+    {
+        self.pre
+    }
+
+    // Answer: equation.
     /// Whether a pre-release is stated behind three numbers.
     #[inline(always)]
     pub fn has_pre_release(&self) -> bool

@@ -168,7 +168,7 @@ module _ (v : PlainVersion) where
   from_stated (Shape.three x y w) e = from_three x y w
 
   -- a left side begins with its numbers
-  left_meets : (p : PartialTree) → meets_one Npm (left_side (begun_as Lowest p)) v ≡ meets_left p v
+  pub left_meets : (p : PartialTree) → meets_one Npm (left_side (begun_as Lowest p)) v ≡ meets_left p v
   left_meets p = by_test (length (stated p) == 3) (λ y. whole p y) (λ n. rw (begun_stated Lowest p, n) refl) where
     whole : (p : PartialTree) → (length (stated p) == 3) ≡ true → meets_one Npm (left_side (begun_as Lowest p)) v ≡ meets_left p v
     whole (one a) y = by_test (is_wildcard a)
@@ -182,7 +182,7 @@ module _ (v : PlainVersion) where
     whole (three a b c [] build) y = let from = from_stated (stated_shape (three a b c [] build)) y in rw y from
     whole (three a b c (part ∷ parts) build) y = rw y refl
 
-  none_met : (p : PartialTree) → states_nothing p ≡ true → (meets_left p v ≡ true) × (meets_one Npm (right_side p) v ≡ true)
+  pub none_met : (p : PartialTree) → states_nothing p ≡ true → (meets_left p v ≡ true) × (meets_one Npm (right_side p) v ≡ true)
   none_met p y = let e = nothing_is (stated p) y in rw e (refl, refl)
 
   range_meets : (r : RangeTree)

@@ -7,11 +7,18 @@ mod ReadMeanings
 mod ReadRows
 mod PreReleaseMeanings
 mod PreReleaseRows
-mod ReadSets
+pub mod ReadSets
 mod SafeNumbers
 mod ToolRows
 mod NpmMeanings
 mod NpmSets
 mod NpmLaws
 mod AllMeanings
+mod AskedParts
+mod AskedTerms
+mod AskedCrate
+mod AskedEvents
+mod AskedMeanings
+mod AskedRanges
+mod AskedRequirements
 pub mod ReadingLaws

@@ -25,7 +25,7 @@ use Rattle.tool_ranges.proofs.ToolRows.{npm_prints}
 pub npm_read : (t : Text) (tree : SetTree) → SpellsNpm tree t → read Npm t ≡ Some tree
 npm_read t tree h = tree_read Npm tree t h.spelled
 
-read_one : (t : Text) (tree tree' : SetTree) → read Npm t ≡ Some tree → SpellsNpm tree' t → tree ≡ tree'
+pub read_one : (t : Text) (tree tree' : SetTree) → read Npm t ≡ Some tree → SpellsNpm tree' t → tree ≡ tree'
 read_one t tree tree' e h = let same : Some tree ≡ Some tree' = sym e ∙ npm_read t tree' h in cc
 
 none_read : (t : Text) (tree : SetTree) → read Npm t ≡ None → SpellsNpm tree t → ⊥

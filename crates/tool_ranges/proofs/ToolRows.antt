@@ -27,7 +27,7 @@ npm_table = record {
   begun = λ lower p. rw (begun_stated lower p) refl;
 }
 
-numbers_fit : (mode : Compat) (s : Simple) → fits_in mode s ≡ true → list_all fits_u64 (stated s.partial) ≡ true
+pub numbers_fit : (mode : Compat) (s : Simple) → fits_in mode s ≡ true → list_all fits_u64 (stated s.partial) ≡ true
 numbers_fit mode s e = by_test (begins_above s)
     (λ y. let all = rw y at e in (and_parts _ _ all).0)
     (λ n. let all = rw n at e in (and_parts _ _ all).0)

@@ -1,3 +1,4 @@
+pub mod Asking
 pub mod CargoReading
 pub mod CargoPreReleases
 pub mod NpmReading

@@ -22,12 +22,14 @@ ghost use Rattle.tool_ranges.specs.Steps.CargoReading.{IsSetOf};
 ghost use Rattle.tool_ranges.specs.Steps.CargoReading.{IsRewrittenOne};
 ghost use Rattle.tool_ranges.specs.Steps.CargoPreReleases.{counting_one, judging, judging_one};
 
+mod asking;
 mod grammar;
 mod judging;
 mod pre_releases;
 mod reading;
 
 use crate::rows::{self, Cell};
+pub(crate) use asking::{ask, ask_with_all};
 use grammar::read_comparator;
 use judging::{Judged, push_judging};
 pub use reading::read;

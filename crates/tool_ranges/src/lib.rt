@@ -1,9 +1,12 @@
 //! Range texts as Cargo and npm themselves read them, which differs from the port's two modes.
 #![tactic(auto)]
 
+mod asked;
+mod asking;
 pub mod cargo;
 pub mod laws;
 pub mod meaning;
 pub mod npm;
 pub mod reading;
 mod rows;
+mod tally;

@@ -1,14 +1,19 @@
 //! What a range text means: by whose reading, and with which pre-releases.
 
-ghost use Rattle.std.specs.Prelude.{◌≡◌, ◌&&◌, Bool, IfOk};
+ghost use Rattle.std.specs.Prelude.{◌≡◌, ◌≢◌, ◌&&◌, Bool, true, Err, IfOk};
 ghost use Rattle.semver_texts.specs.Texts.{Text, is_empty};
 ghost use Rattle.semver_texts.specs.Versions.{PlainVersion};
 ghost use Rattle.tool_ranges.specs.declared.reading.Reading.{Reading};
-ghost use Rattle.tool_ranges.specs.Readings.{RefusesAs, TreeOf};
-ghost use Rattle.tool_ranges.specs.Meanings.{IsSetBy, MeansAs, reading_of};
+ghost use Rattle.semver_parser.specs.Outlines.{version_of};
+ghost use Rattle.version_sets.specs.PreReleaseRules.{numbers_fit};
+ghost use Rattle.tool_ranges.specs.Readings.{RefusesAs, SpellsAs, TreeOf};
+ghost use Rattle.tool_ranges.specs.Meanings.{IsSetBy, MeansAs, meant_as, reading_of};
+ghost use Rattle.tool_ranges.specs.Steps.Asking.{asked_of, of_releases, without_build};
 
+use crate::asked::Asked;
 use crate::reading::Reading;
-use crate::{cargo, npm};
+use crate::{cargo, npm, tally};
+use semver_parser::version::Outline;
 use semver_ranges::{Compat, RangeError};
 use std::alloc::Global;
 use version_sets::{PreReleases, VersionSet};
@@ -99,6 +104,87 @@ fn releases_of(
 {
     match read {
         Ok(set) => Ok(set.only_releases(alloc)),
+        Err(refusal) => Err(refusal),
+    }
+}
+
+// Answer: law answer_laws::ranges::one_meets.
+/// Returns whether a range text means a version: `^1.2` means 1.9.0 and not 2.0.0 by each meaning,
+/// and `>=1.2.3, <2` by Cargo's alone.
+///
+/// It is for a range that is asked once: the text is read once, from the left to the right, and
+/// nothing is allocated. For many versions, [`read`] the set of the range first. `docs/MEANING.md`
+/// states what each range means.
+///
+/// # Errors
+///
+/// Those of [`read`], without `OutOfMemory`: `NotARange` exactly if the dialect's grammar has no
+/// such text, and `NumberTooLarge` exactly if it has, and a number that it states or a bound that
+/// is raised by one is above the dialect's limit.
+#[inline(always)]
+pub fn meets(meaning: Meaning, range: &str, version: &Outline<'_>) -> Result<bool, RangeError>
+    // What the dialect's grammar hasn't and what is too large is refused, exactly.
+    ensures refusals { RefusesAs (reading_of meaning) range.now result }
+    ensures no_memory { result ≢ Err RangeError.OutOfMemory }
+    // The answer is what the text says of the version.
+    ensures meaning { IfOk result (λ met. (tree : TreeOf (reading_of meaning))
+        → SpellsAs (reading_of meaning) tree range.now
+        → met ≡ meant_as meaning tree (version_of version.now)) }
+{
+    ask(meaning, range, &Asked::of(version))
+}
+
+// Answer: equation.
+/// Returns whether a range text is read at all, with the errors of [`meets`]: `^1.2` is, and `1 ||`
+/// isn't by Cargo's meanings. It does not allocate.
+#[inline(never)]
+pub fn check(meaning: Meaning, range: &str) -> Result<(), RangeError>
+    // What the dialect's grammar hasn't and what is too large is refused, exactly.
+    ensures refusals { RefusesAs (reading_of meaning) range.now result }
+    ensures no_memory { result ≢ Err RangeError.OutOfMemory }
+{
+    match ask(meaning, range, &Asked::zero()) {
+        Ok(_) => Ok(()),
+        Err(refusal) => Err(refusal),
+    }
+}
+
+/// What a range text says of a version.
+#[inline(always)]
+fn ask(meaning: Meaning, range: &str, version: &Asked<'_>) -> Result<bool, RangeError>
+    requires { numbers_fit (asked_of version.now) ≡ true }
+    ensures refusals { RefusesAs (reading_of meaning) range.now result }
+    ensures no_memory { result ≢ Err RangeError.OutOfMemory }
+    ensures meaning { IfOk result (λ met. (tree : TreeOf (reading_of meaning))
+        → SpellsAs (reading_of meaning) tree range.now
+        → met ≡ meant_as meaning tree (without_build (asked_of version.now))) }
+{
+    match meaning {
+        Meaning::Cargo => cargo::ask(range, version),
+        Meaning::CargoAll => cargo::ask_with_all(range, version),
+        Meaning::CargoReleases => of_releases(version, cargo::ask(range, version)),
+        Meaning::Npm => npm::ask(range, version),
+        Meaning::NpmAll => npm::ask_with_all(range, version),
+        Meaning::NpmReleases => of_releases(version, npm::ask(range, version)),
+        Meaning::Crate(compat, rule) => match rule {
+            PreReleases::Excluded => {
+                of_releases(version, tally::ask_crate(range, compat, version, true))
+            }
+            PreReleases::Stated => {
+                tally::ask_crate(range, compat, version, version.is_release())
+            }
+            PreReleases::Included => tally::ask_crate(range, compat, version, true),
+        },
+    }
+}
+
+/// What was answered, of a release.
+#[inline(always)]
+fn of_releases(version: &Asked<'_>, answer: Result<bool, RangeError>) -> Result<bool, RangeError>
+    ensures { result ≡ of_releases (asked_of version.now) answer }
+{
+    match answer {
+        Ok(met) => Ok(version.is_release() && met),
         Err(refusal) => Err(refusal),
     }
 }

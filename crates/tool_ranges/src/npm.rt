@@ -24,9 +24,11 @@ ghost use Rattle.tool_ranges.specs.NpmTable.{is_safe_simple, rewritten_npm};
 ghost use Rattle.tool_ranges.specs.NpmTexts.{RefusesNpm};
 ghost use Rattle.tool_ranges.specs.Steps.NpmReading.{HasRanges, IsNpmRefusal};
 
+mod asking;
 mod reading;
 
 use crate::rows;
+pub(crate) use asking::{ask, ask_with_all};
 pub use reading::read;
 pub(crate) use reading::read_with_all;
 use semver_ranges::events::{Event, Events};

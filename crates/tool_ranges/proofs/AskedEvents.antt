@@ -1,0 +1,155 @@
+-- What is known of a text of ranges as its events come.
+use Rattle.std.proofs.Common.{◌≡◌, Bool, true, false, ◌&&◌, ◌||◌, if◌then◌else◌, List, [], ◌∷◌, Option, Some, None, refl, sym, ap, ◌∙◌, subst}
+use Rattle.std.proofs.Math.Bool.{and-true, and-false, or-false}
+use Rattle.std.specs.List.{list_all, list_any}
+use Rattle.semver_texts.specs.Texts.{Text}
+use Rattle.semver_texts.specs.Versions.{PlainVersion}
+use Rattle.semver_texts.proofs.Lists.{by_test}
+use Rattle.semver_texts.proofs.DottedParts.{found_same}
+use Rattle.semver_ranges.specs.declared.partial.LowerBounds.{LowerBounds}
+use Rattle.semver_ranges.specs.declared.range.Compat.TheVariants as mode
+use Rattle.semver_ranges.specs.declared.range_set.RangeError.TheVariants.{NumberTooLarge}
+use Rattle.semver_ranges.specs.RangeTree.{Simple, RangeTree, SetTree}
+use Rattle.semver_ranges.specs.ExactBounds.{lowest_pre_release}
+use Rattle.semver_ranges.specs.RewritingTable.{PlainComparator, fits_by, written_simple}
+use Rattle.semver_ranges.specs.StatedPreReleases.{states_pre_release_at}
+use Rattle.semver_ranges.specs.Terms.{of_simple}
+use Rattle.semver_ranges.specs.Steps.Reading.{read}
+use Rattle.semver_ranges.specs.Steps.RangeEvents.{Event, one_simple, next_range, put, in_front, yielded, events_of, event_fits}
+use Rattle.semver_ranges.specs.Steps.RangeEvents.{set_events, events}
+use Rattle.semver_ranges.proofs.ReadingSound.{read_sound}
+use Rattle.semver_ranges.proofs.Tables.{IsTable, port_table}
+use Rattle.semver_ranges.proofs.EventLists.{set_fits}
+use Rattle.tool_ranges.specs.NpmMeaning.{asks_nothing}
+use Rattle.tool_ranges.specs.ToolTable.{written_in}
+use Rattle.tool_ranges.specs.declared.tally.Tally.{Tally}
+use Rattle.tool_ranges.specs.declared.tally.Terms.{Terms}
+use Rattle.tool_ranges.specs.declared.tally.Terms.TheVariants.{Npm, NpmAll, Crate}
+use Rattle.tool_ranges.specs.Steps.Asking.{Refuses, Says, after, begun, dialect_of, ended, lower_of, range_every, range_met, taken}
+use Rattle.tool_ranges.specs.Steps.Asking.{term_fits, term_met}
+use Rattle.tool_ranges.proofs.ToolRows.{npm_table}
+
+-- the table by which the terms fit
+table_of : (terms : Terms) → (written : Simple → List PlainComparator) × IsTable (term_fits terms) written
+table_of Npm = (written_in mode.Npm, npm_table)
+table_of NpmAll = (written_in mode.Npm, npm_table)
+table_of (Crate compat) = (written_simple lowest_pre_release compat, port_table lowest_pre_release compat)
+
+module _ (terms : Terms) (v : PlainVersion) (counts : Bool) where
+  -- what is known at the end, with what was known before the events; nothing where a number doesn't fit
+  abbrev pub told : Bool → Tally → Option (List Event) → Option (Option Tally)
+  told fit t None = None
+  told fit t (Some es) =
+      Some (if fit && list_all (event_fits (term_fits terms)) es then Some (ended counts (after terms v counts t es)) else None)
+
+  one_more : (fit f : Bool) (t t' : Tally) (s : Simple) (left : Option (List Event)) → f ≡ term_fits terms s
+      → (term_fits terms s ≡ true → t' ≡ taken terms v s t) → told fit t (put (one_simple s) left) ≡ told (fit && f) t' left
+  one_more fit f t t' s None is same = refl
+  one_more fit f t t' s (Some es) is same = by_test (term_fits terms s)
+      (λ y. rw (is, y, and-true fit, same y) refl)
+      (λ n. rw (is, n, and-false fit) refl)
+
+  pub term_more : (whole : Option (Option Tally)) (fit f : Bool) (t t' : Tally) (s : Simple) (o left : Option (List Event))
+      → whole ≡ told fit t o → o ≡ put (one_simple s) left → f ≡ term_fits terms s
+      → (term_fits terms s ≡ true → t' ≡ taken terms v s t) → whole ≡ told (fit && f) t' left
+  term_more whole fit f t t' s o left so_far first is same = so_far ∙ ap (told fit t) first ∙ one_more fit f t t' s left is same
+
+  next_one : (fit : Bool) (t : Tally) (left : Option (List Event)) → told fit t (put next_range left) ≡ told fit (ended counts t) left
+  next_one fit t None = refl
+  next_one fit t (Some es) = refl
+
+  pub range_more : (whole : Option (Option Tally)) (fit : Bool) (t : Tally) (o left : Option (List Event))
+      → whole ≡ told fit t o → o ≡ put next_range left → whole ≡ told fit (ended counts t) left
+  range_more whole fit t o left so_far first = so_far ∙ ap (told fit t) first ∙ next_one fit t left
+
+  -- ---- the events of a set
+
+  -- simples of one range
+  abbrev folded : Tally → List Simple → Tally
+  folded t ss = record t {
+    here = t.here && list_all (term_met terms v) ss;
+    counts = t.counts || list_any (λ s. states_pre_release_at (of_simple s) v) ss;
+    nothing = t.nothing && list_all (λ s. asks_nothing (of_simple s)) ss;
+  }
+
+  and_assoc : (a b c : Bool) → ((a && b) && c) ≡ (a && (b && c))
+  and_assoc true b c = refl
+  and_assoc false b c = refl
+
+  or_assoc : (a b c : Bool) → ((a || b) || c) ≡ (a || (b || c))
+  or_assoc true b c = refl
+  or_assoc false b c = refl
+
+  front_after : (t : Tally) (ss : List Simple) (es : List Event)
+      → after terms v counts t (in_front ss es) ≡ after terms v counts (folded t ss) es
+  front_after t [] es = λ i. after terms v counts (record {
+    here = sym (and-true t.here) i;
+    counts = sym (or-false t.counts) i;
+    nothing = sym (and-true t.nothing) i;
+    met = t.met;
+    every = t.every;
+  }) es
+  front_after t (s ∷ ss) es = front_after (taken terms v s t) ss es ∙ (λ i. after terms v counts (record {
+    here = and_assoc t.here (term_met terms v s) (list_all (term_met terms v) ss) i;
+    counts = or_assoc t.counts (states_pre_release_at (of_simple s) v)
+        (list_any (λ (x : Simple). states_pre_release_at (of_simple x) v) ss) i;
+    nothing = and_assoc t.nothing (asks_nothing (of_simple s)) (list_all (λ (x : Simple). asks_nothing (of_simple x)) ss) i;
+    met = t.met;
+    every = t.every;
+  }) es)
+
+  -- at the begin of a range
+  abbrev fresh : Bool → Bool → Tally
+  fresh met every = record { here = true; counts = counts; nothing = true; met = met; every = every }
+
+  set_after : (r : RangeTree) (others : SetTree) (met every : Bool)
+      → ended counts (after terms v counts (fresh met every) (events_of (lower_of terms) (r ∷ others)))
+      ≡ fresh (met || list_any (range_met terms v counts) (r ∷ others)) (every || list_any (range_every terms) (r ∷ others))
+  set_after r [] met every =
+      ap (ended counts) (front_after (fresh met every) (yielded (lower_of terms) r) [])
+      ∙ (λ i. fresh (met || sym (or-false (range_met terms v counts r)) i) (every || sym (or-false (range_every terms r)) i))
+  set_after r (next ∷ others) met every =
+      ap (ended counts) (front_after (fresh met every) (yielded (lower_of terms) r) (next_range ∷ events_of (lower_of terms) (next ∷ others)))
+      ∙ set_after next others (met || range_met terms v counts r) (every || range_every terms r)
+      ∙ (λ i. fresh (or_assoc met (range_met terms v counts r) (list_any (range_met terms v counts) (next ∷ others)) i)
+      (or_assoc every (range_every terms r) (list_any (range_every terms) (next ∷ others)) i))
+
+  -- ---- a whole text
+  module _ (t : Text) where
+    abbrev Told : Option (Option Tally) → Type 0
+    Told o = told true (begun counts) (events (dialect_of terms) (lower_of terms) t) ≡ o
+
+    pub none_read : Told None → read (dialect_of terms) t ≡ None
+    none_read e = at (read (dialect_of terms) t) refl e where
+      at : (o : Option SetTree) → read (dialect_of terms) t ≡ o → told true (begun counts) (set_events (lower_of terms) o) ≡ None
+          → read (dialect_of terms) t ≡ None
+      at None is e = is
+      at (Some tree) is e = cc
+
+    whole : (tree : SetTree) → list_all (event_fits (term_fits terms)) (events_of (lower_of terms) tree) ≡ fits_by (term_fits terms) tree
+    whole tree = set_fits (table_of terms).1 (lower_of terms) tree
+
+    pub large : Told (Some None) → Refuses terms t NumberTooLarge
+    large e = at (read (dialect_of terms) t) refl e where
+      at : (o : Option SetTree) → read (dialect_of terms) t ≡ o
+          → told true (begun counts) (set_events (lower_of terms) o) ≡ Some None → Refuses terms t NumberTooLarge
+      at None is e = cc
+      at (Some tree) is e = by_test (fits_by (term_fits terms) tree)
+          (λ y. let fit : list_all (event_fits (term_fits terms)) (events_of (lower_of terms) tree) ≡ true = whole tree ∙ y in
+          let wrong = rw fit at e in cc)
+          (λ n. (tree, is, n))
+
+    pub says : (tally : Tally) → Told (Some (Some tally)) → Says terms v counts t tally
+    says tally e = at (read (dialect_of terms) t) refl e where
+      at : (o : Option SetTree) → read (dialect_of terms) t ≡ o
+          → told true (begun counts) (set_events (lower_of terms) o) ≡ Some (Some tally) → Says terms v counts t tally
+      at None is e = cc
+      at (Some []) is e = absurd (read_sound (dialect_of terms) t [] is)
+      at (Some (r ∷ others)) is e = by_test (fits_by (term_fits terms) (r ∷ others))
+          (λ y. let fit : list_all (event_fits (term_fits terms)) (events_of (lower_of terms) (r ∷ others)) ≡ true = whole (r ∷ others) ∙ y in
+          let same : tally ≡ ended counts (after terms v counts (begun counts) (events_of (lower_of terms) (r ∷ others))) =
+          (let found = rw fit at e in cc) in
+          let end = same ∙ set_after r others false false in
+          (r ∷ others, is, y, ap (λ (x : Tally). x.met) end, ap (λ (x : Tally). x.every) end))
+          (λ n. let fit : list_all (event_fits (term_fits terms)) (events_of (lower_of terms) (r ∷ others)) ≡ false = whole (r ∷ others) ∙ n in
+          let wrong = rw fit at e in cc)

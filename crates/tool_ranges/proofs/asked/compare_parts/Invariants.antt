@@ -1,0 +1,18 @@
+use Rattle.std.proofs.Common.{◌≡◌}
+use Rattle.std.specs.Prelude.{map}
+use Rattle.std.specs.Cmp.Lexicographic.{slice_cmp}
+use Rattle.std.specs.List.{slice_split}
+use Rattle.semver_texts.specs.Precedence.{identifier_cmp}
+use Rattle.semver_texts.specs.Texts.{is_dot}
+use Rattle.semver_texts.proofs.DottedParts.{parts_behind, size_behind}
+use Rattle.semver_ranges.specs.Partials.{kept}
+use Rattle.semver_parser.specs.Outlines.{identifier_of}
+use Rattle.tool_ranges.proofs.asked.compare_parts.Given as goal
+
+abbrev pub invariant-loop-rest : goal.invariant-loop-rest
+invariant-loop-rest l =
+    slice_cmp identifier_cmp (map identifier_of (slice_split is_dot l.fn.version)) (map kept (slice_split is_dot l.fn.stated))
+    ≡ slice_cmp identifier_cmp (map identifier_of (parts_behind l.rest)) (map kept (parts_behind l.others))
+
+abbrev pub decreases-loop-rest : goal.decreases-loop-rest
+decreases-loop-rest l = size_behind l.rest

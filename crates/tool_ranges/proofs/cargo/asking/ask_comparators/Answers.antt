@@ -1,0 +1,59 @@
+use Rattle.std.proofs.Common.{Some, ap, sym, ◌∙◌, not, ◌∷◌, ◌++◌, [], arith}
+use Rattle.semver_ranges.specs.declared.range.Compat.TheVariants.{Cargo}
+use Rattle.semver_ranges.proofs.StatedNumbers.{states_kind}
+use Rattle.tool_ranges.specs.CargoMeaning.{as_read}
+use Rattle.tool_ranges.specs.Steps.Asking.{asked_of}
+use Rattle.tool_ranges.specs.Steps.CargoReading.{behind_comma}
+use Rattle.tool_ranges.proofs.AskedRequirements.{asked_end, asked_next, asked_start}
+use Rattle.tool_ranges.proofs.AskedTerms.{stated_at}
+use Rattle.tool_ranges.proofs.ToolRows.{numbers_fit}
+use Rattle.tool_ranges.proofs.RequirementSteps.{at_most, at_none}
+use Rattle.tool_ranges.proofs.cargo.asking.ask_comparators.Goals as goal
+
+pub loop-at-init : goal.loop-at-init
+loop-at-init c = ([], asked_start c.args.takes_all (asked_of c.args.version.now) c.args.counts c.args.text.now)
+
+pub returns-in_default : goal.returns-in_default
+returns-in_default c =
+    let seen = c.loop-at.invariant in at_none c.args.text.now seen.0 c.loop-at.rest.now seen.1.surveyed.place c.in_default.ensures
+
+pub fits-fit-requires : goal.fits-fit-requires
+fits-fit-requires c = let found = c.in-Some.ensures in (c.cell_of.ensures (as_read found.0) found.2).0
+
+pub loop-at-preserved : goal.loop-at-preserved
+loop-at-preserved c =
+    let seen = c.loop-at.invariant in
+    let found = c.in-Some.ensures in
+    let s = found.0 in
+    let v = asked_of c.args.version.now in (
+      seen.0 ++ s ∷ [],
+      asked_next c.args.takes_all v c.args.counts c.args.text.now seen.0 c.loop-at.rest.now c.loop-at.at c.loop-at.states_all c.loop-at.fit
+          c.loop-at.met c.loop-at.stated (not c.states_nothing.result) c.fits-fit.result c.meets-met.result c.is_stated_by-stated.result s
+          seen.1
+          (ap not (c.states_nothing.ensures ∙ sym (states_kind s.partial c.in-Some.simple.partial found.2.1)))
+          (c.fits-fit.ensures ∙ (c.cell_of.ensures (as_read s) found.2).1)
+          (c.meets-met.ensures (as_read s) found.2)
+          (λ fit. stated_at (as_read s) c.in-Some.simple found.2 (numbers_fit Cargo (as_read s) fit) v c.is_stated_by-stated.result
+          c.is_stated_by-stated.ensures)
+          c.in-Some-behind.behind.now (found.1 ∙ ap (λ b. Some (s, behind_comma b)) c.in-Some-behind.is),
+    )
+
+pub returns-in-loop-at : goal.returns-in-loop-at
+returns-in-loop-at c =
+    let seen = c.loop-at.invariant in
+    let found = c.in-Some.ensures in
+    let s = found.0 in
+    let v = asked_of c.args.version.now in
+    asked_end c.args.takes_all v c.args.counts c.args.text.now seen.0 c.loop-at.rest.now c.loop-at.at c.loop-at.states_all c.loop-at.fit
+    c.loop-at.met c.loop-at.stated (not c.states_nothing.result) c.fits-fit.result c.meets-met.result c.is_stated_by-stated.result s seen.1
+    (ap not (c.states_nothing.ensures ∙ sym (states_kind s.partial c.in-Some.simple.partial found.2.1)))
+    (c.fits-fit.ensures ∙ (c.cell_of.ensures (as_read s) found.2).1)
+    (c.meets-met.ensures (as_read s) found.2)
+    (λ fit. stated_at (as_read s) c.in-Some.simple found.2 (numbers_fit Cargo (as_read s) fit) v c.is_stated_by-stated.result
+    c.is_stated_by-stated.ensures)
+    (found.1 ∙ ap (λ b. Some (s, behind_comma b)) c.in_default-behind.is) c.loop-at-test.true c.said.result c.said.ensures
+
+pub returns : goal.returns
+returns c =
+    let seen = c.loop-at.invariant in
+    at_most c.args.text.now seen.0 c.loop-at.rest.now seen.1.surveyed.place (omega (arith, seen.1.surveyed.count, c.loop-at-test.false))

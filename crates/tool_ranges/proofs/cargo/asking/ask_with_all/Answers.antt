@@ -1,0 +1,26 @@
+use Rattle.std.proofs.Common.{true, false, Bool, ◌∙◌, ap}
+use Rattle.std.specs.Prelude.{IfOk, MatchResult, Result, Err}
+use Rattle.semver_ranges.specs.declared.range_set.RangeError.{RangeError}
+use Rattle.semver_ranges.specs.declared.range_set.RangeError.TheVariants.{OutOfMemory}
+use Rattle.semver_ranges.specs.RangeTree.{Simple}
+use Rattle.tool_ranges.specs.CargoGrammar.{SpellsRequirement}
+use Rattle.tool_ranges.specs.CargoTexts.{RefusesRequirement}
+use Rattle.tool_ranges.specs.Steps.Asking.{RefusesRequired, SaysRequired, asked_of, requirement_met}
+use Rattle.tool_ranges.proofs.AskedRequirements.{IsRequired, all_met, required}
+use Rattle.tool_ranges.proofs.ReadRows.{if_ok}
+use Rattle.tool_ranges.proofs.cargo.asking.ask_with_all.Goals as goal
+use Rattle.tool_ranges.proofs.cargo.asking.ask_with_all.Goals.{After-ask_comparators}
+
+found : (c : After-ask_comparators)
+    → IsRequired true (asked_of c.args.version.now) true c.args.requirement.now c.ask_comparators.result
+found c = required true (asked_of c.args.version.now) true c.args.requirement.now c.ask_comparators.result
+    (rw c.as_bytes.ensures.value at c.ask_comparators.ensures)
+
+pub returns-clause-refusals : goal.returns-clause-refusals
+returns-clause-refusals c = (found c).refusals
+
+pub returns-clause-no_memory : goal.returns-clause-no_memory
+returns-clause-no_memory c = (found c).no_memory
+
+pub returns-clause-meaning : goal.returns-clause-meaning
+returns-clause-meaning c = if_ok c.ask_comparators.result (λ said says tree spelled. says tree spelled ∙ all_met (asked_of c.args.version.now) tree) (found c).says

@@ -1,0 +1,53 @@
+use Rattle.std.proofs.Common.{◌≡◌, true, Some, None, if◌then◌else◌, refl, subst, sym, ap, ◌∙◌}
+use Rattle.semver_ranges.specs.Steps.CursorViews.{NextGives}
+use Rattle.semver_ranges.proofs.FoundEvents.{FirstSimple, first_simple}
+use Rattle.tool_ranges.specs.Steps.Asking.{asked_of, begun, dialect_of, ended, lower_of, term_fits}
+use Rattle.tool_ranges.proofs.AskedEvents.{large, none_read, range_more, says, term_more, told}
+use Rattle.tool_ranges.proofs.tally.ask.Goals as goal
+use Rattle.tool_ranges.proofs.tally.ask.Goals.{In-Simple}
+
+-- the simple that comes first
+first : (c : In-Simple) → FirstSimple (dialect_of c.args.terms) c.loop-event.invariant.0 c.in-Simple.simple c.next_in.new.self
+first c =
+    let so_far = c.loop-event.invariant in
+    let gives : NextGives (dialect_of c.args.terms) c.loop-event.events (Some c.in-Some.event) c.next_in.new.self =
+    subst (λ d. NextGives d c.loop-event.events (Some c.in-Some.event) c.next_in.new.self) c.dialect-dialect.ensures c.in-Some.ensures.gives in
+    first_simple (dialect_of c.args.terms) so_far.0 c.in-Simple.simple c.next_in.new.self
+    (rw (c.in_ok-simple.was, c.in-Simple.is) at (gives.0 so_far.0 so_far.1))
+
+pub fits-fit-requires : goal.fits-fit-requires
+fits-fit-requires c = let here = first (goal.at.fits-fit-requires c).In-Simple in (here.s, here.is)
+
+pub with_term-tally-requires : goal.with_term-tally-requires
+with_term-tally-requires c = let here = first (goal.at.with_term-tally-requires c).In-Simple in (here.s, here.is)
+
+pub loop-event-preserved-in-Simple : goal.loop-event-preserved-in-Simple
+loop-event-preserved-in-Simple c =
+    let so_far = c.loop-event.invariant in
+    let here = first (goal.at.loop-event-preserved-in-Simple c).In-Simple in (
+      here.left,
+      here.has,
+      term_more c.args.terms (asked_of c.args.version.now) c.args.counts _ c.loop-event.fit c.fits-fit.result c.loop-event.tally
+          c.with_term-tally.result here.s so_far.0 here.left so_far.2 here.whole (c.fits-fit.ensures here.s here.is)
+          (c.with_term-tally.ensures here.s here.is),
+    )
+
+pub returns-then-not-fit : goal.returns-then-not-fit
+returns-then-not-fit c =
+    let so_far = c.loop-event.invariant in
+    let gives : NextGives (dialect_of c.args.terms) c.loop-event.events None c.next_in.new.self =
+    subst (λ d. NextGives d c.loop-event.events None c.next_in.new.self) c.dialect-dialect.ensures c.in_default.ensures.gives in
+    let end = gives.0 so_far.0 so_far.1 in
+    large c.args.terms (asked_of c.args.version.now) c.args.counts c.args.text.now
+    (so_far.2 ∙ ap (told c.args.terms (asked_of c.args.version.now) c.args.counts c.loop-event.fit c.loop-event.tally) end.0
+    ∙ rw c.if-not-fit.true refl)
+
+pub returns : goal.returns
+returns c =
+    let so_far = c.loop-event.invariant in
+    let gives : NextGives (dialect_of c.args.terms) c.loop-event.events None c.next_in.new.self =
+    subst (λ d. NextGives d c.loop-event.events None c.next_in.new.self) c.dialect-dialect.ensures c.in_default.ensures.gives in
+    let end = gives.0 so_far.0 so_far.1 in
+    says c.args.terms (asked_of c.args.version.now) c.args.counts c.args.text.now c.ended.result
+    (so_far.2 ∙ ap (told c.args.terms (asked_of c.args.version.now) c.args.counts c.loop-event.fit c.loop-event.tally) end.0
+    ∙ rw (c.if-not-fit.false, sym c.ended.ensures) refl)

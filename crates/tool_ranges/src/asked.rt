@@ -1,0 +1,265 @@
+//! The version of which a range is asked, and how it compares with what a partial states. Nothing
+//! here allocates.
+
+ghost use Rattle.std.specs.Prelude.{◌≡◌, ◌&&◌, true, false, length, map, MatchOption};
+ghost use Rattle.std.specs.Ordering.{is_ge};
+ghost use Rattle.std.specs.Cmp.Lexicographic.{slice_cmp};
+ghost use Rattle.std.specs.List.{slice_split};
+ghost use Rattle.std.specs.Str.{all_ascii_digits};
+ghost use Rattle.std.specs.Str.Parse.{digits_value};
+ghost use Rattle.semver_texts.specs.Precedence.{identifier_cmp, pre_cmp, precedence};
+ghost use Rattle.semver_texts.specs.Texts.{cut_at_dots, is_dot, is_empty};
+ghost use Rattle.semver_texts.specs.Versions.{numeric, alphanumeric, numbers};
+ghost use Rattle.semver_ranges.specs.OwnMeaning.{agrees, agrees_past_zeros};
+ghost use Rattle.semver_ranges.specs.Partials.{fits_u64, kept};
+ghost use Rattle.semver_ranges.specs.RewritingTable.{up};
+ghost use Rattle.semver_ranges.specs.Steps.PartialViews.{stated_of, version_of};
+ghost use Rattle.semver_parser.specs.Outlines.{identifier_of};
+ghost use Rattle.version_sets.specs.PreReleaseRules.{numbers_fit};
+ghost use Rattle.semver_parser.specs.Outlines as outlines;
+ghost use Rattle.tool_ranges.specs.CargoMeaning.{against};
+ghost use Rattle.tool_ranges.specs.Steps.Asking.{asked_of, states_at};
+ghost use Rattle.tool_ranges.specs.ToolTable.{states_some};
+
+use semver_parser::version::Outline;
+use semver_ranges::partial::{Partial, PartialKind};
+use semver_texts::decimals::with_digit;
+use semver_texts::dotted::split_at_dot;
+use std::cmp::Ordering;
+
+/// The numbers of a version, and the identifiers of its pre-release joined by dots.
+#[derive(Clone, Copy)]
+pub(crate) struct Asked<'t> {
+    major: u64,
+    minor: u64,
+    patch: u64,
+    pre: &'t [u8],
+}
+
+impl<'t> Asked<'t> {
+    /// The version of an outline.
+    #[inline(always)]
+    pub(crate) fn of(version: &Outline<'t>) -> Asked<'t>
+        ensures value { asked_of result ≡ (outlines.version_of version.now).plain }
+        ensures fits { numbers_fit (asked_of result) ≡ true }
+    {
+        Asked {
+            major: version.major(),
+            minor: version.minor(),
+            patch: version.patch(),
+            pre: version.pre().as_bytes(),
+        }
+    }
+
+    /// The version 0.0.0.
+    pub(crate) fn zero() -> Asked<'t>
+        ensures { numbers_fit (asked_of result) ≡ true }
+    {
+        Asked {
+            major: 0,
+            minor: 0,
+            patch: 0,
+            pre: &[],
+        }
+    }
+
+    /// Whether it has no pre-release.
+    #[inline(always)]
+    pub(crate) fn is_release(&self) -> bool
+        ensures { result ≡ is_empty (asked_of self.now).pre }
+    {
+        self.pre.is_empty()
+    }
+
+    /// How it compares with the zero-filled version of a partial by precedence.
+    #[inline(always)]
+    pub(crate) fn precedence(&self, partial: &Partial<'_>) -> Ordering
+        ensures { result ≡ precedence (asked_of self.now) (version_of partial.now) }
+    {
+        let by_numbers = self
+            .major
+            .cmp(&partial.major())
+            .then(self.minor.cmp(&partial.minor()))
+            .then(self.patch.cmp(&partial.patch()));
+        if by_numbers.is_ne() {
+            return by_numbers;
+        }
+        compare_pre_releases(self.pre, partial.pre())
+    }
+
+    /// How its numbers compare with those that a partial states, as many as these are.
+    #[inline(always)]
+    pub(crate) fn against(&self, partial: &Partial<'_>) -> Ordering
+        ensures { result ≡ against (stated_of partial.now) (asked_of self.now) }
+    {
+        let major = self.major.cmp(&partial.major());
+        let minor = self.minor.cmp(&partial.minor());
+        match partial.kind() {
+            PartialKind::XRangeOnly => Ordering::Equal,
+            PartialKind::MajorOnly => major,
+            PartialKind::MajorMinor => major.then(minor),
+            PartialKind::MajorMinorPatch => major
+                .then(minor)
+                .then(self.patch.cmp(&partial.patch())),
+        }
+    }
+
+    /// Whether it is at or above the numbers that a partial states, with the last of them raised by
+    /// one.
+    #[inline(always)]
+    pub(crate) fn is_from_raised(&self, partial: &Partial<'_>) -> bool
+        requires { states_some (stated_of partial.now) ≡ true }
+        ensures { result ≡ is_ge (precedence (asked_of self.now)
+            (up (length (stated_of partial.now)) (stated_of partial.now))) }
+    {
+        if !self.against(partial).is_gt() {
+            return false;
+        }
+        let is_first = self.patch == 0 && !self.pre.is_empty();
+        match partial.kind() {
+            PartialKind::MajorMinor => {
+                let is_next = self.major == partial.major() && self.minor - 1 == partial.minor();
+                !(is_first && is_next)
+            }
+            _ => !(is_first && self.minor == 0 && self.major - 1 == partial.major()),
+        }
+    }
+
+    /// Whether its numbers are those that a partial states, as many as these are.
+    #[inline(always)]
+    pub(crate) fn agrees(&self, partial: &Partial<'_>) -> bool
+        ensures { result ≡ agrees (length (stated_of partial.now)) (stated_of partial.now)
+            (asked_of self.now) }
+    {
+        self.against(partial).is_eq()
+    }
+
+    /// Whether its major is the one that a partial states, and its minor where that is stated.
+    #[inline(always)]
+    pub(crate) fn agrees_on_two(&self, partial: &Partial<'_>) -> bool
+        ensures { result ≡ agrees 2 (stated_of partial.now) (asked_of self.now) }
+    {
+        match partial.kind() {
+            PartialKind::XRangeOnly => true,
+            PartialKind::MajorOnly => self.major == partial.major(),
+            PartialKind::MajorMinor | PartialKind::MajorMinorPatch => {
+                self.major == partial.major() && self.minor == partial.minor()
+            }
+        }
+    }
+
+    /// Whether its numbers are those that a partial states, up to the first that isn't 0.
+    #[inline(always)]
+    pub(crate) fn agrees_past_zeros(&self, partial: &Partial<'_>) -> bool
+        ensures { result ≡ agrees_past_zeros (stated_of partial.now)
+            (numbers (asked_of self.now)) }
+    {
+        let major = self.major == partial.major();
+        let minor = self.minor == partial.minor();
+        let patch = self.patch == partial.patch();
+        match partial.kind() {
+            PartialKind::XRangeOnly => true,
+            PartialKind::MajorOnly => major,
+            PartialKind::MajorMinor => major && (self.major > 0 || minor),
+            PartialKind::MajorMinorPatch => {
+                major && (self.major > 0 || (minor && (self.minor > 0 || patch)))
+            }
+        }
+    }
+
+    /// Whether a partial states its three numbers, and a pre-release.
+    #[inline(always)]
+    pub(crate) fn is_stated_by(&self, partial: &Partial<'_>) -> bool
+        ensures { result ≡ states_at partial.now (asked_of self.now) }
+    {
+        partial.has_pre_release()
+            && partial.states_three()
+            && self.major == partial.major()
+            && self.minor == partial.minor()
+            && self.patch == partial.patch()
+    }
+}
+
+/// How the pre-release of a version compares with one that a range states. No pre-release is above
+/// any.
+#[inline(always)]
+fn compare_pre_releases(version: &[u8], stated: &[u8]) -> Ordering
+    ensures { result ≡ pre_cmp (map identifier_of (cut_at_dots version.now))
+        (map kept (cut_at_dots stated.now)) }
+{
+    match (version.is_empty(), stated.is_empty()) {
+        (true, true) => Ordering::Equal,
+        (true, false) => Ordering::Greater,
+        (false, true) => Ordering::Less,
+        (false, false) => compare_parts(version, stated),
+    }
+}
+
+/// The first identifiers that differ decide. Where there are none, the longer list is above.
+fn compare_parts(version: &[u8], stated: &[u8]) -> Ordering
+    ensures { result ≡ slice_cmp identifier_cmp (map identifier_of (slice_split is_dot version.now))
+        (map kept (slice_split is_dot stated.now)) }
+{
+    let mut rest = Some(version);
+    let mut others = Some(stated);
+    while let Some(bytes) = rest {
+        let Some(other) = others else {
+            return Ordering::Greater;
+        };
+        let (part, behind) = split_at_dot(bytes);
+        let (beside, after) = split_at_dot(other);
+        let ordering = compare_part(part, beside);
+        if ordering.is_ne() {
+            return ordering;
+        }
+        rest = behind;
+        others = after;
+    }
+    match others {
+        Some(_) => Ordering::Less,
+        None => Ordering::Equal,
+    }
+}
+
+/// Numbers go as numbers and texts by their bytes, and a number is below any text.
+fn compare_part(part: &[u8], stated: &[u8]) -> Ordering
+    ensures { result ≡ identifier_cmp (identifier_of part.now) (kept stated.now) }
+{
+    match (canonical(part), digits(stated)) {
+        (Some(number), Some(bound)) => number.cmp(&bound),
+        (Some(_), None) => Ordering::Less,
+        (None, Some(_)) => Ordering::Greater,
+        (None, None) => part.cmp(stated),
+    }
+}
+
+/// The number that a part is without a leading zero.
+#[inline(always)]
+fn canonical(part: &[u8]) -> Option<u64>
+    ensures { MatchOption result (identifier_of part.now ≡ alphanumeric part.now)
+        (λ n. identifier_of part.now ≡ numeric n) }
+{
+    match part {
+        [] | [b'0', _, ..] => None,
+        _ => digits(part),
+    }
+}
+
+/// The number up to 2^64 - 1 that a part of digits writes.
+#[inline(always)]
+fn digits(part: &[u8]) -> Option<u64>
+    ensures { MatchOption result
+        ((all_ascii_digits part.now && fits_u64 (digits_value 10 part.now)) ≡ false)
+        (λ n. ((all_ascii_digits part.now && fits_u64 (digits_value 10 part.now)) ≡ true)
+        × (n ≡ digits_value 10 part.now)) }
+{
+    let mut number = 0u64;
+    for at in 0..part.len() {
+        let digit = part[at];
+        if !digit.is_ascii_digit() {
+            return None;
+        }
+        number = with_digit(number, digit - b'0')?;
+    }
+    Some(number)
+}

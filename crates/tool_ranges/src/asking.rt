@@ -1,0 +1,229 @@
+//! Whether a version meets a term of a range, by the definition of what the range means: by
+//! precedence against the zero-filled version of the term, and by the numbers that it states.
+
+ghost use Rattle.std.specs.Prelude.{◌≡◌, [], true};
+ghost use Rattle.semver_texts.specs.Texts.{is_empty};
+ghost use Rattle.semver_ranges.specs.OwnMeaning as own;
+ghost use Rattle.semver_ranges.specs.Partials.{zero_version};
+ghost use Rattle.semver_ranges.specs.Steps.CursorViews.{form_of};
+ghost use Rattle.semver_ranges.specs.Steps.PartialViews.{stated_of, version_of};
+ghost use Rattle.tool_ranges.specs.AllPreReleases as all;
+ghost use Rattle.tool_ranges.specs.CargoMeaning as cargo;
+ghost use Rattle.tool_ranges.specs.NpmMeaning as npm;
+ghost use Rattle.tool_ranges.specs.Steps.Asking.{asked_of};
+ghost use Rattle.tool_ranges.specs.ToolTable.{states_some};
+
+use crate::asked::Asked;
+use semver_ranges::Compat;
+use semver_ranges::grammar::{Form, Simple};
+use semver_ranges::partial::{Partial, PartialKind};
+
+/// As Cargo reads it, which pre-releases count aside.
+#[inline(always)]
+pub(crate) fn meets_cargo(simple: &Simple<'_>, version: &Asked<'_>) -> bool
+    ensures { result ≡ cargo.meets_by_count (form_of simple.now.form) (stated_of simple.now.partial)
+        (version_of simple.now.partial) (asked_of version.now) }
+{
+    match simple.partial.kind() {
+        PartialKind::XRangeOnly => version.is_release(),
+        PartialKind::MajorOnly | PartialKind::MajorMinor => meets_some_of_cargo(simple, version),
+        PartialKind::MajorMinorPatch => meets_form(simple, Compat::Cargo, version),
+    }
+}
+
+/// One or two numbers stated, as Cargo reads them.
+#[inline(always)]
+fn meets_some_of_cargo(simple: &Simple<'_>, version: &Asked<'_>) -> bool
+    ensures { result ≡ cargo.meets_some_stated (form_of simple.now.form)
+        (stated_of simple.now.partial) (asked_of version.now) }
+{
+    let order = version.against(&simple.partial);
+    let is_release_of = order.is_eq() && version.is_release();
+    match simple.form {
+        Form::Less => order.is_lt(),
+        Form::Greater => order.is_gt(),
+        Form::AtMost => order.is_lt() || is_release_of,
+        Form::AtLeast => order.is_gt() || is_release_of,
+        Form::Caret => order.is_ge() && version.agrees_past_zeros(&simple.partial),
+        Form::Bare | Form::Equal | Form::Tilde => is_release_of,
+    }
+}
+
+/// As npm reads it, which pre-releases count aside.
+#[inline(always)]
+pub(crate) fn meets_npm(simple: &Simple<'_>, version: &Asked<'_>) -> bool
+    ensures { result ≡ npm.meets_by_count (form_of simple.now.form) (stated_of simple.now.partial)
+        (version_of simple.now.partial) (asked_of version.now) }
+{
+    match simple.partial.kind() {
+        PartialKind::XRangeOnly => !matches!(simple.form, Form::Less | Form::Greater),
+        PartialKind::MajorOnly | PartialKind::MajorMinor => meets_some_of_npm(simple, version),
+        PartialKind::MajorMinorPatch => meets_three_of_npm(simple, version),
+    }
+}
+
+/// One or two numbers stated, as npm reads them.
+#[inline(always)]
+fn meets_some_of_npm(simple: &Simple<'_>, version: &Asked<'_>) -> bool
+    requires { states_some (stated_of simple.now.partial) ≡ true }
+    ensures { result ≡ npm.meets_some_stated (form_of simple.now.form)
+        (stated_of simple.now.partial) (version_of simple.now.partial) (asked_of version.now) }
+{
+    let partial = &simple.partial;
+    match simple.form {
+        Form::Less => version.against(partial).is_lt(),
+        Form::AtMost => version.against(partial).is_le(),
+        Form::Greater => version.is_from_raised(partial),
+        Form::AtLeast => is_from(partial, version),
+        Form::Caret => is_from(partial, version) && version.agrees_past_zeros(partial),
+        Form::Bare | Form::Equal | Form::Tilde => {
+            is_from(partial, version) && version.agrees(partial)
+        }
+    }
+}
+
+/// Three numbers stated, as npm reads them.
+#[inline(always)]
+fn meets_three_of_npm(simple: &Simple<'_>, version: &Asked<'_>) -> bool
+    ensures { result ≡ npm.meets_three_stated (form_of simple.now.form)
+        (stated_of simple.now.partial) (version_of simple.now.partial) (asked_of version.now) }
+{
+    let partial = &simple.partial;
+    match simple.form {
+        Form::Less => version.precedence(partial).is_lt(),
+        Form::AtMost => version.precedence(partial).is_le(),
+        Form::Greater => version.precedence(partial).is_gt(),
+        Form::AtLeast => is_from(partial, version),
+        Form::Tilde => is_from(partial, version) && version.agrees_on_two(partial),
+        Form::Caret => is_from(partial, version) && version.agrees_past_zeros(partial),
+        Form::Bare | Form::Equal => version.precedence(partial).is_eq(),
+    }
+}
+
+/// Not below the zero-filled version; any version where that is 0.0.0.
+#[inline(always)]
+fn is_from(partial: &Partial<'_>, version: &Asked<'_>) -> bool
+    ensures { result ≡ npm.is_from (version_of partial.now) (asked_of version.now) }
+{
+    is_zero(partial) || version.precedence(partial).is_ge()
+}
+
+/// Whether the zero-filled version is 0.0.0.
+#[inline(always)]
+pub(crate) fn is_zero(partial: &Partial<'_>) -> bool
+    ensures { result ≡ npm.is_zero (version_of partial.now) }
+{
+    partial.major() == 0
+        && partial.minor() == 0
+        && partial.patch() == 0
+        && !partial.has_pre_release()
+}
+
+/// Where each pre-release within the bounds counts.
+#[inline(always)]
+pub(crate) fn meets_all(simple: &Simple<'_>, compat: Compat, version: &Asked<'_>) -> bool
+    ensures { result ≡ all.meets_counted compat (form_of simple.now.form)
+        (stated_of simple.now.partial) (version_of simple.now.partial) (asked_of version.now) }
+{
+    if simple.partial.states_three() {
+        return meets_three_of_all(simple, compat, version);
+    }
+    let partial = &simple.partial;
+    match (compat, simple.form) {
+        (Compat::Cargo, Form::Less) => version.precedence(partial).is_lt(),
+        (Compat::Npm, Form::Less) => version.against(partial).is_lt(),
+        (_, Form::AtMost) => version.against(partial).is_le(),
+        (_, Form::Greater) => version.against(partial).is_gt(),
+        (_, Form::AtLeast) => version.against(partial).is_ge(),
+        (_, Form::Caret) => {
+            version.against(partial).is_ge() && version.agrees_past_zeros(partial)
+        }
+        (Compat::Npm, Form::Tilde) => {
+            (partial.states_nothing() || version.precedence(partial).is_ge())
+                && version.agrees(partial)
+        }
+        _ => version.agrees(partial),
+    }
+}
+
+/// Three numbers stated, where each pre-release within the bounds counts.
+#[inline(always)]
+fn meets_three_of_all(simple: &Simple<'_>, compat: Compat, version: &Asked<'_>) -> bool
+    ensures { result ≡ all.meets_three compat (form_of simple.now.form)
+        (stated_of simple.now.partial) (version_of simple.now.partial) (asked_of version.now) }
+{
+    let partial = &simple.partial;
+    match (compat, simple.form) {
+        (Compat::Npm, Form::Caret) if partial.major() == 0 => {
+            is_from_numbers(partial, version) && version.agrees_past_zeros(partial)
+        }
+        _ => meets_form(simple, compat, version),
+    }
+}
+
+/// Not below the zero-filled version; where that has no pre-release, not below its numbers.
+#[inline(always)]
+fn is_from_numbers(partial: &Partial<'_>, version: &Asked<'_>) -> bool
+    ensures { result ≡ all.is_from_numbers (stated_of partial.now) (version_of partial.now)
+        (asked_of version.now) }
+{
+    if partial.has_pre_release() {
+        version.precedence(partial).is_ge()
+    } else {
+        version.against(partial).is_ge()
+    }
+}
+
+/// By the crate, in one of its modes.
+#[inline(always)]
+pub(crate) fn meets_crate(simple: &Simple<'_>, compat: Compat, version: &Asked<'_>) -> bool
+    requires { stated_of simple.now.partial ≡ [] → version_of simple.now.partial ≡ zero_version }
+    ensures { result ≡ own.meets_stated compat (form_of simple.now.form)
+        (stated_of simple.now.partial) (version_of simple.now.partial) (asked_of version.now) }
+{
+    if !simple.partial.states_nothing() {
+        return meets_form(simple, compat, version);
+    }
+    match simple.form {
+        Form::Less | Form::Greater => version.precedence(&simple.partial).is_lt(),
+        _ => version.precedence(&simple.partial).is_ge(),
+    }
+}
+
+/// Some number stated, by the crate.
+#[inline(always)]
+fn meets_form(simple: &Simple<'_>, compat: Compat, version: &Asked<'_>) -> bool
+    ensures { result ≡ own.meets_form compat (form_of simple.now.form)
+        (stated_of simple.now.partial) (version_of simple.now.partial) (asked_of version.now) }
+{
+    let partial = &simple.partial;
+    let order = version.precedence(partial);
+    let states_three = partial.states_three();
+    match (simple.form, compat) {
+        (Form::Bare, Compat::Cargo) if states_three => {
+            order.is_ge() && version.agrees_past_zeros(partial)
+        }
+        (Form::Bare | Form::Equal, _) if states_three => order.is_eq(),
+        (Form::Bare | Form::Equal, _) => order.is_ge() && version.agrees(partial),
+        (Form::Less, _) => order.is_lt(),
+        (Form::AtMost, _) if states_three => order.is_le(),
+        (Form::AtMost, _) => version.against(partial).is_le(),
+        (Form::Greater, _) => order.is_gt(),
+        (Form::AtLeast, _) => order.is_ge(),
+        (Form::Tilde, _) => order.is_ge() && version.agrees_on_two(partial),
+        (Form::Caret, _) => order.is_ge() && version.agrees_past_zeros(partial),
+    }
+}
+
+/// Whether npm asks nothing of a version by a term.
+#[inline(always)]
+pub(crate) fn asks_nothing(simple: &Simple<'_>) -> bool
+    ensures { result ≡ npm.asks_nothing_by (form_of simple.now.form)
+        (is_empty (stated_of simple.now.partial)) (npm.is_zero (version_of simple.now.partial)) }
+{
+    match simple.form {
+        Form::Less | Form::Greater => false,
+        Form::AtLeast => is_zero(&simple.partial),
+        _ => simple.partial.states_nothing(),
+    }
+}

@@ -1,0 +1,107 @@
+//! Requirements asked of one version as they are read. Nothing here allocates.
+
+ghost use Rattle.std.specs.Prelude.{◌≡◌, ◌≢◌, true, Err, IfOk, List, MatchResult};
+ghost use Rattle.semver_ranges.specs.RangeTree.{Simple as SimpleTree};
+ghost use Rattle.semver_ranges.specs.declared.range.Compat.TheVariants.{Cargo};
+ghost use Rattle.semver_ranges.specs.Steps.CursorViews.{IsSimpleOf};
+ghost use Rattle.tool_ranges.specs.AllPreReleases.{meets_requirement_with_all};
+ghost use Rattle.tool_ranges.specs.CargoGrammar.{SpellsRequirement};
+ghost use Rattle.tool_ranges.specs.CargoMeaning.{meets_requirement};
+ghost use Rattle.tool_ranges.specs.CargoTexts.{RefusesRequirement};
+ghost use Rattle.tool_ranges.specs.Steps.Asking.{EndsSaying, RefusesRequired, SaysRequired};
+ghost use Rattle.tool_ranges.specs.Steps.Asking.{asked_of, comparator_met};
+ghost use Rattle.tool_ranges.specs.ToolTable.{fits_in};
+
+use super::MOST_COMPARATORS;
+use super::grammar::read_comparator;
+use crate::asked::Asked;
+use crate::asking::{meets_all, meets_cargo};
+use crate::rows;
+use semver_ranges::grammar::Simple;
+use semver_ranges::{Compat, RangeError};
+
+/// Whether the requirement means a version, by Cargo's rule for pre-releases.
+#[inline(always)]
+pub(crate) fn ask(requirement: &str, version: &Asked<'_>) -> Result<bool, RangeError>
+    ensures refusals { RefusesRequirement requirement.now result }
+    ensures no_memory { result ≢ Err RangeError.OutOfMemory }
+    ensures meaning { IfOk result (λ met. (tree : List SimpleTree)
+        → SpellsRequirement tree requirement.now
+        → met ≡ meets_requirement tree (asked_of version.now)) }
+{
+    ask_comparators(requirement.as_bytes(), version, version.is_release(), false)
+}
+
+/// The same, where each pre-release within the bounds of the requirement counts.
+#[inline(always)]
+pub(crate) fn ask_with_all(requirement: &str, version: &Asked<'_>) -> Result<bool, RangeError>
+    ensures refusals { RefusesRequirement requirement.now result }
+    ensures no_memory { result ≢ Err RangeError.OutOfMemory }
+    ensures meaning { IfOk result (λ met. (tree : List SimpleTree)
+        → SpellsRequirement tree requirement.now
+        → met ≡ meets_requirement_with_all tree (asked_of version.now)) }
+{
+    ask_comparators(requirement.as_bytes(), version, true, true)
+}
+
+/// Whether a version meets a requirement, in which it counts or only where a comparator states it;
+/// by each pre-release within the bounds, or as Cargo has it.
+#[inline(always)]
+fn ask_comparators(
+    text: &[u8],
+    version: &Asked<'_>,
+    counts: bool,
+    takes_all: bool,
+) -> Result<bool, RangeError>
+    ensures { MatchResult result
+        (λ met. SaysRequired takes_all (asked_of version.now) counts text.now met)
+        (λ e. RefusesRequired text.now e) }
+{
+    let mut rest = text;
+    let mut states_all = true;
+    let mut fit = true;
+    let mut met = true;
+    let mut stated = counts;
+    for at in 0..MOST_COMPARATORS {
+        let Some((simple, behind)) = read_comparator(rest) else {
+            return Err(RangeError::NotARange);
+        };
+        states_all &= !simple.partial.states_nothing();
+        fit &= rows::cell_of(&simple, Compat::Cargo).fits(&simple.partial);
+        met &= meets(&simple, version, takes_all);
+        stated |= version.is_stated_by(&simple.partial);
+        if let Some(behind) = behind {
+            rest = behind;
+            continue;
+        }
+        return said(states_all | (at == 0), fit, met & stated);
+    }
+    Err(RangeError::NotARange)
+}
+
+/// Whether a version meets a comparator.
+#[inline(always)]
+fn meets(simple: &Simple<'_>, version: &Asked<'_>, takes_all: bool) -> bool
+    ensures { (s : SimpleTree) → IsSimpleOf s simple.now → fits_in Cargo s ≡ true
+        → result ≡ comparator_met takes_all (asked_of version.now) s }
+{
+    if takes_all {
+        meets_all(simple, Compat::Cargo, version)
+    } else {
+        meets_cargo(simple, version)
+    }
+}
+
+/// What is said at the end of the text.
+#[inline(always)]
+fn said(stands_alone: bool, fit: bool, met: bool) -> Result<bool, RangeError>
+    ensures { EndsSaying stands_alone fit met result }
+{
+    if !stands_alone {
+        return Err(RangeError::NotARange);
+    }
+    if !fit {
+        return Err(RangeError::NumberTooLarge);
+    }
+    Ok(met)
+}
