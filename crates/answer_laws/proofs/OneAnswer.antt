@@ -4,7 +4,7 @@ use Rattle.std.specs.declared.alloc.AllocError.{AllocError}
 use Rattle.semver_parser.specs.declared.RangeError.{RangeError}
 use Rattle.semver_parser.specs.declared.RangeError.TheVariants.{NotARange, NumberTooLarge, OutOfMemory}
 use Rattle.semver_parser.specs.RangeTexts.{Refuses}
-use Rattle.answer_laws.specs.OneAnswer.{AreOne, seen}
+use Rattle.answer_laws.specs.OneAnswer.{AreOne, itself, seen}
 
 -- what a clause says of the value that is answered
 pub said : {A E : Type 0} (P : A → Type 0) {r : Result A E} {a : A} → r ≡ Ok a → IfOk r P → P a
@@ -21,6 +21,16 @@ one view (Err NotARange) s p q h = inl (ap (seen view) (sym (q.not_a_range.1 (p.
 one view (Err NumberTooLarge) s p q h = inl (ap (seen view) (sym (q.too_large.1 (p.too_large.0 refl))))
 one view r (Err NotARange) p q h = inl (ap (seen view) (p.not_a_range.1 (q.not_a_range.0 refl)))
 one view r (Err NumberTooLarge) p q h = inl (ap (seen view) (p.too_large.1 (q.too_large.0 refl)))
+
+-- where memory runs out in neither
+pub with_memory : {A : Type 0} (r s : Result A RangeError) → (r ≡ Err OutOfMemory → ⊥) → (s ≡ Err OutOfMemory → ⊥)
+    → AreOne OutOfMemory itself r s → r ≡ s
+with_memory (Ok a) (Ok b) p q (inl e) = e
+with_memory (Ok a) (Err f) p q (inl e) = e
+with_memory (Err e) (Ok b) p q (inl e') = e'
+with_memory (Err e) (Err f) p q (inl e') = e'
+with_memory r s p q (inr (inl (b, is, is'))) = absurd (p is)
+with_memory r s p q (inr (inr (a, is, is'))) = absurd (q is')
 
 -- so where the values are what each tree of the text is rewritten to
 pub one_rewritten : {A V Tree T L : Type 0} {Spells Fits : Tree → Type 0} (view : A → V) (rewritten : Tree → V)

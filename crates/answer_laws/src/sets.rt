@@ -2,10 +2,12 @@
 
 ghost use Rattle.std.specs.Prelude.{◌≡◌, alloc_error, IfOk, option_map};
 ghost use Rattle.semver_parser.specs.VersionViews.{version_value};
+ghost use Rattle.semver_parser.specs.Outlines.{version_of};
+ghost use Rattle.version_sets.specs.VersionSets.{Fits};
 ghost use Rattle.answer_laws.specs.OneAnswer.{AreOne, itself};
 ghost use Rattle.answer_laws.specs.SameSets.{AreAlike, comparison_value};
 
-use semver_parser::version::Version;
+use semver_parser::version::{Outline, Version};
 use semver_parser::{Compat, RangeError, RangeSet, laws};
 use std::alloc::{AllocError, Global};
 use tool_ranges::meaning::{self, Meaning};
@@ -85,6 +87,44 @@ pub fn one_read(alloc: Global, meaning: Meaning, range: &str) -> Read
     let second = meaning::read(alloc, meaning, range);
     answers_are_alike(&first, &second);
     (first, second)
+}
+
+/// `meaning::meets` has one answer.
+pub fn one_meets(
+    meaning: Meaning,
+    range: &str,
+    version: &Outline<'_>,
+) -> (Result<bool, RangeError>, Result<bool, RangeError>)
+    ensures one { result.0 ≡ result.1 }
+{
+    (
+        meaning::meets(meaning, range, version),
+        meaning::meets(meaning, range, version),
+    )
+}
+
+/// `meaning::meets` answers what the set of the text says of the version.
+pub fn meets_as_the_set(
+    alloc: Global,
+    meaning: Meaning,
+    range: &str,
+    version: &Outline<'_>,
+) -> (Result<bool, RangeError>, Result<bool, RangeError>)
+    ensures same { AreOne RangeError.OutOfMemory itself result.0 result.1 }
+{
+    numbers_fit(version);
+    let has = match meaning::read(alloc, meaning, range) {
+        Ok(set) => Ok(set.has_outline(version)),
+        Err(error) => Err(error),
+    };
+    (has, meaning::meets(meaning, range, version))
+}
+
+/// The numbers of an outline fit 64 bits. It does nothing.
+fn numbers_fit(version: &Outline<'_>)
+    ensures { Fits (version_of version.now).plain }
+{
+    let _ = (version.major(), version.minor(), version.patch());
 }
 
 /// `VersionSet::of_set` has one answer.

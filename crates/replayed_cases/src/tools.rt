@@ -1,7 +1,7 @@
 //! Range texts as Cargo or npm itself reads them.
 
 use crate::filtering::versions_of;
-use semver_parser::RangeError;
+use semver_parser::{RangeError, version};
 use std::alloc::Global;
 use std::io;
 use std::io::Write;
@@ -38,12 +38,23 @@ pub fn write_meant<W: Write>(
         Err(error) => return write_error(&error, out),
     };
     write!(out, "means")?;
-    for version in versions.iter() {
+    for (version, item) in versions.iter().zip(list.split(' ')) {
         if set.has(version) {
             write!(out, " {version}")?;
         }
+        if !is_asked_so(tool, text, item, set.has(version)) {
+            write!(out, ", but asked of {version} it says the other")?;
+        }
     }
     Ok(())
+}
+
+/// Whether a text that is asked of one version says this of it.
+fn is_asked_so(tool: Meaning, text: &str, item: &str, is_meant: bool) -> bool {
+    match version::outline(item) {
+        Some(outline) => matches!(meaning::meets(tool, text, &outline), Ok(met) if met == is_meant),
+        None => false,
+    }
 }
 
 /// Writes the word of an error.

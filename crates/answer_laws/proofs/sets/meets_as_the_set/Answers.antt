@@ -1,0 +1,36 @@
+use Rattle.std.proofs.Common.{◌≡◌, Bool, Result, Ok, sym, ◌∙◌}
+use Rattle.semver_parser.specs.Outlines.{version_of}
+use Rattle.tool_ranges.specs.Meanings.{reading_of}
+use Rattle.tool_ranges.specs.Readings.{HasSetAs, IsTextAs, IsTooLargeAs}
+use Rattle.tool_ranges.proofs.ReadSets.{same_refusal}
+use Rattle.tool_ranges.proofs.ReadingLaws.{answered_too}
+use Rattle.version_sets.specs.declared.VersionSet.{VersionSet}
+use Rattle.answer_laws.specs.OneAnswer.{itself}
+use Rattle.answer_laws.proofs.OneAnswer.{one, said}
+use Rattle.answer_laws.proofs.sets.meets_as_the_set.Goals as goal
+use Rattle.answer_laws.proofs.sets.meets_as_the_set.Goals.{in-Ok, in-Err}
+
+inner : {a b : Bool} {E : Type 0} → ◌≡◌ {A = Result Bool E} (Ok a) (Ok b) → a ≡ b
+inner e = cc
+
+pub returns : goal.returns
+returns c =
+    let reading = reading_of c.args.meaning in
+    let range = c.args.range.now in
+    let w = version_of c.args.version.now in
+    let r = c.meets.ensures in
+    elim c.match-read.branch [
+      | in-Ok o ↦ record {
+        same = rw o.has-is (one itself _ c.meets.result
+            (answered_too (IsTextAs reading range) (IsTooLargeAs reading range) (HasSetAs reading range) o.in-Ok.set _ o.in-Ok.ensures.refusals)
+            r.refusals
+            (λ a b is is' text. sym (inner is) ∙ o.has_outline.ensures.of_version
+            ∙ o.in-Ok.ensures.meaning text.0 w text.1 c.numbers_fit.ensures ∙ sym (said _ is' r.meaning text.0 text.1)));
+      }
+      | in-Err o ↦ record {
+        same = rw o.has-is (one itself _ c.meets.result
+            (same_refusal VersionSet Bool (IsTextAs reading range) (IsTooLargeAs reading range) (HasSetAs reading range) o.in-Err.error
+            o.in-Err.ensures.refusals)
+            r.refusals (λ a b is is' text. cc));
+      }
+    ]
