@@ -91,7 +91,7 @@ class RangeError(_TextError):
     - `not-utf8`: the bytes aren't UTF-8, or the `str` has a surrogate by itself.
     - `not-a-range`: the text isn't in the grammar of ranges, as `1.2.3 -4`.
     - `number-too-large`: it is, and a number that it states, or a bound that is raised by one, is
-      above 2**64 - 1.
+      above 2**64 - 1, or by npm's reading above 2**53 - 1.
     """
 
     _NUMBERS = {"not-utf8": 10, "not-a-range": 11, "number-too-large": 12}

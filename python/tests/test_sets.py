@@ -248,12 +248,14 @@ class LeastTest(unittest.TestCase):
             with self.assertRaises(RangeError) as raised:
                 least(range)
             self.assertEqual((raised.exception.name, raised.exception.text), (name, range))
-        for reading in (Reading.CARGO, Reading.CRATE_CARGO):
+        for reading in (Reading.CARGO, Reading.CRATE_CARGO, Reading.NPM):
             with self.assertRaises(RangeError) as raised:
                 least("0.0.18446744073709551615", reading)
             self.assertEqual(raised.exception.name, "number-too-large")
-        for reading in (Reading.NPM, Reading.CRATE_NPM):
-            self.assertEqual(least("0.0.18446744073709551615", reading), Version(0, 0, 2**64 - 1))
+        self.assertEqual(
+            least("0.0.18446744073709551615", Reading.CRATE_NPM), Version(0, 0, 2**64 - 1)
+        )
+        self.assertEqual(least("0.0.9007199254740991", Reading.NPM), Version(0, 0, 2**53 - 1))
 
     def test_types(self) -> None:
         with self.assertRaises(TypeError):

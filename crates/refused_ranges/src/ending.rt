@@ -1,11 +1,15 @@
 //! What the text before a place ends with: how far its last comparator has come.
 
+/// What npm bounds is no shorter.
+const LONG: usize = 250;
+
 /// The last comparator of a text, as far as it goes.
 #[derive(Clone, Copy, Drop)]
 pub struct Ending {
     /// How many dots it has before a pre-release and a build.
     dots: usize,
-    /// Where its last number or identifier begins.
+    /// Where it begins behind its operator, and where its last number or identifier does.
+    begin: usize,
     word: usize,
     /// Whether it has come to a pre-release, and to a build.
     suffix: (bool, bool),
@@ -29,6 +33,7 @@ impl Ending {
     fn before(place: usize) -> Ending {
         Ending {
             dots: 0,
+            begin: place,
             word: place,
             suffix: (false, false),
             last: None,
@@ -83,6 +88,16 @@ impl Ending {
     /// Whether a wildcard without numbers before it has come.
     pub fn is_wildcard(self) -> bool {
         !self.has_suffix() && self.ends_wild() && self.dots == 0
+    }
+
+    /// Whether npm may take no byte more of a number or an identifier: what it bounds are versions
+    /// and identifiers of 250 characters and more. `text` is the text, and `next` the byte after it.
+    pub fn may_be_too_long(self, text: &[u8], next: u8) -> bool {
+        let goes_on = match next {
+            b'.' => !matches!(self.last, Some(b'.' | b'+')),
+            _ => next.is_ascii_alphanumeric() || next == b'-',
+        };
+        goes_on && text.len().saturating_sub(self.begin) >= LONG
     }
 
     /// Whether the last number or the last identifier of a pre-release is of digits and begins with

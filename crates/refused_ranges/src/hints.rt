@@ -23,6 +23,9 @@ pub fn hint(reading: Reading, text: &str, place: usize) -> Option<&'static str> 
             Some("a pre-release or a build comes after three numbers")
         }
         (Reading::Cargo, next) => of_cargo(front, ending, next),
+        (Reading::Npm, next) if ending.may_be_too_long(front, next) => Some(
+            "npm takes no version above 256 characters, and no build identifier above 250",
+        ),
         (Reading::Npm, b',') => Some(
             "npm separates comparators by spaces; --as cargo takes commas",
         ),

@@ -97,7 +97,8 @@ enum {
     /* The text isn't in the range grammar, which is that of the reading: `1.2.3 -4` is in none, and
      * `v1.2.3` in that of npm's own alone. docs/GRAMMAR.md says which texts each reading takes. */
     SEMVER_PARSER_NOT_A_RANGE = 11,
-    /* It is, and a number that it states, or a bound that is raised by one, is above 2^64 - 1. */
+    /* It is, and a number that it states, or a bound that is raised by one, is above 2^64 - 1; by
+     * npm's own reading, above 2^53 - 1. */
     SEMVER_PARSER_NUMBER_TOO_LARGE = 12,
     /* Memory ran out at the range. */
     SEMVER_PARSER_RANGE_OUT_OF_MEMORY = 13,
@@ -115,7 +116,8 @@ enum {
     SEMVER_PARSER_NEW_RANGE_NOT_UTF8 = 16,
     /* The text isn't in the range grammar. */
     SEMVER_PARSER_NEW_NOT_A_RANGE = 17,
-    /* It is, and a number that it states, or a bound that is raised by one, is above 2^64 - 1. */
+    /* It is, and a number that it states, or a bound that is raised by one, is above 2^64 - 1; by
+     * npm's own reading, above 2^53 - 1. */
     SEMVER_PARSER_NEW_NUMBER_TOO_LARGE = 18,
     /* Memory ran out where two ranges are compared, at either of them or later. */
     SEMVER_PARSER_NEW_RANGE_OUT_OF_MEMORY = 19,
@@ -139,7 +141,8 @@ enum {
     SEMVER_PARSER_CARGO = 0,
     /* npm's own: `1.2` means `>=1.2.0 <1.3.0`, and `>1.2` means `>=1.3.0`. Its versions are those
      * of SemVer 2.0.0 with numbers up to 2^53 - 1, after `v` or nothing and between any white
-     * space. */
+     * space. The numbers of its ranges have the same limit, and a range whose versions are longer
+     * than node-semver takes them, which is about 256 bytes, is none. */
     SEMVER_PARSER_NPM = 1,
     /* That of the Rust crate semver-parser in its Cargo mode, which differs from Cargo's own: `1.2`
      * means `>=1.2.0 <1.3.0`, and `>1.2` means `>1.2.0`. Its versions have no two hyphens in a row
@@ -331,7 +334,7 @@ int32_t semver_parser_precedence(const uint8_t *version, size_t version_length,
  * - SEMVER_PARSER_RANGE_NOT_UTF8 exactly where there is such a reading, and the bytes aren't UTF-8.
  * - SEMVER_PARSER_NOT_A_RANGE exactly where they are, and aren't in the range grammar.
  * - SEMVER_PARSER_NUMBER_TOO_LARGE exactly where they are in the grammar, and a number that the
- *   text states, or a raised bound, is above 2^64 - 1.
+ *   text states, or a raised bound, is above 2^64 - 1, or by npm's own reading above 2^53 - 1.
  * - SEMVER_PARSER_RANGE_OUT_OF_MEMORY only in place of the first two.
  *
  * After any answer but SEMVER_PARSER_OK `out` is as it was, and after any but the first two

@@ -46,7 +46,7 @@ range_not_utf8 = pos 10
 abbrev pub not_a_range : ℤ
 not_a_range = pos 11
 
--- a stated number of the range, or a raised bound, is above 2^64 - 1
+-- a stated number of the range, or a raised bound, is above 2^64 - 1, or to npm above 2^53 - 1
 abbrev pub number_too_large : ℤ
 number_too_large = pos 12
 
@@ -70,7 +70,7 @@ new_range_not_utf8 = pos 16
 abbrev pub new_not_a_range : ℤ
 new_not_a_range = pos 17
 
--- a stated number of the new range, or a raised bound, is above 2^64 - 1
+-- a stated number of the new range, or a raised bound, is above 2^64 - 1, or to npm above 2^53 - 1
 abbrev pub new_number_too_large : ℤ
 new_number_too_large = pos 18
 

@@ -22,7 +22,7 @@ pub const VERSION_OUT_OF_MEMORY: i32 = 9;
 pub const RANGE_NOT_UTF8: i32 = 10;
 /// The range isn't in the range grammar.
 pub const NOT_A_RANGE: i32 = 11;
-/// A stated number of the range, or a raised bound, is above 2^64 - 1.
+/// A stated number of the range, or a raised bound, is above 2^64 - 1, or to npm above 2^53 - 1.
 pub const NUMBER_TOO_LARGE: i32 = 12;
 /// Memory ran out at the range.
 pub const RANGE_OUT_OF_MEMORY: i32 = 13;
@@ -34,7 +34,8 @@ pub const NO_SUCH_RULE: i32 = 15;
 pub const NEW_RANGE_NOT_UTF8: i32 = 16;
 /// The new range isn't in the range grammar.
 pub const NEW_NOT_A_RANGE: i32 = 17;
-/// A stated number of the new range, or a raised bound, is above 2^64 - 1.
+/// A stated number of the new range, or a raised bound, is above 2^64 - 1, or to npm above
+/// 2^53 - 1.
 pub const NEW_NUMBER_TOO_LARGE: i32 = 18;
 /// Memory ran out where two ranges are compared, at either of them or later.
 pub const NEW_RANGE_OUT_OF_MEMORY: i32 = 19;

@@ -28,7 +28,7 @@ pub enum RangeFault {
     NotUtf8,
     /// It isn't in the range grammar.
     NotARange,
-    /// A number that it states, or a raised bound, is above 2^64 - 1.
+    /// A number that it states, or a raised bound, is above 2^64 - 1, or to npm above 2^53 - 1.
     TooLarge,
     /// Memory ran out.
     OutOfMemory,

@@ -210,7 +210,7 @@ fn is_short(text: &[u8], behind: &[u8], rest: &[u8], written: &Components<'_>, r
     if len <= SHORT {
         return true;
     }
-    is_short_word(len, &behind[..behind.len() - rest.len()], written, role)
+    is_short_word(len, &behind[..behind.len() - rest.len()], *written, role)
 }
 
 // Answer: equation.

@@ -31,24 +31,25 @@ enum Kind {
     Build,
 }
 
-/// Whether a word of so many bytes, which ends with this partial, isn't too long to npm.
+/// Whether a word of so many bytes, which ends with this partial, isn't too long to npm. For speed
+/// the components come by value: so they needn't be in memory where no word is long.
 #[inline(never)]
 pub(crate) fn is_short_word(
     len: usize,
     partial: &[u8],
-    written: &Components<'_>,
+    written: Components<'_>,
     role: Role,
 ) -> bool
-    requires { (p : PartialTree) × SpellsPartial p partial.now × AreWritten p written.now }
-    ensures { (p : PartialTree) → SpellsPartial p partial.now → AreWritten p written.now
+    requires { (p : PartialTree) × SpellsPartial p partial.now × AreWritten p written }
+    ensures { (p : PartialTree) → SpellsPartial p partial.now → AreWritten p written.entry
         → result ≡ is_short_word (role_of role) p len }
 {
     let version = partial.len() - marked_len(written.build);
     let numbers = version - marked_len(written.pre);
-    if !has_short_parts(&partial[..numbers], written) {
+    if !has_short_parts(&partial[..numbers], &written) {
         return false;
     }
-    is_short_version(len, version, written, role)
+    is_short_version(len, version, &written, role)
 }
 
 /// Whether none of its numbers and identifiers is too long.
