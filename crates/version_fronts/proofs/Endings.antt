@@ -29,7 +29,7 @@ use Rattle.version_fronts.specs.declared.states.Which.TheVariants.{Major, Minor,
 
 -- ---- an ending
 
-abbrev fill : Space → Text
+abbrev pub fill : Space → Text
 fill Complete = []
 fill C2 = 0xA0 ∷ []
 fill E1 = 0x9A ∷ 0x80 ∷ []
@@ -42,7 +42,7 @@ fill E380 = 0x80 ∷ []
 fill EF = 0xBB ∷ 0xBF ∷ []
 fill EFBB = 0xBF ∷ []
 
-abbrev zeros : Text
+abbrev pub zeros : Text
 zeros = 48 ∷ 46 ∷ 48 ∷ 46 ∷ 48 ∷ []
 
 abbrev pub ending : State → Text
@@ -60,7 +60,7 @@ ending (Identifier section Begun) = []
 ending (After space) = fill space
 ending Refused = []
 
-zeros_end : (d : Dialect) → accepts (state_from d (Before Complete) zeros) ≡ true
+pub zeros_end : (d : Dialect) → accepts (state_from d (Before Complete) zeros) ≡ true
 zeros_end Crate = refl
 zeros_end Cargo = refl
 zeros_end Npm = refl
@@ -300,7 +300,7 @@ lessens d Refused b = of_refused Refused b
 
 -- ---- of a whole text
 
-accepted_needs : (s : State) → accepts s ≡ true → need s ≡ 0
+pub accepted_needs : (s : State) → accepts s ≡ true → need s ≡ 0
 accepted_needs (Before space) e = no_truth e
 accepted_needs (NoDigit which) e = no_truth e
 accepted_needs (Number Major n) e = no_truth e

@@ -1,19 +1,23 @@
 -- The texts that are read are fronts of versions.
 use Rattle.std.proofs.Common.{◌≡◌, ℕ, ◌+◌, ◌≤◌, true, false, [], ◌∷◌, ◌++◌, min, arith, ap, sym, refl, ◌∙◌}
-use Rattle.std.proofs.Common.{subst, append-nil}
+use Rattle.std.proofs.Common.{⊎_elim, append-nil, append_assoc, drop, length, subst, take}
 use Rattle.std.specs.Prelude.{◌↔◌, IsTrue, not, ◌&&◌}
-use Rattle.std.proofs.lemmas.Bool.{and_from, and_parts, not-true}
+use Rattle.std.proofs.lemmas.Bool.{and_from, and_parts, cases_lt, cases_order, not-true}
+use Rattle.std.proofs.Math.Seq.{take-length}
+use Rattle.std.proofs.lemmas.List.{take-append-drop, take-take}
 use Rattle.std.proofs.lemmas.Bool.Decides.{nat_tests}
 use Rattle.semver_texts.specs.Texts.{Text}
 use Rattle.semver_texts.specs.ToolVersions.{IsVersionTextIn, characters}
 use Rattle.semver_texts.specs.declared.dialect.Dialect.{Dialect}
 use Rattle.semver_texts.specs.declared.dialect.Dialect.TheVariants.{Crate, Cargo, Npm}
 use Rattle.version_fronts.proofs.AnyLength.{IsShort, limited, spelled_from, spelled_to, unlimited}
-use Rattle.version_fronts.proofs.Endings.{ending, ending_accepts, ending_ascii, ending_needs, needed, not_cut, not_refused, one_more_character, size}
+use Rattle.version_fronts.proofs.Endings.{ending, ending_accepts, ending_ascii, ending_needs, needed, not_cut, not_refused}
+use Rattle.version_fronts.proofs.Endings.{one_more_character, zeros, zeros_end, size}
 use Rattle.version_fronts.proofs.Suffixes.{suffix_from}
 use Rattle.version_fronts.proofs.Wholes.{state_append, whole_accepts}
-use Rattle.version_fronts.specs.Fronts.{IsFrontIn, IsWholeFrontIn}
-use Rattle.version_fronts.specs.Steps.Scanning.{HasRead, accepts, counted, exceeds, is_alive, is_cut, is_refused, need, state_after, state_from, step}
+use Rattle.version_fronts.specs.Fronts.{IsFrontIn, IsLongestFront, IsWholeFrontIn}
+use Rattle.version_fronts.specs.Steps.Scanning.{HasRead, accepts, counted, exceeds, is_alive, is_cut, is_refused, need, state_after}
+use Rattle.version_fronts.specs.Steps.Scanning.{state_from, step}
 use Rattle.version_fronts.specs.declared.scanner.Scanner.{Scanner}
 use Rattle.version_fronts.specs.declared.states.Space.TheVariants.{Complete}
 use Rattle.version_fronts.specs.declared.states.State.{State}
@@ -63,7 +67,7 @@ module _ (d : Dialect) (t : Text) where
   abbrev count : ℕ
   count = min 257 (characters t)
 
-  after_more : (more : Text) → state_after d (t ++ more) ≡ state_from d state more
+  pub after_more : (more : Text) → state_after d (t ++ more) ≡ state_from d state more
   after_more more = state_append d (Before Complete) t more
 
   front_from : is_refused state ≡ false → exceeds d count (need state) ≡ false → IsVersionTextIn d (t ++ ending state)
@@ -71,12 +75,56 @@ module _ (d : Dialect) (t : Text) where
       version_from d (t ++ ending state) (ap accepts (after_more (ending state)) ∙ ending_accepts d state alive)
       (within d t (ending state) (ap (exceeds d count) (ending_needs state) ∙ fits))
 
-  front_to : (more : Text) → IsVersionTextIn d (t ++ more) → (accepts (state_from d state more) ≡ true)
+  pub front_to : (more : Text) → IsVersionTextIn d (t ++ more) → (accepts (state_from d state more) ≡ true)
       × (is_refused state ≡ false) × (exceeds d count (need state) ≡ false)
   front_to more w =
       let both = version_to d (t ++ more) w in
       let accepted : accepts (state_from d state more) ≡ true = ap accepts (sym (after_more more)) ∙ both.0 in
       (accepted, not_refused d state more accepted, not_beyond d t more (need state) (needed d state more accepted) both.1)
+
+pub accepted_version : (d : Dialect) (t : Text) → accepts (state_after d t) ≡ true → exceeds d (min 257 (characters t)) 0 ≡ false
+    → IsVersionTextIn d t
+accepted_version d t e fits = version_from d t e (subst (IsShort d) (append-nil t) (within d t [] fits))
+
+-- ---- prefixes of fronts
+
+pub shorter_front : (d : Dialect) (x y : Text) → IsFrontIn d (x ++ y) → IsFrontIn d x
+shorter_front d x y front = (y ++ front.0, subst (IsVersionTextIn d) (append_assoc x y front.0) front.1)
+
+pub prefix_front : (d : Dialect) (t : Text) (m n : ℕ) → m ≤ n → IsFrontIn d (take n t) → IsFrontIn d (take m t)
+prefix_front d t m n within front =
+    subst (IsFrontIn d) (take-take m n t within)
+    (shorter_front d (take m (take n t)) (drop m (take n t)) (subst (IsFrontIn d) (sym (take-append-drop m (take n t))) front))
+
+pub empty_front : (d : Dialect) → IsWholeFrontIn d []
+empty_front d = (
+  zeros,
+  ending_ascii (Before Complete) refl,
+  version_from d zeros (zeros_end d) (short d),
+)
+  where
+    short : (d : Dialect) → IsShort d zeros
+    short Crate = tt
+    short Cargo = tt
+    short Npm = omega arith
+
+-- a version is a front of all of its characters
+pub version_front : (d : Dialect) (t : Text) → IsVersionTextIn d t → IsWholeFrontIn d t
+version_front d t w = ([], tt, subst (IsVersionTextIn d) (sym (append-nil t)) w)
+
+-- ---- the longest front
+
+pub one_longest : (d : Dialect) (t : Text) (m n : ℕ) → IsLongestFront d t m → IsLongestFront d t n → m ≡ n
+one_longest d t m n a b =
+    ⊎_elim (λ e. e)
+    (λ other. ⊎_elim (λ less. absurd (a.no_longer n less b.within b.front)) (λ more. absurd (b.no_longer m more a.within a.front)) other)
+    (cases_order m n)
+
+pub whole_is_longest : (d : Dialect) (t : Text) (place : ℕ) → IsLongestFront d t place → IsVersionTextIn d t → place ≡ length t
+whole_is_longest d t place w version =
+    ⊎_elim (λ less. absurd (w.no_longer (length t) less (omega arith)
+    (subst (IsWholeFrontIn d) (sym (take-length t)) (version_front d t version))))
+    (λ more. omega (arith, w.within)) (cases_lt place (length t))
 
 -- ---- what a scanner says
 

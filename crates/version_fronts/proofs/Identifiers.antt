@@ -260,7 +260,8 @@ build_kept d tool ts e =
 pub kept_pre : (d : Dialect) → IsTool d → (ids : List IdentifierValue) (ts : List Text) → AllZip IsKeptAs ids ts
     → list_all has_no_leading_zero ts ≡ true → list_all (is_good d Pre) ts ≡ true
 kept_pre d tool ids ts all zeros =
-    all_both is_part has_no_leading_zero (is_good d Pre) (tool_pre d tool) ts ∙ rw (zip_all IsKeptAs is_part kept_part ids ts all, zeros) refl
+    all_both is_part has_no_leading_zero (is_good d Pre) (tool_pre d tool) ts
+    ∙ rw (zip_all IsKeptAs is_part kept_part ids ts all, zeros) refl
 
 pub kept_build : (d : Dialect) → IsTool d → (ids : List IdentifierValue) (ts : List Text) → AllZip IsKeptAs ids ts
     → list_all (is_good d Build) ts ≡ true

@@ -6,3 +6,6 @@ pub mod Wholes
 pub mod AnyLength
 pub mod Endings
 pub mod FrontTexts
+pub mod FrontEnds
+pub mod ReasonFacts
+pub mod LongestFronts

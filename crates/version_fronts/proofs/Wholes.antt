@@ -20,7 +20,8 @@ use Rattle.version_fronts.proofs.Identifiers.{at_part, finishes, is_good}
 use Rattle.version_fronts.proofs.Spaces.{Outer, is_outer, outer_first}
 use Rattle.version_fronts.proofs.Suffixes.{Ahead, AtNumber, BehindNumber, BuildTail, Dotted, Fresh, IsSign, Tail}
 use Rattle.version_fronts.proofs.Suffixes.{digit_is, first_value, greatest_fits, no_truth}
-use Rattle.version_fronts.specs.Steps.Scanning.{accepts, after, after_if, before_or, begins, behind_identifier, first_digit, greatest, identifier_or, in_part}
+use Rattle.version_fronts.specs.Steps.Scanning.{accepts, after, after_if, before_or, begins, behind_identifier, first_digit, greatest}
+use Rattle.version_fronts.specs.Steps.Scanning.{identifier_or, in_part}
 use Rattle.version_fronts.specs.Steps.Scanning.{may_end, more_space, opened, state_from, step}
 use Rattle.version_fronts.specs.declared.states.Part.{Part}
 use Rattle.version_fronts.specs.declared.states.Part.TheVariants.{NotBegun}
@@ -60,7 +61,8 @@ record AreOpened (a b c : ℕ) : Type 0 where
   second : more_space Npm one b ≡ Some two
   third : more_space Npm two c ≡ Some Complete
 
-opened_at : (a b c : ℕ) (x y : ℕ) (one two : Space) → opened x ≡ Some one → more_space Npm one y ≡ Some two → (a == x) ≡ true → (b == y) ≡ true
+opened_at : (a b c : ℕ) (x y : ℕ) (one two : Space) → opened x ≡ Some one → more_space Npm one y ≡ Some two → (a == x) ≡ true
+    → (b == y) ≡ true
     → more_space Npm two c ≡ Some Complete → AreOpened a b c
 opened_at a b c x y one two opens more is_x is_y done = record {
   one = one;
@@ -124,12 +126,14 @@ module _ (wrap : Space → State) (on : GoesOn Npm wrap) where
       state_append Npm (wrap Complete) c (concat cs) ∙ ap (λ s. state_from Npm s (concat cs)) (through_character c both.0)
       ∙ through_characters cs both.1
 
-through_spaces : (wrap : Space → State) → GoesOn Crate wrap → (t : Text) → Passes is_space t → state_from Crate (wrap Complete) t ≡ wrap Complete
+through_spaces : (wrap : Space → State) → GoesOn Crate wrap → (t : Text) → Passes is_space t
+    → state_from Crate (wrap Complete) t ≡ wrap Complete
 through_spaces wrap on [] all = refl
 through_spaces wrap on (b ∷ t) all =
     ap (λ s. state_from Crate s t) (on Complete Complete b (rw (all.0) refl)) ∙ through_spaces wrap on t all.1
 
-through_outer : (d : Dialect) (wrap : Space → State) → GoesOn d wrap → (t : Text) → Outer d t → state_from d (wrap Complete) t ≡ wrap Complete
+through_outer : (d : Dialect) (wrap : Space → State) → GoesOn d wrap → (t : Text) → Outer d t
+    → state_from d (wrap Complete) t ≡ wrap Complete
 through_outer Crate wrap on t w = through_spaces wrap on t w
 through_outer Cargo wrap on t w = ap (state_from Cargo (wrap Complete)) w
 through_outer Npm wrap on t w = ap (state_from Npm (wrap Complete)) w.whole ∙ through_characters wrap on w.each w.are
@@ -187,7 +191,8 @@ through_dot d section part t e = rw e refl
 
 module _ (d : Dialect) (section : Section) (rest : Text)
     (next : (part : Part) → may_end part ≡ true → accepts (state_from d (Identifier section part) rest) ≡ true) where
-  through_identifiers : (part : Part) (t : Text) (ts : List Text) → finishes d section part t ≡ true → list_all (is_good d section) ts ≡ true
+  through_identifiers : (part : Part) (t : Text) (ts : List Text) → finishes d section part t ≡ true
+      → list_all (is_good d section) ts ≡ true
       → accepts (state_from d (Identifier section part) (join_with_byte 46 (t ∷ ts) ++ rest)) ≡ true
   through_identifiers part t [] e all = through_identifier d section rest next part t e
   through_identifiers part t (u ∷ ts) e all =

@@ -2,5 +2,7 @@
 //! where it stops being a front, and why.
 #![tactic(auto)]
 
+pub mod laws;
+pub mod reasons;
 pub mod scanner;
 mod states;

@@ -1,12 +1,14 @@
 //! A scanner that is given a text byte by byte, and says whether some version begins with it.
-ghost use Rattle.std.specs.Prelude.{◌≡◌, ◌↔◌, IsTrue, not, ◌&&◌, [], ◌∷◌, ◌++◌};
+ghost use Rattle.std.specs.Prelude.{◌≡◌, ◌↔◌, IsTrue, None, Some, not, ◌&&◌, [], ◌∷◌, ◌++◌};
 ghost use Rattle.semver_texts.specs.Texts.{Text};
 ghost use Rattle.semver_texts.specs.ToolVersions.{IsVersionTextIn};
 ghost use Rattle.semver_texts.specs.declared.dialect.Dialect.{Dialect};
 ghost use Rattle.version_fronts.specs.Fronts.{IsFrontIn, IsWholeFrontIn};
+ghost use Rattle.version_fronts.specs.Reasons.{IsReason};
 ghost use Rattle.version_fronts.specs.Steps.Scanning.{HasRead, accepts, counted, exceeds};
-ghost use Rattle.version_fronts.specs.Steps.Scanning.{is_alive, is_cut};
+ghost use Rattle.version_fronts.specs.Steps.Scanning.{is_alive, is_cut, is_too_long};
 
+use crate::reasons::{Reason, at_byte, at_end};
 use crate::states::{Space, State, accepts, is_cut, is_refused, need, step};
 use semver_texts::dialect::Dialect;
 
@@ -93,6 +95,14 @@ impl Scanner {
         self.is_alive() && !is_cut(self.state)
     }
 
+    /// Whether some version begins so, but none within the dialect's length.
+    #[inline(always)]
+    fn is_too_long(&self) -> bool
+        ensures { result ≡ is_too_long self.now }
+    {
+        !is_refused(self.state) && self.exceeds(need(self.state))
+    }
+
     /// Whether this is the end of a version.
     #[inline(always)]
     fn is_accepted(&self) -> bool
@@ -128,5 +138,28 @@ impl Scanner {
             → (IsTrue result ↔ IsVersionTextIn dialect text) }
     {
         self.is_accepted()
+    }
+
+    /// Why no version has this byte after the front that was read.
+    pub(crate) fn reason_at(&self, byte: u8) -> Reason
+        ensures { (dialect : Dialect) (text : Text) → HasRead dialect text self.now
+            → IsWholeFrontIn dialect text → IsReason dialect text (Some byte) result }
+    {
+        let mut next = *self;
+        next.push(byte);
+        if next.is_too_long() {
+            Reason::TooLong
+        } else {
+            at_byte(self.state, byte)
+        }
+    }
+
+    /// Why the front that was read is no version.
+    pub(crate) fn reason_at_end(&self) -> Reason
+        ensures { (dialect : Dialect) (text : Text) → HasRead dialect text self.now
+            → IsWholeFrontIn dialect text → ¬ (IsVersionTextIn dialect text)
+            → IsReason dialect text None result }
+    {
+        at_end(self.state)
     }
 }

@@ -11,7 +11,8 @@ use Rattle.semver_texts.specs.declared.dialect.Dialect.{Dialect}
 use Rattle.semver_texts.specs.declared.dialect.Dialect.TheVariants.{Crate, Cargo, Npm}
 use Rattle.version_fronts.specs.declared.scanner.Scanner.{Scanner}
 use Rattle.version_fronts.specs.declared.states.Part.{Part}
-use Rattle.version_fronts.specs.declared.states.Part.TheVariants.{NotBegun, Zero, LeadingZero, Begun}
+use Rattle.version_fronts.specs.declared.states.Part.TheVariants.{NotBegun, Zero, LeadingZero}
+use Rattle.version_fronts.specs.declared.states.Part.TheVariants.{Begun}
 use Rattle.version_fronts.specs.declared.states.Section.{Section}
 use Rattle.version_fronts.specs.declared.states.Section.TheVariants.{Pre, Build}
 use Rattle.version_fronts.specs.declared.states.Space.{Space}
@@ -240,6 +241,10 @@ exceeds Npm count more = not (nat_le (count + more) 256)
 -- whether some version begins with what a scanner has read
 abbrev pub is_alive : Scanner → Bool
 is_alive s = not (is_refused s.state) && not (exceeds s.dialect s.characters (need s.state))
+
+-- whether some version begins so, but none within the dialect's length
+abbrev pub is_too_long : Scanner → Bool
+is_too_long s = not (is_refused s.state) && exceeds s.dialect s.characters (need s.state)
 
 -- what a scanner has read
 abbrev pub HasRead : Dialect → Text → Scanner → Type 0
