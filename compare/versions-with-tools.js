@@ -188,4 +188,5 @@ function main ([program, cargo, count, seed]) {
   process.exit(differences === 0 ? 0 : 1)
 }
 
-main(process.argv.slice(2))
+module.exports = { WHITE, OTHER, changed, escaped, limit, text, texts }
+if (require.main === module) main(process.argv.slice(2))

@@ -1,5 +1,6 @@
 """Why a text is refused: the faults of versions and of ranges, as exceptions."""
 
+import ctypes
 from typing import ClassVar, Dict, Optional, Union
 
 from .library import LIBRARY
@@ -65,6 +66,12 @@ class VersionError(_TextError):
     - `unexpected-token`: a token comes that can't come there, as in `1.2.3--1`.
     - `unexpected-char`: a character comes that begins no token, as `/`.
     - `more-input`: a version is followed by something else, as in `1.2.3 a`.
+
+    `place` is where in the text it stops being one: the index of the first character that no
+    version has there, or the text's length if something is missing at its end. `reason` is one of
+    `empty`, `not-three-numbers`, `leading-zero`, `empty-identifier`, `unexpected-character`,
+    `too-large`, `too-long` and `text-after`. docs/GRAMMAR.md says when each is given. Both are None
+    in an error that isn't raised by a call of this package.
     """
 
     _NUMBERS = {
@@ -79,6 +86,8 @@ class VersionError(_TextError):
     def __init__(self, name: str, text: Text, index: Optional[int] = None) -> None:
         super().__init__(name, text, index)
         self.index = index
+        self.place: Optional[int] = None
+        self.reason: Optional[str] = None
 
     def _place(self) -> str:
         return "" if self.index is None else f", at index {self.index}"
@@ -109,19 +118,44 @@ _RANGE_FAULTS = {number: name for name, number in RangeError._NUMBERS.items()}
 _NEW_RANGE_FAULTS = {16: "not-utf8", 17: "not-a-range", 18: "number-too-large"}
 
 
+_REASONS = {
+    22: "empty",
+    23: "not-three-numbers",
+    24: "leading-zero",
+    25: "empty-identifier",
+    26: "unexpected-character",
+    27: "too-large",
+    28: "too-long",
+    29: "text-after",
+}
+
+
+def _explained(error: VersionError, reading: int) -> VersionError:
+    """The error, with where and why its text is no version by the reading of a number."""
+    text_bytes, place = encoded(error.text), ctypes.c_size_t()
+    answer = LIBRARY.semver_parser_explain_version(text_bytes, len(text_bytes), reading, place)
+    error.reason, error.place = _REASONS.get(answer), place.value
+    if isinstance(error.text, str):
+        error.place = len(text_bytes[: place.value].decode("utf-8", "surrogatepass"))
+    return error
+
+
 def raise_fault(
     answer: int,
     range: Text = "",
     version: Text = "",
     index: Optional[int] = None,
     new_range: Optional[Text] = None,
+    reading: Optional[int] = None,
 ) -> None:
     """Raises what the answer of a call says, unless that is OK. The index is that of the version
-    among many, and the new range is given where two are compared."""
+    among many, the new range is given where two are compared, and the number of the reading where a
+    version is read."""
     if answer == OK:
         return
     if answer in _VERSION_FAULTS:
-        raise VersionError(_VERSION_FAULTS[answer], version, index)
+        error = VersionError(_VERSION_FAULTS[answer], version, index)
+        raise error if reading is None else _explained(error, reading)
     if answer in _RANGE_FAULTS:
         raise RangeError(_RANGE_FAULTS[answer], range, None if new_range is None else "old")
     if answer in _NEW_RANGE_FAULTS and new_range is not None:

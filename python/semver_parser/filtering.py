@@ -58,7 +58,7 @@ def meets(
         len(version_bytes),
         answered,
     )
-    raise_fault(answer, range, text)
+    raise_fault(answer, range, text, reading=reading_number)
     return answered.value
 
 
@@ -106,7 +106,7 @@ class Filter:
             if answer == _MEETS:
                 kept.append(given[index])
             elif answer != _DOES_NOT_MEET:
-                _refuse(answer, texts[index], index, pass_over)
+                _refuse(answer, texts[index], index, self.reading, pass_over)
         return kept
 
     def greatest(self, versions: Iterable[_Given], pass_over: bool = False) -> Optional[_Given]:
@@ -149,10 +149,11 @@ def _item_text(index: int, version: object) -> Text:
     raise TypeError(f"a version is a str, bytes or Version, and not {what}, at index {index}")
 
 
-def _refuse(answer: int, text: Text, index: int, pass_over: bool) -> None:
+def _refuse(answer: int, text: Text, index: int, reading: Reading, pass_over: bool) -> None:
     """Raises the fault of a version, unless it is passed over. Out of memory never is."""
     try:
-        raise_fault(answer, version=text, index=index)
+        number = None if pass_over else reading.value
+        raise_fault(answer, version=text, index=index, reading=number)
     except ValueError:
         if not pass_over:
             raise

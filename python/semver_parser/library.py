@@ -110,6 +110,7 @@ def _declare(library: ctypes.CDLL, path: str) -> None:
     rooms = [ctypes.POINTER(ReadComparator), size, counted, ctypes.c_char_p, size, counted]
     calls = {
         "parse_version": [*text, number, ctypes.POINTER(ReadVersion)],
+        "explain_version": [*text, number, counted],
         "comparators": [*text, number, flag, *rooms],
         "meets": [*text, number, number, *text, ctypes.POINTER(flag)],
         "meets_each": [*text, number, number, ctypes.POINTER(TextItem), size, ctypes.c_char_p],

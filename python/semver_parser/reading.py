@@ -77,7 +77,7 @@ def parse_version(text: Text, reading: Reading = Reading.CARGO) -> Version:
     number = reading_number(reading)
     read, text_bytes = ReadVersion(), encoded(text)
     answer = LIBRARY.semver_parser_parse_version(text_bytes, len(text_bytes), number, read)
-    raise_fault(answer, version=text)
+    raise_fault(answer, version=text, reading=number)
     pre, build = _identifiers(text_bytes, read.pre), _identifiers(text_bytes, read.build)
     return Version(read.major, read.minor, read.patch, pre, build)
 

@@ -100,6 +100,26 @@ class ByReading(unittest.TestCase):
                 parse_version(text)
             self.assertEqual(caught.exception.name, "not-a-version")
 
+    def test_places(self) -> None:
+        """Where and why a text is none."""
+        for text, reading, place, reason in (
+            ("", Reading.CARGO, 0, "empty"),
+            ("1.2", Reading.CARGO, 3, "not-three-numbers"),
+            ("1.2.03", Reading.CARGO, 5, "leading-zero"),
+            ("1.2.3-a..b", Reading.NPM, 8, "empty-identifier"),
+            ("1.2.x", Reading.CARGO, 4, "unexpected-character"),
+            ("9007199254740992.0.0", Reading.NPM, 15, "too-large"),
+            ("1.0.0-" + 251 * "a", Reading.NPM, 256, "too-long"),
+            ("\u30001.2.3\u3000x", Reading.NPM, 7, "text-after"),
+            ("\u30001.2.3\u3000x".encode(), Reading.NPM, 11, "text-after"),
+            (b"1.2.3-\xff", Reading.CARGO, 6, "unexpected-character"),
+            ("1.2.3-\udc80", Reading.CARGO, 6, "unexpected-character"),
+            ("1.2.3--1", Reading.CRATE_CARGO, 6, "empty-identifier"),
+        ):
+            with self.subTest(text=text), self.assertRaises(VersionError) as caught:
+                parse_version(text, reading)
+            self.assertEqual((caught.exception.place, caught.exception.reason), (place, reason))
+
     def test_sizes(self) -> None:
         many = ".".join(["a", "1"] * 50_000)
         read = parse_version(f"1.2.3-{many}+{many}")

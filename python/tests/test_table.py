@@ -20,7 +20,11 @@ from tests.table import answer, checksum, fields_of_version, rows, rows_of_tools
 
 _SUM = "sum-of-"
 _VERSION = "version"
+_REFUSED = "refused"
 _READINGS_OF_TOOLS = {"cargo": Reading.CARGO, "npm": Reading.NPM}
+_READINGS_OF_REFUSED = {**_READINGS_OF_TOOLS, "crate": Reading.CRATE_CARGO}
+# How the table writes the reasons for which a text is no version, where it isn't the name in words.
+_REASONS = {"text-after": "text after the version"}
 # The rules for pre-releases that mean what is asked. None is the tool's own rule too.
 _RULES_OF_MEANT: Dict[str, Tuple[Optional[PreReleases], ...]] = {
     "meant": (None, PreReleases.OF_TOOL),
@@ -61,8 +65,10 @@ class Tools(unittest.TestCase):
         for asked, tool, row in rows_of_tools():
             asked = asked.removeprefix(_SUM)
             with self.subTest(call=row.call, text=row.text[:200], steps=row.steps):
-                reading = _READINGS_OF_TOOLS[tool]
-                if asked == _VERSION:
+                reading = _READINGS_OF_REFUSED[tool]
+                if asked == _REFUSED:
+                    self.check_refusal(row.text, reading, row.wanted)
+                elif asked == _VERSION:
                     self.check_version(row.call, row.text, reading, row.wanted)
                 elif asked in _RULES_OF_MEANT:
                     rules = _RULES_OF_MEANT[asked]
@@ -75,6 +81,19 @@ class Tools(unittest.TestCase):
             self.assertGreaterEqual(counts[tool, "meant"], 50)
             self.assertGreater(counts[tool, "meant-with-all"], 50)
             self.assertGreater(counts[tool, _VERSION], 50)
+        for tool in _READINGS_OF_REFUSED:
+            self.assertGreaterEqual(counts[tool, _REFUSED], 15)
+
+    def check_refusal(self, text: str, reading: Reading, wanted: str) -> None:
+        """Where and why a text is no version; the table has the place in bytes."""
+        try:
+            parse_version(text, reading)
+            answered = "a version"
+        except VersionError as error:
+            assert error.place is not None and error.reason is not None
+            words = _REASONS.get(error.reason, error.reason.replace("-", " "))
+            answered = f"{len(text[: error.place].encode())}: {words}"
+        self.assertEqual(answered, wanted)
 
     def check_version(self, call: str, text: str, reading: Reading, wanted: str) -> None:
         """The fields, or `none`; a long answer by its checksum."""

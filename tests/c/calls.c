@@ -72,6 +72,32 @@ int32_t read_version(const text *of, int32_t reading, semver_parser_version *out
     return answer;
 }
 
+static int32_t explain_version_at(
+    const uint8_t *bytes, const text *of, int32_t reading, size_t *place) {
+    *place = SIZE_MAX;
+    int32_t answer = semver_parser_explain_version(bytes, of->length, reading, place);
+    if (answer == SEMVER_PARSER_OK || answer == SEMVER_PARSER_NO_SUCH_READING) {
+        require(*place == SIZE_MAX, "a place where none is", of);
+    } else {
+        require(*place <= of->length, "a place outside of the text", of);
+        require(answer >= SEMVER_PARSER_VERSION_EMPTY && answer <= SEMVER_PARSER_VERSION_TEXT_AFTER,
+            "no reason", of);
+    }
+    return answer;
+}
+
+int32_t explain_version(const text *of, int32_t reading, size_t *place) {
+    uint8_t *bytes = alone(of);
+    int32_t answer = explain_version_at(bytes, of, reading, place);
+    free(bytes);
+    if (of->length == 0) {
+        size_t again;
+        require(explain_version_at(NULL, of, reading, &again) == answer && again == *place,
+            "another answer at null", of);
+    }
+    return answer;
+}
+
 bool is_of_version(int32_t answer) {
     return (answer >= SEMVER_PARSER_OK && answer <= SEMVER_PARSER_VERSION_OUT_OF_MEMORY)
            || answer == SEMVER_PARSER_NOT_A_VERSION;

@@ -10,6 +10,10 @@
 /* Reads a version by a reading. An empty text is read at null too. */
 int32_t read_version(const text *of, int32_t reading, semver_parser_version *out);
 
+/* Where and why a text is no version by a reading: OK, or the number of the reason with `place`. An
+ * empty text is read at null too. */
+int32_t explain_version(const text *of, int32_t reading, size_t *place);
+
 /* How a version text compares with another by a reading: OK with -1, 0 or 1 in `order`, or the
  * fault with whether it is the other's in `in_other`, which is false if there is no such reading.
  * An empty text is passed at null too. */

@@ -34,6 +34,11 @@ static int32_t read_text(void) {
     return semver_parser_parse_version(NULL, 5, reading, &out);
 }
 
+static int32_t explain_text(void) {
+    size_t place;
+    return semver_parser_explain_version(NULL, 5, reading, &place);
+}
+
 static int32_t precedence_of(const uint8_t *version, const uint8_t *other) {
     int32_t order;
     bool in_other;
@@ -232,6 +237,7 @@ static void nulls_with_a_length(void) {
     sum_before = (uint64_t *)malloc(sizeof *sum_before);
     check(sum_before != NULL, "no memory", "");
     ends_at_null(read_text, "the text of a version");
+    ends_at_null(explain_text, "the text of what is no version");
     ends_at_null(precedence_version, "the first of two versions");
     ends_at_null(precedence_other, "the other of two versions");
     ends_at_null(rewrite_text, "the text of a range");

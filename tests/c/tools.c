@@ -4,8 +4,9 @@
  * or the word of its error; `meant-as-npm` has versions too, of which the table has those that the
  * range means by the tool's own rule for pre-releases, and `meant-with-all-as-npm` those that it
  * means with all pre-releases; `version-as-npm` has a version text, of which the table has the
- * fields, or `none`. Of a call that begins with `sum-of-` the table has the checksum of the answer.
- * Ends with status 1 if a row differs or a call has few rows. */
+ * fields, or `none`; and `refused-as-npm`, or `refused-as-crate`, one of which the table has where
+ * and why it is no version. Of a call that begins with `sum-of-` the table has the checksum of the
+ * answer. Ends with status 1 if a row differs or a call has few rows. */
 #include "calls.h"
 #include "table.h"
 
@@ -13,12 +14,12 @@
 #include <stdio.h>
 #include <string.h>
 
-/* What a call asks: which versions are meant by a rule, what a range is rewritten to, or what a
- * version is. */
-enum { REWRITTEN = -1, VERSION = -2 };
+/* What a call asks: which versions are meant by a rule, what a range is rewritten to, what a
+ * version is, or where and why a text is none. */
+enum { REWRITTEN = -1, VERSION = -2, EXPLAINED = -3 };
 
-/* A call of the table, its reading, its rule for pre-releases, REWRITTEN or VERSION, how many rows
- * it has at least, and how many of them passed and failed. */
+/* A call of the table, its reading, its rule for pre-releases, REWRITTEN, VERSION or EXPLAINED, how
+ * many rows it has at least, and how many of them passed and failed. */
 typedef struct {
     const char *name;
     int32_t reading;
@@ -32,6 +33,20 @@ static const char *fault_word(int32_t answer) {
     switch (answer) {
     case SEMVER_PARSER_NOT_A_RANGE: return "not-a-range";
     case SEMVER_PARSER_NUMBER_TOO_LARGE: return "number-too-large";
+    default: return "another number";
+    }
+}
+
+static const char *reason_words(int32_t answer) {
+    switch (answer) {
+    case SEMVER_PARSER_VERSION_EMPTY: return "empty";
+    case SEMVER_PARSER_VERSION_NOT_THREE_NUMBERS: return "not three numbers";
+    case SEMVER_PARSER_VERSION_LEADING_ZERO: return "leading zero";
+    case SEMVER_PARSER_VERSION_EMPTY_IDENTIFIER: return "empty identifier";
+    case SEMVER_PARSER_VERSION_CHARACTER: return "unexpected character";
+    case SEMVER_PARSER_VERSION_NUMBER_TOO_LARGE: return "too large";
+    case SEMVER_PARSER_VERSION_TOO_LONG: return "too long";
+    case SEMVER_PARSER_VERSION_TEXT_AFTER: return "text after the version";
     default: return "another number";
     }
 }
@@ -168,11 +183,27 @@ static bool replay_version(const row *of, int32_t reading) {
     return passed;
 }
 
+/* Replays a row on where and why a text is no version. */
+static bool replay_explanation(const row *of, int32_t reading) {
+    text told = {NULL, 0, 0};
+    size_t place;
+    int32_t answer = explain_version(&of->of, reading, &place);
+    if (answer == SEMVER_PARSER_OK) {
+        text_say(&told, "a version");
+    } else {
+        text_say(&told, "%zu: %s", place, reason_words(answer));
+    }
+    bool passed = is_answer(&told, of->expected, of, "by the reading");
+    text_free(&told);
+    return passed;
+}
+
 /* Replays a row of a call, and counts it. */
 static void replay(tool_call *by, const row *of) {
-    bool passed = by->rule == REWRITTEN ? replay_rewriting(of, by->reading)
-                  : by->rule == VERSION ? replay_version(of, by->reading)
-                                        : replay_meaning(of, by->reading, by->rule);
+    bool passed = by->rule == REWRITTEN   ? replay_rewriting(of, by->reading)
+                  : by->rule == VERSION   ? replay_version(of, by->reading)
+                  : by->rule == EXPLAINED ? replay_explanation(of, by->reading)
+                                          : replay_meaning(of, by->reading, by->rule);
     by->passed += passed;
     by->failed += !passed;
 }
@@ -214,6 +245,9 @@ int main(int count, char **arguments) {
         {"meant-as-npm", SEMVER_PARSER_NPM, own, 50, 0, 0},
         {"meant-with-all-as-npm", SEMVER_PARSER_NPM, all, 50, 0, 0},
         {"version-as-npm", SEMVER_PARSER_NPM, VERSION, 100, 0, 0},
+        {"refused-as-cargo", SEMVER_PARSER_CARGO, EXPLAINED, 45, 0, 0},
+        {"refused-as-npm", SEMVER_PARSER_NPM, EXPLAINED, 30, 0, 0},
+        {"refused-as-crate", SEMVER_PARSER_CRATE_NPM, EXPLAINED, 15, 0, 0},
     };
     const int call_count = sizeof calls / sizeof *calls;
     bool passed = true;

@@ -69,6 +69,15 @@ static int use_least(void) {
     return length == 5 && memcmp(out, "1.2.0", 5) == 0 ? 0 : 1;
 }
 
+static int use_explaining(void) {
+    size_t place = 0;
+    return semver_parser_explain_version(bytes_of("1.2.03"), 6, SEMVER_PARSER_CARGO, &place)
+                       == SEMVER_PARSER_VERSION_LEADING_ZERO
+                   && place == 5
+               ? 0
+               : 1;
+}
+
 static int use_precedence(void) {
     int32_t order = 0;
     bool in_other = false;
@@ -114,6 +123,7 @@ int main(void) {
     int failed = strcmp(semver_parser_library_version(), SEMVER_PARSER_VERSION) != 0 ||
                  answer != SEMVER_PARSER_NOT_A_VERSION;
     failed |= use_rewriting() | use_meeting() | use_least() | use_precedence() | use_compare();
+    failed |= use_explaining();
     printf("uses: %s\n", failed ? "failed" : "passed");
     return failed;
 }

@@ -9,6 +9,7 @@
 
 mod checksum;
 mod filtering;
+mod fronts;
 mod lexing;
 mod modes;
 mod parsing;
@@ -77,6 +78,12 @@ fn answer<W: Write>(
         "read" => versions::write_read(alloc, text, out),
         "version-as-cargo" => versions::write_read_in(alloc, text, Dialect::Cargo, out),
         "version-as-npm" => versions::write_read_in(alloc, text, Dialect::Npm, out),
+        "refused-as-crate" => fronts::write_refused(text, Dialect::Crate, out),
+        "refused-as-cargo" => fronts::write_refused(text, Dialect::Cargo, out),
+        "refused-as-npm" => fronts::write_refused(text, Dialect::Npm, out),
+        "fronts-as-crate" => fronts::write_fronts(text, Dialect::Crate, out),
+        "fronts-as-cargo" => fronts::write_fronts(text, Dialect::Cargo, out),
+        "fronts-as-npm" => fronts::write_fronts(text, Dialect::Npm, out),
         "outline" => versions::write_outline(text, out),
         "version-text" => versions::write_printed(alloc, text, out),
         "error-text" => versions::write_error_text(alloc, text, out),

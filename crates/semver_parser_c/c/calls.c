@@ -34,6 +34,12 @@ int32_t semver_parser_parse_version(
         text_at(text, text_length), text_length, reading, out);
 }
 
+int32_t semver_parser_explain_version(
+    const uint8_t *text, size_t text_length, int32_t reading, size_t *place) {
+    return semver_parser_proved_explain_version(
+        text_at(text, text_length), text_length, reading, place);
+}
+
 int32_t semver_parser_precedence(const uint8_t *version, size_t version_length,
     const uint8_t *other, size_t other_length, int32_t reading, int32_t *order, bool *in_other) {
     return semver_parser_proved_precedence(text_at(version, version_length), version_length,
@@ -161,6 +167,14 @@ const char *semver_parser_fault_text(int32_t answer) {
     case SEMVER_PARSER_NEW_RANGE_OUT_OF_MEMORY: return "out of memory at two ranges";
     case SEMVER_PARSER_NO_SUCH_READING: return "no reading of range texts has this number";
     case SEMVER_PARSER_NOT_A_VERSION: return "not a version";
+    case SEMVER_PARSER_VERSION_EMPTY: return "the version is empty";
+    case SEMVER_PARSER_VERSION_NOT_THREE_NUMBERS: return "the version has not three numbers";
+    case SEMVER_PARSER_VERSION_LEADING_ZERO: return "the version has a leading zero";
+    case SEMVER_PARSER_VERSION_EMPTY_IDENTIFIER: return "the version has an empty identifier";
+    case SEMVER_PARSER_VERSION_CHARACTER: return "no version has this character there";
+    case SEMVER_PARSER_VERSION_NUMBER_TOO_LARGE: return "a number of the version is too large";
+    case SEMVER_PARSER_VERSION_TOO_LONG: return "the version is too long";
+    case SEMVER_PARSER_VERSION_TEXT_AFTER: return "text follows the version";
     default: return "no call answers this number";
     }
 }

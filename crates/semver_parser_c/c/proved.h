@@ -12,6 +12,9 @@ extern "C" {
 int32_t semver_parser_proved_parse_version(
     const uint8_t *text, size_t text_length, int32_t reading, semver_parser_version *out);
 
+int32_t semver_parser_proved_explain_version(
+    const uint8_t *text, size_t text_length, int32_t reading, size_t *place);
+
 int32_t semver_parser_proved_precedence(const uint8_t *version, size_t version_length,
     const uint8_t *other, size_t other_length, int32_t reading, int32_t *order, bool *in_other);
 

@@ -20,10 +20,10 @@
  * - A text has as many bytes as is said, an array as many items, and a room has room for as many.
  *   They don't change while the call runs, but by the call.
  * - What a call writes to (`out`, `length`, `comparators`, `count`, `meets`, `answers`,
- *   `comparison`, `order`, `in_other`) overlaps with nothing else that it is given. It is aligned
- *   as its type is, and so is the array `versions`.
+ *   `comparison`, `order`, `in_other`, `place`) overlaps with nothing else that it is given. It is
+ *   aligned as its type is, and so is the array `versions`.
  * - Where a call writes one object (`out` of a version, `length`, `count`, `meets`, `comparison`,
- *   `order`, `in_other`), its pointer is never null.
+ *   `order`, `in_other`, `place`), its pointer is never null.
  * - A bool is 0 or 1.
  * - No call is made from a signal handler, nor from the forked child of a process that has several
  *   threads: calls take memory from `malloc`.
@@ -130,7 +130,26 @@ enum {
     /* Another fault of a version text. */
 
     /* By Cargo's own reading or npm's own: the text is no version to the tool, as `1.2.3-01`. */
-    SEMVER_PARSER_NOT_A_VERSION = 21
+    SEMVER_PARSER_NOT_A_VERSION = 21,
+
+    /* Why a text is no version, as semver_parser_explain_version says. */
+
+    /* The text is empty, or white space only. */
+    SEMVER_PARSER_VERSION_EMPTY = 22,
+    /* One of the three numbers is missing: `1.2`, `1..3`, `1.2-rc`. */
+    SEMVER_PARSER_VERSION_NOT_THREE_NUMBERS = 23,
+    /* A number, or a pre-release identifier of digits only, has a leading zero: `1.2.03`. */
+    SEMVER_PARSER_VERSION_LEADING_ZERO = 24,
+    /* An identifier is empty: `1.2.3-`, `1.2.3-a..b`. */
+    SEMVER_PARSER_VERSION_EMPTY_IDENTIFIER = 25,
+    /* No version has this character there: `1.x`, `vv1.2.3`. */
+    SEMVER_PARSER_VERSION_CHARACTER = 26,
+    /* A number is too large: above 2^64 - 1, or to npm above 2^53 - 1. */
+    SEMVER_PARSER_VERSION_NUMBER_TOO_LARGE = 27,
+    /* The text is longer than npm's 256 characters. */
+    SEMVER_PARSER_VERSION_TOO_LONG = 28,
+    /* Text follows a version: `1.2.3 x`. */
+    SEMVER_PARSER_VERSION_TEXT_AFTER = 29
 };
 
 /* The readings of range texts and of version texts, one of which is passed as `reading`
@@ -284,6 +303,28 @@ const char *semver_parser_fault_text(int32_t answer);
  */
 int32_t semver_parser_parse_version(const uint8_t *text, size_t text_length, int32_t reading,
                                     semver_parser_version *out);
+
+/* Where and why a text is no version by the reading of the number `reading`. `place` is never null.
+ * The bytes may be no UTF-8.
+ *
+ * `1.2.03` gives SEMVER_PARSER_VERSION_LEADING_ZERO and 5. docs/GRAMMAR.md says when each reason is
+ * returned ("Where and why a text is no version").
+ *
+ * Answers
+ * - SEMVER_PARSER_OK exactly if the text spells a version.
+ * - SEMVER_PARSER_NO_SUCH_READING exactly if `reading` is the number of no reading, whatever the
+ *   text is.
+ * - SEMVER_PARSER_VERSION_EMPTY, _VERSION_NOT_THREE_NUMBERS, _VERSION_LEADING_ZERO,
+ *   _VERSION_EMPTY_IDENTIFIER, _VERSION_CHARACTER, _VERSION_NUMBER_TOO_LARGE, _VERSION_TOO_LONG or
+ *   _VERSION_TEXT_AFTER for any other text. Then `place` is the offset of the first character that
+ *   no version has there, or `text_length` if something is missing at the end.
+ *
+ * After the first two `place` is as it was.
+ *
+ * Memory: none.
+ */
+int32_t semver_parser_explain_version(const uint8_t *text, size_t text_length, int32_t reading,
+                                      size_t *place);
 
 /* How a version text compares with another by precedence (SemVer 2.0.0, section 11). Both are read
  * by the reading of the number `reading`. Neither `order` nor `in_other` is null.

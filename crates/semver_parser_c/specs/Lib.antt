@@ -10,3 +10,4 @@ pub mod Compared
 pub mod Orders
 pub mod OneAnswer
 pub mod Steps
+pub mod Refusals

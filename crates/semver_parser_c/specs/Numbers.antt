@@ -86,6 +86,38 @@ no_such_reading = pos 20
 abbrev pub not_a_version : ℤ
 not_a_version = pos 21
 
+-- why a text is no version: the version text is empty, or white space alone
+abbrev pub version_empty : ℤ
+version_empty = pos 22
+
+-- one of its three numbers is missing
+abbrev pub version_not_three_numbers : ℤ
+version_not_three_numbers = pos 23
+
+-- a number, or a pre-release identifier of digits alone, has a leading zero
+abbrev pub version_leading_zero : ℤ
+version_leading_zero = pos 24
+
+-- an identifier is empty
+abbrev pub version_empty_identifier : ℤ
+version_empty_identifier = pos 25
+
+-- no version has this character there
+abbrev pub version_character : ℤ
+version_character = pos 26
+
+-- a number is too large
+abbrev pub version_number_too_large : ℤ
+version_number_too_large = pos 27
+
+-- it is longer than npm's 256 characters
+abbrev pub version_too_long : ℤ
+version_too_long = pos 28
+
+-- text follows the version
+abbrev pub version_text_after : ℤ
+version_text_after = pos 29
+
 -- the readings of a range text: Cargo's own
 abbrev pub cargo : ℤ
 cargo = pos 0

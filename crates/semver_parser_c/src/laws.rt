@@ -10,12 +10,14 @@ ghost use Rattle.semver_parser_c.specs.OneAnswer.{AreOne, text_errors};
 
 use crate::{
     ComparedRanges, ReadVersion, RewrittenComparator, semver_parser_proved_comparators,
-    semver_parser_proved_compare, semver_parser_proved_least, semver_parser_proved_meets,
-    semver_parser_proved_meets_each, semver_parser_proved_parse_version,
-    semver_parser_proved_precedence, semver_parser_proved_rewrite,
+    semver_parser_proved_compare, semver_parser_proved_explain_version, semver_parser_proved_least,
+    semver_parser_proved_meets, semver_parser_proved_meets_each,
+    semver_parser_proved_parse_version, semver_parser_proved_precedence,
+    semver_parser_proved_rewrite,
 };
 use semver_parser::laws::one_version_in;
 use std::alloc::Global;
+use version_fronts::laws::{one_longest_front, one_reason};
 
 /// A text is read as one version, or has one error, in place of which memory may run out.
 pub fn one_parsed_version(
@@ -32,6 +34,23 @@ pub fn one_parsed_version(
     let number = semver_parser_proved_parse_version(alloc, text, reading, out);
     let other = semver_parser_proved_parse_version(alloc, text, reading, other_out);
     (number, other)
+}
+
+/// A text is a version, or no version at one place and for one reason.
+pub fn one_explanation(
+    text: &[u8],
+    reading: i32,
+    place: &mut usize,
+    other_place: &mut usize,
+) -> (i32, i32)
+    requires { place.old ≡ other_place.old }
+    ensures one { (result.0 ≡ result.1) × (place.new ≡ other_place.new) }
+{
+    one_longest_front();
+    one_reason();
+    let first = semver_parser_proved_explain_version(text, reading, place);
+    let second = semver_parser_proved_explain_version(text, reading, other_place);
+    (first, second)
 }
 
 /// A text is rewritten to one printed set, or has one error.

@@ -15,6 +15,7 @@ mod meeting;
 mod numbers;
 mod range_text;
 mod readings;
+mod refusals;
 mod sets;
 mod version_text;
 
@@ -45,14 +46,19 @@ ghost use Rattle.semver_parser_c.specs.Places.{bytes_at, told};
 ghost use Rattle.semver_parser_c.specs.Comparators.{HasPreReleases, comparators_of};
 ghost use Rattle.semver_parser_c.specs.Comparators.{pre_releases, told_comparators};
 ghost use Rattle.semver_parser_c.specs.Printing.{Puts, PutsBoth};
+ghost use Rattle.semver_parser_c.specs.Refusals.{reason_number, reason_numbers};
 ghost use Rattle.semver_parser_c.specs.Meetings.{IsAnswer};
 ghost use Rattle.semver_parser_c.specs.Sets.{IsMeant, text_of};
 ghost use Rattle.semver_parser_c.specs.Compared.{Compares, TellsWhich, joined_texts, places_of};
+ghost use Rattle.version_fronts.specs.Fronts.{IsLongestFront};
+ghost use Rattle.version_fronts.specs.Reasons.{IsReason, byte_at};
+ghost use Rattle.version_fronts.specs.declared.reasons.Reason.{Reason};
 ghost use Rattle.version_sets.specs.Comparisons.{TellsLeast};
 ghost use Rattle.version_sets.specs.declared.comparison.Comparison.{Comparison};
 
 use std::alloc::Global;
 use std::cmp::Ordering;
+use version_fronts::reasons::refused;
 
 /// Where a part of a text lies: `length` bytes from `offset` on. Both are 0 where there is no such
 /// part.
@@ -183,6 +189,48 @@ pub extern "C" fn semver_parser_proved_parse_version(
             numbers::OK
         }
         Err(number) => number,
+    }
+}
+
+// Answer: law semver_parser_c::laws::one_explanation.
+/// Where and why a text is no version by the reading of a number: `OK` if it is one, else the
+/// number of the reason, and `place` is the byte offset of the first character that no version has
+/// there, or the length of the text if something is missing at its end. Does not allocate.
+///
+/// `1.2.03` gives `VERSION_LEADING_ZERO` and 5, and `1.2` gives `VERSION_NOT_THREE_NUMBERS` and 3.
+/// Bytes that are no UTF-8 have their place and reason too.
+///
+/// # Errors
+///
+/// `NO_SUCH_READING`, whatever the text. After it and after `OK` `place` is as it was.
+#[unsafe(no_mangle)]
+pub extern "C" fn semver_parser_proved_explain_version(
+    text: &[u8],
+    reading: i32,
+    place: &mut usize,
+) -> i32
+    ensures numbers { IsOneOf (number.ok ∷ number.no_such_reading ∷ reason_numbers) result }
+    ensures named { (result ≡ number.no_such_reading) ⊎ IsReading reading }
+    ensures no_such_reading { (result ≡ number.no_such_reading) ↔ ¬ (IsReading reading) }
+    ensures version { (d : Dialect) → IsDialect d reading
+        → (result ≡ number.ok) ↔ IsVersionTextIn d text.now }
+    ensures place { (d : Dialect) → IsDialect d reading → result ≢ number.ok
+        → IsLongestFront d text.now place.new }
+    ensures reason { (d : Dialect) → IsDialect d reading → result ≢ number.ok
+        → (r : Reason) × IsReason d (take place.new text.now) (byte_at text.now place.new) r
+        × (result ≡ reason_number r) }
+    ensures unchanged { IsOneOf (number.ok ∷ number.no_such_reading ∷ []) result
+        → place.new ≡ place.old }
+{
+    let Some(reading) = readings::reading_of(reading) else {
+        return numbers::NO_SUCH_READING;
+    };
+    match refused(text, reading.dialect()) {
+        Some(refusal) => {
+            *place = refusal.place;
+            refusals::number_of(refusal.reason)
+        }
+        None => numbers::OK,
     }
 }
 

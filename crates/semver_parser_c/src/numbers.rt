@@ -45,6 +45,23 @@ pub const NO_SUCH_READING: i32 = 20;
 /// The version is not one to the tool whose reading is asked for.
 pub const NOT_A_VERSION: i32 = 21;
 
+/// The text is empty, or white space only.
+pub const VERSION_EMPTY: i32 = 22;
+/// One of the three numbers of the version is missing.
+pub const VERSION_NOT_THREE_NUMBERS: i32 = 23;
+/// A number of the version, or a pre-release identifier of digits only, has a leading zero.
+pub const VERSION_LEADING_ZERO: i32 = 24;
+/// An identifier of the version is empty.
+pub const VERSION_EMPTY_IDENTIFIER: i32 = 25;
+/// No version has this character there.
+pub const VERSION_CHARACTER: i32 = 26;
+/// A number of the version is too large.
+pub const VERSION_NUMBER_TOO_LARGE: i32 = 27;
+/// The version is longer than npm's 256 characters.
+pub const VERSION_TOO_LONG: i32 = 28;
+/// Text follows the version.
+pub const VERSION_TEXT_AFTER: i32 = 29;
+
 /// Cargo's own reading of a range text.
 pub const CARGO: i32 = 0;
 /// npm's own reading.

@@ -108,7 +108,7 @@ fn releases_of(
     }
 }
 
-// Answer: law answer_laws::ranges::one_meets.
+// Answer: law answer_laws::sets::one_meets.
 /// Returns whether a range text means a version: `^1.2` means 1.9.0 and not 2.0.0 by each meaning,
 /// and `>=1.2.3, <2` by Cargo's alone.
 ///

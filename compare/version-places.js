@@ -1,0 +1,149 @@
+// Compares where and why a text is no version, in each dialect, with brute force.
+//
+// `node version-places.js PROGRAM COUNT SEED`, where PROGRAM is the built `replayed_cases`. It makes
+// the texts that versions-with-tools.js makes, COUNT of each kind, all texts of up to four
+// characters, and all of up to three after `1.0.0-` and after `1.0.0+`. A version is what a tool
+// reads: to npm node-semver, to Cargo the regular expression of semver.org with numbers below 2^64,
+// to the crate that of docs/GRAMMAR.md. A front is what ENDINGS makes a version of; for short texts
+// all endings of up to three characters are tried too. The reason is the one of the table in
+// docs/GRAMMAR.md, with a node-semver whose limit of length is raised. It prints the first 20
+// differences, and then ends with status 1.
+'use strict'
+
+const { Random, answers } = require('./with-node-semver.js')
+const { WHITE, OTHER, changed, escaped, limit, text } = require('./versions-with-tools.js')
+
+const BATCH = 10000
+const SHORT = [...'019.-+av \t\u00a0é']
+const ENDINGS = ['', '0', 'a', '.0', '0.0', '.0.0', '0.0.0']
+
+// node-semver with another limit of length, or as it is.
+function semverWithin (length) {
+  for (const path of Object.keys(require.cache)) if (/[\\/]semver[\\/]/.test(path)) delete require.cache[path]
+  const constants = require('semver/internal/constants')
+  if (length !== undefined) {
+    constants.MAX_LENGTH = length
+    constants.MAX_SAFE_BUILD_LENGTH = length
+    constants.MAX_SAFE_COMPONENT_LENGTH = length
+  }
+  const { SemVer } = require('semver')
+  return (of) => {
+    try {
+      return Boolean(new SemVer(of))
+    } catch {
+      return false
+    }
+  }
+}
+
+// What three numbers below 2^64 begin that a regular expression reads.
+const byGrammar = (grammar) => (of) => {
+  const read = grammar.exec(of)
+  return read !== null && read.slice(1, 4).every((number) => BigInt(number) < 2n ** 64n)
+}
+
+const NUMBERS = '(0|[1-9]\\d*)\\.(0|[1-9]\\d*)\\.(0|[1-9]\\d*)'
+const PRE = '(?:0|[1-9]\\d*|\\d*[a-zA-Z-][0-9a-zA-Z-]*)'
+const PART = '[0-9a-zA-Z-]+'
+const RUNS = '[0-9a-zA-Z]+(?:-[0-9a-zA-Z]+)*'
+const parts = (pre, build) => `(?:-${pre}(?:\\.${pre})*)?(?:\\+${build}(?:\\.${build})*)?`
+const byCargo = byGrammar(new RegExp(`^${NUMBERS}${parts(PRE, PART)}$`))
+const byCrate = byGrammar(new RegExp(`^[ \\t\\n\\r]*${NUMBERS}${parts(RUNS, RUNS)}[ \\t\\n\\r]*$`))
+const byNpm = semverWithin()
+
+// Whether a text is a version to each tool, and whether one of any length.
+const TOOLS = {
+  crate: { isVersion: byCrate, isLong: byCrate },
+  cargo: { isVersion: byCargo, isLong: byCargo },
+  npm: { isVersion: byNpm, isLong: semverWithin(1 << 20) }
+}
+
+const isFront = (isVersion, of, endings) => endings.some((ending) => isVersion(of + ending))
+const isWhite = (of) => /^[\t-\r ]/.test(of)
+
+// The white space that the first byte of a character begins; else the character itself.
+const begun = (character) => WHITE.find((white) => Buffer.from(white)[0] === Buffer.from(character)[0]) ?? character
+
+// The reason by the table.
+function reason ({ isVersion, isLong }, front, next) {
+  const takesLetter = isLong(front + 'a')
+  const takesZero = isLong(front + '0')
+  const identifier = takesZero ? 'empty identifier' : 'leading zero'
+  if (next === undefined) {
+    if (!/[\dv]/.test(front)) return 'empty'
+    return takesLetter ? identifier : 'not three numbers'
+  }
+  const longer = front + begun(next)
+  if (isFront(isLong, longer, ENDINGS) && !isFront(isVersion, longer, ENDINGS)) return 'too long'
+  if (/\d/.test(next) && /\d$/.test(front) && !takesLetter) return /(^|\D)0$/.test(front) ? 'leading zero' : 'too large'
+  if (isLong(front)) return isWhite(next) || !/[0-9A-Za-z-]$/.test(front) ? 'text after the version' : 'unexpected character'
+  if (!/[.+-]/.test(next) && !isWhite(next)) return 'unexpected character'
+  if (takesLetter) return identifier
+  return /\d/.test(front) ? 'not three numbers' : 'unexpected character'
+}
+
+// Where and why a text is no version, in bytes of UTF-8.
+function wanted (tool, of, endings) {
+  if (tool.isVersion(of)) return 'a version'
+  const characters = [...of]
+  let count = characters.length
+  while (!isFront(tool.isVersion, characters.slice(0, count).join(''), endings)) count--
+  const front = characters.slice(0, count).join('')
+  return `${Buffer.byteLength(front)}: ${reason(tool, front, characters[count])}`
+}
+
+let differences = 0
+
+function compare (program, what, all, endings = ENDINGS) {
+  const counts = []
+  for (const [name, tool] of Object.entries(TOOLS)) {
+    let refused = 0
+    for (let at = 0; at < all.length; at += BATCH) {
+      const batch = all.slice(at, at + BATCH)
+      const told = answers(program, batch.map((of) => `refused-as-${name}\t${escaped(of)}`))
+      if (told.length !== batch.length) throw new Error(`${told.length} of ${batch.length} answers`)
+      told.forEach((answer, place) => {
+        const want = wanted(tool, batch[place], endings)
+        refused += want === 'a version' ? 0 : 1
+        if (answer === want) return
+        differences++
+        if (differences > 20) return
+        console.log(`differ: ${JSON.stringify(batch[place])}: wanted by ${name} ${want}, here ${answer}`)
+      })
+    }
+    counts.push(`${refused} to ${name}`)
+  }
+  console.log(`${what}: ${all.length} texts, no versions: ${counts.join(', ')}`)
+}
+
+// All texts of so many of some characters.
+function * texts (length, of) {
+  if (length === 0) return yield ''
+  for (const front of texts(length - 1, of)) for (const last of of) yield front + last
+}
+
+const upTo = (length, of) => Array.from({ length: length + 1 }, (_, longest) => [...texts(longest, of)]).flat()
+
+function main ([program, count, seed]) {
+  const random = new Random(seed)
+  const made = (count, make) => Array.from({ length: count }, () => make(random))
+  console.log(`seed ${seed}`)
+  const tails = upTo(3, [...'0a.-+v ']).flatMap((of) => [of, of + '0.0', of + '.0.0', of + '0.0.0'])
+  const endings = [...ENDINGS, ...tails]
+  compare(program, 'short, by all short endings', upTo(2, SHORT), endings)
+  compare(program, 'short after 1.0., by all short endings', upTo(2, SHORT).map((of) => '1.0.' + of), endings)
+  compare(program, 'all of up to 4 characters', upTo(4, SHORT))
+  for (const front of ['1.0.0', '1.0.0-', '1.0.0+', '1.0.0-a+']) {
+    compare(program, `all of up to 3 after ${front}`, upTo(3, SHORT).map((of) => front + of))
+  }
+  compare(program, 'by the grammar', made(Number(count), text))
+  compare(program, 'changed', made(Number(count), changed))
+  compare(program, 'near the limit', made(Math.ceil(count / 10), limit))
+  const beside = (of) => [`${of}1.0.0`, `v${of}1.0.0`, `1.${of}0.0`, `1.0.0${of}`, `1.0.0-a${of}`, `1.0.0-01${of}`]
+  compare(program, 'beside each character', [...WHITE, ...OTHER].flatMap(beside))
+  console.log(`${differences === 0 ? 'no' : differences} differences`)
+  process.exit(differences === 0 ? 0 : 1)
+}
+
+module.exports = { ENDINGS, TOOLS, wanted }
+if (require.main === module) main(process.argv.slice(2))

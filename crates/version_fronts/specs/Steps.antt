@@ -1,0 +1,2 @@
+pub mod Reasoning
+pub mod Scanning
