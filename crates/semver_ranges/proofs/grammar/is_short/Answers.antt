@@ -2,7 +2,7 @@ use Rattle.std.proofs.Common.{◌-◌, ap, sym, length, ◌∙◌, arith}
 use Rattle.std.proofs.lemmas.List.{length-take-le}
 use Rattle.semver_ranges.specs.RangeTree.{is_short_word}
 use Rattle.semver_ranges.specs.Steps.CursorViews.{role_of}
-use Rattle.semver_ranges.proofs.LongWords.{back_within, front_spells, rest_within, short_word}
+use Rattle.semver_ranges.proofs.LongWords.{back_within, front_spells, short_word}
 use Rattle.semver_ranges.proofs.grammar.is_short.Goals as goal
 
 pub returns-then-len-le-SHORT : goal.returns-then-len-le-SHORT
