@@ -1,6 +1,6 @@
 -- Words that are too long to npm: what their bytes say of their numbers and identifiers, and that no word of up to 250 bytes is one.
 use Rattle.std.proofs.Common.{◌≡◌, ℕ, ◌+◌, ◌-◌, ◌≤◌, Bool, true, false, ◌&&◌, ◌||◌, not, List, [], ◌∷◌, ◌++◌, codes, length, take, refl, sym, ap, ◌∙◌}
-use Rattle.std.proofs.Common.{All, Some, None, arith, length-append, subst}
+use Rattle.std.proofs.Common.{All, Some, None, arith, length-append, subst, append-nil}
 use Rattle.std.specs.Prelude.{nat_le, if◌then◌else◌, ◌==◌}
 use Rattle.std.specs.Char.{is_ascii_digit}
 use Rattle.std.specs.List.{list_all, slice_split, join_with_byte}
@@ -17,10 +17,13 @@ use Rattle.semver_ranges.specs.RangeTree.{PartialTree, one, two, three, Role, Sp
 use Rattle.semver_ranges.specs.RangeTree.{qualifier, has_short_parts, states_three, is_taken_whole, numbers_and_pre, is_short_word}
 use Rattle.semver_ranges.specs.NpmLengths.{is_short_number, is_short_pre, is_short_build, is_short_version, leading_digits}
 use Rattle.semver_texts.specs.declared.dialect.Dialect.{Dialect}
-use Rattle.semver_texts.specs.declared.dialect.Dialect.TheVariants.{Crate, Cargo, Npm}
+use Rattle.semver_texts.specs.declared.dialect.Dialect.TheVariants.{Npm}
 use Rattle.semver_ranges.specs.Steps.NpmLimits.{are_short_parts, marked_length, IsBefore}
 use Rattle.semver_ranges.specs.Steps.Reading.{behind_v, component, with_first, whole_word, partial, takes, ends_word}
-use Rattle.semver_ranges.proofs.ReadingPieces.{PartialAt, component_sound, first_sound}
+use Rattle.semver_texts.proofs.DottedParts.{found_same}
+use Rattle.semver_ranges.proofs.ReadingPieces.{PartialAt, component_sound, first_sound, length_before, no_v, partial_starts, starts}
+use Rattle.semver_ranges.proofs.ReadingPieces.{is_component_byte}
+use Rattle.semver_ranges.proofs.WrittenPieces.{first_read}
 use Rattle.semver_ranges.specs.Steps.PartialViews.{AreWritten}
 
 -- ---- a partial's text: its numbers, its pre-release, its build
@@ -184,27 +187,61 @@ short_word role p t n h less small =
 
 -- ---- a word before its rest, as it was read
 
-behind_v_short : (d : Dialect) (t : Text) → length (behind_v d t) ≤ length t
-behind_v_short Crate t = omega arith
-behind_v_short Cargo t = omega arith
-behind_v_short Npm [] = omega arith
-behind_v_short Npm (b ∷ t) = grind (arith, nat_tests)
+pub before_rest : (d : Dialect) (text behind rest : Text) (p : PartialTree) → behind ≡ behind_v d text
+    → with_first (component behind) ≡ Some (p, rest) → IsBefore d p text rest
+before_rest d text behind rest p e found =
+    let at : PartialAt behind (Some (p, rest)) = subst (λ o. PartialAt behind o) found (first_sound behind _ (component_sound behind)) in
+    record { back = at.0; spelled = at.1; behind_is = sym e ∙ at.2 }
 
-pub before_rest : (d : Dialect) (text behind rest : Text) (p : PartialTree) (c : Components) → behind ≡ behind_v d text
-    → with_first (component behind) ≡ Some (p, rest) → AreWritten p c → IsBefore p c text behind rest
-before_rest d text behind rest p c e found w =
-    let at : PartialAt behind (Some (p, rest)) = subst (λ o. PartialAt behind o) found (first_sound behind _ (component_sound behind)) in record {
-      word = at.0;
-      spelled = at.1;
-      written = w;
-      behind_is = at.2;
-      within = subst (λ b. length b ≤ length text) (sym e) (behind_v_short d text);
-    }
+-- to npm: the front of the text is its word
+record Front (text rest back : Text) : Type 0 where
+  longer : length back + length rest ≤ length text
+  partial : behind_v Npm (take (length text - length rest) text) ≡ back
 
-pub rest_within : (p : PartialTree) (c : Components) (text behind rest : Text) (w : IsBefore p c text behind rest)
-    → length w.word ≤ length text - length rest
-rest_within p c text behind rest w =
-    omega (arith, w.within, simp length-append at (ap length w.behind_is))
+word_front : (text rest back : Text) (p : PartialTree) → SpellsPartial p back → behind_v Npm text ≡ back ++ rest → Front text rest back
+word_front [] rest back p h e =
+    let size : 0 ≡ length back + length rest = ap length e ∙ length-append back rest in
+    absurd (no_text back (partial_starts p back h) (omega (arith, size))) where
+      no_text : (t : Text) → starts is_component_byte t ≡ true → length t ≡ 0 → ⊥
+      no_text [] s e = cc
+      no_text (b ∷ t) s e = omega (arith, e)
+word_front (b ∷ t) rest back p h e = by_test (b == 118)
+    (λ y. let whole : t ≡ back ++ rest = rw y at e in
+    let size : length t ≡ length back + length rest = ap length whole ∙ length-append back rest in
+    let count : length (b ∷ t) - length rest ≡ length (b ∷ back) = omega (arith, size) in
+    let front : take (length (b ∷ t) - length rest) (b ∷ t) ≡ b ∷ back =
+    ap (λ n. take n (b ∷ t)) count ∙ ap (λ u. take (length (b ∷ back)) (b ∷ u)) whole ∙ take_front (b ∷ back) rest in
+    record { longer = omega (arith, size); partial = ap (behind_v Npm) front ∙ rw y refl })
+    (λ n. let whole : b ∷ t ≡ back ++ rest = rw n at e in
+    let size : length (b ∷ t) ≡ length back + length rest = ap length whole ∙ length-append back rest in
+    let front : take (length (b ∷ t) - length rest) (b ∷ t) ≡ back =
+    ap (λ n. take n (b ∷ t)) (length_before (b ∷ t) back rest whole) ∙ ap (take (length back)) whole ∙ take_front back rest in
+    record { longer = omega (arith, size); partial = ap (behind_v Npm) front ∙ no_v back (partial_starts p back h) })
+
+module _ (p : PartialTree) (text rest : Text) (w : IsBefore Npm p text rest) where
+  found : Front text rest w.back
+  found = word_front text rest w.back p w.spelled w.behind_is
+
+  pub rest_within : length rest ≤ length text
+  rest_within = let size = found.longer in omega (arith, size)
+
+  pub back_within : length w.back ≤ length text - length rest
+  back_within = let size = found.longer in omega (arith, size)
+
+  pub front_spells : SpellsPartial p (behind_v Npm (take (length text - length rest) text))
+  front_spells = subst (SpellsPartial p) (sym found.partial) w.spelled
+
+-- what is read of a partial's text
+pub reads_itself : (p : PartialTree) (t : Text) → SpellsPartial p t → with_first (component t) ≡ Some (p, [])
+reads_itself p t h = rw append-nil at (first_read p t [] h refl)
+
+pub reads_same : (p p' : PartialTree) (t rest : Text) → SpellsPartial p t → with_first (component t) ≡ Some (p', rest) → p' ≡ p
+reads_same p p' t rest h e = (found_same (sym e ∙ reads_itself p t h)).0
+
+pub reads_some : (p : PartialTree) (t : Text) → SpellsPartial p t → with_first (component t) ≡ None → ⊥
+reads_some p t h e = let same = sym (reads_itself p t h) ∙ e in none_of same where
+  none_of : {X : Type 0} {x : X} → Some x ≡ None → ⊥
+  none_of e = cc
 
 -- a partial that is read, and one that isn't
 module _ (d : Dialect) (role : Role) (text behind rest : Text) (p : PartialTree) (e : behind ≡ behind_v d text)

@@ -155,7 +155,7 @@ pub record Word (d : Dialect) (role : Role) (p : PartialTree) (t : Text) : Type 
   pub text : t ≡ front ++ back
 
 -- a partial doesn't begin with a `v`
-no_v : (t : Text) → starts is_component_byte t ≡ true → behind_v Npm t ≡ t
+pub no_v : (t : Text) → starts is_component_byte t ≡ true → behind_v Npm t ≡ t
 no_v [] e = refl
 no_v (b ∷ t) e = grind (arith, nat_tests)
 

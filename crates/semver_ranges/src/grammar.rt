@@ -146,9 +146,8 @@ pub fn read_operator(text: &[u8], dialect: Dialect) -> (Form, &[u8])
 fn read_partial(text: &[u8], dialect: Dialect, role: Role) -> Option<(Partial<'_>, &[u8])>
     ensures { Finds IsPartialOf (partial dialect (role_of role) text.now) result }
 {
-    let behind = behind_v(text, dialect);
-    let (written, rest) = read_components(behind)?;
-    if takes(text, behind, rest, &written, dialect, role) && ends_word(rest, dialect) {
+    let (written, rest) = read_components(behind_v(text, dialect))?;
+    if ends_word(rest, dialect) && takes(text, rest, &written, dialect, role) {
         Some((
             Partial::new(written.major, written.minor, written.patch, written.pre),
             rest,
@@ -160,7 +159,7 @@ fn read_partial(text: &[u8], dialect: Dialect, role: Role) -> Option<(Partial<'_
 
 /// What follows one `v`, to npm.
 #[inline(always)]
-fn behind_v(text: &[u8], dialect: Dialect) -> &[u8]
+pub(crate) fn behind_v(text: &[u8], dialect: Dialect) -> &[u8]
     ensures { result.now ≡ behind_v dialect text.now }
 {
     match (dialect, text) {
@@ -169,25 +168,16 @@ fn behind_v(text: &[u8], dialect: Dialect) -> &[u8]
     }
 }
 
-/// Whether the word is read that stands before what follows it. `behind` is what follows its `v`.
+/// Whether the word is read that stands before a rest.
 #[inline(always)]
-fn takes(
-    text: &[u8],
-    behind: &[u8],
-    rest: &[u8],
-    written: &Components<'_>,
-    dialect: Dialect,
-    role: Role,
-) -> bool
-    requires { (p : PartialTree) × IsBefore p written.now text.now behind.now rest.now }
-    ensures { (p : PartialTree) → IsBefore p written.now text.now behind.now rest.now
+fn takes(text: &[u8], rest: &[u8], written: &Components<'_>, dialect: Dialect, role: Role) -> bool
+    requires { (p : PartialTree) × IsBefore dialect p text.now rest.now }
+    ensures { (p : PartialTree) → IsBefore dialect p text.now rest.now → AreWritten p written.now
         → result ≡ takes dialect (role_of role) p (length text.now - length rest.now) }
 {
     match dialect {
         Dialect::Crate | Dialect::Cargo => true,
-        Dialect::Npm => {
-            has_no_leading_zeros(written) && is_short(text, behind, rest, written, role)
-        }
+        Dialect::Npm => has_no_leading_zeros(written) && is_short(text, rest, role),
     }
 }
 
@@ -199,18 +189,18 @@ fn has_no_leading_zeros(written: &Components<'_>) -> bool
     written.count < 3 || have_no_leading_zeros(written.pre)
 }
 
-/// Whether the word isn't too long to npm.
+/// Whether the word isn't too long to npm that stands before a rest.
 #[inline(always)]
-fn is_short(text: &[u8], behind: &[u8], rest: &[u8], written: &Components<'_>, role: Role) -> bool
-    requires { (p : PartialTree) × IsBefore p written.now text.now behind.now rest.now }
-    ensures { (p : PartialTree) → IsBefore p written.now text.now behind.now rest.now
+fn is_short(text: &[u8], rest: &[u8], role: Role) -> bool
+    requires { (p : PartialTree) × IsBefore dialect.Npm p text.now rest.now }
+    ensures { (p : PartialTree) → IsBefore dialect.Npm p text.now rest.now
         → result ≡ is_short_word (role_of role) p (length text.now - length rest.now) }
 {
     let len = text.len() - rest.len();
     if len <= SHORT {
         return true;
     }
-    is_short_word(len, &behind[..behind.len() - rest.len()], *written, role)
+    is_short_word(&text[..len], role)
 }
 
 // Answer: equation.

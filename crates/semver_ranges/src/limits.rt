@@ -10,9 +10,12 @@ ghost use Rattle.semver_ranges.specs.RangeTree.{numbers_and_pre};
 ghost use Rattle.semver_ranges.specs.Steps.CursorViews.{role_of};
 ghost use Rattle.semver_ranges.specs.Steps.NpmLimits.{are_short_parts, is_short_as, marked_length};
 ghost use Rattle.semver_ranges.specs.Steps.PartialViews.{AreWritten};
+ghost use Rattle.semver_ranges.specs.Steps.Reading.{behind_v};
+ghost use Rattle.semver_texts.specs.declared.dialect.Dialect.TheVariants as dialect;
 
-use crate::grammar::{Form, Role};
+use crate::grammar::{Form, Role, behind_v, read_components};
 use crate::partial::{Component, Components};
+use semver_texts::dialect::Dialect;
 use semver_texts::dotted::split_at_dot;
 
 /// How many characters the version of a comparator may have: node-semver's `MAX_LENGTH`.
@@ -31,25 +34,33 @@ enum Kind {
     Build,
 }
 
-/// Whether a word of so many bytes, which ends with this partial, isn't too long to npm. For speed
-/// the components come by value: so they needn't be in memory where no word is long.
+/// Whether a word isn't too long to npm. For speed it is read anew: so nothing else is kept of it
+/// where no word is long.
 #[inline(never)]
-pub(crate) fn is_short_word(
-    len: usize,
-    partial: &[u8],
-    written: Components<'_>,
-    role: Role,
-) -> bool
-    requires { (p : PartialTree) × SpellsPartial p partial.now × AreWritten p written }
-    ensures { (p : PartialTree) → SpellsPartial p partial.now → AreWritten p written.entry
+pub(crate) fn is_short_word(word: &[u8], role: Role) -> bool
+    requires { (p : PartialTree) × SpellsPartial p (behind_v dialect.Npm word.now) }
+    ensures { (p : PartialTree) → SpellsPartial p (behind_v dialect.Npm word.now)
+        → result ≡ is_short_word (role_of role) p (length word.now) }
+{
+    let partial = behind_v(word, Dialect::Npm);
+    match read_components(partial) {
+        Some((written, _)) => is_short_partial(word.len(), partial, &written, role),
+        None => false,
+    }
+}
+
+/// Whether a word of so many bytes, which ends with this partial, isn't too long.
+fn is_short_partial(len: usize, partial: &[u8], written: &Components<'_>, role: Role) -> bool
+    requires { (p : PartialTree) × SpellsPartial p partial.now × AreWritten p written.now }
+    ensures { (p : PartialTree) → SpellsPartial p partial.now → AreWritten p written.now
         → result ≡ is_short_word (role_of role) p len }
 {
     let version = partial.len() - marked_len(written.build);
     let numbers = version - marked_len(written.pre);
-    if !has_short_parts(&partial[..numbers], &written) {
+    if !has_short_parts(&partial[..numbers], written) {
         return false;
     }
-    is_short_version(len, version, &written, role)
+    is_short_version(len, version, written, role)
 }
 
 /// Whether none of its numbers and identifiers is too long.

@@ -1,12 +1,12 @@
 -- A means of proof, which no public clause cites: what private contracts see of a long word.
-use Rattle.std.specs.Prelude.{◌≡◌, ◌≤◌, ℕ, ◌+◌, ◌++◌, Bool, ◌&&◌, if◌then◌else◌, length}
+use Rattle.std.specs.Prelude.{◌≡◌, ℕ, ◌+◌, ◌++◌, Bool, ◌&&◌, if◌then◌else◌, length}
 use Rattle.std.specs.List.{list_all}
 use Rattle.semver_ranges.specs.declared.limits.Kind.{Kind}
 use Rattle.semver_ranges.specs.declared.limits.Kind.TheVariants.{Number, PreRelease, Build}
-use Rattle.semver_ranges.specs.declared.partial.Components.{Components}
+use Rattle.semver_texts.specs.declared.dialect.Dialect.{Dialect}
 use Rattle.semver_texts.specs.Texts.{Text, cut_at_dots, is_empty}
 use Rattle.semver_ranges.specs.RangeTree.{PartialTree, SpellsPartial}
-use Rattle.semver_ranges.specs.Steps.PartialViews.{AreWritten}
+use Rattle.semver_ranges.specs.Steps.Reading.{behind_v}
 use Rattle.semver_ranges.specs.NpmLengths.{is_short_number, is_short_pre, is_short_build}
 
 -- whether a part isn't too long
@@ -25,10 +25,8 @@ are_short_parts numbers pre build = list_all (is_short_as Number) (cut_at_dots n
 abbrev pub marked_length : Text → ℕ
 marked_length t = if is_empty t then 0 else length t + 1
 
--- a word that ends before a rest: its partial, whose components were read, and behind what it is
-pub record IsBefore (p : PartialTree) (c : Components) (text behind rest : Text) : Type 0 where
-  pub word : Text
-  pub spelled : SpellsPartial p word
-  pub written : AreWritten p c
-  pub behind_is : behind ≡ word ++ rest
-  pub within : length behind ≤ length text
+-- a word that ends before a rest, by its partial
+pub record IsBefore (d : Dialect) (p : PartialTree) (text rest : Text) : Type 0 where
+  pub back : Text
+  pub spelled : SpellsPartial p back
+  pub behind_is : behind_v d text ≡ back ++ rest

@@ -1,30 +1,27 @@
-use Rattle.std.proofs.Common.{refl, sym, ◌∙◌, arith}
-use Rattle.std.proofs.lemmas.Bool.{and_left}
-use Rattle.semver_ranges.proofs.LongWords.{marks_within, parts_told, version_is}
+use Rattle.std.proofs.Common.{sym, subst}
+use Rattle.semver_ranges.specs.RangeTree.{PartialTree, SpellsPartial}
+use Rattle.semver_ranges.specs.Steps.PartialViews.{AreWritten}
+use Rattle.semver_ranges.proofs.LongWords.{reads_same, reads_some}
 use Rattle.semver_ranges.proofs.limits.is_short_word.Goals as goal
+use Rattle.semver_ranges.proofs.limits.is_short_word.Goals.{In-Some}
 
-pub overflow_sub-version : goal.overflow_sub-version
-overflow_sub-version c =
-    omega (arith, marks_within c.requires.0 c.args.written c.args.partial.now c.requires.1 c.requires.2, c.marked_len.ensures)
+-- the components that were read are those of its partial
+written : (c : In-Some) (p : PartialTree) → SpellsPartial p c.behind_v-partial.result.now → AreWritten p c.in-Some.written
+written c p h =
+    let found = c.in-Some.ensures in
+    subst (λ q. AreWritten q c.in-Some.written) (reads_same p found.0 c.behind_v-partial.result.now c.in-Some.field-0-1.now h found.1) found.2
 
-pub overflow_sub-numbers : goal.overflow_sub-numbers
-overflow_sub-numbers c =
-    omega (
-      arith,
-      marks_within c.requires.0 c.args.written c.args.partial.now c.requires.1 c.requires.2,
-      c.marked_len.ensures,
-      c.marked_len-2.ensures,
-    )
+pub is_short_partial-requires : goal.is_short_partial-requires
+is_short_partial-requires c =
+    let h = subst (SpellsPartial c.requires.0) (sym c.behind_v-partial.ensures) c.requires.1 in
+    (c.requires.0, h, written (goal.at.is_short_partial-requires c).In-Some c.requires.0 h)
 
-pub returns-then-not-has_short_parts : goal.returns-then-not-has_short_parts
-returns-then-not-has_short_parts c = λ p h w.
-    let told = parts_told p c.args.written c.args.partial.now _ _ h w
-    (rw (c.marked_len.ensures, c.marked_len-2.ensures) refl) refl in
-    sym (and_left _ _ (sym told ∙ sym c.has_short_parts.ensures ∙ c.if-not-has_short_parts.true))
+pub returns-in-Some : goal.returns-in-Some
+returns-in-Some c = λ p spelled.
+    let h = subst (SpellsPartial p) (sym c.behind_v-partial.ensures) spelled in
+    c.is_short_partial.ensures p h (written (goal.at.returns-in-Some c).In-Some p h)
 
-pub returns : goal.returns
-returns c = λ p h w.
-    let told = parts_told p c.args.written c.args.partial.now _ _ h w
-    (rw (c.marked_len.ensures, c.marked_len-2.ensures) refl) refl in
-    c.is_short_version.ensures p w (rw c.marked_len.ensures (version_is p c.args.written c.args.partial.now h w))
-    ∙ rw (sym told ∙ sym c.has_short_parts.ensures ∙ c.if-not-has_short_parts.false) refl
+pub returns-in-None : goal.returns-in-None
+returns-in-None c = λ p spelled.
+    let h = subst (SpellsPartial p) (sym c.behind_v-partial.ensures) spelled in
+    absurd (reads_some p c.behind_v-partial.result.now h c.in-None.ensures)
