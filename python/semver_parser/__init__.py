@@ -41,7 +41,7 @@ from .values import (
     precedence,
 )
 
-__version__ = "0.4.0"
+__version__ = "0.4.1"
 
 __all__ = [
     "AnyVersion",

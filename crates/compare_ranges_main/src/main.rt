@@ -56,7 +56,7 @@ mean the same versions, 1 where they differ, and 2 after a fault, which
 standard error tells.";
 
 /// The version of this program, as the file VERSION has it.
-const VERSION: &str = "compare-ranges 0.4.0";
+const VERSION: &str = "compare-ranges 0.4.1";
 
 /// Why a run ended by a fault.
 #[derive(Drop)]

@@ -58,8 +58,8 @@
  * take the number of a reading in place of a mode, and since 0.4 those that read a version do. */
 #define SEMVER_PARSER_VERSION_MAJOR 0
 #define SEMVER_PARSER_VERSION_MINOR 4
-#define SEMVER_PARSER_VERSION_PATCH 0
-#define SEMVER_PARSER_VERSION "0.4.0"
+#define SEMVER_PARSER_VERSION_PATCH 1
+#define SEMVER_PARSER_VERSION "0.4.1"
 
 #ifdef __cplusplus
 extern "C" {
