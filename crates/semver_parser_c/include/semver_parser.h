@@ -426,22 +426,22 @@ int32_t semver_parser_comparators(const uint8_t *text, size_t text_length, int32
  *
  * Answers
  * - SEMVER_PARSER_OK exactly where there is such a reading, it has that rule, and both texts are
- *   read, want of memory aside. Then `meets` is whether the version meets the range by both.
+ *   read. Then `meets` is whether the version meets the range by both.
  * - SEMVER_PARSER_NO_SUCH_READING exactly where `reading` is the number of no reading, whatever the
  *   texts are.
  * - SEMVER_PARSER_NO_SUCH_RULE exactly where there is such a reading and `pre_releases` is the
  *   number of no rule of it, whatever the texts are.
- * - A fault of the range, as those of `semver_parser_rewrite`, whatever the version is:
- *   SEMVER_PARSER_RANGE_NOT_UTF8, _NOT_A_RANGE, _NUMBER_TOO_LARGE or _RANGE_OUT_OF_MEMORY. The
- *   range is read first.
- * - Where the range has none, a fault of the version, as those of `semver_parser_parse_version`:
+ * - An error of the range, as those of `semver_parser_rewrite`, whatever the version is:
+ *   SEMVER_PARSER_RANGE_NOT_UTF8, _NOT_A_RANGE or _NUMBER_TOO_LARGE, and never
+ *   _RANGE_OUT_OF_MEMORY.
+ * - Where the range has none, an error of the version, as those of `semver_parser_parse_version`:
  *   SEMVER_PARSER_VERSION_NOT_UTF8, _NOT_A_VERSION, _UNEXPECTED_END, _UNEXPECTED_TOKEN,
  *   _UNEXPECTED_CHAR, _MORE_INPUT or _VERSION_OUT_OF_MEMORY.
  *
  * After any answer but SEMVER_PARSER_OK `meets` is as it was.
  *
- * Memory: 74 bytes for each byte of the range, of `1 1 1 ..`, while it is read, and the set of
- * versions that it means while this is asked. A version takes some only where its fault is told.
+ * Memory: none for the range, which is judged as it is read, nor for a version; some only where a
+ * text is no version and its error is found.
  */
 int32_t semver_parser_meets(const uint8_t *range, size_t range_length, int32_t reading,
                             int32_t pre_releases, const uint8_t *version, size_t version_length,
@@ -459,7 +459,7 @@ int32_t semver_parser_meets(const uint8_t *range, size_t range_length, int32_t r
  *   _UNEXPECTED_CHAR, _MORE_INPUT or _VERSION_OUT_OF_MEMORY. One text's want of memory leaves the
  *   others' answers as they are.
  * - SEMVER_PARSER_NO_SUCH_READING, _NO_SUCH_RULE, _RANGE_NOT_UTF8, _NOT_A_RANGE, _NUMBER_TOO_LARGE
- *   or _RANGE_OUT_OF_MEMORY, as of `semver_parser_meets`.
+ *   or _RANGE_OUT_OF_MEMORY, as of `semver_parser_rewrite`.
  *
  * After any answer but SEMVER_PARSER_OK `answers` is as it was.
  *
@@ -468,8 +468,9 @@ int32_t semver_parser_meets(const uint8_t *range, size_t range_length, int32_t r
  * than a size_t holds, the answer is SEMVER_PARSER_RANGE_OUT_OF_MEMORY, unless the reading, the
  * rule or the range has another fault.
  *
- * Memory: as the call above, of one version after the other; and 16 bytes for each text where an
- * empty one is at null.
+ * Memory: 74 bytes for each byte of the range, of `1 1 1 ..`, while it is read, and the set of
+ * versions that it means while they are judged, each as by the call above; and 16 bytes for each
+ * text where an empty one is at null.
  */
 int32_t semver_parser_meets_each(const uint8_t *range, size_t range_length, int32_t reading,
                                  int32_t pre_releases, const semver_parser_text *versions,

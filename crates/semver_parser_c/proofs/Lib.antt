@@ -8,3 +8,4 @@ mod OneAnswer
 mod OnePutting
 mod OneRewriting
 mod OneLeast
+mod OneMeeting

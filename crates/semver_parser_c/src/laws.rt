@@ -133,9 +133,9 @@ pub fn one_meeting(
     requires { meets.old ≡ other_meets.old }
     ensures one { AreOne (number.ok ∷ number.range_out_of_memory ∷ version_faults)
         result.0 result.1 (meets.new ≡ other_meets.new) }
-    // In place of an answer memory runs out at the range alone.
+    // Memory runs out in place of an error of the version's text alone, and never of an answer.
     ensures version_memory { result.0 ≡ number.version_out_of_memory
-        → IsOneOf (number.range_out_of_memory ∷ text_errors) result.1 }
+        → IsOneOf text_errors result.1 }
 {
     let number = semver_parser_proved_meets(alloc, range, reading, pre_releases, version, meets);
     let other = semver_parser_proved_meets(

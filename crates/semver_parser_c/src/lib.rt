@@ -8,6 +8,7 @@
 //! free.
 #![tactic(auto)]
 
+mod asking;
 mod comparators;
 mod compared;
 pub mod laws;
@@ -370,8 +371,10 @@ pub extern "C" fn semver_parser_proved_comparators(
 /// # Faults
 ///
 /// `NO_SUCH_READING`, and where there is a reading of that number `NO_SUCH_RULE`, whatever the
-/// texts. Then the range is read: `RANGE_NOT_UTF8`, `NOT_A_RANGE`, `NUMBER_TOO_LARGE` and
-/// `RANGE_OUT_OF_MEMORY`, whatever the version. Then those of `semver_parser_proved_parse_version`.
+/// texts. Then the range is read: `RANGE_NOT_UTF8`, `NOT_A_RANGE` and `NUMBER_TOO_LARGE`, whatever
+/// the version; it needs no memory, so `RANGE_OUT_OF_MEMORY` never comes. Then those of
+/// `semver_parser_proved_parse_version`, where `VERSION_OUT_OF_MEMORY` is left for texts that spell
+/// no version.
 #[unsafe(no_mangle)]
 pub extern "C" fn semver_parser_proved_meets(
     alloc: Global,
@@ -381,6 +384,8 @@ pub extern "C" fn semver_parser_proved_meets(
     version: &[u8],
     meets: &mut bool,
 ) -> i32
+    // The range is judged as it is read: no memory is needed for it.
+    ensures no_memory { result ≢ number.range_out_of_memory }
     ensures numbers { IsOneOf (number.ok ∷ named_faults ++ version_faults) result }
     // An answer is that of the range's own meaning, and comes where both texts are read.
     ensures meaning { result ≡ number.ok → (m : Meaning) → IsNamed m reading pre_releases
@@ -408,16 +413,12 @@ pub extern "C" fn semver_parser_proved_meets(
     ensures version_out_of_memory { (d : Dialect) → IsDialect d reading
         → result ≡ number.version_out_of_memory → MayRunOutIn d version.now }
 {
-    let filter = match meeting::filter_of(alloc, range, reading, pre_releases) {
-        Ok(filter) => filter,
-        Err(number) => return number,
-    };
-    match meeting::judge(alloc, &filter, version) {
+    match asking::judge(alloc, range, reading, pre_releases, version) {
         Ok(met) => {
             *meets = met;
             numbers::OK
         }
-        Err(fault) => fault,
+        Err(number) => number,
     }
 }
 

@@ -1,15 +1,19 @@
 -- A means of proof, which no public clause cites: what a range text is to a reading, by the fault
 -- that is told of it, and which numbers tell which.
-use Rattle.std.specs.Prelude.{ℤ, ◌≡◌, ◌≢◌, ◌⊎◌, ⊤, IsUtf8, List, ◌∷◌, ◌++◌}
+use Rattle.std.specs.Prelude.{ℤ, ◌≡◌, ◌≢◌, ◌⊎◌, ◌↔◌, ⊤, IsUtf8, List, ◌∷◌, ◌++◌}
 use Rattle.semver_parser.specs.Texts.{Text}
+use Rattle.semver_parser.specs.Versions.{VersionValue}
+use Rattle.semver_parser.specs.ToolVersions.{IsVersionTextIn, SpellsIn}
+use Rattle.semver_parser.specs.declared.version.Dialect.{Dialect}
 use Rattle.tool_ranges.specs.declared.reading.Reading.{Reading}
 use Rattle.tool_ranges.specs.declared.meaning.Meaning.{Meaning}
 use Rattle.tool_ranges.specs.Readings.{IsTextAs, HasSetAs, IsTooLargeAs}
 use Rattle.semver_parser_c.specs.declared.range_text.RangeFault.{RangeFault}
 use Rattle.semver_parser_c.specs.declared.range_text.RangeFault.TheVariants as range_fault
 use Rattle.semver_parser_c.specs.Numbers as number
-use Rattle.semver_parser_c.specs.Readings.{IsNamed, reading_number}
-use Rattle.semver_parser_c.specs.Faults.{IsAccepted, IsOneOf, IsReadBy, NewRangeIsRead, RangeIsRead}
+use Rattle.semver_parser_c.specs.Readings.{IsDialect, IsNamed, reading_number}
+use Rattle.semver_parser_c.specs.Faults.{IsAccepted, IsOneOf, IsReadBy, MayRunOutIn}
+use Rattle.semver_parser_c.specs.Faults.{NewRangeIsRead, RangeIsRead, RefusedIn}
 use Rattle.semver_parser_c.specs.Faults.{RefusesBy, RefusesNewRange, RefusesRange, RefusesText}
 use Rattle.semver_parser_c.specs.Faults.{named_faults, new_range_faults, range_faults}
 use Rattle.semver_parser_c.specs.Faults.{range_numbers, version_faults}
@@ -51,6 +55,21 @@ pub record IsRefused (reading rule : ℤ) (text : Text) (n : ℤ) : Type 0 where
 pub record IsTextRefused (reading : ℤ) (text : Text) (n : ℤ) : Type 0 where
   pub number : IsOneOf (number.no_such_reading ∷ range_faults) n
   pub refusals : RefusesText reading text n
+
+-- the numbers or the range are refused by the number, or where they aren't, the version is
+pub record IsUnjudged (reading rule : ℤ) (range version : Text) (n : ℤ) : Type 0 where
+  pub one : IsOneOf (named_faults ++ version_faults) n
+  pub found : n ≢ number.range_out_of_memory
+  pub refusals : RefusesRange reading rule range n
+  pub accepted : RangeIsRead reading rule range n → (d : Dialect) → IsDialect d reading
+      → (v : VersionValue) → IsUtf8 version → SpellsIn d v version → n ≡ number.ok
+  pub not_utf8 : RangeIsRead reading rule range n
+      → (n ≡ number.version_not_utf8) ↔ ¬ (IsUtf8 version)
+  pub refused : RangeIsRead reading rule range n → (d : Dialect) → IsDialect d reading
+      → IsUtf8 version → ¬ (IsVersionTextIn d version) → n ≢ number.version_out_of_memory
+      → RefusedIn d version n
+  pub out_of_memory : (d : Dialect) → IsDialect d reading → n ≡ number.version_out_of_memory
+      → MayRunOutIn d version
 
 -- what is answered where a range is read
 abbrev pub other_numbers : List ℤ

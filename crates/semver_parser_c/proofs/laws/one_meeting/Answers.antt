@@ -16,9 +16,9 @@ abbrev beside : List ℤ
 beside = number.ok ∷ number.range_out_of_memory ∷ version_faults
 
 -- what is left where memory ran out at the version
-left : (n : ℤ) → IsOneOf beside n → n ≢ number.ok → n ≢ number.version_not_utf8
-    → IsOneOf (number.range_out_of_memory ∷ text_errors) n
-left n one wrong bytes = grind arith
+left : (n : ℤ) → IsOneOf beside n → n ≢ number.ok → n ≢ number.version_not_utf8 → n ≢ number.range_out_of_memory
+    → IsOneOf text_errors n
+left n one wrong bytes found = grind arith
 
 -- the dialect of the reading by which a range is read
 its_dialect : {reading rule n : ℤ} {text : Text} → RangeIsRead reading rule text n → (d : Dialect) × IsDialect d reading
@@ -65,5 +65,6 @@ returns c =
           let read = read_of _ _ _ n.result accepted found in
           let read' = read_of _ _ _ m.result accepted (λ e'. cc (e', bytes)) in
           let bytes' = (p.version_not_utf8 read).1 ((q.version_not_utf8 read').0 bytes) in
-          cc (e, bytes')));
+          cc (e, bytes')))
+          q.no_memory;
     })

@@ -1,0 +1,56 @@
+-- What is refused of a range that is asked of a version, and of the version.
+use Rattle.std.proofs.Common.{◌≡◌, ◌≢◌, ◌∙◌, ◌++◌, ◌⊎◌, ℤ, arith, inl, inr, refl, sym, rules}
+use Rattle.std.specs.Prelude.{IsUtf8}
+use Rattle.semver_parser.specs.Texts.{Text}
+use Rattle.semver_parser.specs.ToolVersions.{IsVersionTextIn}
+use Rattle.semver_parser.specs.declared.version.Dialect.{Dialect}
+use Rattle.tool_ranges.specs.declared.meaning.Meaning.{Meaning}
+use Rattle.tool_ranges.specs.Meanings.{reading_of}
+use Rattle.tool_ranges.specs.Readings.{dialect_of}
+use Rattle.semver_parser_c.specs.Numbers.{range_out_of_memory, version_out_of_memory}
+use Rattle.semver_parser_c.specs.Faults.{IsOneOf, RefusesRange, RefusesVersion, named_faults, version_faults}
+use Rattle.semver_parser_c.specs.Readings.{IsDialect}
+use Rattle.semver_parser_c.specs.Steps.RangeFaults.{IsMeaningOf, IsReadable, IsRefused, IsUnjudged}
+use Rattle.semver_parser_c.proofs.Dialects.{of_reading}
+use Rattle.semver_parser_c.proofs.RangeFaults.{stands}
+
+of_range : (n : ℤ) → IsOneOf named_faults n → IsOneOf (named_faults ++ version_faults) n
+of_range n one = grind arith
+
+of_version : (n : ℤ) → IsOneOf version_faults n → IsOneOf (named_faults ++ version_faults) n
+of_version n one = grind arith
+
+not_version : (n : ℤ) → IsOneOf named_faults n → n ≢ version_out_of_memory
+not_version n one = grind arith
+
+not_range : (n : ℤ) → IsOneOf version_faults n → n ≢ range_out_of_memory
+not_range n one = grind arith
+
+-- the numbers or the range
+pub range_refused : (reading rule : ℤ) (range version : Text) (n : ℤ) → IsRefused reading rule range n → n ≢ range_out_of_memory
+    → IsUnjudged reading rule range version n
+range_refused reading rule range version n told found = record {
+  one = of_range n told.number;
+  found = found;
+  refusals = told.refusals;
+  accepted = λ read. absurd (told.unread read);
+  not_utf8 = λ read. absurd (told.unread read);
+  refused = λ read. absurd (told.unread read);
+  out_of_memory = λ d is e. absurd (not_version n told.number e);
+}
+
+-- the version, where the range is read
+pub version_refused : (m : Meaning) (reading rule : ℤ) (range version : Text) (n : ℤ) → IsMeaningOf m reading rule
+    → IsReadable (reading_of m) range → RefusesVersion (dialect_of (reading_of m)) version n
+    → (IsUtf8 version → ¬ (IsVersionTextIn (dialect_of (reading_of m)) version)) → IsUnjudged reading rule range version n
+version_refused m reading rule range version n only readable told none =
+    let same = λ (d : Dialect) (is : IsDialect d reading). of_reading (reading_of m) reading d only.named.0 is in
+    record {
+      one = of_version n told.one;
+      found = not_range n told.one;
+      refusals = (stands m reading rule range only readable).each n (grind arith);
+      accepted = λ read d is v utf8 spells. absurd (none utf8 (v, rw (same d is) spells));
+      not_utf8 = λ read. told.not_utf8;
+      refused = λ read d is utf8 not found. rw (same d is) at (told.refused utf8 found);
+      out_of_memory = λ d is e. rw (same d is) at (told.out_of_memory e);
+    }

@@ -1,0 +1,119 @@
+//! One range asked of one version, by a meaning: the range is judged as it is read, without memory.
+
+ghost use Rattle.std.specs.Prelude.{◌≡◌, ◌≢◌, Err, IfErr, IfOk, IsUtf8, MatchOption};
+ghost use Rattle.semver_parser.specs.Versions.{VersionValue};
+ghost use Rattle.semver_parser.specs.ToolVersions.{IsVersionTextIn, SpellsIn};
+ghost use Rattle.semver_parser.specs.declared.version.Dialect.{Dialect as SomeDialect};
+ghost use Rattle.semver_parser.specs.Outlines.{version_of};
+ghost use Rattle.tool_ranges.specs.declared.meaning.Meaning.{Meaning as SomeMeaning};
+ghost use Rattle.tool_ranges.specs.Meanings.{meant_as, reading_of};
+ghost use Rattle.tool_ranges.specs.Readings.{SpellsAs, TreeOf, dialect_of};
+ghost use Rattle.semver_parser_c.specs.declared.range_text.RangeFault.TheVariants.{OutOfMemory};
+ghost use Rattle.semver_parser_c.specs.Faults.{IsAccepted, RefusesRange, RefusesVersion};
+ghost use Rattle.semver_parser_c.specs.Readings.{IsDialect, IsNamed};
+ghost use Rattle.semver_parser_c.specs.Steps.RangeFaults.{HasFault, IsReadable, IsUnjudged, Stands};
+
+use crate::range_text::{self, RangeFault};
+use crate::{numbers, readings, version_text};
+use semver_parser::version::{self, Dialect, Outline};
+use semver_parser::{RangeError, laws};
+use std::alloc::Global;
+use tool_ranges::meaning::{self, Meaning};
+
+/// Whether a range text means the version of a text, by the numbers of a reading and a rule, or the
+/// number of the error.
+pub fn judge(
+    alloc: Global,
+    range: &[u8],
+    reading: i32,
+    pre_releases: i32,
+    version: &[u8],
+) -> Result<bool, i32>
+    ensures accepted { IfOk result (λ _. IsAccepted reading pre_releases range.now) }
+    ensures stands { IfOk result (λ _. Stands (RefusesRange reading pre_releases range.now)) }
+    ensures read { IfOk result (λ _. (d : SomeDialect) → IsDialect d reading
+        → IsVersionTextIn d version.now) }
+    ensures utf8 { IfOk result (λ _. IsUtf8 version.now) }
+    ensures meaning { IfOk result (λ met. (m : SomeMeaning) → IsNamed m reading pre_releases
+        → (tree : TreeOf (reading_of m)) (v : VersionValue)
+        → SpellsAs (reading_of m) tree range.now
+        → SpellsIn (dialect_of (reading_of m)) v version.now
+        → met ≡ meant_as m tree v) }
+    ensures refused { IfErr result (IsUnjudged reading pre_releases range.now version.now) }
+{
+    laws::one_version_in();
+    let meaning = match readings::meaning_of(reading, pre_releases) {
+        Ok(meaning) => meaning,
+        Err(number) => return Err(number),
+    };
+    let dialect = meaning.reading().dialect();
+    let Some(outline) = outline(version, dialect) else {
+        return match check(meaning, range) {
+            Ok(()) => Err(fault(alloc, version, dialect)),
+            Err(fault) => Err(range_text::number_of(fault)),
+        };
+    };
+    match meets(meaning, range, &outline) {
+        Ok(met) => Ok(met),
+        Err(fault) => Err(range_text::number_of(fault)),
+    }
+}
+
+/// Whether a range text means the version of an outline, or its error.
+fn meets(meaning: Meaning, range: &[u8], version: &Outline<'_>) -> Result<bool, RangeFault>
+    ensures accepted { IfOk result (λ _. IsReadable (reading_of meaning) range.now) }
+    ensures meaning { IfOk result (λ met. (tree : TreeOf (reading_of meaning))
+        → SpellsAs (reading_of meaning) tree range.now
+        → met ≡ meant_as meaning tree (version_of version.now)) }
+    ensures fault { IfErr result (λ fault. HasFault (reading_of meaning) range.now fault) }
+    ensures no_memory { result ≢ Err OutOfMemory }
+{
+    let Ok(text) = std::str::from_utf8(range) else {
+        return Err(RangeFault::NotUtf8);
+    };
+    match meaning::meets(meaning, text, version) {
+        Ok(met) => Ok(met),
+        Err(RangeError::NotARange) => Err(RangeFault::NotARange),
+        Err(RangeError::NumberTooLarge) => Err(RangeFault::TooLarge),
+        Err(RangeError::OutOfMemory) => Err(RangeFault::OutOfMemory),
+    }
+}
+
+/// Whether a range text is read, or its error.
+fn check(meaning: Meaning, range: &[u8]) -> Result<(), RangeFault>
+    ensures accepted { IfOk result (λ _. IsReadable (reading_of meaning) range.now) }
+    ensures fault { IfErr result (λ fault. HasFault (reading_of meaning) range.now fault) }
+    ensures no_memory { result ≢ Err OutOfMemory }
+{
+    let Ok(text) = std::str::from_utf8(range) else {
+        return Err(RangeFault::NotUtf8);
+    };
+    match meaning::check(meaning, text) {
+        Ok(()) => Ok(()),
+        Err(RangeError::NotARange) => Err(RangeFault::NotARange),
+        Err(RangeError::NumberTooLarge) => Err(RangeFault::TooLarge),
+        Err(RangeError::OutOfMemory) => Err(RangeFault::OutOfMemory),
+    }
+}
+
+/// The outline of the version that a text spells in a dialect, if it is UTF-8 and spells one.
+fn outline(version: &[u8], dialect: Dialect) -> Option<Outline<'_>>
+    ensures { MatchOption result (IsUtf8 version.now → ¬ (IsVersionTextIn dialect version.now))
+        (λ o. IsUtf8 version.now × SpellsIn dialect (version_of o) version.now) }
+{
+    match std::str::from_utf8(version) {
+        Ok(text) => version::outline_in(text.as_bytes(), dialect),
+        Err(_) => None,
+    }
+}
+
+/// The number of the error of a text that spells no version in a dialect.
+fn fault(alloc: Global, version: &[u8], dialect: Dialect) -> i32
+    requires { IsUtf8 version.now → ¬ (IsVersionTextIn dialect version.now) }
+    ensures { RefusesVersion dialect version.now result }
+{
+    match std::str::from_utf8(version) {
+        Ok(text) => version_text::fault(alloc, text, dialect),
+        Err(_) => numbers::VERSION_NOT_UTF8,
+    }
+}
