@@ -8,14 +8,10 @@ use Rattle.semver_parser.specs.declared.version.Dialect.TheVariants.{Crate, Carg
 use Rattle.semver_parser.proofs.VersionMemory.{may_run_out}
 use Rattle.semver_parser.proofs.WholeText.{spelled_outcome}
 use Rattle.tool_ranges.specs.declared.reading.Reading.{Reading}
-use Rattle.tool_ranges.specs.declared.meaning.Meaning.{Meaning}
-use Rattle.tool_ranges.specs.Meanings.{reading_of}
 use Rattle.tool_ranges.specs.Readings.{dialect_of}
-use Rattle.release_filter.specs.Filters.{FilterValue}
 use Rattle.semver_parser_c.specs.Numbers as number
-use Rattle.semver_parser_c.specs.Faults.{HasOutcomeIn, IsAccepted, MayRunOutIn, RefusedIn}
-use Rattle.semver_parser_c.specs.Meetings.{IsFilterOf}
-use Rattle.semver_parser_c.specs.Readings.{IsDialect, IsNamed, reading_number}
+use Rattle.semver_parser_c.specs.Faults.{HasOutcomeIn, MayRunOutIn, RefusedIn}
+use Rattle.semver_parser_c.specs.Readings.{IsDialect, reading_number}
 use Rattle.semver_parser_c.specs.Steps.RangeFaults.{IsReadingOf}
 use Rattle.semver_parser_c.proofs.OneRewriting.{one_reading}
 
@@ -24,11 +20,6 @@ of_reading r n d named (s, is, e) = ap dialect_of (one_reading r s (sym named �
 
 pub of_named : {x : Dialect} (r : Reading) (n : ℤ) (d : Dialect) → IsReadingOf r n → x ≡ dialect_of r → IsDialect d n → x ≡ d
 of_named r n d named e is = e ∙ of_reading r n d named.named is
-
--- that of a filter is that of its reading
-pub of_filter : (reading rule : ℤ) (range : Text) (filter : FilterValue) (d : Dialect) → IsAccepted reading rule range
-    → ((m : Meaning) → IsNamed m reading rule → IsFilterOf filter m range) → IsDialect d reading → filter.dialect ≡ d
-of_filter reading rule range filter d (m, named, _, _) so is = (so m named).dialect ∙ of_reading (reading_of m) reading d named.0 is
 
 -- ---- the outcome of a text
 
