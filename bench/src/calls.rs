@@ -15,6 +15,12 @@ extern "C" {
     fn speed_is_version(text: *const u8, len: usize) -> u64;
     fn speed_range(text: *const u8, len: usize) -> u64;
     fn speed_requirement(text: *const u8, len: usize) -> u64;
+    fn speed_meets(
+        range: *const u8,
+        range_len: usize,
+        version: *const u8,
+        version_len: usize,
+    ) -> u64;
     fn speed_set(text: *const u8, len: usize) -> u64;
     fn speed_within(text: *const u8, len: usize, times: u64) -> u64;
     fn speed_has(
@@ -95,6 +101,22 @@ pub fn semver_range(text: &str) -> u64 {
 /// 1 where a text is a requirement here, as Cargo reads it. Its comparators are made.
 pub fn here_requirement(text: &str) -> u64 {
     is_read(unsafe { speed_requirement(text.as_ptr(), text.len()) } == 1)
+}
+
+/// 1 where a requirement means a version here, as Cargo reads both, and else 0: a text has both,
+/// separated by a tab.
+pub fn here_meets(text: &str) -> u64 {
+    text.split_once('\t').map_or(REFUSED, |(range, version)| unsafe {
+        speed_meets(range.as_ptr(), range.len(), version.as_ptr(), version.len())
+    })
+}
+
+/// The same by the crate `semver`.
+pub fn semver_meets(text: &str) -> u64 {
+    let read = text.split_once('\t').and_then(|(range, version)| {
+        Some((VersionReq::parse(range).ok()?, Version::parse(version).ok()?))
+    });
+    read.map_or(REFUSED, |(requirement, version)| u64::from(requirement.matches(&version)))
 }
 
 /// 1 where a text has a set of versions here, in Cargo mode and as stated. The set is made.

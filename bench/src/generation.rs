@@ -15,10 +15,13 @@ pub enum Make {
     Ranges,
     Many,
     Released,
+    Asked,
+    AskedTwo,
+    AskedPre,
 }
 
 impl Make {
-    pub const ALL: [(&'static str, Make); 7] = [
+    pub const ALL: [(&'static str, Make); 10] = [
         ("plain", Make::Plain),
         ("mixed", Make::Mixed),
         ("refused", Make::Refused),
@@ -26,6 +29,9 @@ impl Make {
         ("ranges", Make::Ranges),
         ("many", Make::Many),
         ("released", Make::Released),
+        ("asked", Make::Asked),
+        ("asked-two", Make::AskedTwo),
+        ("asked-pre", Make::AskedPre),
     ];
 
     /// So many distinct texts, one a line. The same seed makes the same ones.
@@ -39,6 +45,9 @@ impl Make {
             Make::Ranges => distinct(source, count, range_set, fill),
             Make::Many => distinct(source, count, separator, many),
             Make::Released => distinct(source, count, |source| source.choose(&TAILS), released),
+            Make::Asked => distinct(source, count, |_| "^N.N.N\tN.N.N", fill),
+            Make::AskedTwo => distinct(source, count, |_| ">=N.N.N, <M\tN.N.N", fill),
+            Make::AskedPre => distinct(source, count, |_| "~N.N.NP\tN.N.NP", fill),
         }
     }
 }

@@ -1,9 +1,9 @@
 //! The rows whose texts are read one by one, and what reads them.
 
 use crate::calls::{
-    here_is_version, here_range, here_requirement, here_set, here_version, parser_is_range, parser_is_version,
-    parser_range, parser_version, semver_is_range, semver_is_version, semver_range, semver_version,
-    Call,
+    here_is_version, here_meets, here_range, here_requirement, here_set, here_version,
+    parser_is_range, parser_is_version, parser_range, parser_version, semver_is_range,
+    semver_is_version, semver_meets, semver_range, semver_version, Call,
 };
 use crate::generation::Make;
 
@@ -17,7 +17,7 @@ pub struct Row {
 }
 
 /// The rows, in the order of the table.
-pub const ROWS: [Row; 11] = [
+pub const ROWS: [Row; 14] = [
     versions("plain versions", Make::Plain),
     versions("versions, plain and with identifiers", Make::Mixed),
     versions("refused versions", Make::Refused),
@@ -41,6 +41,9 @@ pub const ROWS: [Row; 11] = [
     sets("simple ranges, made into sets", Make::Simples),
     sets("range sets, made into sets", Make::Ranges),
     sets("three and more, made into sets", Make::Many),
+    pairs("one requirement of one version", Make::Asked),
+    pairs("one of two comparators", Make::AskedTwo),
+    pairs("one with a pre-release", Make::AskedPre),
 ];
 
 impl Row {
@@ -61,4 +64,9 @@ const fn ranges(title: &'static str, make: Make) -> Row {
 /// A row of texts that are made into sets of versions here, and read there.
 const fn sets(title: &'static str, make: Make) -> Row {
     Row { title, make, here: here_set, parser: Some(parser_is_range), semver: semver_is_range }
+}
+
+/// A row of requirements, as Cargo reads them, each asked of a version beside it.
+const fn pairs(title: &'static str, make: Make) -> Row {
+    Row { title, make, here: here_meets, parser: None, semver: semver_meets }
 }

@@ -9,10 +9,11 @@
 ghost use Rattle.std.specs.Prelude.{IsUtf8};
 
 use release_filter::{Filter, PreReleases, filter_text};
-use semver_parser::version::Version;
+use semver_parser::version::{Dialect, Version};
 use semver_parser::{Compat, RangeSet, version};
 use std::alloc::Global;
 use tool_ranges::cargo;
+use tool_ranges::meaning::{self, Meaning};
 use version_sets::VersionSet;
 
 /// The sum of the numbers and of the counts of identifiers of the version that the text is;
@@ -71,6 +72,22 @@ pub extern "C" fn speed_requirement(alloc: Global, text: &[u8]) -> u64
     match cargo::rewrite(alloc, text) {
         Ok(_) => 1,
         Err(_) => 0,
+    }
+}
+
+/// 1 where a range text means the version of a text as Cargo reads both, and else 0. Both are read
+/// for it, without memory. `u64::MAX` where one of them isn't read.
+#[unsafe(no_mangle)]
+pub extern "C" fn speed_meets(range: &[u8], version: &[u8]) -> u64
+    requires { IsUtf8 range.now }
+{
+    let range = unsafe { std::str::from_utf8_unchecked(range) };
+    let Some(outline) = version::outline_in(version, Dialect::Cargo) else {
+        return u64::MAX;
+    };
+    match meaning::meets(Meaning::Cargo, range, &outline) {
+        Ok(met) => u64::from(met),
+        Err(_) => u64::MAX,
     }
 }
 
