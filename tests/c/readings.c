@@ -388,13 +388,22 @@ static void long_rewritten(void) {
     is_rewritten(NPM, false, &ranges, wanted_ranges.bytes);
     text_say(&ranges, "||,");
     is_rewritten(NPM, true, &ranges, not_a_range);
+    /* npm has a comparator's version of 256 characters at most. */
     text identifier = string("=1.2.3-");
-    for (int at = 0; at < 300; at++) {
+    for (int at = 0; at < 25; at++) {
+        text_say(&identifier, "aaaaaaaaaa");
+    }
+    is_rewritten(NPM, true, &identifier, identifier.bytes);
+    is_rewritten(NPM, false, &identifier, identifier.bytes);
+    text_say(&identifier, "a");
+    is_rewritten(NPM, true, &identifier, not_a_range);
+    for (int at = 25; at < 300; at++) {
         text_say(&identifier, "aaaaaaaaaa");
     }
     for (int32_t reading = 0; reading < READINGS; reading++) {
-        is_rewritten(reading, true, &identifier, identifier.bytes);
-        is_rewritten(reading, false, &identifier, identifier.bytes);
+        const char *set = reading == NPM ? not_a_range : identifier.bytes;
+        is_rewritten(reading, true, &identifier, set);
+        is_rewritten(reading, false, &identifier, set);
     }
     text_free(&comparators);
     text_free(&ranges);
