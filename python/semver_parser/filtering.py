@@ -150,7 +150,7 @@ def _item_text(index: int, version: object) -> Text:
 
 
 def _refuse(answer: int, text: Text, index: int, reading: Reading, pass_over: bool) -> None:
-    """Raises the fault of a version, unless it is passed over. Out of memory never is."""
+    """Raises the error of a version, unless it is skipped. Out of memory never is."""
     try:
         number = None if pass_over else reading.value
         raise_fault(answer, version=text, index=index, reading=number)

@@ -251,7 +251,7 @@ int main(int count, char **arguments) {
         totals[replay(&next)]++;
         row_free(&next);
     }
-    printf("rows: %d passed, %d failed, %d passed over\n", totals[PASSED], totals[FAILED],
+    printf("rows: %d passed, %d failed, %d skipped\n", totals[PASSED], totals[FAILED],
         totals[PASSED_OVER]);
     table_free(&rows);
     return totals[FAILED] == 0 && totals[PASSED] > 4500 ? 0 : 1;
