@@ -1,0 +1,100 @@
+//! One range asked of one version, for WebAssembly: a module of one call, which allocates nothing.
+#![tactic(auto)]
+
+ghost use Rattle.std.specs.Prelude.{◌≡◌, ◌≢◌, MatchOption};
+ghost use Rattle.semver_parser.specs.declared.RangeError.TheVariants.{OutOfMemory};
+ghost use Rattle.tool_ranges.specs.declared.meaning.Meaning.{Meaning as SomeMeaning};
+ghost use Rattle.semver_parser_wasm.specs.Answers.{Decides, IsAnswer, IsDialect, IsNamed};
+ghost use Rattle.semver_parser_wasm.specs.Answers.{error_number, no_such_dialect};
+
+pub mod laws;
+
+use semver_parser::{Compat, RangeError, laws as of_versions, version};
+use tool_ranges::meaning::{self, Meaning};
+use version_sets::PreReleases;
+
+/// The range does not mean the version.
+pub const DOES_NOT_MEET: i32 = 0;
+/// The range means the version.
+pub const MEETS: i32 = 1;
+/// The bytes of the range are not UTF-8.
+pub const RANGE_NOT_UTF8: i32 = 2;
+/// The dialect has no such range.
+pub const NOT_A_RANGE: i32 = 3;
+/// A number of the range, or a bound that is raised by one, is above the dialect's limit.
+pub const NUMBER_TOO_LARGE: i32 = 4;
+/// The dialect has no such version.
+pub const NOT_A_VERSION: i32 = 5;
+/// No dialect has this number.
+pub const NO_SUCH_DIALECT: i32 = 6;
+
+// Answer: law semver_parser_wasm::laws::one_meets.
+/// Returns whether a range means a version: `MEETS` for `^1.2` and `1.9.0`, and `DOES_NOT_MEET` for
+/// `^1.2` and `2.0.0`, in each dialect. It does not allocate.
+///
+/// The dialect is 0 for Cargo's, 1 for npm's, and 2 and 3 for the Rust crate's in its Cargo mode and
+/// its npm mode. It is that of the range and of the version, and pre-releases count by its default
+/// rule (docs/MEANING.md).
+///
+/// # Errors
+///
+/// `NO_SUCH_DIALECT` for any other number. Then the errors of the range, whatever the version is:
+/// `RANGE_NOT_UTF8`, `NOT_A_RANGE` and `NUMBER_TOO_LARGE`. Then `NOT_A_VERSION`.
+#[unsafe(no_mangle)]
+pub extern "C" fn meets(range: &[u8], dialect: i32, version: &[u8]) -> i32
+    // The answer is that of the meaning, and each error is exact.
+    ensures answer { Decides (IsDialect dialect) (result ≡ no_such_dialect)
+        ((m : SomeMeaning) → IsNamed m dialect → IsAnswer m range.now version.now result) }
+{
+    match meaning_of(dialect) {
+        Some(meaning) => answer(meaning, range, version),
+        None => NO_SUCH_DIALECT,
+    }
+}
+
+/// What a dialect's number names.
+fn meaning_of(dialect: i32) -> Option<Meaning>
+    ensures { MatchOption result (¬ (IsDialect dialect)) (λ m. IsNamed m dialect
+        × ((other : SomeMeaning) → IsNamed other dialect → m ≡ other)) }
+{
+    match dialect {
+        0 => Some(Meaning::Cargo),
+        1 => Some(Meaning::Npm),
+        2 => Some(Meaning::Crate(Compat::Cargo, PreReleases::Stated)),
+        3 => Some(Meaning::Crate(Compat::Npm, PreReleases::Stated)),
+        _ => None,
+    }
+}
+
+/// What a range and a version have for an answer by a meaning.
+fn answer(meaning: Meaning, range: &[u8], version: &[u8]) -> i32
+    ensures { IsAnswer meaning range.now version.now result }
+{
+    of_versions::one_version_in();
+    let Ok(range) = std::str::from_utf8(range) else {
+        return RANGE_NOT_UTF8;
+    };
+    match version::outline_in(version, meaning.reading().dialect()) {
+        Some(outline) => match meaning::meets(meaning, range, &outline) {
+            Ok(true) => MEETS,
+            Ok(false) => DOES_NOT_MEET,
+            Err(error) => number_of(error),
+        },
+        None => match meaning::check(meaning, range) {
+            Ok(()) => NOT_A_VERSION,
+            Err(error) => number_of(error),
+        },
+    }
+}
+
+/// The number of an error of a range that takes no memory to read.
+fn number_of(error: RangeError) -> i32
+    requires { error ≢ OutOfMemory }
+    ensures { result ≡ error_number error }
+{
+    match error {
+        RangeError::NotARange => NOT_A_RANGE,
+        RangeError::NumberTooLarge => NUMBER_TOO_LARGE,
+        RangeError::OutOfMemory => unreachable!(),
+    }
+}
