@@ -13,16 +13,8 @@ copy_checkout() {
     mkdir -p "$checkout/crates/semver_parser_c/src" "$checkout/crates/semver_parser_c/specs" "$checkout/crates/semver_parser_c/proofs" "$work/bin"
     cp -R crates.txt VERSION LICENSE-APACHE LICENSE-MIT install compare-ranges release-filter semver-parser man tests tools "$checkout"
     cp -R crates/semver_parser_c/c crates/semver_parser_c/include "$checkout/crates/semver_parser_c"
-    [ ! -d python/semver_parser ] || cp -R python "$checkout"
-    [ -d "$checkout/python/semver_parser" ] || make_package
+    cp -R python "$checkout"
     copy_built
-}
-
-# A package for python3, where the checkout has none.
-make_package() {
-    mkdir -p "$checkout/python/semver_parser"
-    : > "$checkout/python/semver_parser/__init__.py"
-    : > "$checkout/python/semver_parser/py.typed"
 }
 
 copy_built() {

@@ -24,6 +24,10 @@ share_out() {
     (cd "$tree/usr/lib" && mv libsemver_parser.* pkgconfig x86_64-linux-gnu)
     sed -i 's:^libdir=.*:libdir=${prefix}/lib/x86_64-linux-gnu:' "$tree/$libraries/pkgconfig/semver_parser.pc"
     gzip -n -9 "$tree"/usr/share/man/man*/*
+    for name in check-lock-file compare-requirements; do
+        take semver-parser-checkers "usr/bin/$name" "usr/share/man/man1/$name.1.gz"
+    done
+    take semver-parser-checkers "usr/$packages/semver_checks"
     take semver-parser-proved usr/bin usr/share/man/man1
     take "$library_package" "$libraries/$soname" "$libraries/libsemver_parser.so.$version"
     take libsemver-parser-dev usr/include "$libraries/libsemver_parser.so" \
@@ -45,7 +49,8 @@ dependency() {
 
 # write_control NAME: what a package is, by the file of that name, with what is known only now.
 write_control() {
-    files=$(find "$root" -type f \( -path '*/bin/*' -o -name '*.so.*' \))
+    files=''
+    [ "$1" = checkers ] || files=$(find "$root" -type f \( -path '*/bin/*' -o -name '*.so.*' \))
     [ -z "$files" ] || needs_of=$(dependency $files)
     size=$(find "$root" -type f -printf '%s\n' |
         awk '{ kilobytes += int(($1 + 1023) / 1024) } END { print kilobytes }')
@@ -81,9 +86,9 @@ make_debian_package() {
         echo 'activate-noawait ldconfig' > "$root/DEBIAN/triggers"
         write_shlibs > "$root/DEBIAN/shlibs"
         ;;
-    python)
+    python | checkers)
         for script in postinst prerm; do
-            cp "$top/tools/debian/python.$script" "$root/DEBIAN/$script"
+            sed "s/@PACKAGE@/$2/" "$top/tools/debian/python.$script" > "$root/DEBIAN/$script"
             chmod 755 "$root/DEBIAN/$script"
         done
         ;;
@@ -100,4 +105,5 @@ make_debian_packages() {
     make_debian_package library "$library_package" amd64
     make_debian_package development libsemver-parser-dev amd64
     make_debian_package python python3-semver-parser all
+    make_debian_package checkers semver-parser-checkers all
 }

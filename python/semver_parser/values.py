@@ -69,7 +69,7 @@ class Compat(enum.Enum):
 class Reading(enum.Enum):
     """The readings of range texts and of version texts: those of Cargo and of npm themselves, and
     that of the Rust crate `semver-parser` in its two modes, which differ from both
-    (docs/MEANING.md, "Whose reading?")."""
+    (docs/MEANING.md, "Which dialect?")."""
 
     CARGO = 0
     """Cargo's own: `1.2` is `>=1.2.0 <2.0.0`, and commas part what a version has to meet. Versions

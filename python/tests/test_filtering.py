@@ -54,7 +54,7 @@ RULES = [
     (Reading.CRATE_NPM, OF_CRATE),
 ]
 
-# Of docs/MEANING.md, "Whose reading?" and what it has of each tool: a range, a version, and whether
+# Of docs/MEANING.md, "Which dialect?" and what it has of each tool: a range, a version, and whether
 # it meets by each reading, in the order above and by the rule that is taken where none is named;
 # None where the text is no range.
 BY_READING = [

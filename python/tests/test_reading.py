@@ -236,7 +236,7 @@ class Ranges(unittest.TestCase):
         self.assertEqual(str(wanted), ">=1.2.0 <2.0.0-0 || =1.2.3-b.7")
 
     def test_readings(self) -> None:
-        """What docs/MEANING.md has in the table of "Whose reading?", with exact bounds."""
+        """What docs/MEANING.md has in the table of "Which dialect?", with exact bounds."""
         for text, wanted in READINGS:
             for reading, set_text in zip(Reading, wanted):
                 with self.subTest(text=text, reading=reading):

@@ -1,0 +1,1 @@
+"""What Cargo resolved: `Cargo.lock` beside its manifests, and what `cargo metadata` writes."""

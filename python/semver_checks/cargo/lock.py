@@ -1,0 +1,99 @@
+"""The findings of a `Cargo.lock` beside its manifests.
+
+WHO ASKS. The members of the workspace, whose `Cargo.toml` files are beside it. What the other
+packages ask for isn't in such a file: `cargo metadata --format-version 1` writes it.
+
+WHAT IS FOUND. The packages of the name that the lock file has for the member. If a member asks for
+one name by several requirements, each has to be met by one of them.
+"""
+
+from typing import Dict, Iterator, List, NamedTuple, Optional
+
+from semver_parser import Reading
+
+from ..files import Entry, WrongShape, list_at, object_at, text_at
+from ..judging import NO_VERSION, NOT_THERE, Finding, is_met, is_version
+from .manifests import Manifest, Need, manifests_at
+from .metadata import NOT_READ
+
+
+class Package(NamedTuple):
+    """A package of a lock file, and the names and versions that it depends on."""
+
+    name: str
+    version: str
+    depends: List[str]
+
+
+def packages_of(lock: Entry) -> List[Package]:
+    """The packages of a lock file, in its order."""
+    found = []
+    for value in list_at(lock.get("package"), "package"):
+        entry = object_at(value, "package")
+        name = text_at(entry.get("name"), "package: name")
+        depends = list_at(entry.get("dependencies", []), f"{name}: dependencies")
+        found.append(
+            Package(
+                name,
+                text_at(entry.get("version"), f"{name}: version"),
+                [text_at(it, f"{name}: dependencies") for it in depends],
+            )
+        )
+    return found
+
+
+def versions_for(member: Package, name: str, by_name: Dict[str, List[str]]) -> List[str]:
+    """The versions of a name that a member depends on. A lock file has `NAME` if it has one package
+    of that name, and else `NAME VERSION`, and perhaps a source after that."""
+    versions = []
+    for text in member.depends:
+        parts = text.split(" ")
+        if parts[0] == name:
+            versions += [parts[1]] if len(parts) > 1 else by_name.get(name, [])
+    return versions
+
+
+def of_need(member: Package, need: Need, by_name: Dict[str, List[str]]) -> Iterator[Finding]:
+    """What there is to say of what a member asks for."""
+    other = f" as {need.other_name}" if need.other_name is not None else ""
+    who = f"{member.name} {member.version} asks for {need.name}{other}"
+    versions = versions_for(member, need.name, by_name)
+    if not versions:
+        yield Finding(need.requirement, "", who, NOT_THERE)
+        return
+    if need.requirement == "*" and not need.has_registry:
+        return
+    verdicts = [is_met(need.requirement, version, Reading.CARGO) for version in versions]
+    if True not in verdicts:
+        for version, met in zip(versions, verdicts):
+            yield Finding(need.requirement, version, who, NOT_READ if met is None else "")
+
+
+def member_of(manifest: Manifest, packages: List[Package]) -> Optional[Package]:
+    """The package of a lock file that a manifest is of."""
+    for package in packages:
+        if package.name == manifest.name and manifest.version in (None, package.version):
+            return package
+    return None
+
+
+def findings(lock: Entry, folder: Optional[str]) -> Iterator[Finding]:
+    """What there is to say of a lock file beside the manifests of a folder: first of its versions,
+    and then of what each member asks for."""
+    if folder is None:
+        raise WrongShape(" beside a Cargo.toml: name the file")
+    packages = packages_of(lock)
+    by_name: Dict[str, List[str]] = {}
+    for package in packages:
+        by_name.setdefault(package.name, []).append(package.version)
+        if not is_version(package.version, Reading.CARGO):
+            yield Finding("", package.version, package.name, NO_VERSION)
+    for manifest in manifests_at(folder):
+        if manifest.name is None:
+            continue
+        member = member_of(manifest, packages)
+        if member is None:
+            yield Finding("", manifest.version or "", manifest.name, NOT_THERE)
+            continue
+        for need in manifest.needs:
+            yield from of_need(member, need, by_name)

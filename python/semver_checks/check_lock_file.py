@@ -1,0 +1,132 @@
+"""The program `check-lock-file`: lists the versions of a lock file that are not what is asked for.
+
+A line has what is asked for, the version that is found, and who asks for which name, separated by
+tabs, and a fourth field if there is more to know. man/check-lock-file.1 describes the lines.
+"""
+
+import os
+import sys
+from typing import Iterator, Optional
+
+from .cargo import lock as cargo_lock
+from .cargo import metadata as cargo_metadata
+from .files import (
+    STANDARD_INPUT,
+    Entry,
+    WrongShape,
+    bytes_of,
+    json_object,
+    taking,
+    toml_object,
+    utf8,
+    yaml_object,
+)
+from .judging import SKIPPED, Finding
+from .npm import edges as npm
+from .pnpm import edges as pnpm
+from .program import Misuse, Options, Outcome, Program, joined, run
+from .yarn import edges as yarn
+from .yarn.lock import tree_of
+
+PAGE = """\
+usage: check-lock-file [--strict] [--package-json FILE] LOCK-FILE
+
+Lists the versions of a lock file that are not what is asked for, as the tool
+that wrote it reads ranges and versions. What the file is, its content says:
+
+    package-lock.json, npm-shrinkwrap.json    npm, lockfileVersion 1, 2 and 3
+    yarn.lock                                 yarn 1 and later
+    pnpm-lock.yaml                            pnpm, needs PyYAML
+    Cargo.lock                                beside Cargo.toml, needs Python 3.11
+    what cargo metadata prints                format version 1
+
+- is standard input.
+
+    --strict             count and list what is asked for by a tag, an address or
+                         a path, and what is not there
+    --package-json FILE  take overrides and resolutions from this package.json,
+                         and not from that beside the lock file
+    -h, --help           print this
+    --                   end the options
+
+The status is 0 if nothing is wrong, 1 if something is listed, and 2 after an
+error, which standard error reports."""
+
+
+def manifest_path(options: Options) -> Optional[str]:
+    """Where the project's package.json is, if there is one."""
+    path, named = options.files[0], options.given.get("--package-json")
+    if named == STANDARD_INPUT == path:
+        raise Misuse("both files are standard input")
+    if named is not None or path == STANDARD_INPUT:
+        return named
+    beside = os.path.join(os.path.dirname(path), "package.json")
+    return beside if os.path.exists(beside) else None
+
+
+def read_manifest(path: Optional[str]) -> Entry:
+    """The project's package.json."""
+    if path is None:
+        return {}
+    with taking(path, "package.json"):
+        manifest = json_object(bytes_of(path))
+        npm.check_manifest(manifest)
+        return manifest
+
+
+# ---- which file it is
+
+
+def findings(path: str, text: bytes, manifest_at: Optional[str]) -> Iterator[Finding]:
+    """What there is to say of a lock file, by what it is."""
+    if text.lstrip()[:1] in (b"{", b"["):
+        yield from of_json(json_object(text), manifest_at)
+    elif b"yarn lockfile v1" in text or b"\n__metadata:" in text:
+        yield from yarn.findings(tree_of(utf8(text)), read_manifest(manifest_at))
+    elif text.startswith(b"lockfileVersion:") or b"\nlockfileVersion:" in text:
+        yield from pnpm.findings(yaml_object(text))
+    elif b"[[package]]" in text:
+        folder = None if path == STANDARD_INPUT else os.path.dirname(path)
+        yield from cargo_lock.findings(toml_object(text), folder)
+    else:
+        raise WrongShape(" that is known")
+
+
+def of_json(lock: Entry, manifest_at: Optional[str]) -> Iterator[Finding]:
+    """What there is to say of a file of npm, or of what `cargo metadata` writes."""
+    if "workspace_members" in lock or "resolve" in lock:
+        yield from cargo_metadata.findings(lock)
+        return
+    manifest = read_manifest(manifest_at)
+    yield from npm.findings(lock, manifest, npm.rules_of(manifest))
+
+
+# ---- the program
+
+
+def check(options: Options) -> Outcome:
+    """Lists what is wrong with a lock file, and says how much is skipped."""
+    path, manifest_at = options.files[0], manifest_path(options)
+    is_strict = "--strict" in options.given
+    with taking(path, "lock file"):
+        found = list(findings(path, bytes_of(path), manifest_at))
+    wrong = [finding for finding in found if is_strict or not finding.is_strict]
+    lines = [joined(*(it[:4] if it.kind else it[:3])) for it in wrong]
+    skipped = sum(it.kind == SKIPPED for it in found)
+    why = "asked for by a tag, an address or a path, and not judged"
+    notes = [f"{why}: {skipped}; --strict lists them"] if skipped and not is_strict else []
+    return Outcome(lines, notes, int(bool(wrong)))
+
+
+PROGRAM = Program(
+    "check-lock-file",
+    PAGE,
+    {"--strict": False, "--package-json": True},
+    lambda options: len(options.files) == 1,
+    check,
+)
+
+
+def main() -> int:
+    """Runs the program on its arguments. The status."""
+    return run(PROGRAM, sys.argv[1:])

@@ -1,0 +1,141 @@
+"""Files, what they hold, and the shapes that they have to have."""
+
+import json
+import sys
+from contextlib import contextmanager
+from typing import Any, Dict, Iterator, List, NoReturn
+
+Entry = Dict[str, Any]
+
+STANDARD_INPUT = "-"
+
+
+class Refusal(Exception):
+    """Why a file is refused."""
+
+    def __init__(self, path: str, why: str) -> None:
+        super().__init__(path, why)
+        self.path, self.why = path, why
+
+
+class Unreadable(Exception):
+    """Why a text isn't in its notation."""
+
+
+class WrongShape(Exception):
+    """What of a file isn't as it has to be."""
+
+
+def bytes_of(path: str) -> bytes:
+    """What a file holds, or standard input."""
+    if path != STANDARD_INPUT:
+        with open(path, "rb") as file:
+            return file.read()
+    if sys.stdin is None:
+        raise Refusal(path, "it can't be read: it is closed")
+    return sys.stdin.buffer.read()
+
+
+@contextmanager
+def taking(path: str, what: str) -> Iterator[None]:
+    """Reports of a file that it isn't what it has to be."""
+    try:
+        yield
+    except OSError as error:
+        raise Refusal(path, f"it can't be read: {error.strerror}") from None
+    except Unreadable as error:
+        raise Refusal(path, str(error)) from None
+    except WrongShape as error:
+        raise Refusal(path, f"it is no {what}{error}") from None
+    except RecursionError:
+        raise Refusal(path, f"it is no {what}: it is nested too deep") from None
+    except MemoryError:
+        raise Refusal(path, "out of memory") from None
+
+
+# ---- the three notations
+
+
+def refuse_constant(name: str) -> NoReturn:
+    """Refuses what Python reads as JSON, and JSON hasn't."""
+    raise ValueError(f"{name} isn't JSON")
+
+
+def json_object(text: bytes) -> Entry:
+    """The object that a text of JSON is."""
+    try:
+        value = json.loads(text, parse_constant=refuse_constant)
+    except json.JSONDecodeError as error:
+        raise Unreadable(f"it isn't JSON: line {error.lineno} column {error.colno}") from None
+    except ValueError:
+        raise Unreadable("it isn't JSON") from None
+    return object_at(value, "the file")
+
+
+def toml_object(text: bytes) -> Entry:
+    """The table that a text of TOML is."""
+    try:
+        import tomllib
+    except ImportError:
+        raise Unreadable("it is TOML, which Python reads from 3.11 on") from None
+    try:
+        return tomllib.loads(utf8(text))
+    except tomllib.TOMLDecodeError as error:
+        raise Unreadable(f"it isn't TOML: {error}") from None
+
+
+def yaml_object(text: bytes) -> Entry:
+    """The mapping that a text of YAML is. Its scalars are texts, as `1.10` has to be."""
+    try:
+        import yaml
+    except ImportError:
+        raise Unreadable("it is YAML: install PyYAML (Debian: python3-yaml)") from None
+    try:
+        value = yaml.load(utf8(text), Loader=yaml.BaseLoader)
+    except yaml.YAMLError as error:
+        raise Unreadable(f"it isn't YAML: {' '.join(str(error).split())}") from None
+    return object_at(value, "the file")
+
+
+def utf8(text: bytes) -> str:
+    """The text that bytes are, without a byte order mark."""
+    try:
+        return text.decode("utf-8-sig")
+    except UnicodeDecodeError:
+        raise Unreadable("it isn't UTF-8") from None
+
+
+# ---- shapes
+
+
+def object_at(value: Any, where: str) -> Entry:
+    """An object of a file."""
+    if isinstance(value, dict):
+        return value
+    raise WrongShape(f": {where} isn't an object")
+
+
+def objects_at(value: Any, where: str) -> Dict[str, Entry]:
+    """An object of a file that holds objects."""
+    entries = object_at(value, where)
+    return {key: object_at(entry, f"{where}: {key}") for key, entry in entries.items()}
+
+
+def texts_at(value: Any, where: str) -> Dict[str, str]:
+    """An object of a file that holds texts."""
+    entries = object_at(value, where)
+    return {key: text_at(entry, f"{where}: {key}") for key, entry in entries.items()}
+
+
+def list_at(value: Any, where: str) -> List[Any]:
+    """A list of a file."""
+    if isinstance(value, list):
+        return value
+    raise WrongShape(f": {where} isn't a list")
+
+
+def text_at(value: Any, where: str) -> str:
+    """A text of a file."""
+    if isinstance(value, str):
+        return value
+    raise WrongShape(f": {where} isn't a text")

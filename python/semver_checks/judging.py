@@ -1,0 +1,40 @@
+"""What is asked for and what is found, how that is judged, and the line that it has."""
+
+from typing import NamedTuple, Optional
+
+from semver_parser import RangeError, Reading, VersionError, meets, parse_version
+
+NO_VERSION = "no version"
+NOT_THERE = "not there"
+SKIPPED = "skipped"
+
+
+class Finding(NamedTuple):
+    """What there is to say of a version: what was asked for, what was found, who asks for which
+    name, and a word for what else there is to know. What counts by `--strict` only says so."""
+
+    asked: str
+    found: str
+    who: str
+    kind: str = ""
+    is_strict: bool = False
+
+
+def is_version(text: str, reading: Reading) -> bool:
+    """Whether a text is a version to a tool."""
+    try:
+        parse_version(text, reading)
+    except VersionError:
+        return False
+    return True
+
+
+def is_met(wanted: str, version: str, reading: Reading) -> Optional[bool]:
+    """Whether a version meets a range; None if the range isn't read. What is no version meets
+    none."""
+    try:
+        return meets(wanted, version, reading)
+    except RangeError:
+        return None
+    except VersionError:
+        return False

@@ -1,0 +1,1 @@
+"""Lock files of npm: `package-lock.json` and `npm-shrinkwrap.json`."""

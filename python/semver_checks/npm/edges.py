@@ -1,0 +1,117 @@
+"""The findings of a lock file of npm, of lockfileVersion 1, 2 or 3.
+
+WHO ASKS. Each package asks for its `dependencies`, `optionalDependencies` and `peerDependencies`,
+and the project and its workspaces, which are below no `node_modules`, for their `devDependencies`
+too. A name in `dependencies` and `optionalDependencies` is asked for by the latter alone, as npm
+has it. In lockfileVersion 1 each package asks for what it `requires`; what the project asks for
+isn't in such a file.
+
+WHAT IS FOUND. The nearest package of the name: in the package's own `node_modules`, or else in
+that of a folder round it. A peer is looked for from the folder round the package on; those of the
+project and its workspaces, round which there is none, are in their own. A link is followed. What
+isn't found has no version.
+
+OVERRIDES. They aren't in a lock file, but in the project's package.json. What an override replaces
+is judged by what the override asks for.
+"""
+
+from typing import Iterator, List, NamedTuple, Optional
+
+from semver_parser import Reading
+
+from ..files import Entry, texts_at
+from ..judging import NO_VERSION, NOT_THERE, SKIPPED, Finding, is_version
+from .lock import ASKS_OF_OLD_PROJECTS, Ask, asks_at, is_pinned, packages_of, version_at
+from .overrides import Rule, rule_for, rules_of, where_rules_hold
+from .specs import MET, NOT_MET, NOT_READ, alias_of, verdict_on
+
+# The verdicts on a version, the worst first.
+VERDICTS = (NOT_MET, NO_VERSION, NOT_READ, SKIPPED, MET)
+
+
+class Judgement(NamedTuple):
+    """How what is asked for was judged: by which text, whether that is an override, whether the
+    package has the name that it asks for, and which of the verdicts its version has."""
+
+    spec: str
+    is_overridden: bool
+    has_name: bool
+    verdict: str
+
+
+# ---- the judgement
+
+
+def judged_by(spec: str, is_overridden: bool, ask: Ask) -> Judgement:
+    """The judgement of what is found by a text."""
+    alias = alias_of(spec)
+    name, version = (None, None) if ask.found is None else ask.found[1:]
+    has_name = alias is None or name is None or alias[0] == name
+    return Judgement(spec, is_overridden, has_name, verdict_on(version, spec))
+
+
+def judged(ask: Ask, rules: List[Rule], is_pinned: bool) -> Judgement:
+    """The judgement of what is found: of the ways in which who asks is reached, the one by which
+    the most is right."""
+    return max(
+        (judged_under(ask, rule, is_pinned) for rule in rules),
+        key=lambda it: (it.has_name, VERDICTS.index(it.verdict)),
+    )
+
+
+def judged_under(ask: Ask, here: Rule, is_pinned: bool) -> Judgement:
+    """The judgement of what is found where a rule holds. The project itself asks for what it asks
+    for: npm refuses an override that differs."""
+    version = None if ask.found is None else ask.found.version
+    rule = rule_for(here, ask.name, ask.range, version)
+    if rule is None or rule.spec is None or is_pinned or not ask.place:
+        return judged_by(ask.spec, False, ask)
+    return judged_by(rule.spec, rule.spec != ask.spec, ask)
+
+
+# ---- the findings
+
+
+def of_ask(ask: Ask, judgement: Judgement) -> Iterator[Finding]:
+    """What there is to say of what is asked for."""
+    who = f"{ask.place or 'the project'} asks for {ask.name}"
+    spec, verdict = judgement.spec, judgement.verdict
+    if ask.found is None:
+        if ask.is_required:
+            yield Finding(spec, "", who, NOT_THERE, is_strict=True)
+        return
+    if not judgement.has_name:
+        yield Finding(spec, ask.found.name or "", who, "another package")
+    if verdict != MET:
+        kind = "overridden" if verdict == NOT_MET and judgement.is_overridden else verdict
+        yield Finding(spec, ask.found.version or "", who, kind, is_strict=verdict == SKIPPED)
+
+
+def of_version(place: str, version: Optional[str]) -> Iterator[Finding]:
+    """What there is to say of a package with a version that npm wouldn't take."""
+    if version is not None and not is_version(version, Reading.NPM):
+        yield Finding("", version, place or "the project", NO_VERSION)
+
+
+def check_manifest(manifest: Entry) -> Rule:
+    """The rules of a package.json, whose dependencies are texts."""
+    for kind in ASKS_OF_OLD_PROJECTS:
+        texts_at(manifest.get(kind, {}), kind)
+    return rules_of(manifest)
+
+
+def findings(lock: Entry, manifest: Entry, outermost: Rule) -> Iterator[Finding]:
+    """What there is to say of a lock file, in its order, beside the project's package.json and the
+    rules of its overrides."""
+    packages = packages_of(lock, manifest)
+    asks = {place: list(asks_at(packages, place)) for place in packages}
+    versions = {
+        place: None if entry.get("link") else version_at(entry, place or "the project")
+        for place, entry in packages.items()
+    }
+    held = where_rules_hold(packages, asks, outermost)
+    for place in packages:
+        yield from of_version(place, versions[place])
+        for ask in asks[place]:
+            pinned = ask.found is not None and is_pinned(packages, ask.found.place)
+            yield from of_ask(ask, judged(ask, held[place], pinned))

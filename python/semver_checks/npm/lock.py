@@ -1,0 +1,203 @@
+"""What a lock file of npm has: its packages, what each asks for, and what is found for that.
+
+Packages are told by their places, as in lockfileVersion 2 and 3: the folders from the project on,
+and nothing for the project itself.
+"""
+
+from typing import Dict, Iterator, NamedTuple, Optional, Tuple
+
+from ..files import Entry, WrongShape, object_at, objects_at, text_at, texts_at
+from .specs import alias_of, range_of
+
+Packages = Dict[str, Entry]
+
+ASKS_OF_EACH = ("dependencies", "optionalDependencies", "peerDependencies")
+ASKS_OF_TOPS = (*ASKS_OF_EACH, "devDependencies")
+ASKS_OF_OLD_PROJECTS = ("dependencies", "optionalDependencies", "devDependencies")
+
+
+class Package(NamedTuple):
+    """What is found: its place, behind its links, and its name and its version, where it has them.
+    A link that leads nowhere has neither."""
+
+    place: str
+    name: Optional[str]
+    version: Optional[str]
+
+
+class Ask(NamedTuple):
+    """Who asks for what, whether that has to be there, and what is found."""
+
+    place: str
+    name: str
+    spec: str
+    is_required: bool
+    found: Optional[Package]
+
+    @property
+    def range(self) -> str:
+        """The range that is asked for, if what is asked for is one."""
+        return range_of(self.spec)
+
+
+# ---- places
+
+
+def folders(place: str) -> Iterator[str]:
+    """The folders from a place upward, itself first, up to the project.
+
+    Of a place outside the project, as `../other`, they end where only `..` is left.
+    """
+    parts = place.split("/") if place else []
+    while parts and parts[-1] != "..":
+        if parts[-1] != "node_modules":
+            yield "/".join(parts)
+        parts.pop()
+    yield "/".join(parts)
+
+
+def inside(folder: str, name: str) -> str:
+    """The place of a name in the `node_modules` of a folder."""
+    return f"{folder}/node_modules/{name}" if folder else f"node_modules/{name}"
+
+
+def is_top(place: str) -> bool:
+    """Whether a place is the project, a workspace or what else lies below no `node_modules`."""
+    return "node_modules" not in place.split("/")
+
+
+def is_outside(place: str) -> bool:
+    """Whether a place is outside of the project: npm puts nothing there."""
+    return place.split("/")[0] == ".."
+
+
+def folder_round(place: str) -> str:
+    """The folder whose `node_modules` has the package."""
+    parts = place.split("/")
+    while parts.pop() != "node_modules":
+        pass
+    return "/".join(parts)
+
+
+def name_by_place(place: str) -> str:
+    """The name that a package has where none is written: that of its folder."""
+    if is_top(place):
+        return place.rpartition("/")[2]
+    return place[len(inside(folder_round(place), "")) :]
+
+
+# ---- packages
+
+
+def packages_of(lock: Entry, manifest: Entry) -> Packages:
+    """The packages of a lock file, in its order. What the project itself asks for stands in its
+    package.json alone where the file is of lockfileVersion 1."""
+    version = lock.get("lockfileVersion")
+    if version in (2, 3) and type(version) is int:
+        return objects_at(lock.get("packages"), "packages")
+    if version != 1 or type(version) is not int:
+        raise WrongShape(" of lockfileVersion 1, 2 or 3")
+    project = {key: manifest[key] for key in ASKS_OF_OLD_PROJECTS if key in manifest}
+    if "version" in lock:
+        project["version"] = lock["version"]
+    return {"": project, **dict(packages_inside(lock, ""))}
+
+
+def packages_inside(holder: Entry, place: str) -> Iterator[Tuple[str, Entry]]:
+    """The packages inside a package or the project of lockfileVersion 1, each with its place."""
+    where = f"{place}: dependencies" if place else "dependencies"
+    for name, entry in objects_at(holder.get("dependencies", {}), where).items():
+        its_place = inside(place, name)
+        yield its_place, of_this_day(entry, its_place)
+        yield from packages_inside(entry, its_place)
+
+
+def of_this_day(old: Entry, place: str) -> Entry:
+    """A package of lockfileVersion 1 as lockfileVersion 2 and 3 have it."""
+    entry: Entry = {"inBundle": old.get("bundled", False)}
+    requires = old.get("requires", {})
+    if not isinstance(requires, bool):
+        entry["dependencies"] = texts_at(requires, f"{place}: requires")
+    version = text_at(old["version"], f"{place}: version") if "version" in old else ":"
+    alias = alias_of(version)
+    if alias is not None:
+        entry["name"], version = alias
+    if ":" not in version and "/" not in version:
+        entry["version"] = version
+    return entry
+
+
+def behind_links(packages: Packages, place: str) -> Optional[str]:
+    """The place to which the links from a place lead; None where that is nowhere."""
+    seen = set()
+    while packages[place].get("link"):
+        seen.add(place)
+        place = text_at(packages[place].get("resolved"), f"{place}: resolved")
+        if place in seen or place not in packages:
+            return None
+    return place
+
+
+def package_at(packages: Packages, place: str) -> Package:
+    """The package at a place."""
+    end = behind_links(packages, place)
+    if end is None:
+        return Package(place, None, None)
+    entry = packages[end]
+    name = text_at(entry.get("name", name_by_place(end)), f"{end}: name")
+    return Package(end, name, version_at(entry, place))
+
+
+def version_at(entry: Entry, where: str) -> Optional[str]:
+    """The version of a package, where it has one."""
+    return text_at(entry["version"], f"{where}: version") if "version" in entry else None
+
+
+def is_pinned(packages: Packages, place: str) -> bool:
+    """Whether a package was put there by one that brings it along, or has its own lock file."""
+    return bool(packages[place].get("inBundle")) or any(
+        bool(packages[folder].get("hasShrinkwrap"))
+        for folder in folders(place)
+        if folder and folder in packages
+    )
+
+
+# ---- what is asked for
+
+
+def asks_at(packages: Packages, place: str) -> Iterator[Ask]:
+    """What the package at a place asks for, in the order of the file."""
+    entry = packages[place]
+    if entry.get("link"):
+        return
+    for kind, name, spec in asked_at(place, entry):
+        is_peer = kind == "peerDependencies" and not is_top(place)
+        start = folder_round(place) if is_peer else place
+        places = (inside(folder, name) for folder in folders(start))
+        at = next((it for it in places if it in packages), None)
+        found = None if at is None else package_at(packages, at)
+        yield Ask(place, name, spec, has_to_be_there(place, entry, kind, name), found)
+
+
+def asked_at(place: str, entry: Entry) -> Iterator[Tuple[str, str, str]]:
+    """What the package at a place asks for: in which way, for which name, and for what."""
+    where = place or "the project"
+    optional = object_at(entry.get("optionalDependencies", {}), f"{where}: optionalDependencies")
+    for kind in entry:
+        if kind in (ASKS_OF_TOPS if is_top(place) else ASKS_OF_EACH):
+            for name, spec in object_at(entry[kind], f"{where}: {kind}").items():
+                if kind != "dependencies" or name not in optional:
+                    yield kind, name, text_at(spec, f"{where}: {kind}: {name}")
+
+
+def has_to_be_there(place: str, entry: Entry, kind: str, name: str) -> bool:
+    """Whether what a package asks for in a way has to be in the file."""
+    if is_outside(place) or kind == "optionalDependencies":
+        return False
+    if kind != "peerDependencies":
+        return True
+    where = f"{place or 'the project'}: peerDependenciesMeta"
+    meta = objects_at(entry.get("peerDependenciesMeta", {}), where)
+    return not meta.get(name, {}).get("optional") and name not in entry.get(
+        "optionalDependencies", {}
+    )

@@ -1,0 +1,145 @@
+"""The overrides of a project of npm, and where each of them holds.
+
+A rule is a key of the overrides with what stands there. It holds for packages of its name, and of
+its range of versions, and what it has inside holds for all that these ask for, directly and through
+others. Where several rules are of one name the innermost goes first.
+"""
+
+from collections import deque
+from dataclasses import dataclass, field
+from typing import Dict, Iterator, List, Optional, Tuple
+
+from semver_parser import Filter, RangeError, Reading, VersionError, compare_ranges, meets
+
+from ..files import Entry, WrongShape, object_at, text_at
+from .lock import Ask, Packages, is_top, package_at
+
+ANY = "*"
+
+
+@dataclass(eq=False)
+class Rule:
+    """An override: the name and the range of its key, what it puts in place of what is asked for,
+    where it puts something there, and the rules inside it. The outermost has no name."""
+
+    name: str = ""
+    within: str = ANY
+    spec: Optional[str] = None
+    outer: Optional["Rule"] = None
+    inner: List["Rule"] = field(default_factory=list)
+
+
+# ---- what package.json has
+
+
+def rules_of(manifest: Entry) -> Rule:
+    """The rules of a package.json, inside one that has no name."""
+    outermost = Rule()
+    overrides = object_at(manifest.get("overrides", {}), "overrides")
+    add_rules(outermost, overrides, "overrides", manifest)
+    return outermost
+
+
+def add_rules(outer: Rule, overrides: Entry, where: str, manifest: Entry) -> None:
+    """Puts the rules of an object of overrides into a rule."""
+    for key, value in overrides.items():
+        if key != ".":
+            its_place = f"{where}: {key}"
+            name, within = name_and_range(key, its_place)
+            own = value if isinstance(value, str) else object_at(value, its_place).get(".", "")
+            spec = replacement(text_at(own, f"{its_place}: ."), manifest)
+            rule = Rule(name, within, spec, outer)
+            outer.inner.append(rule)
+            add_rules(rule, {} if isinstance(value, str) else value, its_place, manifest)
+
+
+def name_and_range(key: str, where: str) -> Tuple[str, str]:
+    """The name and the range of a key."""
+    at = key.find("@", 1)
+    name, within = (key[:at], key[at + 1 :]) if at >= 0 else (key, "")
+    within = within.strip() or ANY
+    if not name:
+        raise WrongShape(f": {where} names no package")
+    try:
+        Filter(within, Reading.NPM)
+    except RangeError:
+        raise WrongShape(f": {where} has no range behind its name") from None
+    return name, within
+
+
+def replacement(spec: str, manifest: Entry) -> Optional[str]:
+    """What an override puts in place of what is asked for. `*` and the empty text put nothing
+    there, as npm has it, and `$NAME` puts what the project itself asks for of that name."""
+    if not spec.startswith("$"):
+        return None if spec in ("", ANY) else spec
+    kinds = ("devDependencies", "optionalDependencies", "dependencies", "peerDependencies")
+    for kind in kinds:
+        asked = object_at(manifest.get(kind, {}), kind)
+        if asked.get(spec[1:]):
+            return text_at(asked[spec[1:]], f"{kind}: {spec[1:]}")
+    return spec
+
+
+# ---- which rule is for what
+
+
+def rules_from(here: Rule) -> Iterator[Rule]:
+    """The rules that hold where a rule does, the innermost first."""
+    at: Optional[Rule] = here
+    while at is not None:
+        yield from at.inner
+        at = at.outer
+
+
+def rule_for(here: Rule, name: str, spec: str, version: Optional[str]) -> Optional[Rule]:
+    """The rule for what is asked for where a rule holds, and for the version that is found."""
+    rules = (rule for rule in rules_from(here) if rule.name == name)
+    return next((rule for rule in rules if is_concerned(rule, spec, version)), None)
+
+
+def is_concerned(rule: Rule, spec: str, version: Optional[str]) -> bool:
+    """Whether a rule of the name is for what is asked for. Where its range has some of the versions
+    that are asked for, it isn't for the others; of what is no range nothing can be told apart."""
+    if rule.within == ANY:
+        return True
+    try:
+        if not compare_ranges(spec, rule.within, Reading.NPM).overlaps:
+            return False
+        is_other = (
+            version is not None
+            and meets(spec, version, Reading.NPM)
+            and not meets(rule.within, version, Reading.NPM)
+        )
+    except (RangeError, VersionError):
+        return True
+    return not is_other
+
+
+# ---- where rules hold
+
+Held = Dict[str, List[Rule]]
+
+
+def where_rules_hold(packages: Packages, asks: Dict[str, List[Ask]], outermost: Rule) -> Held:
+    """The rules that hold at each place, one for each way in which it is reached from the project
+    and its workspaces. Where nothing leads to, they are those of the project."""
+    held: Held = {place: [] for place in packages}
+    left = deque(rules_of_tops(packages, outermost))
+    while left:
+        place, here = left.popleft()
+        if here not in held[place]:
+            held[place].append(here)
+            for ask in asks[place]:
+                if ask.found is not None:
+                    rule = rule_for(here, ask.name, ask.range, ask.found.version)
+                    left.append((ask.found.place, rule or here))
+    return {place: rules or [outermost] for place, rules in held.items()}
+
+
+def rules_of_tops(packages: Packages, outermost: Rule) -> Iterator[Tuple[str, Rule]]:
+    """The project and its workspaces, each with the rule that holds there."""
+    for place in packages:
+        if is_top(place):
+            _, name, version = package_at(packages, place)
+            rule = rule_for(outermost, name or "", version or ANY, version) if place else None
+            yield place, rule or outermost

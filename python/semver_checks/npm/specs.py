@@ -1,0 +1,50 @@
+"""What npm, yarn and pnpm ask for: a range, or a tag, an address or a path."""
+
+import re
+from typing import Optional, Tuple
+
+from semver_parser import Reading
+
+from ..judging import NO_VERSION, SKIPPED, is_met
+
+# What npm takes for an address or a path, and for a tag. A tag begins with a letter here, and not
+# as a version does: so a range that isn't read is never taken for one.
+ELSEWHERE = re.compile(r"(?!npm:)(?:git\+)?[a-z]+:|\.|.*/|.*\.(?:tgz|tar|tar\.gz)\Z", re.I | re.S)
+TAG = re.compile(r"(?!v[0-9]|v?x\.)[a-z_][0-9a-z_.!~*'()-]*", re.I | re.A)
+
+MET = "met"
+NOT_MET = ""
+NOT_READ = "not read; npm's loose mode may"
+
+
+def alias_of(spec: str) -> Optional[Tuple[str, str]]:
+    """The name and the range of `npm:NAME@RANGE`, which is empty where there is none; None where
+    it is no alias."""
+    if spec[:4].lower() != "npm:" or len(spec) == 4:
+        return None
+    at = spec.find("@", 5)
+    return (spec[4:at], spec[at + 1 :]) if at >= 0 else (spec[4:], "")
+
+
+def range_of(spec: str) -> str:
+    """What stands in the place of the range in what is asked for."""
+    alias = alias_of(spec)
+    return spec if alias is None else alias[1]
+
+
+def is_no_range(spec: str) -> bool:
+    """Whether npm takes what is asked for, which isn't read as a range, for something else: a tag,
+    an address or a path. An alias has a range or a tag."""
+    is_address = alias_of(spec) is None and ELSEWHERE.match(spec) is not None
+    return is_address or TAG.fullmatch(range_of(spec).strip()) is not None
+
+
+def verdict_on(version: Optional[str], spec: str) -> str:
+    """The verdict on the version of a package, if it has one, by what is asked for: `MET`, or the
+    word of its line."""
+    met = is_met(range_of(spec), version or "", Reading.NPM)
+    if met is None:
+        return SKIPPED if is_no_range(spec) else NOT_READ
+    if version is None:
+        return NO_VERSION
+    return MET if met else NOT_MET

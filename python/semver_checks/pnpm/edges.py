@@ -1,0 +1,165 @@
+"""The findings of a `pnpm-lock.yaml`.
+
+WHO ASKS. The project and its workspaces (`importers`), for what they depend on directly, and each
+package for its peers. The other ranges of packages aren't in such a file.
+
+WHAT IS FOUND. Of an importer the version beside what it asks for, and of a peer the package of that
+name among the dependencies of the package, where pnpm puts it.
+
+OVERRIDES. They are in the file. An ask for a name that one of them is for is judged by what it puts
+there, if the version isn't what is asked for.
+"""
+
+import re
+from typing import Dict, Iterator, List, NamedTuple, Optional, Tuple
+
+from semver_parser import Reading
+
+from ..files import Entry, WrongShape, object_at, objects_at, text_at, texts_at
+from ..judging import NO_VERSION, NOT_THERE, SKIPPED, Finding, is_version
+from ..npm.specs import MET, NOT_MET, alias_of, verdict_on
+
+KINDS = ("dependencies", "devDependencies", "optionalDependencies")
+
+# What a package is called: /NAME/VERSION, /NAME@VERSION or NAME@VERSION, and what follows of peers.
+CALLED = re.compile(r"/?((?:@[^/@]+/)?[^/@]+)[/@]([^/(_]+)[(_]?.*", re.S)
+
+
+class Found(NamedTuple):
+    """What is found: its name, where it isn't the one that is asked for, and its version, where the
+    file has it."""
+
+    name: Optional[str]
+    version: Optional[str]
+
+
+class Ask(NamedTuple):
+    """Who asks for which name, for what, what is found, and whether that has to be there."""
+
+    asker: str
+    name: str
+    spec: str
+    found: Optional[Found]
+    is_required: bool
+
+
+def found_at(text: str) -> Found:
+    """What a file has for a version: one, a package of another name, or an address or a path."""
+    bare = re.split(r"[(_]", text, maxsplit=1)[0]
+    if is_version(bare, Reading.NPM):
+        return Found(None, bare)
+    called = CALLED.fullmatch(text)
+    if ":" in bare or called is None:
+        return Found(None, None)
+    return Found(called.group(1), called.group(2))
+
+
+# ---- who asks
+
+
+def importers_of(lock: Entry) -> Dict[str, Entry]:
+    """The project and its workspaces, by their folders."""
+    if "importers" in lock:
+        return objects_at(lock["importers"], "importers")
+    return {".": {kind: lock[kind] for kind in (*KINDS, "specifiers") if kind in lock}}
+
+
+def asks_of_importer(folder: str, importer: Entry) -> Iterator[Ask]:
+    """What the project or a workspace asks for. In lockfileVersion 5 that is apart from what is
+    found."""
+    asker = "the project" if folder == "." else folder
+    specs = texts_at(importer.get("specifiers", {}), f"{folder}: specifiers")
+    for kind in KINDS:
+        for name, value in object_at(importer.get(kind, {}), f"{folder}: {kind}").items():
+            where = f"{folder}: {kind}: {name}"
+            if isinstance(value, dict):
+                spec = text_at(value.get("specifier"), f"{where}: specifier")
+                value = value.get("version")
+            else:
+                spec = text_at(specs.get(name), f"{folder}: specifiers: {name}")
+            yield Ask(asker, name, spec, found_at(text_at(value, where)), True)
+
+
+def packages_of(lock: Entry) -> Iterator[Tuple[str, Entry, Entry]]:
+    """The packages: what each is called, its fields, and what it depends on. From lockfileVersion 9
+    on that is apart from the fields (`snapshots`)."""
+    packages = objects_at(lock.get("packages") or {}, "packages")
+    if "snapshots" not in lock:
+        for key, entry in packages.items():
+            yield key, entry, entry
+        return
+    for key, entry in objects_at(lock["snapshots"] or {}, "snapshots").items():
+        yield key, packages.get(key.partition("(")[0], {}), entry
+
+
+def asks_of_package(asker: str, fields: Entry, depends: Entry) -> Iterator[Ask]:
+    """The peers that a package asks for."""
+    metas = objects_at(fields.get("peerDependenciesMeta", {}), f"{asker}: peerDependenciesMeta")
+    given = {
+        **texts_at(depends.get("optionalDependencies", {}), f"{asker}: optionalDependencies"),
+        **texts_at(depends.get("dependencies", {}), f"{asker}: dependencies"),
+    }
+    peers = texts_at(fields.get("peerDependencies", {}), f"{asker}: peerDependencies")
+    for name, spec in peers.items():
+        found = found_at(given[name]) if name in given else None
+        is_optional = metas.get(name, {}).get("optional") in ("true", True)
+        yield Ask(asker, name, spec, found, not is_optional)
+
+
+# ---- the findings
+
+
+def overrides_of(lock: Entry) -> Dict[str, List[str]]:
+    """What the overrides put in place of what is asked for, by names: a key is `NAME`,
+    `NAME@RANGE`, or one of these after `PARENT>`."""
+    replaced: Dict[str, List[str]] = {}
+    for key, spec in texts_at(lock.get("overrides") or {}, "overrides").items():
+        last = key.rpartition(">")[2]
+        at = last.find("@", 1)
+        replaced.setdefault(last if at < 0 else last[:at], []).append(spec)
+    return replaced
+
+
+def of_ask(ask: Ask, replaced: List[str]) -> Iterator[Finding]:
+    """What there is to say of what is asked for."""
+    who, found = f"{ask.asker} asks for {ask.name}", ask.found
+    if found is None:
+        if ask.is_required:
+            yield Finding(ask.spec, "", who, NOT_THERE, is_strict=True)
+        return
+    if found.version is None:
+        yield Finding(ask.spec, "", who, SKIPPED, is_strict=True)
+        return
+    alias = alias_of(ask.spec)
+    if alias is not None and found.name is not None and found.name != alias[0]:
+        yield Finding(ask.spec, found.name, who, "another package")
+    spec, verdict = ask.spec, verdict_on(found.version, ask.spec)
+    if verdict not in (MET, SKIPPED) and replaced:
+        if any(verdict_on(found.version, it) in (MET, SKIPPED) for it in replaced):
+            return
+        spec, verdict = replaced[0], verdict if verdict != NOT_MET else "overridden"
+    if verdict != MET:
+        yield Finding(spec, found.version, who, verdict, is_strict=verdict == SKIPPED)
+
+
+def check_version(lock: Entry) -> None:
+    """Refuses a file of a version that isn't known."""
+    version = text_at(lock.get("lockfileVersion"), "lockfileVersion")
+    if version.partition(".")[0] not in ("5", "6", "9"):
+        raise WrongShape(" of lockfileVersion 5, 6 or 9")
+
+
+def findings(lock: Entry) -> Iterator[Finding]:
+    """What there is to say of a lock file, in its order."""
+    check_version(lock)
+    overrides = overrides_of(lock)
+    for folder, importer in importers_of(lock).items():
+        for ask in asks_of_importer(folder, importer):
+            yield from of_ask(ask, overrides.get(ask.name, []))
+    for key, fields, depends in packages_of(lock):
+        called = CALLED.fullmatch(key)
+        asker = key if called is None else f"{called.group(1)} {called.group(2)}"
+        if called is not None and ":" not in key and not is_version(called.group(2), Reading.NPM):
+            yield Finding("", called.group(2), called.group(1), NO_VERSION)
+        for ask in asks_of_package(asker, fields, depends):
+            yield from of_ask(ask, overrides.get(ask.name, []))

@@ -1,0 +1,131 @@
+"""The frame of a program: its arguments, what it writes, and its status."""
+
+import json
+import os
+import sys
+from typing import Callable, Dict, List, NamedTuple, Tuple
+
+from .files import STANDARD_INPUT, Refusal
+
+
+class Misuse(Exception):
+    """What is wrong with the arguments of a program."""
+
+
+# ---- what is written
+
+
+def escaped(text: str) -> str:
+    """A text in which backslashes and control characters are written as JSON writes them."""
+    return "".join(json.dumps(it)[1:-1] if it < " " or it == "\\" else it for it in text)
+
+
+def joined(*fields: str) -> str:
+    """A line of fields, separated by tabs."""
+    return "\t".join(escaped(field) for field in fields)
+
+
+def open_output() -> None:
+    """Has texts written as UTF-8, wherever the program runs, and what is closed take nothing."""
+    sys.stdout = sys.stdout or open(os.devnull, "w")
+    sys.stderr = sys.stderr or open(os.devnull, "w")
+    for stream in (sys.stdout, sys.stderr):
+        stream.reconfigure(encoding="utf-8", errors="backslashreplace", newline="\n")
+
+
+# ---- a program and its arguments
+
+
+class Options(NamedTuple):
+    """What a program is called with: its files, and its options, each with its value."""
+
+    files: List[str]
+    given: Dict[str, str]
+
+
+class Outcome(NamedTuple):
+    """What a program prints on standard output and on standard error, and its status."""
+
+    lines: List[str]
+    notes: List[str]
+    status: int
+
+
+class Program(NamedTuple):
+    """A program: its name, the page that `--help` prints and whose first line is its usage, its
+    options, each with whether a value follows it, whether it takes so many files, and what it
+    does."""
+
+    name: str
+    page: str
+    options: Dict[str, bool]
+    takes: Callable[[Options], bool]
+    run: Callable[[Options], Outcome]
+
+
+def read_arguments(arguments: List[str], options: Dict[str, bool]) -> Tuple[List[str], Dict[str, str]]:
+    """The files that are named, and the options, each with its value. Of those for help there is
+    no more to know than that one is there."""
+    files: List[str] = []
+    given: Dict[str, str] = {}
+    left = iter(arguments)
+    for argument in left:
+        name, equals, value = argument.partition("=")
+        if argument == "--":
+            return [*files, *left], given
+        if argument in ("-h", "--help"):
+            return [], {"--help": ""}
+        if argument == STANDARD_INPUT or not argument.startswith("-"):
+            files.append(argument)
+            continue
+        if name not in options or (equals and not options[name]):
+            raise Misuse(f'unknown option: "{argument}"')
+        if name in given:
+            raise Misuse(f"{name} is given twice")
+        given[name] = value if equals or not options[name] else next(left, "")
+        if options[name] and not given[name]:
+            raise Misuse(f"{name} has no value")
+    return files, given
+
+
+def run(program: Program, arguments: List[str]) -> int:
+    """Runs a program. Its status: that of what it does, or 2 if it is misused, if a file is refused
+    or if the output can't be written, which one line on standard error reports."""
+    open_output()
+    try:
+        return write(outcome_of(program, arguments))
+    except Misuse as error:
+        why = f"{error}; see {program.name} --help"
+    except Refusal as error:
+        where = "standard input" if error.path == STANDARD_INPUT else error.path
+        why = f"{where}: {error.why}"
+    except MemoryError:
+        why = "out of memory"
+    except OSError as error:
+        why = f"the output can't be written: {error.strerror or error}"
+        os.dup2(os.open(os.devnull, os.O_WRONLY), 1)
+    print(f"{program.name}: {escaped(why)}", file=sys.stderr)
+    return 2
+
+
+def outcome_of(program: Program, arguments: List[str]) -> Outcome:
+    """What a program does by its arguments."""
+    files, given = read_arguments(arguments, program.options)
+    if "--help" in given:
+        return Outcome([program.page], [], 0)
+    if not program.takes(Options(files, given)):
+        return Outcome([], [program.page.partition("\n")[0]], 2)
+    return program.run(Options(files, given))
+
+
+def write(outcome: Outcome) -> int:
+    """Writes what a program prints. Its status, also if a reader closed its pipe early."""
+    try:
+        for line in outcome.lines:
+            print(line)
+        sys.stdout.flush()
+    except BrokenPipeError:
+        os.dup2(os.open(os.devnull, os.O_WRONLY), 1)
+    for note in outcome.notes:
+        print(note, file=sys.stderr)
+    return outcome.status

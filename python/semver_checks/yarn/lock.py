@@ -1,0 +1,121 @@
+"""What a `yarn.lock` has: its packages, each with the asks that it is for and with what it asks for
+itself. Both notations are read by one reader: they are indented by two blanks a level, and a line
+has a key, and then a value or, on the lines below, an object.
+"""
+
+import json
+import re
+from typing import Dict, Iterator, List, NamedTuple, Tuple, Union
+
+from ..files import Unreadable, WrongShape
+
+Tree = Dict[str, Union[str, "Tree"]]
+
+# A text in quotes, or one up to the blank, colon or comma that ends it.
+TOKEN = re.compile(r'"(?:[^"\\]|\\.)*"|[^\s,"][^\s,"]*')
+
+MET_BY = ("dependencies", "optionalDependencies")
+
+
+class Package(NamedTuple):
+    """A package of the file: the asks that it is for, as `numbers@^1.0.0`, its version, its fields,
+    and by what it is resolved, if the file is berry's."""
+
+    patterns: List[str]
+    version: str
+    fields: Tree
+    resolution: str
+
+
+def tree_of(text: str) -> Tree:
+    """What the lines of a file have, by their indents."""
+    tree: Tree = {}
+    open_trees: List[Tuple[int, Tree]] = [(-1, tree)]
+    for number, line in enumerate(text.splitlines(), 1):
+        bare = line.strip()
+        if not bare or bare.startswith("#"):
+            continue
+        depth = len(line) - len(line.lstrip(" "))
+        while open_trees[-1][0] >= depth:
+            open_trees.pop()
+        key, value, has_more = cut(bare, number)
+        inner: Tree = {}
+        open_trees[-1][1][key] = inner if has_more else value
+        if has_more:
+            open_trees.append((depth, inner))
+    return tree
+
+
+def cut(line: str, number: int) -> Tuple[str, str, bool]:
+    """The key of a line, its value, and whether an object follows it. Several keys of one package
+    are joined by a line feed: yarn 1 has each in quotes of its own, and later ones all in one."""
+    keys: List[str] = []
+    at = 0
+    while True:
+        found = TOKEN.match(line, at)
+        if found is None:
+            raise Unreadable(f"it isn't a yarn.lock: line {number}")
+        word, at = found.group(), found.end()
+        if not word.startswith('"') and word.endswith(":"):
+            word, at = word[:-1], at - 1
+        keys.append(unquoted(word, number))
+        if not line.startswith(",", at):
+            break
+        at += 1 + len(line[at + 1 :]) - len(line[at + 1 :].lstrip(" "))
+    rest = line[at:]
+    key = "\n".join(keys)
+    if rest == ":":
+        return key, "", True
+    value = (rest[1:] if rest.startswith(":") else rest).strip()
+    if not value:
+        raise Unreadable(f"it isn't a yarn.lock: line {number}")
+    return key, unquoted(value, number), False
+
+
+def unquoted(word: str, number: int) -> str:
+    """The text that a word is for."""
+    if not word.startswith('"'):
+        return word
+    try:
+        text = json.loads(word)
+    except ValueError:
+        raise Unreadable(f"it isn't a yarn.lock: line {number}") from None
+    assert isinstance(text, str)
+    return text
+
+
+def packages_of(tree: Tree) -> Iterator[Package]:
+    """The packages of a file, in its order."""
+    between = ", " if "__metadata" in tree else "\n"
+    for key, fields in tree.items():
+        if key == "__metadata":
+            continue
+        if not isinstance(fields, dict):
+            raise WrongShape(f": {key} isn't an object")
+        version = fields.get("version")
+        if not isinstance(version, str):
+            raise WrongShape(f": {key}: version isn't a text")
+        resolution = fields.get("resolution", "")
+        yield Package(key.split(between), version, fields, str(resolution))
+
+
+def asks_of(package: Package) -> Iterator[Tuple[str, str]]:
+    """What a package asks for: names, and for what."""
+    for kind in MET_BY:
+        asked = package.fields.get(kind, {})
+        if not isinstance(asked, dict):
+            raise WrongShape(f": {package.patterns[0]}: {kind} isn't an object")
+        for name, spec in asked.items():
+            if not isinstance(spec, str):
+                raise WrongShape(f": {package.patterns[0]}: {kind}: {name} isn't a text")
+            yield name, spec
+
+
+def name_of(pattern: str) -> str:
+    """The name that a pattern asks for: what is before the `@` of `numbers@^1` or `@of/numbers@^1`."""
+    return pattern[: pattern.find("@", 1)]
+
+
+def spec_of(pattern: str) -> str:
+    """What a pattern asks for."""
+    return pattern[pattern.find("@", 1) + 1 :]
