@@ -1,0 +1,167 @@
+"""docs/PROOFS.md, made of the sources: each public call with what fixes its answer, its clauses, the definitions that
+they cite, and the files of lemmas that its proof imports."""
+import itertools
+import os
+import re
+
+HEAD = '''# What is proved, and where
+
+Made of the sources by `tests/documents --proofs`. A promise is a clause of a public call, in `src/`. A clause cites
+definitions, by the names of their files in `specs/`, and a proof imports lemmas from files of `proofs/`. That each
+function returns, and that nothing in it panics, overflows or goes past a bound, is proved with or without a clause.
+
+`semver_parser` passes on the calls of the layers below it under the Rust crate's paths. The rest of `specs/Steps` is a
+means of proof: it says what the code does step by step, and no clause of a call for users cites it, but for `HasRead` of
+a `Scanner` and the view of a `Lexer`.
+
+## One answer for each call
+
+Can a wrong body be proved? A public call rules that out in one of three ways, which the comment `// Answer: ..` above it
+names:
+
+- **equation**: a clause gives what the call returns and leaves as a function of what it was given, always, or if it
+  returns `Ok`, and then `Err` is out of memory or the writer's own error.
+- **a law** by its name: a function that makes the call twice with the same arguments. Its clause says that both results
+  are equal, or that one is out of memory. Its proof sees the clauses of the call only. Two say less: if a parser reads a
+  version, memory may run out before an error is found (`one_version_of_parser`, `one_version_parse`). A law doesn't say
+  when memory runs out: the clauses of the call do.
+- **free**: what the clauses leave open, and the mutant that they still reject.
+
+What `Parser::identifier` and `Parser::version` leave if memory ran out is an end part of the tokens, by their clause
+`out_of_memory`; of `identifier` the law fixes it. The clauses of `Lines` don't speak of a reader or a writer: they are
+functions of the bytes. The sort is `Vec::sort_by` of the kit. In C, `refusals` is one clause for all errors of a range,
+and what the caller gave to write to is unchanged after an error (`unchanged` and its kin).
+'''
+
+
+def imports(text, crate):
+    """The names that a source imports from definitions, each with its file."""
+    found = {}
+    for path, names in re.findall(r'ghost use Rattle\.(\w+\.specs\.[\w.]+)\.\{([^}]*)\}', text):
+        if path.startswith('std.') or '.declared' in path:
+            continue
+        for name in names.split(','):
+            words = name.split()
+            if words:
+                found[words[-1]] = path.split('.specs.')[1].replace('.', '/')
+    for path, name in re.findall(r'ghost use Rattle\.(\w+\.specs\.[\w.]+) as (\w+)', text):
+        if '.declared' not in path and not path.startswith('std.'):
+            found[name] = path.split('.specs.')[1].replace('.', '/')
+    return found
+
+
+def function(lines, at):
+    """The text of a function's head, with its clauses, from its line on."""
+    indent = len(lines[at]) - len(lines[at].lstrip())
+    taken = []
+    for line in lines[at:]:
+        if line.startswith(' ' * indent + '{') or (taken and line.rstrip().endswith('{}') and not line.strip().startswith('ensures')):
+            break
+        taken.append(line)
+        if line.rstrip().endswith(';') and len(taken) == 1:
+            break
+    return '\n'.join(taken)
+
+
+def clauses(head):
+    """The names of the clauses of a head; a lone clause has none."""
+    named = [f'`{name}`' for name in re.findall(r'\b(?:ensures|requires) ([a-z_0-9]+) \{', head)]
+    return [*named, 'one'] if re.search(r'\bensures \{', head) else named
+
+
+def cited(head, known):
+    """The files of the definitions that the clauses of a head cite."""
+    words = re.findall(r'[A-Za-z_][\w]*', re.split(r'\b(?:ensures|requires)\b', head, maxsplit=1)[-1])
+    return sorted({known[word] for word in words if word in known})
+
+
+def lemmas(top, crate, folder):
+    """The files of lemmas that the proof of a function imports."""
+    found = set()
+    base = os.path.join(top, 'crates', crate, 'proofs')
+    for name in ('Answers.antt', 'Invariants.antt', 'Proof.antt'):
+        path = os.path.join(base, folder, name)
+        if os.path.exists(path):
+            with open(path, encoding='utf-8') as file:
+                found.update(re.findall(rf'^use Rattle\.{crate}\.proofs\.([A-Z]\w*)\b', file.read(), re.M))
+    return sorted(found)
+
+
+def first_sentence(comment):
+    """The first sentence of a doc comment, on one line."""
+    lines = [line.strip()[3:].strip() for line in comment]
+    text = ' '.join(itertools.takewhile(bool, lines))
+    text = re.split(r'(?<=[a-z`)\]])\. (?=[A-Z`])|: (?=`|that|those|of )', text + ' ', maxsplit=1)[0].strip().rstrip('.:')
+    return text.replace('|', '\\|')
+
+
+def row(top, crate, path, lines, at, name, comment, answer):
+    """The row of a call."""
+    head = function(lines, at)
+    module = path.split('/src/')[1][:-3]
+    parts = name.split('::')
+    folder = '/'.join(([] if module in ('lib', 'main') else [module]) + parts)
+    known = imports('\n'.join(lines), crate)
+    shown = ', '.join(clauses(head))
+    by = f'`{answer}`' if answer and not answer.startswith(('equation', 'free')) else answer or ''
+    cells = [
+        f'`{name}`', first_sentence(comment), by, shown, ', '.join(f'`{it}`' for it in cited(head, known)),
+        ', '.join(f'`{it}`' for it in lemmas(top, crate, folder)),
+    ]
+    return '| ' + ' | '.join(cells) + ' |'
+
+
+def page(top, crates, what, sources, public, exported, traits, answer_of):
+    """The page. The arguments are what tests/documents knows of the tree."""
+    blocks = [HEAD]
+    for crate in crates:
+        modules, used = [], set()
+        for path in sources(crate):
+            with open(os.path.join(top, path), encoding='utf-8') as file:
+                lines = file.read().split('\n')
+            rows = list(rows_of(top, crate, path, lines, public, exported, traits, answer_of))
+            for line in rows:
+                used.update(re.findall(r'`(\w+)`', line.split('|')[-2]))
+            if rows:
+                module = path.split('/src/')[1][:-3].replace('/', '::')
+                modules.append(f'### `{crate}::{module}`\n\n| call | what it returns | fixed by | clauses | definitions | lemmas |\n'
+                               '|---|---|---|---|---|---|\n' + '\n'.join(rows) + '\n')
+        if not modules:
+            continue
+        folder = os.path.join(top, 'crates', crate, 'proofs')
+        names = sorted(name[:-5] for name in os.listdir(folder) if name.endswith('.antt') and name != 'Lib.antt') if os.path.isdir(folder) else []
+        others = [name for name in names if name not in used]
+        rest = f'\nOther files of lemmas, on which these rest: {", ".join(f"`{name}`" for name in others)}.\n' if others else ''
+        blocks.append(f'## `{crate}`\n\n{what[crate][:1].upper()}{what[crate][1:]}.\n\n' + '\n'.join(modules) + rest)
+    return '\n'.join(blocks)
+
+
+def rows_of(top, crate, path, lines, public, exported, traits, answer_of):
+    """The rows of the calls of a source, in its order."""
+    comment, answer, inside = [], None, ''
+    for at, line in enumerate(lines):
+        bare = line.strip()
+        begins = re.match(r'impl(?:<[^>]*>)? (?:.* for )?(\w+)', line)
+        if begins:
+            inside = begins.group(1) + '::'
+        call = re.match(r' *pub (?:extern "C" )?fn (\w+)', line)
+        shown = re.match(traits, line)
+        if call and public(crate, path, line):
+            yield row(top, crate, path, lines, at, (inside if line.startswith(' ') else '') + call.group(1), comment, answer)
+        elif shown and exported(crate, path, shown.group(2)):
+            trait = shown.group(1).replace('fmt::', '')
+            known = imports('\n'.join(lines), crate)
+            end = next((k for k in range(at, len(lines)) if lines[k].startswith('}')), at)
+            text = '\n'.join(lines[at:end])
+            members = re.findall(r'ghost ([a-z_]+) =', text) + re.findall(r'ensures ([a-z_]+) \{', text)
+            cells = [f'`{trait} for {shown.group(2)}`', '', answer or '', ', '.join(f'`{it}`' for it in members),
+                     ', '.join(f'`{it}`' for it in cited('ensures' + text, known)), '']
+            yield '| ' + ' | '.join(cells) + ' |'
+        found = answer_of.fullmatch(bare)
+        if found:
+            law = found.group(2)
+            answer = law.split('::')[-1] if law else 'equation' if not found.group(4) else f'free: {found.group(3)} (`{os.path.basename(found.group(4))}`)'
+        elif bare.startswith('///'):
+            comment.append(bare)
+        elif not bare.startswith(('#[', '// ')):
+            comment, answer = [], None
