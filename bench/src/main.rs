@@ -48,7 +48,7 @@ fn main() -> ExitCode {
     }
 }
 
-/// Prints both tables of times, parted by an empty line.
+/// Prints both tables of times, separated by an empty line.
 fn print_times(seed: u64) -> Result<(), String> {
     speed::print_table(seed)?;
     println!();

@@ -1,7 +1,7 @@
 /* A null pointer with a length above 0, in each place where an empty text or an empty room may be
  * at null: it is passed on as it is, so the call ends by a fault at null, and no variable of the
  * program changes. Each call is made in a child. And an array of texts that is larger than any
- * block, the first text of which is at null: that is want of memory. */
+ * block, the first text of which is at null: that is out of memory. */
 #define _POSIX_C_SOURCE 200809L
 #include "../../crates/semver_parser_c/include/semver_parser.h"
 
@@ -264,7 +264,7 @@ static void nulls_with_a_length(void) {
 /* ---- more texts than any block has room for */
 
 /* Of a range that is one, or that is refused. A fault of the reading, the rule or the range goes
- * before the want of memory. */
+ * before running out of memory. */
 static void too_many(const char *range, int32_t rule, int32_t wanted) {
     const size_t least = SIZE_MAX / sizeof(semver_parser_text) + 1;
     uint8_t answers[2] = {7, 7};

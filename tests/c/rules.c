@@ -1,4 +1,4 @@
-/* What the calls for C say beyond the table: places of the parts, bytes that are no UTF-8, exact
+/* What the C functions return beyond the table: places of the parts, bytes that are no UTF-8, exact
  * bounds, the own meaning of a range, which fault goes first, and all of that of long texts too.
  * What is wanted follows from docs/GRAMMAR.md and docs/MEANING.md. */
 #include "calls.h"

@@ -13,7 +13,7 @@ typedef struct {
     size_t room;
 } text;
 
-/* Appends bytes, or a string, or what printf writes. Want of memory ends the program. */
+/* Appends bytes, or a string, or what printf writes. Running out of memory ends the program. */
 void text_add(text *to, const char *bytes, size_t length);
 void text_say(text *to, const char *format, ...) __attribute__((format(printf, 2, 3)));
 void text_free(text *it);

@@ -74,7 +74,7 @@ static bool is_too_large(const text *version, int32_t reading) {
 }
 
 /* Writes those versions of a list that meet a range by a rule, as the table does, or the word of
- * the range's fault. The versions are parted by spaces. Those that are too large for npm have to be
+ * the range's fault. The versions are separated by spaces. Those that are too large for npm have to be
  * refused. */
 static void say_meant(text *to, const text *range, int32_t reading, int32_t rule,
                       const char *list) {

@@ -1,5 +1,5 @@
-//! The options by which a program is told whose reading of a range text it takes, and which
-//! pre-releases count: `--as`, `--npm`, `--releases`, `--pre` and `--pre-stated`.
+//! The options that choose the dialect of a range text, and which pre-releases count: `--as`,
+//! `--npm`, `--releases`, `--pre` and `--pre-stated`.
 #![tactic(auto)]
 
 mod error;

@@ -172,8 +172,8 @@ impl Held {
         }
     }
 
-    /// Appends the best line, this last one among them. For want of a copy, one that is all that is
-    /// appended is handed over, and then it isn't held any more.
+    /// Appends the best line, this last one among them. If nothing else is
+    /// appended, it is moved in place of a copy, and isn't held any more.
     fn append_best(&mut self, last: &Option<KeptLine>, kept: &mut Vec<u8>) -> Result<(), AllocError>
         ensures best { IfOk result (λ _. (best : Option KeptValue)
             × IsBest (order_of self.old.wanted)

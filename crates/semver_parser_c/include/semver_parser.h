@@ -153,7 +153,7 @@ enum {
 };
 
 /* The readings of range texts and of version texts, one of which is passed as `reading`
- * (docs/MEANING.md, "Whose reading?"). */
+ * (docs/MEANING.md, "Which dialect?"). */
 enum {
     /* Cargo's own: `1.2` means `>=1.2.0 <2.0.0`, and commas part comparators. Its versions are
      * those of SemVer 2.0.0. */

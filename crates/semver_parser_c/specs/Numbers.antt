@@ -1,4 +1,4 @@
--- The numbers that the calls for C answer; include/semver_parser.h has the same under the same
+-- The numbers that the C functions return; include/semver_parser.h has the same under the same
 -- names.
 use Rattle.std.specs.Prelude.{ℕ, ℤ, pos}
 
@@ -82,7 +82,7 @@ new_range_out_of_memory = pos 19
 abbrev pub no_such_reading : ℤ
 no_such_reading = pos 20
 
--- the version isn't one to the tool whose reading is asked for
+-- the dialect has no such version
 abbrev pub not_a_version : ℤ
 not_a_version = pos 21
 

@@ -1,4 +1,4 @@
-//! The calls for C, proved: reading a version text, rewriting a range text, which versions meet a
+//! The C functions, proved: reading a version text, rewriting a range text, which versions meet a
 //! range, the least of them, and how two ranges compare. `include/semver_parser.h` says them in C's
 //! words, without `proved_` in their names, and `c/calls.c` makes those of these: there null with a
 //! length of 0 is an empty text or an empty room.

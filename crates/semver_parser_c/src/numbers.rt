@@ -42,7 +42,7 @@ pub const NEW_RANGE_OUT_OF_MEMORY: i32 = 19;
 
 /// No reading of range texts has that number.
 pub const NO_SUCH_READING: i32 = 20;
-/// The version is not one to the tool whose reading is asked for.
+/// The dialect has no such version.
 pub const NOT_A_VERSION: i32 = 21;
 
 /// The text is empty, or white space only.

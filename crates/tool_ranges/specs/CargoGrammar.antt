@@ -1,4 +1,4 @@
--- A requirement as Cargo reads it, and the texts that spell it: comparators parted by commas.
+-- A requirement as Cargo reads it, and the texts that spell it: comparators separated by commas.
 use Prim.Native.Char.{code}
 use Rattle.std.specs.Prelude.{◌≡◌, ◌≤◌, Bool, true, false, ◌&&◌, ◌||◌, ◌==◌, not}
 use Rattle.std.specs.Prelude.{if◌then◌else◌, List, [], ◌∷◌, ◌++◌, length, codes, IsTrue}
@@ -69,7 +69,7 @@ pub record SpellsComparator (s : Simple) (t : Text) : Type 0 where
   pub is_read : IsTrue (is_of_cargo s)
   pub text : t ≡ before ++ (sign s.form ++ (gap ++ (word ++ after)))
 
--- one or more comparators, parted by commas
+-- one or more comparators, separated by commas
 abbrev pub SpellsComparators : List Simple → Text → Type 0
 SpellsComparators [] t = ⊥
 SpellsComparators (s ∷ []) t = SpellsComparator s t

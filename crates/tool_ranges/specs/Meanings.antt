@@ -1,4 +1,4 @@
--- What a range text means: by whose reading, and with which pre-releases.
+-- What a range text means: in which dialect, and with which pre-releases.
 use Rattle.std.specs.Prelude.{◌≡◌, Bool, ◌&&◌}
 use Rattle.semver_texts.specs.Texts.{Text, is_empty}
 use Rattle.semver_texts.specs.Versions.{PlainVersion, VersionValue}
@@ -14,7 +14,7 @@ use Rattle.tool_ranges.specs.CargoMeaning.{meets_requirement}
 use Rattle.tool_ranges.specs.NpmMeaning.{meets_npm}
 use Rattle.tool_ranges.specs.Readings.{TreeOf, SpellsAs}
 
--- whose reading a meaning is by
+-- the dialect of a meaning
 abbrev pub reading_of : Meaning → Reading
 reading_of Cargo = reading.Cargo
 reading_of CargoAll = reading.Cargo

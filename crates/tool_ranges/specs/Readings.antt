@@ -1,4 +1,4 @@
--- Whose reading of a range text: its trees, what is refused of a text, and to what it is rewritten.
+-- The dialects of range texts: their trees, what is refused of a text, and to what it is rewritten.
 use Rattle.std.specs.Prelude.{◌≡◌, Bool, false, List, IsTrue, Result}
 use Rattle.semver_ranges.specs.declared.range_set.RangeError.{RangeError}
 use Rattle.semver_texts.specs.Texts.{Text}

@@ -1,4 +1,4 @@
-//! Requirements as Cargo reads them: `1.2` is `>=1.2.0 <2.0.0`, and commas part comparators.
+//! Requirements as Cargo reads them: `1.2` is `>=1.2.0 <2.0.0`, and commas separate comparators.
 
 ghost use Rattle.std.specs.Prelude.{◌≡◌, [], ◌∷◌, List, length, map, true, false, IsTrue};
 ghost use Rattle.std.specs.Prelude.{IfOk, MatchResult};
@@ -45,7 +45,7 @@ const MOST_COMPARATORS: usize = 32;
 // Answer: law answer_laws::ranges::one_cargo_rewrite.
 /// Rewrites a requirement, as Cargo reads it, into plain comparators with exact bounds.
 ///
-/// A requirement is one or more comparators parted by commas, at most 32, or a wildcard alone.
+/// A requirement is one to 32 comparators, separated by commas, or a wildcard alone.
 /// `docs/GRAMMAR.md` states the grammar, and `docs/MEANING.md` what each comparator means to Cargo.
 /// The answer has one range, in Cargo mode.
 ///
@@ -60,8 +60,7 @@ const MOST_COMPARATORS: usize = 32;
 /// - `NotARange` exactly where Cargo reads no such requirement, as `1.2 || 3`, `>=1 <2` or `1.x.3`.
 /// - `NumberTooLarge` exactly where it is one, and a number that it states or a bound that is
 ///   raised by one is above 2^64 - 1, as `>1.18446744073709551615`.
-/// - `OutOfMemory` where a growth was refused. The first two answers take no memory, so this one
-///   stands in place of a set alone.
+/// - `OutOfMemory` if an allocation fails. The first two do not allocate.
 pub fn rewrite(alloc: Global, requirement: &str) -> Result<RangeSet, RangeError>
     // What isn't a requirement and what is too large is refused, exactly; all else is read. What is
     // answered is what each tree of the text is rewritten to.

@@ -1,4 +1,4 @@
-//! What a range text means: by whose reading, and with which pre-releases.
+//! What a range text means: in which dialect, and with which pre-releases.
 
 ghost use Rattle.std.specs.Prelude.{◌≡◌, ◌≢◌, ◌&&◌, Bool, true, Err, IfOk};
 ghost use Rattle.semver_texts.specs.Texts.{Text, is_empty};
@@ -20,7 +20,7 @@ use version_sets::{PreReleases, VersionSet};
 
 /// A reading of a range text, and which pre-releases count by it. A tool has a rule of its own for
 /// them, beside which all may count or none; the crate's reading takes one of three
-/// (`docs/MEANING.md`, "Whose reading?").
+/// (`docs/MEANING.md`, "Which dialect?").
 #[derive(Clone, Copy, PartialEq, Eq, Debug)]
 pub enum Meaning {
     /// Cargo's own, with the pre-releases that Cargo takes.
@@ -41,7 +41,7 @@ pub enum Meaning {
 
 impl Meaning {
     // Answer: equation.
-    /// Whose reading it is by.
+    /// Returns the dialect.
     pub fn reading(self) -> Reading
         ensures { result ≡ reading_of self }
     {

@@ -40,7 +40,7 @@ use std::alloc::{AllocError, Global};
 // Answer: law answer_laws::ranges::one_npm_rewrite.
 /// Rewrites a range text, as npm reads it, into plain comparators with exact bounds.
 ///
-/// The text is one or more ranges parted by `||`. `docs/GRAMMAR.md` states the grammar, and
+/// The text is one or more ranges separated by `||`. `docs/GRAMMAR.md` states the grammar, and
 /// `docs/MEANING.md` what each range means to npm. The answer has the ranges in the order of the
 /// text, in Npm mode. A range by which npm asks nothing, as `*`, is `>=0.0.0`.
 ///
@@ -57,8 +57,7 @@ use std::alloc::{AllocError, Global};
 ///   and a build identifier at most 250.
 /// - `NumberTooLarge` exactly where it has, and a number that it states or a bound that is raised
 ///   by one is above 2^53 - 1, as `>1.9007199254740991`.
-/// - `OutOfMemory` where a growth was refused. The first two answers take no memory, so this one
-///   stands in place of a set alone.
+/// - `OutOfMemory` if an allocation fails. The first two do not allocate.
 pub fn rewrite(alloc: Global, range: &str) -> Result<RangeSet, RangeError>
     // What isn't in npm's grammar and what is too large is refused, exactly; all else is read. What
     // is answered is what each tree of the text is rewritten to.

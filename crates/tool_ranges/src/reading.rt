@@ -1,4 +1,4 @@
-//! Whose reading of a range text: a tool's own, or the port's in one of its modes.
+//! The dialects of range texts: Cargo's, npm's, and the port's in one of its modes.
 
 ghost use Rattle.std.specs.Prelude.{◌≡◌, [], IfOk, IsTrue};
 ghost use Rattle.semver_texts.specs.Versions.{PlainVersion};
@@ -15,10 +15,10 @@ use semver_ranges::{Compat, RangeError, RangeSet};
 use semver_texts::dialect::Dialect;
 use std::alloc::Global;
 
-/// Whose reading of a range text. `docs/MEANING.md` tells them apart ("Whose reading?").
+/// A dialect of range texts. `docs/MEANING.md` compares them ("Which dialect?").
 #[derive(Clone, Copy, PartialEq, Eq, Debug)]
 pub enum Reading {
-    /// Cargo's own: `1.2` is `>=1.2.0 <2.0.0`, and commas part comparators.
+    /// Cargo's own: `1.2` is `>=1.2.0 <2.0.0`, and commas separate comparators.
     Cargo,
     /// npm's own: `>1.2` is `>=1.3.0`, and `v1` is a range.
     Npm,
