@@ -117,7 +117,8 @@ def findings(tree: Tree, manifest: Entry) -> Iterator[Finding]:
     packages = list(packages_of(tree))
     by_pattern = by_patterns(packages)
     # From yarn 2 on the project and its workspaces are packages, and ask for all that is there.
-    asked = set(by_pattern) if "__metadata" in tree else asked_patterns(packages)
+    every = {pattern for package in packages for pattern in package.patterns}
+    asked = every if "__metadata" in tree else asked_patterns(packages)
     for package in packages:
         if package.version != WORKSPACE and not is_version(package.version, Reading.NPM):
             yield Finding("", package.version, name_of(package.patterns[0]), NO_VERSION)

@@ -1,0 +1,119 @@
+// Compares what check-lock-file lists of changed lock files with node-semver.
+//
+// `node planted-locks.js PROGRAM COUNT SEED FILE..`, where each FILE is a yarn.lock of which nothing
+// is listed. Of each it makes COUNT copies in which one package has another version, finds by itself
+// which asks that breaks, and compares the lines. It prints the first difference, and then ends with
+// status 1.
+'use strict'
+
+const fs = require('fs')
+const os = require('os')
+const path = require('path')
+const semver = require('semver')
+const { spawnSync } = require('child_process')
+const { Random } = require('./with-node-semver.js')
+
+const VERSIONS = ['0.0.1', '1.0.0', '2.0.0-rc.1', '99.0.0', '1.2.3--canary.1']
+
+// The asks of a yarn.lock: who asks for which name by which range, and the place of what is found.
+function asksOfYarn (text) {
+  const isBerry = text.includes('__metadata:')
+  const blocks = text.split(/\n\n/).filter((it) => /^["@a-z]/i.test(it.trim()) && !it.startsWith('#'))
+  const found = {}
+  const packages = []
+  for (const block of blocks) {
+    const lines = block.split('\n').filter((it) => it && !it.startsWith('#'))
+    const head = lines[0].slice(0, -1)
+    if (head === '__metadata') continue
+    const keys = isBerry ? head.replace(/^"|"$/g, '').split(', ') : head.split(/, (?=["@a-z])/i).map((it) => it.replace(/^"|"$/g, ''))
+    const version = /^ {2}version:? "?([^"]*)"?$/m.exec(block)[1]
+    const at = packages.push({ keys, version, needs: [] }) - 1
+    let inside = ''
+    for (const line of lines.slice(1)) {
+      const section = /^ {2}(\w+):$/.exec(line)
+      if (section) inside = section[1]
+      else if (!line.startsWith('    ')) inside = ''
+      const need = /^ {4}"?([^":]+?)"?:? "?([^"]*)"?$/.exec(line)
+      if (need && /^(d|optionalD)ependencies$/.test(inside)) packages[at].needs.push([need[1], need[2]])
+    }
+    for (const key of keys) found[key.split('::')[0]] = at
+  }
+  const asks = []
+  const asked = new Set()
+  for (const it of packages) {
+    const name = it.keys[0].slice(0, it.keys[0].indexOf('@', 1))
+    for (const [need, spec] of it.needs) {
+      asked.add(`${need}@${spec}`)
+      const at = found[`${need}@${spec}`] ?? found[`${need}@npm:${spec}`]
+      asks.push({ who: name, by: it, name: need, spec, at })
+    }
+  }
+  if (!isBerry) {
+    packages.forEach((it, at) => it.keys.filter((key) => !asked.has(key)).forEach((key) => {
+      const end = key.indexOf('@', 1)
+      asks.push({ who: 'the project', name: key.slice(0, end), spec: key.slice(end + 1), at })
+    }))
+  }
+  return { packages, asks }
+}
+
+// The range that is asked for; null if it is none.
+const rangeOf = (spec) => {
+  const bare = spec.startsWith('npm:') ? spec.slice(4).replace(/^@?[^@]+@/, '') : spec
+  return semver.validRange(bare) === null ? null : bare
+}
+
+const whoIs = (ask) => ask.by === undefined ? ask.who
+  : ask.by.version === '0.0.0-use.local' ? ask.who : `${ask.who} ${ask.by.version}`
+
+// A copy of a yarn.lock with another version of a package, and the lines that it has to have.
+function planted (text, parsed, at, version) {
+  const { packages, asks } = parsed
+  const old = packages[at]
+  const key = old.keys.length === 1 || text.includes('__metadata:') ? old.keys.join(', ') : null
+  const begin = text.split('\n').findIndex((line) => line.endsWith(':') && !line.startsWith(' ') &&
+    (key === null ? line.includes(old.keys[0]) && line.includes(old.keys[1]) : line.slice(0, -1).replace(/^"|"$/g, '') === key))
+  const lines = text.split('\n')
+  if (begin < 0) return null
+  lines[begin + 1] = lines[begin + 1].replace(old.version, version)
+  const changed = { ...old, version }
+  const wanted = asks.filter((ask) => ask.at === at && rangeOf(ask.spec) !== null &&
+    !semver.satisfies(version, rangeOf(ask.spec)))
+    .map((ask) => `${ask.spec}\t${version}\t${whoIs({ ...ask, by: ask.by === old ? changed : ask.by })} asks for ${ask.name}`)
+  return { copy: lines.join('\n'), wanted }
+}
+
+function main () {
+  const [program, count, seed, ...files] = process.argv.slice(2)
+  const random = new Random(Number(seed))
+  const folder = fs.mkdtempSync(path.join(os.tmpdir(), 'planted-'))
+  let copies = 0
+  let faults = 0
+  for (const file of files) {
+    const text = fs.readFileSync(file, 'utf8')
+    const parsed = asksOfYarn(text)
+    const manifest = path.join(path.dirname(file), 'package.json')
+    if (fs.existsSync(manifest)) fs.copyFileSync(manifest, path.join(folder, 'package.json'))
+    for (let made = 0; made < Number(count);) {
+      const at = random.below(parsed.packages.length)
+      const version = VERSIONS[random.below(VERSIONS.length)]
+      if (parsed.packages[at].version.endsWith('use.local')) continue
+      const plant = planted(text, parsed, at, version)
+      if (plant === null) continue
+      made += 1
+      fs.writeFileSync(path.join(folder, 'yarn.lock'), plant.copy)
+      const ran = spawnSync(program, [path.join(folder, 'yarn.lock')], { encoding: 'utf8' })
+      const listed = ran.stdout.split('\n').filter((it) => it !== '').sort()
+      if (listed.join('\n') !== [...plant.wanted].sort().join('\n')) {
+        console.log(`${file}: ${parsed.packages[at].keys[0]} with ${version}`)
+        console.log('listed:', listed, 'wanted:', plant.wanted, ran.stderr)
+        process.exit(1)
+      }
+      copies += 1
+      faults += plant.wanted.length
+    }
+  }
+  console.log(`${copies} changed copies, ${faults} planted faults: each is listed, and no other`)
+}
+
+main()
