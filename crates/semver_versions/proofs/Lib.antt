@@ -4,8 +4,5 @@ pub mod DialectOutlines
 pub mod KeptTexts
 pub mod OneVersion
 pub mod OutlineVersions
-pub mod OutlinedTexts
-pub mod SpelledParts
-pub mod ToolOutlines
-pub mod ToolParts
+pub mod ReadVersions
 pub mod WhiteSpaces
