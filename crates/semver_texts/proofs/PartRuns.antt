@@ -2,8 +2,8 @@
 use Rattle.std.proofs.Common.{◌≡◌, ℕ, Bool, true, false, ◌&&◌, List, [], ◌∷◌, take, refl, arith, one-add, if◌then◌else◌}
 use Rattle.std.specs.List.{list_all, prefix_len, slice_split}
 use Rattle.std.proofs.lemmas.Bool.Decides.{nat_tests}
-use Rattle.semver_texts.specs.Texts.{Text, is_part, is_part_byte, is_dot, is_dotted_byte}
-use Rattle.semver_texts.specs.Steps.DottedParts.{runs_stand}
+use Rattle.semver_texts.specs.Texts.{Text, cut_at_dots, has_no_leading_zero, is_part, is_part_byte, is_dot, is_dotted_byte}
+use Rattle.semver_texts.specs.Steps.DottedParts.{begins_oddly, runs_stand}
 use Rattle.semver_texts.proofs.Lists.{by_test}
 
 -- the first piece of a text between dots, and the other pieces
@@ -37,3 +37,15 @@ runs (b ∷ t) = grind (arith, nat_tests, runs t, pieces (front is_dotted_byte t
 -- the runs at the front stand exactly where they are parts
 pub runs_ahead : (t : Text) → runs_stand is_part_byte false t ≡ list_all is_part (slice_split is_dot (take (prefix_len is_dotted_byte t) t))
 runs_ahead t = rw (← (front_taken is_dotted_byte t)) (runs t).1
+
+-- ---- parts of which none begins with a zero
+
+odd : (t : Text) → let ps : List Text = slice_split is_dot t in
+    (begins_oddly false t ≡ false → list_all has_no_leading_zero (other_pieces ps) ≡ true)
+    × (begins_oddly true t ≡ false → list_all has_no_leading_zero ps ≡ true)
+odd [] = (λ e. refl, λ e. cc)
+odd (b ∷ t) = grind (arith, nat_tests, odd t, pieces t)
+
+pub no_zero_begins : (t : Text) → begins_oddly true t ≡ false → list_all has_no_leading_zero (cut_at_dots t) ≡ true
+no_zero_begins [] e = refl
+no_zero_begins (b ∷ t) e = (odd (b ∷ t)).1 e

@@ -7,7 +7,8 @@ ghost use Rattle.std.specs.List.{AllByRecursion, AllZip, list_all, prefix_len, s
 ghost use Rattle.std.specs.Fn.{FnReturnsAt};
 ghost use Rattle.semver_texts.specs.Texts.{begins_with, cut_at_dots, has_no_leading_zero, is_dot};
 ghost use Rattle.semver_texts.specs.Texts.{is_dotted_byte};
-ghost use Rattle.semver_texts.specs.Steps.DottedParts.{is_run_byte, runs_stand, marked_part};
+ghost use Rattle.semver_texts.specs.Steps.DottedParts.{begins_oddly, is_run_byte, marked_part};
+ghost use Rattle.semver_texts.specs.Steps.DottedParts.{runs_stand};
 
 use crate::bytes::count_dots;
 use std::alloc::{AllocError, Global};
@@ -119,13 +120,44 @@ pub fn split_at_dot(bytes: &[u8]) -> (&[u8], Option<&[u8]>)
 }
 
 // Answer: equation.
-/// Whether none of the parts that are digits alone has a leading zero.
+/// Whether none of the parts that are digits alone has a leading zero. For speed, parts of which
+/// none begins with a zero are told first.
+#[inline(always)]
 pub fn have_no_leading_zeros(parts: &[u8]) -> bool
     ensures { result ≡ list_all has_no_leading_zero (cut_at_dots parts.now) }
 {
     if parts.is_empty() {
         return true;
     }
+    if !begins_oddly(parts) {
+        return true;
+    }
+    each_has_no_leading_zero(parts)
+}
+
+/// Whether a part is empty or begins with a zero. A dot is no branch here: where it is, a processor
+/// can't guess.
+#[inline(always)]
+fn begins_oddly(parts: &[u8]) -> bool
+    ensures { result ≡ begins_oddly true parts.now }
+{
+    let mut at_front = true;
+    for at in 0..parts.len() {
+        let is_dot = parts[at] == b'.';
+        if at_front & (is_dot | (parts[at] == b'0')) {
+            return true;
+        }
+        at_front = is_dot;
+    }
+    at_front
+}
+
+/// Whether none of the parts that are digits alone has a leading zero, asked of one after the
+/// other.
+#[inline(never)]
+fn each_has_no_leading_zero(parts: &[u8]) -> bool
+    ensures { result ≡ list_all has_no_leading_zero (slice_split is_dot parts.now) }
+{
     let mut rest = Some(parts);
     while let Some(bytes) = rest {
         let (part, behind) = split_at_dot(bytes);

@@ -32,3 +32,9 @@ abbrev pub marked_part : Hyphens → ℕ → Text → Option (Text × Text)
 marked_part hyphens mark [] = Some ([], [])
 marked_part hyphens mark (b ∷ t) =
     if b == mark then parts_ahead hyphens t else Some ([], b ∷ t)
+
+-- whether a part is empty or begins with a zero, read from the front of a part or from within one
+abbrev pub begins_oddly : Bool → Text → Bool
+begins_oddly at_front [] = at_front
+begins_oddly at_front (b ∷ t) =
+    (at_front && (b == 46 || b == 48)) || begins_oddly (b == 46) t
