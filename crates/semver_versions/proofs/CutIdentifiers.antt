@@ -145,7 +145,7 @@ other_stands (b ∷ more) e = let n = not_inner b e in rw (n.0, n.1)
     not_inner b e = (grind (arith, nat_tests), grind (arith, nat_tests))
 
 -- they are found
-pub stand_found : (h : Hyphens) (bytes : Text) → runs_stand (is_run_byte h) false bytes ≡ true
+stand_found : (h : Hyphens) (bytes : Text) → runs_stand (is_run_byte h) false bytes ≡ true
     → (0 < length (front bytes)) × AreIdentifiers h (cut_at_dots (front bytes))
 stand_found Any bytes e = some_parts (front bytes) (sym (runs_ahead bytes) ∙ e)
   where
@@ -160,7 +160,7 @@ stand_found BetweenRuns bytes e =
     )
 
 -- and where they are there, they stand so
-pub found_stand : (h : Hyphens) (bytes : Text) → 0 < length (front bytes) → AreIdentifiers h (cut_at_dots (front bytes))
+found_stand : (h : Hyphens) (bytes : Text) → 0 < length (front bytes) → AreIdentifiers h (cut_at_dots (front bytes))
     → runs_stand (is_run_byte h) false bytes ≡ true
 found_stand Any bytes some each = runs_ahead bytes ∙ ap (list_all is_part) (sym (some_cut (front bytes) some)) ∙ each
 found_stand BetweenRuns bytes some each =

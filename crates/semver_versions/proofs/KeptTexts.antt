@@ -41,7 +41,7 @@ is_a_part : (t : Text) → IsPartText t → is_part t ≡ true
 is_a_part [] w = absurd (omega (arith, w.0))
 is_a_part (b ∷ t) w = all_passes is_part_byte (b ∷ t) w.1
 
-pub kept_part : (id : IdentifierValue) (t : Text) → IsKeptAs id t → is_part t ≡ true
+kept_part : (id : IdentifierValue) (t : Text) → IsKeptAs id t → is_part t ≡ true
 kept_part (numeric n) t w =
     let run = decimal_is_run n w.0 in
     is_a_part t (subst IsPartText (sym w.1) (run.0, all_more run_is_part (decimal n) run.1))
@@ -78,7 +78,7 @@ number_is (b ∷ []) c some = let d = c.digits in grind (arith, nat_tests, commo
 number_is (b ∷ next ∷ t) c some =
     let d = c.digits in let z = c.no_leading_zero in grind (arith, nat_tests, common_steps)
 
-pub kept_as_of : (t : Text) → is_part t ≡ true → IsKeptAs (identifier_of t) t
+kept_as_of : (t : Text) → is_part t ≡ true → IsKeptAs (identifier_of t) t
 kept_as_of t e = by_test (is_number t && nat_lt (digits_value 10 t) (2 ^ 64))
     (λ y. let both = and_parts _ _ y in
     let c = canonical t both.0 (grind (arith, nat_tests, common_steps)) in
@@ -107,16 +107,12 @@ pub all_kept : (ts : List Text) → list_all is_part ts ≡ true → AllZip IsKe
 all_kept [] e = tt
 all_kept (t ∷ ts) e = let both = and_parts (is_part t) _ e in (kept_as_of t both.0, all_kept ts both.1)
 
-pub same_all_kept : (ids others : List IdentifierValue) (ts : List Text) → AllZip IsKeptAs ids ts → AllZip IsKeptAs others ts → ids ≡ others
-same_all_kept [] [] [] a b = refl
-same_all_kept [] (o ∷ others) [] a b = absurd b
-same_all_kept (id ∷ ids) others [] a b = absurd a
-same_all_kept [] others (t ∷ ts) a b = absurd a
-same_all_kept (id ∷ ids) [] (t ∷ ts) a b = absurd b
-same_all_kept (id ∷ ids) (o ∷ others) (t ∷ ts) a b = (λ i. same_kept id o t a.0 b.0 i ∷ same_all_kept ids others ts a.1 b.1 i)
-
 pub kept_is : (ids : List IdentifierValue) (ts : List Text) → AllZip IsKeptAs ids ts → ids ≡ map identifier_of ts
-kept_is ids ts all = same_all_kept ids _ ts all (all_kept ts (kept_parts ids ts all))
+kept_is [] [] all = refl
+kept_is [] (t ∷ ts) all = absurd all
+kept_is (id ∷ ids) [] all = absurd all
+kept_is (id ∷ ids) (t ∷ ts) all =
+    (λ i. same_kept id (identifier_of t) t all.0 (kept_as_of t (kept_part id t all.0)) i ∷ kept_is ids ts all.1 i)
 
 pub identifiers_are_parts : (ts : List Text) → AllByRecursion IsIdentifierText ts → list_all is_part ts ≡ true
 identifiers_are_parts [] all = refl
@@ -159,7 +155,7 @@ parts_cut (t ∷ ts) e =
     let each = parts_bytes (t ∷ ts) e in
     some_cut (join_with_byte 46 (t ∷ ts)) (joined_some t ts each.0.0) ∙ split_joined t ts each
 
-pub joined_cut : (t : Text) → join_with_byte 46 (cut_at_dots t) ≡ t
+joined_cut : (t : Text) → join_with_byte 46 (cut_at_dots t) ≡ t
 joined_cut [] = refl
 joined_cut (b ∷ t) = join_with_byte-slice_split 46 _
 
