@@ -121,7 +121,7 @@ pub fn split_at_dot(bytes: &[u8]) -> (&[u8], Option<&[u8]>)
 
 // Answer: equation.
 /// Whether none of the parts that are digits alone has a leading zero. For speed, parts of which
-/// none begins with a zero are told first.
+/// none begins with a zero are seen first.
 #[inline(always)]
 pub fn have_no_leading_zeros(parts: &[u8]) -> bool
     ensures { result ≡ list_all has_no_leading_zero (cut_at_dots parts.now) }
@@ -135,8 +135,8 @@ pub fn have_no_leading_zeros(parts: &[u8]) -> bool
     each_has_no_leading_zero(parts)
 }
 
-/// Whether a part is empty or begins with a zero. A dot is no branch here: where it is, a processor
-/// can't guess.
+/// Whether a part is empty or begins with a zero. For speed, no branch depends on where a dot is: a
+/// processor can't predict it.
 #[inline(always)]
 fn begins_oddly(parts: &[u8]) -> bool
     ensures { result ≡ begins_oddly true parts.now }

@@ -26,17 +26,6 @@ const GREATEST: u64 = 9_007_199_254_740_991;
 /// No version text of npm has more characters.
 const CHARACTERS: usize = 256;
 
-/// Which hyphens an identifier may have.
-#[inline(always)]
-fn hyphens(dialect: Dialect) -> Hyphens
-    ensures { result ≡ hyphens_of dialect }
-{
-    match dialect {
-        Dialect::Crate => Hyphens::BetweenRuns,
-        Dialect::Cargo | Dialect::Npm => Hyphens::Any,
-    }
-}
-
 /// How many bytes the character at the front has, if it may be before and after a version; else 0.
 /// npm takes what JavaScript calls white space.
 #[inline(always)]
@@ -174,14 +163,28 @@ fn zeros_fit(pre: &[u8], dialect: Dialect) -> bool
 }
 
 /// The identifiers of the pre-release and those of the build that the bytes are, each with its
-/// mark, and what may be after a version; nothing where there are none.
+/// mark, and what may be after a version; nothing where there are none. For speed, it is compiled
+/// for either kind of hyphens.
 #[inline(never)]
 fn parts(bytes: &[u8], dialect: Dialect) -> Option<(&[u8], &[u8])>
     ensures { MatchOption result ((pre build : Text) → ¬ (AreParts dialect bytes.now pre build))
         (λ r. AreParts dialect bytes.now r.0.now r.1.now) }
 {
-    let (pre, rest) = marked_part(bytes, b'-', hyphens(dialect))?;
-    let (build, rest) = marked_part(rest, b'+', hyphens(dialect))?;
+    match dialect {
+        Dialect::Crate => parts_with(bytes, Hyphens::BetweenRuns, dialect),
+        Dialect::Cargo | Dialect::Npm => parts_with(bytes, Hyphens::Any, dialect),
+    }
+}
+
+/// The parts of a version, whose identifiers may have such hyphens.
+#[inline(always)]
+fn parts_with(bytes: &[u8], hyphens: Hyphens, dialect: Dialect) -> Option<(&[u8], &[u8])>
+    requires { hyphens ≡ hyphens_of dialect }
+    ensures { MatchOption result ((pre build : Text) → ¬ (AreParts dialect bytes.now pre build))
+        (λ r. AreParts dialect bytes.now r.0.now r.1.now) }
+{
+    let (pre, rest) = marked_part(bytes, b'-', hyphens)?;
+    let (build, rest) = marked_part(rest, b'+', hyphens)?;
     if may_end(rest, dialect) && zeros_fit(pre, dialect) {
         Some((pre, build))
     } else {
@@ -190,8 +193,7 @@ fn parts(bytes: &[u8], dialect: Dialect) -> Option<(&[u8], &[u8])>
 }
 
 /// The outline of the version whose numbers are known, how many bytes there are up to their end,
-/// and what follows them, if the text spells one. For speed, one without a pre-release and a build
-/// is told first.
+/// and what follows them, if the text spells one. For speed, numbers alone are seen first.
 #[inline(always)]
 fn behind_numbers(
     major: u64,
