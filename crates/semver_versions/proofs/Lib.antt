@@ -4,5 +4,6 @@ pub mod DialectOutlines
 pub mod KeptTexts
 pub mod OneVersion
 pub mod OutlineVersions
+pub mod ReadTexts
 pub mod ReadVersions
 pub mod WhiteSpaces

@@ -7,7 +7,8 @@ use Rattle.semver_texts.specs.VersionGrammar.{SpellsIdentifier, SpellsPart, Spel
 use Rattle.semver_texts.specs.declared.dialect.Dialect.TheVariants.{Crate}
 use Rattle.semver_texts.proofs.Lists.{Passes, all_more, marked_passes}
 use Rattle.semver_texts.proofs.SpelledVersions.{spelled_kept_all}
-use Rattle.semver_versions.proofs.DialectOutlines.{crate_read, digit_begins, no_space, one_version_in}
+use Rattle.semver_versions.proofs.DialectOutlines.{no_space}
+use Rattle.semver_versions.proofs.ReadTexts.{crate_read, digit_begins, one_version_in}
 use Rattle.semver_versions.proofs.KeptTexts.{begins_marked, kept_parts, part_bytes, each_passes, same_kept}
 use Rattle.semver_versions.proofs.ReadVersions.{behind, its_numbers}
 use Rattle.semver_texts.specs.Texts.{is_part}

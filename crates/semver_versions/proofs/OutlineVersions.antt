@@ -1,5 +1,5 @@
 -- The version that an outline of the crate's dialect is of.
-use Rattle.std.proofs.Common.{◌≡◌, ◌<◌, ℕ, List, [], ◌∷◌, length, map, sym, refl, ap, ◌∙◌, subst, arith, inl, inr, ⊎_elim, ◌⊎◌}
+use Rattle.std.proofs.Common.{◌≡◌, ◌<◌, ℕ, List, [], ◌∷◌, length, map, sym, refl, ap, ◌∙◌, arith, inl, inr, ⊎_elim, ◌⊎◌}
 use Rattle.std.specs.Prelude.{◌==◌, ◌↔◌, Option, Some, None, Result, Ok, Err, IfErr, IfOk, IfSome}
 use Rattle.semver_texts.specs.Texts.{Text, cut_at_dots, is_empty}
 use Rattle.semver_texts.specs.VersionGrammar.{SpellsVersion}
@@ -8,7 +8,8 @@ use Rattle.semver_texts.specs.declared.dialect.Dialect.TheVariants.{Crate}
 use Rattle.std.proofs.lemmas.Bool.Decides.{nat_tests}
 use Rattle.semver_texts.proofs.PartRuns.{pieces}
 use Rattle.semver_versions.specs.Outlines.{OutlineValue, IsOutlineAfter, identifier_of, version_of}
-use Rattle.semver_versions.proofs.DialectOutlines.{one_version_in, outlined_version}
+use Rattle.semver_versions.proofs.DialectOutlines.{outlined_version}
+use Rattle.semver_versions.proofs.ReadTexts.{one_version_in}
 
 module _ (before : ℕ) (text : Text) (v : VersionValue) (w : SpellsVersion v text) (o : OutlineValue)
     (is : IsOutlineAfter before text o) where

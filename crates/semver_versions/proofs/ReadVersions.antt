@@ -20,7 +20,8 @@ use Rattle.semver_versions.specs.Outlines.{behind_mark, identifier_of, outline_b
 use Rattle.semver_versions.specs.Steps.Reading.{AreAround, AreIdentifiers, AreParts, IsOutlinedAt, IsRead, NumbersFit, ZerosFit, hyphens_of}
 use Rattle.semver_versions.specs.Steps.Reading.{outline_with}
 use Rattle.semver_versions.proofs.CutIdentifiers.{part_found, part_is}
-use Rattle.semver_versions.proofs.KeptTexts.{all_kept, are_parts, begins_marked, kept_dotted, kept_is, kept_parts, no_identifiers, parts_cut}
+use Rattle.semver_versions.proofs.KeptTexts.{all_kept, are_parts, begins_marked, kept_dotted, kept_is, kept_parts, no_identifiers}
+use Rattle.semver_versions.proofs.KeptTexts.{parts_cut}
 use Rattle.semver_versions.proofs.WhiteSpaces.{is_outer, none_around, outer_bytes}
 
 -- ---- what may be after a version begins with no byte of it

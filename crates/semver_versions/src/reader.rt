@@ -9,13 +9,12 @@
 ghost use Rattle.std.specs.Prelude.{◌≡◌, ◌≤◌, ◌<◌, ◌+◌, ◌++◌, ◌^◌, ℕ, true, false, length};
 ghost use Rattle.std.specs.Prelude.{MatchOption};
 ghost use Rattle.semver_texts.specs.Texts.{Text, BeginsWithNumbers, cut_at_dots};
-ghost use Rattle.semver_texts.specs.ToolVersions.{characters, is_white_space};
+ghost use Rattle.semver_texts.specs.ToolVersions.{characters};
 ghost use Rattle.semver_versions.specs.Steps.Reading.{AreAround, AreParts, IsBefore, IsOutlinedAt};
 ghost use Rattle.semver_versions.specs.Steps.Reading.{IsOutlinedBy, IsShort, NumbersFit, ZerosFit};
 ghost use Rattle.semver_versions.specs.Steps.Reading.{around_size, hyphens_of};
 
 use crate::outlines::{Outline, with_parts};
-use semver_texts::bytes::is_space;
 use semver_texts::decimals::{begins_with_digit, numbers};
 use semver_texts::dialect::Dialect;
 use semver_texts::dotted::{Hyphens, behind_mark, have_no_leading_zeros, marked_part};

@@ -1,5 +1,5 @@
 use Rattle.std.proofs.Common.{sym, ◌∙◌}
-use Rattle.semver_versions.proofs.DialectOutlines.{at_front, first_digit}
+use Rattle.semver_versions.proofs.ReadTexts.{at_front, first_digit}
 use Rattle.semver_versions.proofs.reader.at_numbers.Goals as goal
 
 pub returns-then-begins_with_digit : goal.returns-then-begins_with_digit

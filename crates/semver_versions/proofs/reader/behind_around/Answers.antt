@@ -12,8 +12,8 @@ returns-then-len-eq0 c =
 pub loop-dialect-preserved : goal.loop-dialect-preserved
 loop-dialect-preserved c =
     rw (left_is c.loop-dialect.rest.now c.around_len-len.result)
-    (goes_on c.args.dialect c.args.bytes.now c.loop-dialect.rest.now c.around_len-len.result c.loop-dialect.invariant c.around_len-len.ensures.size
-    c.if-len-eq0.false)
+    (goes_on c.args.dialect c.args.bytes.now c.loop-dialect.rest.now c.around_len-len.result c.loop-dialect.invariant
+    c.around_len-len.ensures.size c.if-len-eq0.false)
 
 pub loop-dialect-smaller : goal.loop-dialect-smaller
 loop-dialect-smaller c =

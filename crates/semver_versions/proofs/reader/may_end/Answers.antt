@@ -1,4 +1,4 @@
-use Rattle.std.proofs.Common.{[], append-nil, refl, ◌∙◌, ap, length, sym}
+use Rattle.std.proofs.Common.{[], append-nil, ◌∙◌, ap, length, sym}
 use Rattle.std.specs.Prelude.{◌==◌}
 use Rattle.semver_versions.proofs.WhiteSpaces.{none_size, same_around}
 use Rattle.semver_versions.proofs.reader.may_end.Goals as goal

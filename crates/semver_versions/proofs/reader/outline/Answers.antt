@@ -2,7 +2,7 @@ use Rattle.std.proofs.Common.{[], ◌∷◌, arith, ap, decimal, length, length-
 use Rattle.std.specs.List.{join_with_byte}
 use Rattle.semver_texts.specs.ToolVersions.{before_numbers}
 use Rattle.semver_versions.specs.Steps.Reading.{IsShort}
-use Rattle.semver_versions.proofs.DialectOutlines.{bytes_before, digit_begins, read_behind, short_of, whole_outlined}
+use Rattle.semver_versions.proofs.ReadTexts.{bytes_before, digit_begins, read_behind, short_of, whole_outlined}
 use Rattle.semver_versions.proofs.ReadVersions.{its_numbers}
 use Rattle.semver_versions.proofs.reader.outline.Goals as goal
 

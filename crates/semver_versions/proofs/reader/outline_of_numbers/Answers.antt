@@ -1,5 +1,5 @@
 use Rattle.std.proofs.Common.{arith}
-use Rattle.semver_versions.proofs.DialectOutlines.{at_front, characters_of, digit_begins, none_before, short_of, whole_outlined}
+use Rattle.semver_versions.proofs.ReadTexts.{at_front, characters_of, digit_begins, none_before, short_of, whole_outlined}
 use Rattle.semver_versions.proofs.reader.outline_of_numbers.Goals as goal
 
 pub returns-then-not-is_short : goal.returns-then-not-is_short

@@ -1,4 +1,3 @@
-use Rattle.std.proofs.Common.{◌∙◌}
 use Rattle.semver_versions.proofs.DialectOutlines.{same_outline}
 use Rattle.semver_versions.proofs.OutlineVersions.{no_pre_release, no_build}
 use Rattle.semver_versions.proofs.version.outline_bytes.Goals as goal
