@@ -33,8 +33,16 @@ marked_part hyphens mark [] = Some ([], [])
 marked_part hyphens mark (b ∷ t) =
     if b == mark then parts_ahead hyphens t else Some ([], b ∷ t)
 
--- whether a part is empty or begins with a zero, read from the front of a part or from within one
-abbrev pub begins_oddly : Bool → Text → Bool
-begins_oddly at_front [] = at_front
-begins_oddly at_front (b ∷ t) =
-    (at_front && (b == 46 || b == 48)) || begins_oddly (b == 46) t
+-- whether the part at the front is empty or begins with a zero
+abbrev pub is_odd : Text → Bool
+is_odd [] = true
+is_odd (b ∷ t) = b == 46 || b == 48
+
+-- whether that is so of a part after a dot
+abbrev pub odd_after : Text → Bool
+odd_after [] = false
+odd_after (b ∷ t) = (b == 46 && is_odd t) || odd_after t
+
+-- whether that is so of any part
+abbrev pub begins_oddly : Text → Bool
+begins_oddly t = is_odd t || odd_after t
