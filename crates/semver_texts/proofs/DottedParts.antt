@@ -3,6 +3,7 @@ use Rattle.std.proofs.Common.{◌≡◌, ℕ, ◌+◌, ◌<◌, Bool, true, fals
 use Rattle.std.proofs.Common.{subst, append-nil, append_assoc}
 use Rattle.std.specs.Prelude.{◌==◌, ◌||◌, MatchOption, Option, Some, None, List, []}
 use Rattle.std.specs.Bool.{then_some}
+use Rattle.std.specs.Char.{is_ascii_alphanumeric}
 use Rattle.std.specs.Borrow.{Bor}
 use Rattle.std.specs.List.{prefix_len, slice_split}
 use Rattle.std.specs.Str.{IsUtf8}
@@ -28,6 +29,16 @@ between_dotted b h = grind (arith, nat_tests)
 other_byte : (hyphens : Hyphens) (b : ℕ) → is_run_byte hyphens b ≡ false → (b == 45 || b == 46) ≡ false → is_dotted_byte b ≡ false
 other_byte Any b h m = grind (arith, nat_tests)
 other_byte BetweenRuns b h m = grind (arith, nat_tests)
+
+-- a letter or a digit goes on with a run
+pub letter_runs : (hyphens : Hyphens) (b : ℕ) → is_ascii_alphanumeric b ≡ true → is_run_byte hyphens b ≡ true
+letter_runs Any b h = rw h refl
+letter_runs BetweenRuns b h = h
+
+-- and what is neither, nor a hyphen, does not
+pub no_run : (hyphens : Hyphens) (b : ℕ) → is_ascii_alphanumeric b ≡ false → (b == 45 || b == 46) ≡ false → is_run_byte hyphens b ≡ false
+no_run Any b h m = grind (arith, nat_tests)
+no_run BetweenRuns b h m = h
 
 small_byte : (b : ℕ) → is_dotted_byte b ≡ true → b < 128
 small_byte b h = grind (arith, nat_tests)

@@ -1,9 +1,10 @@
 -- Parts and dots at the front of a text, byte by byte, where each hyphen may stand.
 use Rattle.std.proofs.Common.{◌≡◌, ℕ, Bool, true, false, ◌&&◌, List, [], ◌∷◌, take, refl, arith, one-add, if◌then◌else◌}
+use Rattle.std.specs.Prelude.{◌==◌, ◌||◌}
 use Rattle.std.specs.List.{list_all, prefix_len, slice_split}
 use Rattle.std.proofs.lemmas.Bool.Decides.{nat_tests}
-use Rattle.semver_texts.specs.Texts.{Text, is_part, is_part_byte, is_dot, is_dotted_byte}
-use Rattle.semver_texts.specs.Steps.DottedParts.{runs_stand}
+use Rattle.semver_texts.specs.Texts.{Text, cut_at_dots, has_no_leading_zero, is_part, is_part_byte, is_dot, is_dotted_byte}
+use Rattle.semver_texts.specs.Steps.DottedParts.{begins_oddly, is_odd, odd_after, runs_stand}
 use Rattle.semver_texts.proofs.Lists.{by_test}
 
 -- the first piece of a text between dots, and the other pieces
@@ -37,3 +38,27 @@ runs (b ∷ t) = grind (arith, nat_tests, runs t, pieces (front is_dotted_byte t
 -- the runs at the front stand exactly where they are parts
 pub runs_ahead : (t : Text) → runs_stand is_part_byte false t ≡ list_all is_part (slice_split is_dot (take (prefix_len is_dotted_byte t) t))
 runs_ahead t = rw (← (front_taken is_dotted_byte t)) (runs t).1
+
+-- ---- parts of which none begins with a zero
+
+no_zero_part : (b : ℕ) (t : Text) → (b == 48) ≡ false → has_no_leading_zero (b ∷ t) ≡ true
+no_zero_part b [] e = grind (arith, e)
+no_zero_part b (c ∷ t) e = grind (arith, e)
+
+odd : (t : Text) → let ps : List Text = slice_split is_dot t in
+    (odd_after t ≡ false → list_all has_no_leading_zero (other_pieces ps) ≡ true)
+    × (is_odd t ≡ false → odd_after t ≡ false → list_all has_no_leading_zero ps ≡ true)
+odd [] = (λ e. refl, λ e _. cc)
+odd (b ∷ t) =
+    let more = odd t in
+    by_test (b == 46)
+    (λ y. rw y (λ e. let both = or_false_parts (is_odd t) (odd_after t) e in more.1 both.0 both.1, λ e. cc))
+    (λ n. rw (n, pieces t) (more.0, λ e rest. rw (no_zero_part b _ e) (more.0 rest)))
+  where
+    or_false_parts : (p q : Bool) → (p || q) ≡ false → (p ≡ false) × (q ≡ false)
+    or_false_parts true q e = cc
+    or_false_parts false q e = (refl, e)
+
+pub no_zero_begins : (t : Text) → begins_oddly t ≡ false → list_all has_no_leading_zero (cut_at_dots t) ≡ true
+no_zero_begins [] e = refl
+no_zero_begins (b ∷ t) e = grind (arith, odd (b ∷ t))

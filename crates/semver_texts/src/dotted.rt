@@ -7,7 +7,8 @@ ghost use Rattle.std.specs.List.{AllByRecursion, AllZip, list_all, prefix_len, s
 ghost use Rattle.std.specs.Fn.{FnReturnsAt};
 ghost use Rattle.semver_texts.specs.Texts.{begins_with, cut_at_dots, has_no_leading_zero, is_dot};
 ghost use Rattle.semver_texts.specs.Texts.{is_dotted_byte};
-ghost use Rattle.semver_texts.specs.Steps.DottedParts.{is_run_byte, runs_stand, marked_part};
+ghost use Rattle.semver_texts.specs.Steps.DottedParts.{begins_oddly, is_odd, is_run_byte};
+ghost use Rattle.semver_texts.specs.Steps.DottedParts.{marked_part, runs_stand};
 
 use crate::bytes::count_dots;
 use std::alloc::{AllocError, Global};
@@ -37,8 +38,10 @@ fn is_between_runs(byte: u8) -> bool
     matches!(byte, b'-' | b'.')
 }
 
-/// How many bytes at the front are parts joined by dots, up to a byte that can't stand in them.
+/// How many bytes at the front are parts joined by dots, up to a byte that can't be in them. For
+/// speed, a letter or a digit is taken without a look at the hyphens.
 #[inline(always)]
+#[tactic(auto, using(crate::proofs::DottedParts::letter_runs))]
 fn parts_len(bytes: &[u8], hyphens: Hyphens) -> Option<usize>
     ensures { MatchOption result (runs_stand (is_run_byte hyphens) false bytes.now ≡ false)
         (λ len. (runs_stand (is_run_byte hyphens) false bytes.now ≡ true)
@@ -47,12 +50,16 @@ fn parts_len(bytes: &[u8], hyphens: Hyphens) -> Option<usize>
     let mut in_run = false;
     for at in 0..bytes.len() {
         let byte = bytes[at];
-        if is_run_byte(byte, hyphens) {
+        if byte.is_ascii_alphanumeric() {
             in_run = true;
             continue;
         }
         if !is_between_runs(byte) {
             return in_run.then_some(at);
+        }
+        if is_run_byte(byte, hyphens) {
+            in_run = true;
+            continue;
         }
         if !in_run {
             return None;
@@ -119,13 +126,52 @@ pub fn split_at_dot(bytes: &[u8]) -> (&[u8], Option<&[u8]>)
 }
 
 // Answer: equation.
-/// Whether none of the parts that are digits alone has a leading zero.
+/// Whether none of the parts that are digits alone has a leading zero. For speed, parts of which
+/// none begins with a zero are seen first.
+#[inline(always)]
 pub fn have_no_leading_zeros(parts: &[u8]) -> bool
     ensures { result ≡ list_all has_no_leading_zero (cut_at_dots parts.now) }
 {
     if parts.is_empty() {
         return true;
     }
+    if !begins_oddly(parts) {
+        return true;
+    }
+    each_has_no_leading_zero(parts)
+}
+
+/// Whether a part is empty or begins with a zero. For speed, it is asked only of the bytes that
+/// follow a dot.
+#[inline(always)]
+fn begins_oddly(parts: &[u8]) -> bool
+    ensures { result ≡ begins_oddly parts.now }
+{
+    if is_odd(parts) {
+        return true;
+    }
+    for at in 0..parts.len() {
+        if parts[at] == b'.' && is_odd(&parts[at + 1..]) {
+            return true;
+        }
+    }
+    false
+}
+
+/// Whether the part at the front is empty or begins with a zero.
+#[inline(always)]
+fn is_odd(parts: &[u8]) -> bool
+    ensures { result ≡ is_odd parts.now }
+{
+    matches!(parts, [] | [b'.' | b'0', ..])
+}
+
+/// Whether none of the parts that are digits alone has a leading zero, asked of one after the
+/// other.
+#[inline(never)]
+fn each_has_no_leading_zero(parts: &[u8]) -> bool
+    ensures { result ≡ list_all has_no_leading_zero (slice_split is_dot parts.now) }
+{
     let mut rest = Some(parts);
     while let Some(bytes) = rest {
         let (part, behind) = split_at_dot(bytes);

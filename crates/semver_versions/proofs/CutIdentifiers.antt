@@ -1,22 +1,27 @@
 -- Identifiers as they are found byte by byte, and as they are cut at dots.
 use Rattle.std.proofs.Common.{◌≡◌, ℕ, ◌<◌, Bool, true, false, List, [], ◌∷◌, ◌++◌, length, take, drop}
-use Rattle.std.proofs.Common.{sym, refl, ap, ◌∙◌, subst, arith, append_assoc, append-nil, length-append, one-add}
-use Rattle.std.specs.Prelude.{◌==◌, ◌||◌, slice_index, Some, None}
-use Rattle.std.specs.List.{AllByRecursion, slice_split, join_with_byte, prefix_len}
+use Rattle.std.proofs.Common.{sym, refl, ap, ◌∙◌, subst, arith, append_assoc, append-nil, length-append, one-add, decimal}
+use Rattle.std.specs.Prelude.{◌==◌, ◌||◌, slice_index, Option, Some, None}
+use Rattle.std.specs.List.{AllByRecursion, AllZip, list_all, slice_split, join_with_byte, prefix_len}
 use Rattle.std.specs.Char.{is_ascii_alphanumeric}
 use Rattle.std.proofs.lemmas.Bool.{eqb-true, eq-eqb}
 use Rattle.std.proofs.lemmas.Bool.Decides.{nat_tests}
-use Rattle.std.proofs.lemmas.List.Folds.{length-prefix_len}
 use Rattle.std.proofs.lemmas.List.{take-append-drop, take_at, drop_at}
 use Rattle.std.proofs.lemmas.List.Splits.{join_with_byte-slice_split, length-slice_split}
-use Rattle.semver_texts.specs.Texts.{Text, marked, is_part_byte, IsRun, is_dot, cut_at_dots, is_dotted_byte}
-use Rattle.semver_texts.specs.VersionGrammar.{IsIdentifierText}
-use Rattle.semver_texts.specs.declared.dotted.Hyphens.TheVariants.{BetweenRuns}
-use Rattle.semver_texts.specs.Steps.DottedParts.{runs_stand, marked_part}
-use Rattle.semver_versions.specs.Steps.Cutting.{AreIdentifiers, BeginsWithIdentifiers, IsPart}
-use Rattle.semver_texts.proofs.Lists.{Passes, all_more, by_test, passes_append, joined_pass, prefix_stops, prefix_is}
+use Rattle.semver_texts.specs.Texts.{Text, marked, IsRun, is_dot, is_part, cut_at_dots, is_dotted_byte}
+use Rattle.semver_texts.specs.VersionGrammar.{IsIdentifierText, SpellsIdentifier}
+use Rattle.semver_texts.specs.Versions.{IdentifierValue, numeric, alphanumeric}
+use Rattle.semver_texts.specs.declared.dotted.Hyphens.{Hyphens}
+use Rattle.semver_texts.specs.declared.dotted.Hyphens.TheVariants.{Any, BetweenRuns}
+use Rattle.semver_texts.specs.Steps.DottedParts.{is_run_byte, runs_stand, marked_part}
+use Rattle.semver_versions.specs.Steps.Reading.{AreIdentifiers}
+use Rattle.semver_texts.proofs.Lists.{Passes, all_more, all_zipped, by_test, passes_append, prefix_stops, prefix_is}
 use Rattle.semver_texts.proofs.DottedParts.{found_same}
-use Rattle.semver_versions.proofs.OneVersion.{IsPartText, joined_runs, joined_some, split_joined}
+use Rattle.semver_texts.proofs.PartRuns.{runs_ahead}
+use Rattle.semver_texts.proofs.Runs.{decimal_is_run}
+use Rattle.semver_texts.proofs.SpelledVersions.{identifier_is_part}
+use Rattle.semver_versions.proofs.KeptTexts.{are_parts, identifiers_are_parts, joined_some, marked_cut, no_identifiers, part_bytes}
+use Rattle.semver_versions.proofs.KeptTexts.{parts_cut, parts_pass, some_cut}
 
 -- ---- one run more
 
@@ -27,7 +32,7 @@ run_more run b is_run letter =
 one_run : (b : ℕ) → is_ascii_alphanumeric b ≡ true → IsRun (b ∷ [])
 one_run b letter = (omega arith, (letter, tt))
 
-pub run_identifier : (run : Text) → IsRun run → IsIdentifierText run
+run_identifier : (run : Text) → IsRun run → IsIdentifierText run
 run_identifier run is = record { runs = run ∷ []; some = omega arith; each = (is, tt); joined = refl }
 
 run_in_front : (run text : Text) → IsRun run → IsIdentifierText text → IsIdentifierText (run ++ (45 ∷ text))
@@ -129,41 +134,9 @@ identifiers_stand : (in_run : Bool) (texts : List Text) (more : Text) → 0 < le
 identifiers_stand in_run texts more some each =
     joined_stand 46 (λ more. refl) texts some (all_more identifier_stands texts each) in_run more
 
--- ---- where they end they are cut so
-
-pub identifier_part : (text : Text) → IsIdentifierText text → IsPartText text
-identifier_part text w = subst IsPartText (sym w.joined) (joined_runs w.runs w.some w.each)
-
-pub some_cut : (text : Text) → 0 < length text → cut_at_dots text ≡ slice_split is_dot text
-some_cut [] some = absurd (omega (arith, some))
-some_cut (b ∷ text) some = refl
-
-pub cut_texts : (texts : List Text) → AllByRecursion IsIdentifierText texts → cut_at_dots (join_with_byte 46 texts) ≡ texts
-cut_texts [] each = refl
-cut_texts (t ∷ texts) each =
-    some_cut (join_with_byte 46 (t ∷ texts)) (joined_some 46 t texts (identifier_part t each.0).0)
-    ∙ split_joined t texts (all_more identifier_part (t ∷ texts) each)
-
--- one of them alone
-pub is_identifiers : (text : Text) → IsIdentifierText text → AreIdentifiers text
-is_identifiers text is = rw (cut_texts (text ∷ []) (is, tt)) (is, tt)
-
-pub stand_found : (bytes : Text) → stands false bytes ≡ true → BeginsWithIdentifiers bytes
-stand_found bytes e =
-    let w = (begun bytes).0 e in (
-      omega (
-        arith,
-        joined_some 46 w.first w.others (identifier_part w.first w.each.0).0,
-        ap length w.joined,
-        length-prefix_len is_dotted_byte bytes,
-      ),
-      subst AreIdentifiers (sym w.joined) (subst (AllByRecursion IsIdentifierText) (sym (cut_texts (w.first ∷ w.others) w.each)) w.each),
-    )
+-- ---- whichever hyphens they may have
 
 -- what follows the front begins with no byte of it
-pub ends_front : (p : ℕ → Bool) → p 0 ≡ false → (text : Text) → p (slice_index (drop (prefix_len p text) text) 0) ≡ false
-ends_front p past text = prefix_stops p text past
-
 other_stands : (more : Text) → is_dotted_byte (slice_index more 0) ≡ false → stands true more ≡ true
 other_stands [] e = refl
 other_stands (b ∷ more) e = let n = not_inner b e in rw (n.0, n.1)
@@ -171,77 +144,85 @@ other_stands (b ∷ more) e = let n = not_inner b e in rw (n.0, n.1)
     not_inner : (b : ℕ) → is_dotted_byte b ≡ false → (is_ascii_alphanumeric b ≡ false) × ((b == 45 || b == 46) ≡ false)
     not_inner b e = (grind (arith, nat_tests), grind (arith, nat_tests))
 
-pub found_stand : (bytes : Text) → BeginsWithIdentifiers bytes → stands false bytes ≡ true
-found_stand bytes w =
+-- they are found
+stand_found : (h : Hyphens) (bytes : Text) → runs_stand (is_run_byte h) false bytes ≡ true
+    → (0 < length (front bytes)) × AreIdentifiers h (cut_at_dots (front bytes))
+stand_found Any bytes e = some_parts (front bytes) (sym (runs_ahead bytes) ∙ e)
+  where
+    some_parts : (t : Text) → list_all is_part (slice_split is_dot t) ≡ true → (0 < length t) × (list_all is_part (cut_at_dots t) ≡ true)
+    some_parts [] e = cc
+    some_parts (b ∷ t) e = (omega arith, e)
+stand_found BetweenRuns bytes e =
+    let w = (begun bytes).0 e in
+    let cut = ap cut_at_dots w.joined ∙ parts_cut (w.first ∷ w.others) (identifiers_are_parts (w.first ∷ w.others) w.each) in (
+      omega (arith, joined_some w.first w.others (part_bytes w.first (identifier_is_part w.first w.each.0)).0, ap length w.joined),
+      subst (AllByRecursion IsIdentifierText) (sym cut) w.each,
+    )
+
+-- and where they are there, they stand so
+found_stand : (h : Hyphens) (bytes : Text) → 0 < length (front bytes) → AreIdentifiers h (cut_at_dots (front bytes))
+    → runs_stand (is_run_byte h) false bytes ≡ true
+found_stand Any bytes some each = runs_ahead bytes ∙ ap (list_all is_part) (sym (some_cut (front bytes) some)) ∙ each
+found_stand BetweenRuns bytes some each =
     let n : ℕ = prefix_len is_dotted_byte bytes in
-    let some : 0 < length (take n bytes) = omega (arith, w.0, length-prefix_len is_dotted_byte bytes) in
-    let is =
-    ap (join_with_byte 46) (some_cut (take n bytes) some) ∙ join_with_byte-slice_split 46 (take n bytes) in
-    let count : 0 < length (cut_at_dots (take n bytes)) =
-    omega (arith, ap length (some_cut (take n bytes) some), length-slice_split is_dot (take n bytes)) in
-    ap (stands false) (sym (take-append-drop n bytes) ∙ ap (λ t. t ++ drop n bytes) (sym is))
-    ∙ identifiers_stand false (cut_at_dots (take n bytes)) (drop n bytes) count w.1
-    ∙ other_stands (drop n bytes) (ends_front is_dotted_byte refl bytes)
+    let cut = some_cut (front bytes) some in
+    let count : 0 < length (cut_at_dots (front bytes)) =
+    omega (arith, ap length cut, length-slice_split is_dot (front bytes)) in
+    ap (stands false) (sym (take-append-drop n bytes)
+    ∙ ap (λ t. t ++ drop n bytes) (sym (ap (join_with_byte 46) cut ∙ join_with_byte-slice_split 46 (front bytes))))
+    ∙ identifiers_stand false (cut_at_dots (front bytes)) (drop n bytes) count each
+    ∙ other_stands (drop n bytes) (prefix_stops is_dotted_byte bytes refl)
 
 -- ---- a part behind its mark
 
-marked_some : (mark : Text) (texts : List Text) → 0 < length texts → marked mark texts ≡ mark ++ join_with_byte 46 texts
-marked_some mark [] some = absurd (omega (arith, some))
-marked_some mark (t ∷ texts) some = refl
+module _ (h : Hyphens) (mark : ℕ) where
+  none_found : (t inner rest : Text) → ◌≡◌ {A = Option (Text × Text)} (Some ([], t)) (Some (inner, rest))
+      → AreIdentifiers h (cut_at_dots inner) × (t ≡ marked (mark ∷ []) (cut_at_dots inner) ++ rest)
+  none_found t inner rest e =
+      let same = found_same e in (
+        subst (λ x. AreIdentifiers h (cut_at_dots x)) same.0 (no_identifiers h),
+        λ i. marked (mark ∷ []) (cut_at_dots (same.0 i)) ++ same.1 i,
+      )
 
-pub marked_cut : (mark : ℕ) (text : Text) → 0 < length text → marked (mark ∷ []) (cut_at_dots text) ≡ mark ∷ text
-marked_cut mark text some =
-    rw (some_cut text some) (marked_some (mark ∷ []) _ (omega (arith, length-slice_split is_dot text))
-    ∙ rw (join_with_byte-slice_split 46 text))
+  -- the part that is found
+  pub part_found : (t inner rest : Text) → marked_part h mark t ≡ Some (inner, rest)
+      → AreIdentifiers h (cut_at_dots inner) × (t ≡ marked (mark ∷ []) (cut_at_dots inner) ++ rest)
+  part_found [] inner rest e = none_found [] inner rest e
+  part_found (b ∷ t) inner rest e = by_test (b == mark)
+      (λ y. by_test (runs_stand (is_run_byte h) false t)
+      (λ are. let n : ℕ = prefix_len is_dotted_byte t in
+      let same = found_same (rw (y, are) at e) in
+      let found = stand_found h t are in (
+        subst (λ x. AreIdentifiers h (cut_at_dots x)) same.0 found.1,
+        (λ i. eqb-true b mark y i ∷ (sym (take-append-drop n t) ∙ (λ j. same.0 j ++ same.1 j)) i)
+            ∙ rw (marked_cut mark inner (subst (λ x. 0 < length x) same.0 found.0)),
+      ))
+      (λ other. let none : None ≡ Some (inner, rest) = rw (y, other) at e in cc))
+      (λ n. none_found (b ∷ t) inner rest (rw n at e))
 
-pub inner_passes : (inner : Text) → AreIdentifiers inner → Passes is_dotted_byte inner
-inner_passes [] each = tt
-inner_passes (b ∷ inner) each =
-    subst (Passes is_dotted_byte) (join_with_byte-slice_split 46 (b ∷ inner))
-    (joined_pass is_dotted_byte 46 refl (cut_at_dots (b ∷ inner)) (all_more inner_text (cut_at_dots (b ∷ inner)) each))
+  -- where there is a part, it is that
+  pub part_is : (t inner rest : Text) → AreIdentifiers h (cut_at_dots inner) → t ≡ marked (mark ∷ []) (cut_at_dots inner) ++ rest
+      → is_dotted_byte (slice_index rest 0) ≡ false → (slice_index rest 0 == mark) ≡ false → marked_part h mark t ≡ Some (inner, rest)
+  part_is [] [] rest each split ended no_mark = cc
+  part_is (b ∷ t) [] rest each split ended no_mark =
+      rw (ap (λ x. slice_index x 0 == mark) split ∙ no_mark) (ap (λ x. Some ([], x)) split)
+  part_is t (b ∷ inner) rest each split ended no_mark =
+      let part : Text = b ∷ inner in
+      let n = prefix_is is_dotted_byte part rest (parts_pass part (are_parts h (cut_at_dots part) each)) refl ended in
+      let taken : front (part ++ rest) ≡ part = ap (λ k. take k (part ++ rest)) n ∙ take_at part rest (length part) refl in
+      let some : 0 < length (front (part ++ rest)) = omega (arith, ap length taken) in
+      ap (marked_part h mark) (split ∙ ap (λ x. x ++ rest) (marked_cut mark part (omega arith)))
+      ∙ rw (
+        eq-eqb mark mark refl,
+        found_stand h (part ++ rest) some (subst (λ x. AreIdentifiers h (cut_at_dots x)) (sym taken) each),
+      )
+      (ap Some (λ i. (taken i, (ap (λ k. drop k (part ++ rest)) n ∙ drop_at part rest (length part) refl) i)))
+
+-- ---- what a version of the crate has
+
+pub spelled_are : (ids : List IdentifierValue) (ts : List Text) → AllZip SpellsIdentifier ids ts → AllByRecursion IsIdentifierText ts
+spelled_are = all_zipped spelled_is
   where
-    part_is_inner : (b : ℕ) → is_part_byte b ≡ true → is_dotted_byte b ≡ true
-    part_is_inner b h = rw h refl
-
-    inner_text : (t : Text) → IsIdentifierText t → Passes is_dotted_byte t
-    inner_text t is = all_more part_is_inner t (identifier_part t is).1
-
--- the part that is found
-pub part_found : (mark : ℕ) (text inner rest : Text) → marked_part BetweenRuns mark text ≡ Some (inner, rest)
-    → AreIdentifiers inner × (text ≡ marked (mark ∷ []) (cut_at_dots inner) ++ rest)
-part_found mark [] inner rest e =
-    let same = found_same e in (subst AreIdentifiers same.0 tt, λ i. marked (mark ∷ []) (cut_at_dots (same.0 i)) ++ same.1 i)
-part_found mark (b ∷ behind) inner rest e = by_test (b == mark)
-    (λ y. by_test (stands false behind)
-    (λ are. let n : ℕ = prefix_len is_dotted_byte behind in
-    let same = found_same (rw (y, are) at e) in
-    let found = stand_found behind are in (
-      subst AreIdentifiers same.0 found.1,
-      (λ i. eqb-true b mark y i ∷ (sym (take-append-drop n behind) ∙ (λ j. same.0 j ++ same.1 j)) i)
-          ∙ rw (marked_cut mark inner (omega (arith, found.0, ap length same.0, length-prefix_len is_dotted_byte behind))),
-    ))
-    (λ other. let none : None ≡ Some (inner, rest) = rw (y, other) at e in cc))
-    (λ n. let found = rw n at e in
-    let same = found_same found in (subst AreIdentifiers same.0 tt, λ i. marked (mark ∷ []) (cut_at_dots (same.0 i)) ++ same.1 i))
-
--- where there is a part, it is that
-pub part_is : (mark : ℕ) (text inner rest : Text) → IsPart mark text inner rest → marked_part BetweenRuns mark text ≡ Some (inner, rest)
-part_is mark [] [] rest w = cc
-part_is mark (b ∷ text) [] rest w =
-    rw (ap (λ t. slice_index t 0 == mark) w.split ∙ w.no_mark) (ap (λ t. Some ([], t)) w.split)
-part_is mark text (b ∷ inner) rest w =
-    let part : Text = b ∷ inner in
-    let n =
-    prefix_is is_dotted_byte part rest (inner_passes part w.each) refl w.ended in
-    ap (marked_part BetweenRuns mark) (w.split ∙ ap (λ t. t ++ rest) (marked_cut mark part (omega arith)))
-    ∙ rw (
-      eq-eqb mark mark refl,
-      found_stand (part ++ rest) (
-        omega (arith, n),
-        subst AreIdentifiers (sym (take_at part rest (length part) refl) ∙ ap (λ k. take k (part ++ rest)) (sym n)) w.each,
-      ),
-    )
-    (ap Some (λ i. (
-      (ap (λ k. take k (part ++ rest)) n ∙ take_at part rest (length part) refl) i,
-      (ap (λ k. drop k (part ++ rest)) n ∙ drop_at part rest (length part) refl) i,
-    )))
+    spelled_is : (id : IdentifierValue) (t : Text) → SpellsIdentifier id t → IsIdentifierText t
+    spelled_is (numeric n) t s = subst IsIdentifierText (sym s.1) (run_identifier (decimal n) (decimal_is_run n s.0))
+    spelled_is (alphanumeric kept) t s = subst IsIdentifierText (sym s.0) s.1

@@ -1,34 +1,33 @@
 -- Texts of letters, digits and hyphens, the identifiers that they are kept as, and such texts between dots.
-use Rattle.std.proofs.Common.{◌≡◌, ℕ, ◌<◌, ◌≤◌, ◌^◌, Bool, true, false, List, [], ◌∷◌, ◌++◌, length, take, drop, map, arith, ap, sym, refl}
-use Rattle.std.proofs.Common.{◌∙◌, subst}
-use Rattle.std.proofs.Common.{decimal}
-use Rattle.std.specs.Prelude.{◌==◌, ◌&&◌, nat_lt, slice_index, IsTrue, Some, None}
-use Rattle.std.specs.List.{AllByRecursion, AllZip, join_with_byte, list_all, prefix_len, slice_split}
+use Rattle.std.proofs.Common.{◌≡◌, ℕ, ◌<◌, ◌≤◌, ◌+◌, ◌^◌, Bool, true, false, List, [], ◌∷◌, ◌++◌, length, map, arith, ap, sym, refl}
+use Rattle.std.proofs.Common.{◌∙◌, subst, decimal, length-append}
+use Rattle.std.specs.Prelude.{◌==◌, ◌&&◌, nat_lt, slice_index, IsTrue}
+use Rattle.std.specs.List.{All, AllByRecursion, AllZip, join_with_byte, list_all, slice_split}
 use Rattle.std.specs.Str.Parse.{digits_value}
-use Rattle.std.proofs.lemmas.Bool.{and_parts, eqb-true, eq-eqb}
+use Rattle.std.proofs.lemmas.Bool.{and_parts}
 use Rattle.std.proofs.lemmas.Bool.Decides.{nat_tests}
 use Rattle.std.proofs.lemmas.Fmt.{decimal_injective}
 use Rattle.std.proofs.lemmas.Grind.{common_steps}
-use Rattle.std.proofs.lemmas.List.{take-append-drop, take_at, drop_at}
-use Rattle.std.proofs.lemmas.List.Splits.{join_with_byte-slice_split}
+use Rattle.std.proofs.lemmas.List.Elements.{All-nil, All-cons}
+use Rattle.std.proofs.lemmas.List.Splits.{join_with_byte-slice_split, length-slice_split, slice_split_none, slice_split_at}
 use Rattle.semver_texts.specs.Texts.{Text, cut_at_dots, is_dot, is_dotted_byte, is_number, is_part, is_part_byte, marked}
 use Rattle.semver_texts.specs.ToolVersions.{IsKeptAs}
 use Rattle.semver_texts.specs.Versions.{IdentifierValue, numeric, alphanumeric}
 use Rattle.semver_texts.specs.VersionGrammar.{IsIdentifierText, SpellsIdentifier}
-use Rattle.semver_texts.specs.declared.dotted.Hyphens.TheVariants.{Any}
-use Rattle.semver_texts.specs.Steps.DottedParts.{marked_part}
-use Rattle.semver_texts.proofs.DottedParts.{found_same}
-use Rattle.semver_texts.proofs.Lists.{Passes, all_more, by_test, joined_pass, prefix_is}
+use Rattle.semver_texts.specs.declared.dotted.Hyphens.{Hyphens}
+use Rattle.semver_texts.specs.declared.dotted.Hyphens.TheVariants.{Any, BetweenRuns}
+use Rattle.semver_texts.proofs.Lists.{Passes, all_more, by_test, joined_pass}
 use Rattle.semver_texts.proofs.Numbers.{IsCanonical, canonical_from_IsNumber, decimal_canonical}
-use Rattle.semver_texts.proofs.PartRuns.{runs_ahead}
 use Rattle.semver_texts.proofs.SpelledVersions.{all_passes, identifier_is_part, kept_texts}
 use Rattle.semver_texts.proofs.Runs.{run_is_part, decimal_is_run}
 use Rattle.semver_versions.specs.Outlines.{identifier_of, dotted_text}
-use Rattle.semver_versions.specs.Steps.Cutting.{ArePartTexts}
-use Rattle.semver_versions.proofs.CutIdentifiers.{marked_cut, some_cut}
-use Rattle.semver_versions.proofs.OneVersion.{IsPartText, joined_some, split_joined}
+use Rattle.semver_versions.specs.Steps.Reading.{AreIdentifiers, ArePartTexts}
 
 -- ---- one text
+
+-- it isn't empty, and has these bytes alone
+abbrev pub IsPartText : Text → Type 0
+IsPartText t = (0 < length t) × Passes is_part_byte t
 
 pub each_passes : {X : Type 0} (p : X → Bool) (t : List X) → list_all p t ≡ true → AllByRecursion (λ x. IsTrue (p x)) t
 each_passes p [] e = tt
@@ -42,15 +41,22 @@ is_a_part : (t : Text) → IsPartText t → is_part t ≡ true
 is_a_part [] w = absurd (omega (arith, w.0))
 is_a_part (b ∷ t) w = all_passes is_part_byte (b ∷ t) w.1
 
-pub kept_part : (id : IdentifierValue) (t : Text) → IsKeptAs id t → is_part t ≡ true
+kept_part : (id : IdentifierValue) (t : Text) → IsKeptAs id t → is_part t ≡ true
 kept_part (numeric n) t w =
     let run = decimal_is_run n w.0 in
     is_a_part t (subst IsPartText (sym w.1) (run.0, all_more run_is_part (decimal n) run.1))
 kept_part (alphanumeric kept) t w = subst (λ x. is_part x ≡ true) (sym w.0) w.1
 
-pub kept_spelled : (id : IdentifierValue) (t : Text) → IsKeptAs id t → IsIdentifierText t → SpellsIdentifier id t
+kept_spelled : (id : IdentifierValue) (t : Text) → IsKeptAs id t → IsIdentifierText t → SpellsIdentifier id t
 kept_spelled (numeric n) t w is = w
 kept_spelled (alphanumeric kept) t w is = (w.0, subst IsIdentifierText w.0 is, w.2)
+
+pub kept_spelled_all : (ids : List IdentifierValue) (ts : List Text) → AllZip IsKeptAs ids ts → AllByRecursion IsIdentifierText ts
+    → AllZip SpellsIdentifier ids ts
+kept_spelled_all [] [] all each = tt
+kept_spelled_all [] (t ∷ ts) all each = absurd all
+kept_spelled_all (id ∷ ids) [] all each = absurd all
+kept_spelled_all (id ∷ ids) (t ∷ ts) all each = (kept_spelled id t all.0 each.0, kept_spelled_all ids ts all.1 each.1)
 
 pub same_kept : (id other : IdentifierValue) (t : Text) → IsKeptAs id t → IsKeptAs other t → id ≡ other
 same_kept (numeric n) (numeric m) t a b = rw (decimal_injective n m a.0 b.0 (sym a.1 ∙ b.1))
@@ -72,7 +78,7 @@ number_is (b ∷ []) c some = let d = c.digits in grind (arith, nat_tests, commo
 number_is (b ∷ next ∷ t) c some =
     let d = c.digits in let z = c.no_leading_zero in grind (arith, nat_tests, common_steps)
 
-pub kept_as_of : (t : Text) → is_part t ≡ true → IsKeptAs (identifier_of t) t
+kept_as_of : (t : Text) → is_part t ≡ true → IsKeptAs (identifier_of t) t
 kept_as_of t e = by_test (is_number t && nat_lt (digits_value 10 t) (2 ^ 64))
     (λ y. let both = and_parts _ _ y in
     let c = canonical t both.0 (grind (arith, nat_tests, common_steps)) in
@@ -87,7 +93,7 @@ kept_as_of t e = by_test (is_number t && nat_lt (digits_value 10 t) (2 ^ 64))
 
 -- ---- texts between dots
 
-pub parts_bytes : (ts : List Text) → list_all is_part ts ≡ true → AllByRecursion IsPartText ts
+parts_bytes : (ts : List Text) → list_all is_part ts ≡ true → AllByRecursion IsPartText ts
 parts_bytes [] e = tt
 parts_bytes (t ∷ ts) e = let both = and_parts (is_part t) _ e in (part_bytes t both.0, parts_bytes ts both.1)
 
@@ -101,27 +107,53 @@ pub all_kept : (ts : List Text) → list_all is_part ts ≡ true → AllZip IsKe
 all_kept [] e = tt
 all_kept (t ∷ ts) e = let both = and_parts (is_part t) _ e in (kept_as_of t both.0, all_kept ts both.1)
 
-pub same_all_kept : (ids others : List IdentifierValue) (ts : List Text) → AllZip IsKeptAs ids ts → AllZip IsKeptAs others ts → ids ≡ others
-same_all_kept [] [] [] a b = refl
-same_all_kept [] (o ∷ others) [] a b = absurd b
-same_all_kept (id ∷ ids) others [] a b = absurd a
-same_all_kept [] others (t ∷ ts) a b = absurd a
-same_all_kept (id ∷ ids) [] (t ∷ ts) a b = absurd b
-same_all_kept (id ∷ ids) (o ∷ others) (t ∷ ts) a b = (λ i. same_kept id o t a.0 b.0 i ∷ same_all_kept ids others ts a.1 b.1 i)
-
 pub kept_is : (ids : List IdentifierValue) (ts : List Text) → AllZip IsKeptAs ids ts → ids ≡ map identifier_of ts
-kept_is ids ts all = same_all_kept ids _ ts all (all_kept ts (kept_parts ids ts all))
+kept_is [] [] all = refl
+kept_is [] (t ∷ ts) all = absurd all
+kept_is (id ∷ ids) [] all = absurd all
+kept_is (id ∷ ids) (t ∷ ts) all =
+    (λ i. same_kept id (identifier_of t) t all.0 (kept_as_of t (kept_part id t all.0)) i ∷ kept_is ids ts all.1 i)
 
 pub identifiers_are_parts : (ts : List Text) → AllByRecursion IsIdentifierText ts → list_all is_part ts ≡ true
 identifiers_are_parts [] all = refl
 identifiers_are_parts (t ∷ ts) all = rw (identifier_is_part t all.0, identifiers_are_parts ts all.1) refl
+
+-- so are identifiers, whichever hyphens they may have
+pub are_parts : (h : Hyphens) (ts : List Text) → AreIdentifiers h ts → list_all is_part ts ≡ true
+are_parts Any ts each = each
+are_parts BetweenRuns ts each = identifiers_are_parts ts each
+
+pub no_identifiers : (h : Hyphens) → AreIdentifiers h []
+no_identifiers Any = refl
+no_identifiers BetweenRuns = tt
+
+pub joined_some : (t : Text) (ts : List Text) → 0 < length t → 0 < length (join_with_byte 46 (t ∷ ts))
+joined_some t [] some = some
+joined_some t (next ∷ ts) some = omega (arith, some, length-append t (46 ∷ join_with_byte 46 (next ∷ ts)))
+
+pub some_cut : (t : Text) → 0 < length t → cut_at_dots t ≡ slice_split is_dot t
+some_cut [] some = absurd (omega (arith, some))
+some_cut (b ∷ t) some = refl
+
+no_dots : (t : Text) → Passes is_part_byte t → All (λ b. (b == 46) ≡ false) t
+no_dots [] all = All-nil (λ b. (b == 46) ≡ false)
+no_dots (b ∷ t) all = All-cons (λ b. (b == 46) ≡ false) b t (no_dot b all.0) (no_dots t all.1)
+  where
+    no_dot : (b : ℕ) → is_part_byte b ≡ true → (b == 46) ≡ false
+    no_dot b h = grind (arith, nat_tests)
+
+split_joined : (t : Text) (ts : List Text) → AllByRecursion IsPartText (t ∷ ts) → slice_split is_dot (join_with_byte 46 (t ∷ ts)) ≡ t ∷ ts
+split_joined t [] each = slice_split_none is_dot t (no_dots t each.0.1)
+split_joined t (next ∷ ts) each =
+    slice_split_at is_dot t 46 _ (no_dots t each.0.1) refl
+    ∙ rw (split_joined next ts each.1)
 
 -- joined by dots and cut there they are the same
 pub parts_cut : (ts : List Text) → list_all is_part ts ≡ true → cut_at_dots (join_with_byte 46 ts) ≡ ts
 parts_cut [] e = refl
 parts_cut (t ∷ ts) e =
     let each = parts_bytes (t ∷ ts) e in
-    some_cut (join_with_byte 46 (t ∷ ts)) (joined_some 46 t ts each.0.0) ∙ split_joined t ts each
+    some_cut (join_with_byte 46 (t ∷ ts)) (joined_some t ts each.0.0) ∙ split_joined t ts each
 
 joined_cut : (t : Text) → join_with_byte 46 (cut_at_dots t) ≡ t
 joined_cut [] = refl
@@ -147,43 +179,26 @@ dotted_kept ids ts all =
 
 -- ---- parts behind their mark
 
+marked_some : (mark : Text) (ts : List Text) → 0 < length ts → marked mark ts ≡ mark ++ join_with_byte 46 ts
+marked_some mark [] some = absurd (omega (arith, some))
+marked_some mark (t ∷ ts) some = refl
+
+pub marked_cut : (mark : ℕ) (t : Text) → 0 < length t → marked (mark ∷ []) (cut_at_dots t) ≡ mark ∷ t
+marked_cut mark t some =
+    rw (some_cut t some) (marked_some (mark ∷ []) _ (omega (arith, length-slice_split is_dot t))
+    ∙ rw (join_with_byte-slice_split 46 t))
+
+-- a part that is there begins with its mark
+pub begins_marked : (p : ℕ → Bool) (mark : ℕ) (ts : List Text) (more : Text) → p mark ≡ false → p (slice_index more 0) ≡ false
+    → p (slice_index (marked (mark ∷ []) ts ++ more) 0) ≡ false
+begins_marked p mark [] more here there = there
+begins_marked p mark (t ∷ ts) more here there = here
+
+-- how many bytes a part has with its mark
+pub marked_size : (mark : ℕ) (part : Text) → (length part == 0) ≡ false → length part + 1 ≡ length (marked (mark ∷ []) (cut_at_dots part))
+marked_size mark [] some = cc
+marked_size mark (b ∷ part) some = omega (arith, ap length (marked_cut mark (b ∷ part) (omega arith)))
+
 pub part_fits : (mark : ℕ) (part : Text) → length part ≤ length (marked (mark ∷ []) (cut_at_dots part))
 part_fits mark [] = omega arith
 part_fits mark (b ∷ part) = omega (arith, ap length (marked_cut mark (b ∷ part) (omega arith)))
-
--- the part that is found
-pub part_found : (mark : ℕ) (t inner rest : Text) → marked_part Any mark t ≡ Some (inner, rest)
-    → ArePartTexts inner × (t ≡ marked (mark ∷ []) (cut_at_dots inner) ++ rest)
-part_found mark [] inner rest e =
-    let same = found_same e in (subst ArePartTexts same.0 refl, λ i. marked (mark ∷ []) (cut_at_dots (same.0 i)) ++ same.1 i)
-part_found mark (b ∷ t) inner rest e = by_test (b == mark)
-    (λ y. by_test (list_all is_part (slice_split is_dot (take (prefix_len is_dotted_byte t) t)))
-    (λ are. let n : ℕ = prefix_len is_dotted_byte t in
-    let same = found_same (rw (y, runs_ahead t, are) at e) in
-    let cut = some_parts (take n t) are in (
-      subst ArePartTexts same.0 (rw (← (cut.1)) are),
-      (λ i. eqb-true b mark y i ∷ (sym (take-append-drop n t) ∙ (λ j. same.0 j ++ same.1 j)) i)
-          ∙ rw (marked_cut mark inner (subst (λ x. 0 < length x) same.0 cut.0)),
-    ))
-    (λ other. let none : None ≡ Some (inner, rest) = rw (y, runs_ahead t, other) at e in cc))
-    (λ n. let same = found_same (rw n at e) in
-    (subst ArePartTexts same.0 refl, λ i. marked (mark ∷ []) (cut_at_dots (same.0 i)) ++ same.1 i))
-  where
-    some_parts : (t : Text) → list_all is_part (slice_split is_dot t) ≡ true → (0 < length t) × (slice_split is_dot t ≡ cut_at_dots t)
-    some_parts [] e = cc
-    some_parts (b ∷ t) e = (omega arith, refl)
-
--- where there is a part, it is that
-pub part_is : (mark : ℕ) (t inner rest : Text) → ArePartTexts inner → t ≡ marked (mark ∷ []) (cut_at_dots inner) ++ rest
-    → is_dotted_byte (slice_index rest 0) ≡ false → (slice_index rest 0 == mark) ≡ false → marked_part Any mark t ≡ Some (inner, rest)
-part_is mark [] [] rest are split ended no_mark = cc
-part_is mark (b ∷ t) [] rest are split ended no_mark =
-    rw (ap (λ x. slice_index x 0 == mark) split ∙ no_mark) (ap (λ x. Some ([], x)) split)
-part_is mark t (b ∷ inner) rest are split ended no_mark =
-    let part : Text = b ∷ inner in
-    let n = prefix_is is_dotted_byte part rest (parts_pass part are) refl ended in
-    let taken : take (prefix_len is_dotted_byte (part ++ rest)) (part ++ rest) ≡ part =
-    ap (λ k. take k (part ++ rest)) n ∙ take_at part rest (length part) refl in
-    ap (marked_part Any mark) (split ∙ ap (λ x. x ++ rest) (marked_cut mark part (omega arith)))
-    ∙ rw (eq-eqb mark mark refl, runs_ahead (part ++ rest) ∙ ap (λ x. list_all is_part (slice_split is_dot x)) taken ∙ are)
-    (ap Some (λ i. (taken i, (ap (λ k. drop k (part ++ rest)) n ∙ drop_at part rest (length part) refl) i)))

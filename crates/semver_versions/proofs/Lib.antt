@@ -4,8 +4,6 @@ pub mod DialectOutlines
 pub mod KeptTexts
 pub mod OneVersion
 pub mod OutlineVersions
-pub mod OutlinedTexts
-pub mod SpelledParts
-pub mod ToolOutlines
-pub mod ToolParts
+pub mod ReadTexts
+pub mod ReadVersions
 pub mod WhiteSpaces

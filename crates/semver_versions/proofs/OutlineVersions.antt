@@ -1,39 +1,72 @@
--- The version that an outline is of.
-use Rattle.std.proofs.Common.{◌≡◌, ℕ, List, [], ◌∷◌, length, map, sym, refl, ap, ◌∙◌, arith}
-use Rattle.std.specs.Prelude.{◌==◌}
-use Rattle.std.specs.List.{AllZip}
+-- The version that an outline of the crate's dialect is of.
+use Rattle.std.proofs.Common.{◌≡◌, ◌<◌, ℕ, List, [], ◌∷◌, length, map, sym, refl, ap, ◌∙◌, arith, inl, inr, ⊎_elim, ◌⊎◌}
+use Rattle.std.specs.Prelude.{◌==◌, ◌↔◌, Option, Some, None, Result, Ok, Err, IfErr, IfOk, IfSome}
 use Rattle.semver_texts.specs.Texts.{Text, cut_at_dots, is_empty}
-use Rattle.semver_texts.specs.ToolVersions.{IsKeptAs}
 use Rattle.semver_texts.specs.VersionGrammar.{SpellsVersion}
-use Rattle.semver_texts.specs.Versions.{VersionValue}
+use Rattle.semver_texts.specs.Versions.{IdentifierValue, VersionValue}
+use Rattle.semver_texts.specs.declared.dialect.Dialect.TheVariants.{Crate}
 use Rattle.std.proofs.lemmas.Bool.Decides.{nat_tests}
 use Rattle.semver_texts.proofs.PartRuns.{pieces}
-use Rattle.semver_versions.specs.Outlines.{OutlineValue, IsOutlineAfter, identifier_of, outline_behind, version_of}
-use Rattle.semver_texts.proofs.SpelledVersions.{spelled_kept_all}
-use Rattle.semver_versions.proofs.KeptTexts.{dotted_kept, kept_is}
-use Rattle.semver_versions.proofs.OneVersion.{one_version}
-
--- it is the version whose outline it is
-pub behind_is : (before : ℕ) (v : VersionValue) (ts us : List Text) → AllZip IsKeptAs v.plain.pre ts → AllZip IsKeptAs v.build us
-    → v ≡ version_of (outline_behind before v)
-behind_is before v ts us pre build =
-    let pre_is : v.plain.pre ≡ (version_of (outline_behind before v)).plain.pre = kept_is v.plain.pre _
-    (dotted_kept v.plain.pre ts pre).1 in
-    let build_is : v.build ≡ (version_of (outline_behind before v)).build = kept_is v.build _ (dotted_kept v.build us build).1 in
-    (λ i. record {
-      plain = record { major = v.plain.major; minor = v.plain.minor; patch = v.plain.patch; pre = pre_is i };
-      build = build_is i;
-    })
+use Rattle.semver_versions.specs.Outlines.{OutlineValue, IsOutlineAfter, identifier_of, version_of}
+use Rattle.semver_versions.proofs.DialectOutlines.{outlined_version}
+use Rattle.semver_versions.proofs.ReadTexts.{one_version_in}
 
 module _ (before : ℕ) (text : Text) (v : VersionValue) (w : SpellsVersion v text) (o : OutlineValue)
     (is : IsOutlineAfter before text o) where
   pub its_version : v ≡ version_of o
-  its_version =
-      behind_is before v w.spells.pre.texts w.spells.build.texts (spelled_kept_all v.plain.pre _ w.spells.pre.each)
-      (spelled_kept_all v.build _ w.spells.build.each)
-      ∙ ap version_of (ap (outline_behind before) (one_version v is.0 text w is.1) ∙ sym is.2)
+  its_version = outlined_version Crate before o is.0 v text is.1 is.2 w
 
--- it has identifiers exactly where their text isn't empty
+-- ---- it has identifiers exactly where their text isn't empty
+
 pub none_where_empty : (t : Text) → (length t == 0) ≡ is_empty (map identifier_of (cut_at_dots t))
 none_where_empty [] = refl
 none_where_empty (b ∷ t) = rw (pieces (b ∷ t)) (grind (arith, nat_tests))
+
+empty_where : (t : Text) (ids : List IdentifierValue) → ids ≡ map identifier_of (cut_at_dots t) → (t ≡ []) ↔ (ids ≡ [])
+empty_where [] ids is = (λ e. is, λ e. refl)
+empty_where (b ∷ t) ids is = (λ e. cc, λ e. let none = sym e ∙ is ∙ ap (map identifier_of) (pieces (b ∷ t)) in cc)
+
+some_where : (t : Text) (ids : List IdentifierValue) → ids ≡ map identifier_of (cut_at_dots t) → 0 < length t → 0 < length ids
+some_where [] ids is some = absurd (omega (arith, some))
+some_where (b ∷ t) ids is some = omega (arith, ap length (is ∙ ap (map identifier_of) (pieces (b ∷ t))))
+
+module _ (text : Text) (v : VersionValue) (w : SpellsVersion v text) where
+  pub no_pre_release : (found : Option OutlineValue) → IfSome found (λ o. SpellsVersion (version_of o) text)
+      → IfSome found (λ o. (o.pre ≡ []) ↔ (v.plain.pre ≡ []))
+  no_pre_release None is = tt
+  no_pre_release (Some o) is =
+      empty_where o.pre v.plain.pre (ap (λ (u : VersionValue). u.plain.pre) (one_version_in Crate v (version_of o) text w is))
+
+  pub no_build : (found : Option OutlineValue) → IfSome found (λ o. SpellsVersion (version_of o) text)
+      → IfSome found (λ o. (o.build ≡ []) ↔ (v.build ≡ []))
+  no_build None is = tt
+  no_build (Some o) is = empty_where o.build v.build (ap (λ (u : VersionValue). u.build) (one_version_in Crate v (version_of o) text w is))
+
+pub has_some : (before : ℕ) (text : Text) (o : OutlineValue) → IsOutlineAfter before text o → (0 < length o.pre) ⊎ (0 < length o.build)
+    → (v : VersionValue) × SpellsVersion v text × ((0 < length v.plain.pre) ⊎ (0 < length v.build))
+has_some before text o is some =
+    let e = its_version before text is.0 is.1 o is in (
+      is.0,
+      is.1,
+      ⊎_elim (λ pre. inl (some_where o.pre is.0.plain.pre (ap (λ (u : VersionValue). u.plain.pre) e) pre))
+          (λ build. inr (some_where o.build is.0.build (ap (λ (u : VersionValue). u.build) e) build)) some,
+    )
+
+-- ---- what is answered of it
+
+pub if_ok_more : {A E : Type 0} {P Q : A → Type 0} (r : Result A E) → ((x : A) → P x → Q x) → IfOk r P → IfOk r Q
+if_ok_more (Ok x) more p = more x p
+if_ok_more (Err e) more p = tt
+
+pub if_err : {A E P : Type 0} (r : Result A E) → P → IfErr r (λ _. P)
+if_err (Ok x) p = tt
+if_err (Err e) p = p
+
+pub exactly : (text : Text) (u : VersionValue) → SpellsVersion u text → (v : VersionValue) → (Some u ≡ Some v) ↔ SpellsVersion v text
+exactly text u spells v = (
+  λ e. rw (same e) at spells,
+  λ s. rw (one_version_in Crate u v text spells s),
+)
+  where
+    same : {u w : VersionValue} → Some u ≡ Some w → u ≡ w
+    same e = cc

@@ -8,7 +8,7 @@ ghost use Rattle.semver_texts.specs.Versions.{IdentifierValue};
 ghost use Rattle.semver_texts.specs.Precedence.{identifier_cmp, pre_cmp};
 ghost use Rattle.semver_texts.specs.ToolVersions.{IsKeptAs};
 ghost use Rattle.semver_texts.specs.VersionViews.{identifier_value};
-ghost use Rattle.semver_versions.specs.Steps.Cutting.{ArePartTexts};
+ghost use Rattle.semver_versions.specs.Steps.Reading.{ArePartTexts};
 
 use semver_texts::decimals::whole_number;
 use semver_texts::dotted::{split_at_dot, text_of_parts};

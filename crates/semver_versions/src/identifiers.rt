@@ -5,7 +5,7 @@ ghost use Rattle.std.specs.List.{AllZip};
 ghost use Rattle.semver_texts.specs.Texts.{cut_at_dots, is_part};
 ghost use Rattle.semver_texts.specs.ToolVersions.{IsKeptAs};
 ghost use Rattle.semver_texts.specs.VersionViews.{identifier_value};
-ghost use Rattle.semver_versions.specs.Steps.Cutting.{ArePartTexts};
+ghost use Rattle.semver_versions.specs.Steps.Reading.{ArePartTexts};
 
 use semver_texts::decimals::whole_number;
 use semver_texts::dotted::of_parts;

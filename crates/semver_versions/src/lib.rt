@@ -3,9 +3,8 @@
 #![tactic(auto)]
 
 mod comparing;
-mod from_bytes;
 mod identifiers;
 pub mod laws;
 mod outlines;
-mod tools;
+mod reader;
 pub mod version;

@@ -9,7 +9,7 @@ ghost use Rattle.semver_texts.specs.VersionGrammar.{SpellsVersion};
 ghost use Rattle.semver_texts.specs.VersionViews.{identifier_value, version_value};
 ghost use Rattle.semver_versions.specs.Outlines.{IsOutlineOf, behind_mark};
 ghost use Rattle.semver_versions.specs.Outlines.{version_of};
-ghost use Rattle.semver_versions.specs.Steps.Cutting.{ArePartTexts, outline_with};
+ghost use Rattle.semver_versions.specs.Steps.Reading.{ArePartTexts, outline_with};
 
 use crate::comparing::compare_pre_releases;
 use crate::identifiers::identifiers;
@@ -34,7 +34,7 @@ pub struct Outline<'t> {
 
 impl<'t> Model for Outline<'t> {
     ghost use Rattle.semver_versions.specs.Outlines.{OutlineValue};
-    ghost use Rattle.semver_versions.specs.Steps.Cutting.{ArePartTexts};
+    ghost use Rattle.semver_versions.specs.Steps.Reading.{ArePartTexts};
 
     ghost Value = { OutlineValue };
 

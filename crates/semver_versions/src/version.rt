@@ -16,9 +16,8 @@ ghost use Rattle.semver_texts.specs.ToolVersions.{IsVersionTextIn, SpellsIn};
 ghost use Rattle.semver_versions.specs.Outlines.{IsOutlineIn, IsOutlineOf};
 ghost use Rattle.semver_versions.specs.Outlines.{OutlineValue, StandsAt, version_of};
 
-use crate::from_bytes;
 pub use crate::outlines::Outline;
-use crate::tools::{self, Tool};
+use crate::reader;
 pub use semver_texts::dialect::Dialect;
 pub use semver_texts::precedence::cmp_precedence;
 pub use semver_texts::version::{Identifier, Version};
@@ -117,7 +116,7 @@ pub fn outline_bytes(input: &[u8]) -> Option<Outline<'_>>
     ensures places { IfSome result (λ o. StandsAt o.pre_offset o.pre input.now
         × StandsAt o.build_offset o.build input.now) }
 {
-    from_bytes::outline(input)
+    outline_in(input, Dialect::Crate)
 }
 
 // Answer: law answer_laws::versions::one_outline_in.
@@ -137,11 +136,7 @@ pub fn outline_in(input: &[u8], dialect: Dialect) -> Option<Outline<'_>>
     ensures places { IfSome result (λ o. StandsAt o.pre_offset o.pre input.now
         × StandsAt o.build_offset o.build input.now) }
 {
-    match dialect {
-        Dialect::Crate => from_bytes::outline(input),
-        Dialect::Cargo => tools::outline(input, Tool::Cargo),
-        Dialect::Npm => tools::outline(input, Tool::Npm),
-    }
+    reader::outline(input, dialect)
 }
 
 // Answer: law answer_laws::versions::one_outline_of_numbers.
@@ -171,13 +166,5 @@ pub fn outline_of_numbers(
         → length text ≡ numbers_end + length rest.now
         → (result ≡ None) ↔ ¬ (IsVersionTextIn dialect text) }
 {
-    match dialect {
-        Dialect::Crate => from_bytes::behind_numbers(major, minor, patch, numbers_end, rest),
-        Dialect::Cargo => {
-            tools::outline_of_numbers(major, minor, patch, numbers_end, rest, Tool::Cargo)
-        }
-        Dialect::Npm => {
-            tools::outline_of_numbers(major, minor, patch, numbers_end, rest, Tool::Npm)
-        }
-    }
+    reader::outline_of_numbers(major, minor, patch, numbers_end, rest, dialect)
 }

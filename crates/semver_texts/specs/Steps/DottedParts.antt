@@ -32,3 +32,17 @@ abbrev pub marked_part : Hyphens → ℕ → Text → Option (Text × Text)
 marked_part hyphens mark [] = Some ([], [])
 marked_part hyphens mark (b ∷ t) =
     if b == mark then parts_ahead hyphens t else Some ([], b ∷ t)
+
+-- whether the part at the front is empty or begins with a zero
+abbrev pub is_odd : Text → Bool
+is_odd [] = true
+is_odd (b ∷ t) = b == 46 || b == 48
+
+-- whether that is so of a part after a dot
+abbrev pub odd_after : Text → Bool
+odd_after [] = false
+odd_after (b ∷ t) = (b == 46 && is_odd t) || odd_after t
+
+-- whether that is so of any part
+abbrev pub begins_oddly : Text → Bool
+begins_oddly t = is_odd t || odd_after t

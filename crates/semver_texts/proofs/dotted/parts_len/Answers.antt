@@ -3,24 +3,22 @@ use Rattle.std.specs.List.{prefix_len}
 use Rattle.std.proofs.lemmas.List.{drop_all}
 use Rattle.semver_texts.specs.Texts.{Text, is_dotted_byte}
 use Rattle.semver_texts.specs.Steps.DottedParts.{is_run_byte, runs_stand}
-use Rattle.semver_texts.proofs.DottedParts.{IsRead, at_end, other_ends, none_read}
+use Rattle.semver_texts.proofs.DottedParts.{IsRead, at_end, no_run, none_read, other_ends}
 use Rattle.semver_texts.proofs.dotted.parts_len.Goals as goal
-use Rattle.semver_texts.proofs.dotted.parts_len.Goals.{Else-is_run_byte}
-
-no_run : (c : Else-is_run_byte) → is_run_byte c.args.hyphens (get_or c.args.bytes.now c.loop-at.at 0) ≡ false
-no_run c = sym c.is_run_byte.ensures ∙ c.if-is_run_byte.false
 
 pub returns-then-not-is_between_runs : goal.returns-then-not-is_between_runs
 returns-then-not-is_between_runs c =
-    let ends = other_ends c.args.hyphens c.args.bytes.now c.loop-at.at c.loop-at.in_run c.loop-at-test.true
-    (no_run (goal.at.returns-then-not-is_between_runs c).Else-is_run_byte)
+    let other = no_run c.args.hyphens (get_or c.args.bytes.now c.loop-at.at 0)
+    (sym c.is_ascii_alphanumeric.ensures.value ∙ c.if-is_ascii_alphanumeric.false)
+    (sym c.is_between_runs.ensures ∙ c.if-not-is_between_runs.true) in
+    let ends = other_ends c.args.hyphens c.args.bytes.now c.loop-at.at c.loop-at.in_run c.loop-at-test.true other
     (sym c.is_between_runs.ensures ∙ c.if-not-is_between_runs.true) in
     rw c.then_some.ensures (at_end c.args.hyphens c.args.bytes.now c.loop-at.at c.loop-at.in_run ends.0 ends.1 c.loop-at.invariant)
 
 pub returns-then-not-in_run : goal.returns-then-not-in_run
 returns-then-not-in_run c =
     none_read c.args.hyphens c.args.bytes.now c.loop-at.at c.loop-at-test.true
-    (no_run (goal.at.returns-then-not-in_run c).Else-is_run_byte)
+    (sym c.is_run_byte.ensures ∙ c.if-is_run_byte.false)
     (sym c.is_between_runs.ensures ∙ c.if-not-is_between_runs.false)
     (subst (IsRead c.args.hyphens c.args.bytes.now c.loop-at.at) c.if-not-in_run.true c.loop-at.invariant)
 

@@ -4,7 +4,7 @@ use Rattle.semver_texts.specs.ToolVersions.{IsKeptAs}
 use Rattle.semver_texts.specs.VersionViews.{identifier_value}
 use Rattle.semver_texts.proofs.Lists.{zip_mapped}
 use Rattle.semver_versions.proofs.KeptTexts.{each_passes, parts_pass}
-use Rattle.semver_versions.proofs.OutlinedTexts.{if_ok_more}
+use Rattle.semver_versions.proofs.OutlineVersions.{if_ok_more}
 use Rattle.semver_versions.proofs.identifiers.identifiers.Goals as goal
 
 pub returns-clause-kept : goal.returns-clause-kept

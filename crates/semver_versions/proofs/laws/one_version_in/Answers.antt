@@ -1,4 +1,4 @@
-use Rattle.semver_versions.proofs.ToolOutlines.{one_version_in}
+use Rattle.semver_versions.proofs.ReadTexts.{one_version_in}
 use Rattle.semver_versions.proofs.laws.one_version_in.Goals as goal
 
 pub returns : goal.returns

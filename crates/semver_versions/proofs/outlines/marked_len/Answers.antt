@@ -1,5 +1,5 @@
 use Rattle.std.proofs.Common.{sym, ◌∙◌}
-use Rattle.semver_versions.proofs.OutlinedTexts.{marked_size}
+use Rattle.semver_versions.proofs.KeptTexts.{marked_size}
 use Rattle.semver_versions.proofs.outlines.marked_len.Goals as goal
 
 pub returns-else-is_empty : goal.returns-else-is_empty

@@ -4,7 +4,7 @@ use Rattle.semver_texts.specs.Versions.{VersionValue}
 use Rattle.semver_versions.specs.Outlines.{OutlineValue}
 use Rattle.semver_versions.proofs.KeptTexts.{kept_is}
 use Rattle.semver_versions.proofs.OutlineVersions.{its_version}
-use Rattle.semver_versions.proofs.OutlinedTexts.{if_ok_more}
+use Rattle.semver_versions.proofs.OutlineVersions.{if_ok_more}
 use Rattle.semver_versions.proofs.outlines.Outline.build_identifiers.Goals as goal
 
 pub returns-clause-of_version : goal.returns-clause-of_version

@@ -1,0 +1,7 @@
+-- What was read so far decides nothing.
+use Rattle.std.proofs.Common.{◌≡◌, drop}
+use Rattle.semver_texts.specs.Steps.DottedParts.{odd_after}
+use Rattle.semver_texts.proofs.dotted.begins_oddly.Given as goal
+
+abbrev pub invariant-loop-at : goal.invariant-loop-at
+invariant-loop-at l = odd_after l.parts ≡ odd_after (drop l.at l.parts)

@@ -1,0 +1,334 @@
+-- A whole text that spells a version in a dialect is read as it, and as no other.
+use Rattle.std.proofs.Common.{codes, ◌≡◌, inl, inr, ⊎_elim, ℕ, ◌+◌, ◌<◌, ◌^◌, cond, Bool, true, List, [], ◌∷◌, ◌++◌, length}
+use Rattle.std.proofs.Common.{refl, ◌∙◌, arith, ap, sym, subst, append_assoc, append-nil, length-append, decimal, map, one-add}
+use Rattle.std.specs.Prelude.{not, Option, Some, None, slice_index}
+use Rattle.std.specs.Char.{is_ascii_digit}
+use Rattle.std.specs.List.{join_with_byte, list_all}
+use Rattle.std.proofs.lemmas.Bool.Decides.{nat_tests}
+use Rattle.std.proofs.lemmas.List.Sums.{sum_by-cons}
+use Rattle.std.proofs.lemmas.Fmt.{decimal_nonempty}
+use Rattle.semver_texts.specs.Texts.{Text, BeginsWithNumbers, has_no_leading_zero, is_dotted_byte, is_part, marked}
+use Rattle.semver_texts.specs.ToolVersions.{AreWhiteSpaces, SpellsIn, SpellsSemver, before_numbers, characters, goes_on}
+use Rattle.semver_texts.specs.Versions.{VersionValue, numbers}
+use Rattle.semver_texts.specs.VersionGrammar.{SpellsVersion}
+use Rattle.semver_texts.specs.declared.dialect.Dialect.{Dialect}
+use Rattle.semver_texts.specs.declared.dialect.Dialect.TheVariants.{Crate, Cargo, Npm}
+use Rattle.semver_texts.proofs.Lists.{Passes, all_more, passes_append, joined_pass}
+use Rattle.semver_texts.proofs.Numbers.{all_digits, canonical_decimal}
+use Rattle.semver_texts.proofs.SpelledVersions.{spelled_kept_all}
+use Rattle.semver_versions.specs.Outlines.{OutlineValue}
+use Rattle.semver_versions.specs.Steps.Reading.{AreAround, AreIdentifiers, IsBefore, IsOutlinedAt, IsOutlinedBy, IsRead, IsShort, IsSign}
+use Rattle.semver_versions.specs.Steps.Reading.{NumbersFit, ZerosFit, around_size, hyphens_of}
+use Rattle.semver_versions.proofs.CutIdentifiers.{spelled_are}
+use Rattle.semver_versions.proofs.KeptTexts.{kept_parts, kept_spelled_all}
+use Rattle.semver_versions.proofs.ReadVersions.{its_numbers, one_read}
+use Rattle.semver_versions.proofs.WhiteSpaces.{around_spaces, is_outer, no_size, none_around, nothing_around, outer_bytes, same_around}
+use Rattle.semver_versions.proofs.WhiteSpaces.{spaces_around}
+
+-- ---- numbers begin with a digit
+
+-- a text that begins with a digit
+pub record Digit (text : Text) : Type 0 where
+  pub byte : ℕ
+  pub rest : Text
+  pub digit : is_ascii_digit byte ≡ true
+  pub whole : text ≡ byte ∷ rest
+
+digit_first : (ds more : Text) → 0 < length ds → Passes is_ascii_digit ds → Digit (ds ++ more)
+digit_first [] more some all = absurd (omega (arith, some))
+digit_first (d ∷ ds) more some all = record { byte = d; rest = ds ++ more; digit = all.0; whole = refl }
+
+pub first_digit : (text : Text) → is_ascii_digit (slice_index text 0) ≡ true → Digit text
+first_digit [] e = cc
+first_digit (b ∷ text) e = record { byte = b; rest = text; digit = e; whole = refl }
+
+decimal_digits : (n : ℕ) → n < 2 ^ 64 → Passes is_ascii_digit (decimal n)
+decimal_digits n small = all_digits (decimal n) (canonical_decimal n small).digits
+
+pub digit_begins : {text : Text} {major minor patch : ℕ} {rest : Text} → BeginsWithNumbers text major minor patch rest → Digit text
+digit_begins {text} {major} {minor} {patch} {rest} n =
+    subst Digit (sym (n.split ∙ simp append_assoc))
+    (digit_first (decimal major) (46 ∷ (decimal minor ++ (46 ∷ (decimal patch ++ rest)))) (decimal_nonempty major n.major_fits)
+    (decimal_digits major n.major_fits))
+
+digit_dotted : (b : ℕ) → is_ascii_digit b ≡ true → is_dotted_byte b ≡ true
+digit_dotted b h = grind (arith, nat_tests)
+
+digit_no_v : (b : ℕ) → is_ascii_digit b ≡ true → b ≡ 118 → ⊥
+digit_no_v b h e = grind (arith, nat_tests)
+
+-- ---- how many bytes are before them
+
+abbrev no_digit : ℕ → Bool
+no_digit b = not (is_ascii_digit b)
+
+up_to : (front text : Text) → Passes no_digit front → Digit text → before_numbers (front ++ text) ≡ length front
+up_to [] text all d = rw (d.whole, d.digit) refl
+up_to (b ∷ front) text all d = rw (all.0, up_to front text all.1 d, one-add) refl
+
+outer_no_digit : (b : ℕ) → is_outer b ≡ true → no_digit b ≡ true
+outer_no_digit b h = grind (arith, nat_tests)
+
+sign_passes : (d : Dialect) (sign rest : Text) → IsSign d sign rest → Passes no_digit sign
+sign_passes Crate sign rest is = rw is tt
+sign_passes Cargo sign rest is = rw is tt
+sign_passes Npm sign rest is = ⊎_elim (λ v. rw v (refl, tt)) (λ none. rw (none.0) tt) is
+
+-- ---- what is before them
+
+module _ (d : Dialect) (text rest : Text) (at : IsBefore d text rest) where
+  abbrev pub front_of : Text
+  front_of = at.0 ++ at.1
+
+  pub front_then : text ≡ front_of ++ rest
+  front_then = at.4 ∙ sym (append_assoc at.0 at.1 rest)
+
+  pub front_len : Digit rest → before_numbers text ≡ length front_of
+  front_len digit =
+      ap before_numbers front_then
+      ∙ up_to front_of rest (passes_append no_digit at.0 at.1 (all_more outer_no_digit at.0 (outer_bytes d at.0 at.2))
+      (sign_passes d at.1 rest at.3)) digit
+
+  pub bytes_before : Digit rest → length text ≡ before_numbers text + length rest
+  bytes_before digit = omega (arith, ap length front_then, length-append front_of rest, front_len digit)
+
+pub no_around : (d : Dialect) (text : Text) → Digit text → around_size d text ≡ 0
+no_around d text digit = rw digit.whole (no_size d digit.byte digit.rest (digit_dotted digit.byte digit.digit))
+
+no_v : (text : Text) → Digit text → slice_index text 0 ≡ 118 → ⊥
+no_v text d e = digit_no_v d.byte d.digit (sym (ap (λ t. slice_index t 0) d.whole) ∙ e)
+
+-- numbers at the front of a text
+pub at_front : (d : Dialect) (text : Text) → Digit text → IsBefore d text text
+at_front d text digit = ([], [], none_around d, no_sign d, refl, no_around d text digit)
+  where
+    no_sign : (d : Dialect) → IsSign d [] text
+    no_sign Crate = refl
+    no_sign Cargo = refl
+    no_sign Npm = inr (refl, no_v text digit)
+
+-- the rest is the same
+one_sign : (d : Dialect) (sign other rest left : Text) → IsSign d sign rest → IsSign d other left → sign ++ rest ≡ other ++ left
+    → rest ≡ left
+one_sign Crate sign other rest left a b e = sym (ap (λ t. t ++ rest) a) ∙ e ∙ ap (λ t. t ++ left) b
+one_sign Cargo sign other rest left a b e = sym (ap (λ t. t ++ rest) a) ∙ e ∙ ap (λ t. t ++ left) b
+one_sign Npm sign other rest left a b e =
+    let same : (x y : Text) → sign ≡ x → other ≡ y → x ++ rest ≡ y ++ left = λ x y is also. sym (ap (λ t. t ++ rest) is) ∙ e
+    ∙ ap (λ t. t ++ left) also in
+    ⊎_elim
+    (λ v. ⊎_elim (λ also. let both = same (codes "v") (codes "v") v also in cc)
+    (λ none. absurd (none.1 (sym (ap (λ t. slice_index t 0) (same (codes "v") [] v none.0))))) b)
+    (λ none. ⊎_elim (λ v. absurd (none.1 (ap (λ t. slice_index t 0) (same [] (codes "v") none.0 v))))
+    (λ also. same [] [] none.0 also.0) b)
+    a
+
+one_before : (d : Dialect) (text rest left : Text) → IsBefore d text rest → IsBefore d text left → rest ≡ left
+one_before d text rest left a b =
+    one_sign d a.1 b.1 rest left a.3 b.3 (same_around d a.0 b.0 _ _ a.2 b.2 (sym a.4 ∙ b.4) a.5 b.5).1
+
+-- ---- a text that spells a version is read as it
+
+abbrev pub three : VersionValue → Text
+three v = join_with_byte 46 (map decimal (numbers v.plain))
+
+to_right : (a b c e : Text) → (a ++ (b ++ c)) ++ e ≡ a ++ (b ++ (c ++ e))
+to_right a b c e = simp append_assoc
+
+-- what is read of it, from which the text follows
+abbrev pub IsReadOf : Dialect → VersionValue → Text → Type 0
+IsReadOf d v text = (rest : Text) × IsBefore d text rest × IsRead d v rest × IsShort d (characters text)
+
+module _ (d : Dialect) (each : (ts : List Text) → list_all is_part ts ≡ true → AreIdentifiers (hyphens_of d) ts)
+    (zeros : (ts : List Text) → list_all has_no_leading_zero ts ≡ true → ZerosFit d ts) where
+  semver_read : (v : VersionValue) (core after : Text) → SpellsSemver v core → NumbersFit d v.plain.major v.plain.minor v.plain.patch
+      → AreAround d after → IsRead d v (core ++ after)
+  semver_read v core after w fits around = record {
+    pre_texts = w.pre_texts;
+    build_texts = w.build_texts;
+    after = after;
+    major = w.major;
+    minor = w.minor;
+    patch = w.patch;
+    fits = fits;
+    pre = w.pre;
+    pre_each = each w.pre_texts (kept_parts v.plain.pre _ w.pre);
+    zeros = zeros w.pre_texts w.no_zeros;
+    build = w.build;
+    build_each = each w.build_texts (kept_parts v.build _ w.build);
+    around = around;
+    whole = ap (λ t. t ++ after) w.spelled ∙ to_right (three v) (marked (codes "-") w.pre_texts) (marked (codes "+") w.build_texts) after;
+  }
+
+abbrev core_of : {d : Dialect} {v : VersionValue} {rest : Text} → IsRead d v rest → Text
+core_of {v = v} w = three v ++ (marked (codes "-") w.pre_texts ++ marked (codes "+") w.build_texts)
+
+core_then : {d : Dialect} {v : VersionValue} {rest : Text} (w : IsRead d v rest) → rest ≡ core_of w ++ w.after
+core_then {v = v} w = w.whole ∙ sym (to_right (three v) (marked (codes "-") w.pre_texts) (marked (codes "+") w.build_texts) w.after)
+
+semver_core : {d : Dialect} {v : VersionValue} {rest : Text} (w : IsRead d v rest) → list_all has_no_leading_zero w.pre_texts ≡ true
+    → SpellsSemver v (core_of w)
+semver_core w no_zeros = record {
+  pre_texts = w.pre_texts;
+  build_texts = w.build_texts;
+  major = w.major;
+  minor = w.minor;
+  patch = w.patch;
+  pre = w.pre;
+  no_zeros = no_zeros;
+  build = w.build;
+  spelled = refl;
+}
+
+white_spaces : (t : Text) → AreWhiteSpaces t → AreAround Npm t
+white_spaces t w = record { each = w.each; are = w.are; whole = w.whole }
+
+are_white_spaces : (t : Text) → AreAround Npm t → AreWhiteSpaces t
+are_white_spaces t w = record { each = w.each; are = w.are; whole = w.whole }
+
+pub crate_read : {v : VersionValue} {text : Text} (w : SpellsVersion v text) → IsRead Crate v (w.core ++ w.after)
+crate_read {v = v} w = record {
+  pre_texts = w.spells.pre.texts;
+  build_texts = w.spells.build.texts;
+  after = w.after;
+  major = w.spells.major;
+  minor = w.spells.minor;
+  patch = w.spells.patch;
+  fits = tt;
+  pre = spelled_kept_all v.plain.pre _ w.spells.pre.each;
+  pre_each = spelled_are v.plain.pre _ w.spells.pre.each;
+  zeros = tt;
+  build = spelled_kept_all v.build _ w.spells.build.each;
+  build_each = spelled_are v.build _ w.spells.build.each;
+  around = spaces_around w.after w.spaces_after;
+  whole = rw w.spells.spelled (rw (w.spells.pre.joined, w.spells.build.joined) (simp append_assoc));
+}
+
+abbrev pub crate_before : {v : VersionValue} {text : Text} (w : SpellsVersion v text) → IsBefore Crate text (w.core ++ w.after)
+crate_before {text = text} w = (
+  w.before,
+  [],
+  spaces_around w.before w.spaces_before,
+  refl,
+  w.whole ∙ append_assoc w.before w.core w.after,
+  no_around Crate (w.core ++ w.after) (digit_begins (its_numbers (crate_read w))),
+)
+
+pub read_of : (d : Dialect) (v : VersionValue) (text : Text) → SpellsIn d v text → IsReadOf d v text
+read_of Crate v text w = (w.core ++ w.after, crate_before w, crate_read w, tt)
+read_of Cargo v text w =
+    let read = subst (IsRead Cargo v) (append-nil text)
+    (semver_read Cargo (λ ts h. h) (λ ts h. h) v text [] w tt (none_around Cargo)) in
+    (text, at_front Cargo text (digit_begins (its_numbers read)), read, tt)
+read_of Npm v text w =
+    let read = semver_read Npm (λ ts h. h) (λ ts h. h) v w.core w.after w.spells (w.major, w.minor, w.patch)
+    (white_spaces w.after w.spaces_after) in
+    let digit = digit_begins (its_numbers read) in (
+      w.core ++ w.after,
+      (
+        w.before,
+        w.sign,
+        white_spaces w.before w.spaces_before,
+        ⊎_elim (λ e. inr (e, no_v _ digit)) (λ e. inl e) w.is_sign,
+        w.whole,
+        ⊎_elim (λ e. rw e (no_around Npm (w.core ++ w.after) digit)) (λ e. rw e (no_size Npm 118 (w.core ++ w.after) refl)) w.is_sign,
+      ),
+      read,
+      w.short,
+    )
+
+-- and a text that is read as it spells it
+spells_of : (d : Dialect) (v : VersionValue) (text rest : Text) → IsBefore d text rest → IsRead d v rest → IsShort d (characters text)
+    → SpellsIn d v text
+spells_of Crate v text rest at w short = record {
+  before = at.0;
+  core = core_of w;
+  after = w.after;
+  spaces_before = around_spaces at.0 at.2;
+  spaces_after = around_spaces w.after w.around;
+  spells = record {
+    pre_text = marked (codes "-") w.pre_texts;
+    build_text = marked (codes "+") w.build_texts;
+    major = w.major;
+    minor = w.minor;
+    patch = w.patch;
+    pre = record { texts = w.pre_texts; each = kept_spelled_all v.plain.pre _ w.pre w.pre_each; joined = refl };
+    build = record { texts = w.build_texts; each = kept_spelled_all v.build _ w.build w.build_each; joined = refl };
+    spelled = sym (append_assoc (three v) (marked (codes "-") w.pre_texts) (marked (codes "+") w.build_texts));
+  };
+  whole = at.4 ∙ ap (λ t. at.0 ++ (t ++ rest)) at.3 ∙ ap (λ t. at.0 ++ t) (core_then w) ∙ sym (append_assoc at.0 (core_of w) w.after);
+}
+spells_of Cargo v text rest at w short =
+    subst (SpellsSemver v)
+    (sym (at.4 ∙ (λ i. nothing_around at.0 at.2 i ++ (at.3 i ++ rest)) ∙ core_then w
+    ∙ ap (λ t. core_of w ++ t) (nothing_around w.after w.around) ∙ append-nil (core_of w)))
+    (semver_core w w.zeros)
+spells_of Npm v text rest at w short = record {
+  before = at.0;
+  sign = at.1;
+  core = core_of w;
+  after = w.after;
+  spaces_before = are_white_spaces at.0 at.2;
+  is_sign = ⊎_elim (λ e. inr e) (λ e. inl e.0) at.3;
+  spells = semver_core w w.zeros;
+  spaces_after = are_white_spaces w.after w.around;
+  major = w.fits.0;
+  minor = w.fits.1;
+  patch = w.fits.2;
+  short = short;
+  whole = at.4 ∙ ap (λ t. at.0 ++ (at.1 ++ t)) (core_then w);
+}
+
+-- ---- a text spells one version
+
+module _ (d : Dialect) (v : VersionValue) (text rest : Text) (at : IsBefore d text rest) (w : SpellsIn d v text) where
+  pub read_behind : IsRead d v rest
+  read_behind = let read = read_of d v text w in subst (IsRead d v) (one_before d text read.0 rest read.1 at) read.2
+
+pub short_of : (d : Dialect) (v : VersionValue) (text : Text) → SpellsIn d v text → IsShort d (characters text)
+short_of d v text w = (read_of d v text w).3
+
+pub one_version_in : (d : Dialect) (v u : VersionValue) (text : Text) → SpellsIn d v text → SpellsIn d u text → v ≡ u
+one_version_in d v u text a b =
+    let read = read_of d v text a in one_read d v u read.0 read.2 (read_behind d u text read.0 read.1 b)
+
+-- ---- its outline
+
+pub whole_outlined : (d : Dialect) (text rest : Text) (found : Option OutlineValue) → IsBefore d text rest
+    → IsShort d (characters text) → IsOutlinedAt d (before_numbers text) rest found → IsOutlinedBy d text found
+whole_outlined d text rest None at short none = λ w. none w.0 (read_behind d w.0 text rest at w.1)
+whole_outlined d text rest (Some o) at short is = (is.0, spells_of d is.0 text rest at is.1 short, is.2)
+
+-- ---- a text whose numbers are known
+
+-- its characters are the bytes of the numbers, and those of the rest
+module _ (text : Text) (major minor patch : ℕ) (rest : Text) (n : BeginsWithNumbers text major minor patch rest) where
+  pub none_before : before_numbers text ≡ 0
+  none_before = up_to [] text tt (digit_begins n)
+
+  pub characters_of : (numbers_end : ℕ) → length text ≡ numbers_end + length rest → characters text ≡ numbers_end + characters rest
+  characters_of numbers_end at =
+      let front : Text = join_with_byte 46 (map decimal (major ∷ minor ∷ patch ∷ [])) in
+      omega (
+        arith,
+        at,
+        ap length n.split,
+        length-append front rest,
+        ap characters n.split ∙ one_each front rest
+            (joined_pass begins 46 refl (map decimal (major ∷ minor ∷ patch ∷ []))
+            (number major n.major_fits, (number minor n.minor_fits, (number patch n.patch_fits, tt)))),
+      )
+    where
+      begins : ℕ → Bool
+      begins b = not (goes_on b)
+
+      digit_begins_one : (b : ℕ) → is_ascii_digit b ≡ true → not (goes_on b) ≡ true
+      digit_begins_one b h = grind (arith, nat_tests)
+
+      number : (k : ℕ) → k < 2 ^ 64 → Passes begins (decimal k)
+      number k small = all_more digit_begins_one (decimal k) (decimal_digits k small)
+
+      one_each : (front more : Text) → Passes begins front → characters (front ++ more) ≡ length front + characters more
+      one_each [] more all = omega arith
+      one_each (b ∷ front) more all =
+          let first : ◌≡◌ {A = ℕ} (cond (begins b) 1 0) 1 = ap (λ y. cond {A = ℕ} y 1 0) all.0 in
+          omega (arith, sum_by-cons (λ x. cond (begins x) 1 0) b (front ++ more), first, one_each front more all.1)

@@ -1,7 +1,0 @@
--- The characters before this place are counted.
-use Rattle.std.proofs.Common.{◌≡◌, ◌≤◌, take}
-use Rattle.semver_texts.specs.ToolVersions.{characters}
-use Rattle.semver_versions.proofs.tools.count_characters.Given as goal
-
-abbrev pub invariant-loop-at : goal.invariant-loop-at
-invariant-loop-at l = (l.count ≡ characters (take l.at l.bytes)) × (l.count ≤ l.at)

@@ -1,0 +1,251 @@
+//! A version text read from its bytes to its outline, by a dialect: three numbers, and the
+//! pre-release and the build as slices. Each byte that is read as a part of a version is ASCII, so
+//! the bytes need no check for UTF-8.
+//!
+//! The dialects differ in what may be before the numbers and after the version, in the hyphens and
+//! zeros of identifiers, and in npm's limits. Three numbers alone are read alike by each, so for
+//! speed they are read without a look at the dialect. What needs one is called, not inlined.
+
+ghost use Rattle.std.specs.Prelude.{◌≡◌, ◌≤◌, ◌<◌, ◌+◌, ◌++◌, ◌^◌, ℕ, true, false, length};
+ghost use Rattle.std.specs.Prelude.{MatchOption};
+ghost use Rattle.semver_texts.specs.Texts.{Text, BeginsWithNumbers, cut_at_dots};
+ghost use Rattle.semver_texts.specs.ToolVersions.{characters};
+ghost use Rattle.semver_versions.specs.Steps.Reading.{AreAround, AreParts, IsBefore, IsOutlinedAt};
+ghost use Rattle.semver_versions.specs.Steps.Reading.{IsOutlinedBy, IsShort, NumbersFit, ZerosFit};
+ghost use Rattle.semver_versions.specs.Steps.Reading.{around_size, hyphens_of};
+
+use crate::outlines::{Outline, with_parts};
+use semver_texts::decimals::{begins_with_digit, numbers};
+use semver_texts::dialect::Dialect;
+use semver_texts::dotted::{Hyphens, behind_mark, have_no_leading_zeros, marked_part};
+
+/// No number of a version of npm is above this, the greatest that JavaScript has exactly.
+const GREATEST: u64 = 9_007_199_254_740_991;
+
+/// No version text of npm has more characters.
+const CHARACTERS: usize = 256;
+
+/// How many bytes the character at the front has, if it may be before and after a version; else 0.
+/// npm takes what JavaScript calls white space.
+#[inline(always)]
+fn around_len(bytes: &[u8], dialect: Dialect) -> usize
+    ensures size { result ≡ around_size dialect bytes.now }
+    ensures within { result ≤ length bytes.now }
+{
+    match dialect {
+        Dialect::Crate => match bytes {
+            [b' ' | b'\t' | b'\n' | b'\r', ..] => 1,
+            _ => 0,
+        },
+        Dialect::Cargo => 0,
+        Dialect::Npm => match bytes {
+            [9..=13 | 32, ..] => 1,
+            [0xC2, 0xA0, ..] => 2,
+            [0xE1, 0x9A, 0x80, ..]
+            | [0xE2, 0x80, 0x80..=0x8A | 0xA8 | 0xA9 | 0xAF, ..]
+            | [0xE2, 0x81, 0x9F, ..]
+            | [0xE3, 0x80, 0x80, ..]
+            | [0xEF, 0xBB, 0xBF, ..] => 3,
+            _ => 0,
+        },
+    }
+}
+
+/// What follows the characters at the front that may be before and after a version.
+#[inline(never)]
+fn behind_around(bytes: &[u8], dialect: Dialect) -> &[u8]
+    ensures { (spaces : Text) × AreAround dialect spaces × (bytes.now ≡ spaces ++ result.now)
+        × (around_size dialect result.now ≡ 0) }
+{
+    let mut rest = bytes;
+    loop {
+        let len = around_len(rest, dialect);
+        if len == 0 {
+            return rest;
+        }
+        rest = &rest[len..];
+    }
+}
+
+/// What follows all that is taken before the numbers, by npm one `v` too.
+#[inline(never)]
+fn behind_front(bytes: &[u8], dialect: Dialect) -> &[u8]
+    ensures { IsBefore dialect bytes.now result.now }
+{
+    let rest = behind_around(bytes, dialect);
+    match dialect {
+        Dialect::Crate | Dialect::Cargo => rest,
+        Dialect::Npm => match behind_mark(rest, b'v') {
+            Some(behind) => behind,
+            None => rest,
+        },
+    }
+}
+
+/// What follows all that is taken before the numbers. For speed, a digit at the front is seen
+/// first: nothing is before it.
+#[inline(always)]
+fn at_numbers(bytes: &[u8], dialect: Dialect) -> &[u8]
+    ensures { IsBefore dialect bytes.now result.now }
+{
+    if begins_with_digit(bytes) {
+        return bytes;
+    }
+    behind_front(bytes, dialect)
+}
+
+/// Whether the bytes may be after a version.
+#[inline(always)]
+fn may_end(bytes: &[u8], dialect: Dialect) -> bool
+    ensures yes { result ≡ true → AreAround dialect bytes.now }
+    ensures no { result ≡ false → ¬ (AreAround dialect bytes.now) }
+{
+    bytes.is_empty() || behind_around(bytes, dialect).is_empty()
+}
+
+/// Whether the numbers of a version are within the limit, which npm alone has.
+#[inline(always)]
+fn fit(major: u64, minor: u64, patch: u64, dialect: Dialect) -> bool
+    ensures yes { result ≡ true → NumbersFit dialect major minor patch }
+    ensures no { result ≡ false → ¬ (NumbersFit dialect major minor patch) }
+{
+    if major | minor | patch <= GREATEST {
+        return true;
+    }
+    match dialect {
+        Dialect::Crate | Dialect::Cargo => true,
+        Dialect::Npm => false,
+    }
+}
+
+/// Whether so many characters and those of these bytes are within the limit, which npm alone has.
+#[inline(always)]
+fn is_short(before: usize, bytes: &[u8], dialect: Dialect) -> bool
+    requires { before + length bytes.now < 2 ^ 64 }
+    ensures yes { result ≡ true → IsShort dialect (before + characters bytes.now) }
+    ensures no { result ≡ false → ¬ (IsShort dialect (before + characters bytes.now)) }
+{
+    if before + bytes.len() <= CHARACTERS {
+        return true;
+    }
+    match dialect {
+        Dialect::Crate | Dialect::Cargo => true,
+        Dialect::Npm => before + count_characters(bytes) <= CHARACTERS,
+    }
+}
+
+/// How many characters the bytes are in UTF-8.
+#[inline(never)]
+fn count_characters(bytes: &[u8]) -> usize
+    ensures count { result ≡ characters bytes.now }
+    ensures within { result ≤ length bytes.now }
+{
+    let mut count = 0;
+    for at in 0..bytes.len() {
+        if !matches!(bytes[at], 0x80..=0xBF) {
+            count += 1;
+        }
+    }
+    count
+}
+
+/// Whether the identifiers of a pre-release may begin with zeros so.
+#[inline(always)]
+fn zeros_fit(pre: &[u8], dialect: Dialect) -> bool
+    ensures yes { result ≡ true → ZerosFit dialect (cut_at_dots pre.now) }
+    ensures no { result ≡ false → ¬ (ZerosFit dialect (cut_at_dots pre.now)) }
+{
+    match dialect {
+        Dialect::Crate => true,
+        Dialect::Cargo | Dialect::Npm => have_no_leading_zeros(pre),
+    }
+}
+
+/// The identifiers of the pre-release and those of the build that the bytes are, each with its
+/// mark, and what may be after a version; nothing where there are none. For speed, it is compiled
+/// for either kind of hyphens.
+#[inline(never)]
+fn parts(bytes: &[u8], dialect: Dialect) -> Option<(&[u8], &[u8])>
+    ensures { MatchOption result ((pre build : Text) → ¬ (AreParts dialect bytes.now pre build))
+        (λ r. AreParts dialect bytes.now r.0.now r.1.now) }
+{
+    match dialect {
+        Dialect::Crate => parts_with(bytes, Hyphens::BetweenRuns, dialect),
+        Dialect::Cargo | Dialect::Npm => parts_with(bytes, Hyphens::Any, dialect),
+    }
+}
+
+/// The parts of a version, whose identifiers may have such hyphens.
+#[inline(always)]
+fn parts_with(bytes: &[u8], hyphens: Hyphens, dialect: Dialect) -> Option<(&[u8], &[u8])>
+    requires { hyphens ≡ hyphens_of dialect }
+    ensures { MatchOption result ((pre build : Text) → ¬ (AreParts dialect bytes.now pre build))
+        (λ r. AreParts dialect bytes.now r.0.now r.1.now) }
+{
+    let (pre, rest) = marked_part(bytes, b'-', hyphens)?;
+    let (build, rest) = marked_part(rest, b'+', hyphens)?;
+    if may_end(rest, dialect) && zeros_fit(pre, dialect) {
+        Some((pre, build))
+    } else {
+        None
+    }
+}
+
+/// The outline of the version whose numbers are known, how many bytes there are up to their end,
+/// and what follows them, if the text spells one. For speed, numbers alone are seen first.
+#[inline(always)]
+fn behind_numbers(
+    major: u64,
+    minor: u64,
+    patch: u64,
+    numbers_end: usize,
+    rest: &[u8],
+    dialect: Dialect,
+) -> Option<Outline<'_>>
+    requires { numbers_end + length rest.now < 2 ^ 64 }
+    ensures { (text : Text) (before : ℕ) → BeginsWithNumbers text major minor patch rest.now
+        → numbers_end + length rest.now ≡ before + length text
+        → IsOutlinedAt dialect before text result }
+{
+    if !fit(major, minor, patch, dialect) {
+        return None;
+    }
+    if rest.is_empty() {
+        return Some(with_parts(major, minor, patch, numbers_end, &[], &[]));
+    }
+    let (pre, build) = parts(rest, dialect)?;
+    Some(with_parts(major, minor, patch, numbers_end, pre, build))
+}
+
+/// The outline of the version that the bytes spell, if they spell one.
+#[inline(always)]
+pub(crate) fn outline(input: &[u8], dialect: Dialect) -> Option<Outline<'_>>
+    ensures { IsOutlinedBy dialect input.now result }
+{
+    if !is_short(0, input, dialect) {
+        return None;
+    }
+    let (major, minor, patch, rest) = numbers(at_numbers(input, dialect))?;
+    behind_numbers(major, minor, patch, input.len() - rest.len(), rest, dialect)
+}
+
+/// The outline of the version that a text spells, if it spells one, and if the text begins with
+/// these numbers, of so many bytes, and the rest follows them.
+#[inline(always)]
+pub(crate) fn outline_of_numbers(
+    major: u64,
+    minor: u64,
+    patch: u64,
+    numbers_end: usize,
+    rest: &[u8],
+    dialect: Dialect,
+) -> Option<Outline<'_>>
+    requires { numbers_end + length rest.now < 2 ^ 64 }
+    ensures { (text : Text) → BeginsWithNumbers text major minor patch rest.now
+        → length text ≡ numbers_end + length rest.now → IsOutlinedBy dialect text result }
+{
+    if !is_short(numbers_end, rest, dialect) {
+        return None;
+    }
+    behind_numbers(major, minor, patch, numbers_end, rest, dialect)
+}
