@@ -3,7 +3,8 @@
 It makes COUNT random pairs of range texts. The numbers and identifiers in them are so few that a grid of versions has each place at which an answer can
 change. Each version of the grid is asked for by itself, of each term, by `meets_term` of tools/range_meaning.py. So the grid tells what each set has, and from that
 follows each answer: the least version that the first set has alone, the second alone, and both; within, overlaps and same; and of eight versions of
-the grid what they are in. Any difference is printed, and ends it.
+the grid what they are in. And of each pair what the first set has alone, the second alone, and both is asked for as ranges: by precedence they have to be met
+by just these versions of the grid. Any difference is printed, and ends it.
 """
 
 import random
@@ -13,7 +14,7 @@ from itertools import product
 from pathlib import Path
 
 sys.path.insert(0, str(Path(__file__).resolve().parents[1] / "tools"))
-from range_meaning import RULES, meets_term, precedence, ranges, shown
+from range_meaning import RULES, meets_term, precedence, ranges, shown, version
 
 NUMBERS = (0, 1, 2)
 PRE_RELEASES = ((0,), (1,), ("a",), ("a", 0), ("a", "b"), ("b",))
@@ -31,6 +32,7 @@ def mask(holds):
 
 
 RELEASES = mask(lambda it: not it[1])
+PRE_RELEASES_OF_GRID = mask(lambda it: it[1])
 TERMS, STATED = {}, {}
 
 
@@ -69,6 +71,32 @@ def wanted(first, second, asked):
     told = (("within", not lost), ("overlaps", bool(shared)), ("same", first == second))
     answer = f"lost {least(lost)}, gained {least(gained)}, shared {least(shared)}, " + ", ".join(f"{word} {str(so).lower()}" for word, so in told)
     return answer + "".join(f"; {shown(GRID[at])}:" + "".join(f" {word}" for word, bits in sets if bits >> at & 1) for at in asked)
+
+
+# ---- ranges that are answered
+
+
+def meets(it, comparator):
+    """Whether a version meets a comparator by precedence."""
+    sign = comparator[: len(comparator) - len(comparator.lstrip("<>="))]
+    at, bound = precedence(it), precedence(version(comparator[len(sign) :]))
+    return {"=": at == bound, "<": at < bound, ">=": at >= bound}[sign]
+
+
+def of_ranges(text, of_kind):
+    """The versions of a kind, as bits of the grid, that meet ranges."""
+    if text == "*":
+        return of_kind
+    return of_kind & mask(lambda it: any(all(meets(it, part) for part in one.split(" ")) for one in text.split(" || ")))
+
+
+def differs(first, second, answer):
+    """Whether ranges of what is lost, gained and shared are met by other versions of the grid than these."""
+    for part, bits in zip(answer.removeprefix("-: ").split("; "), (first & ~second, second & ~first, first & second)):
+        releases, pre_releases = part.split(" ", 1)[1].split(", pre-releases ")
+        if of_ranges(releases, RELEASES) | of_ranges(pre_releases, PRE_RELEASES_OF_GRID) != bits:
+            return True
+    return False
 
 
 # ---- random texts
@@ -110,7 +138,7 @@ def another(of, text):
 
 def main(program, count, seed):
     of = random.Random(seed)
-    lines, answers, met = [], [], {"lost": 0, "gained": 0, "shared": 0, "same": 0}
+    lines, answers, sets, met = [], [], [], {"lost": 0, "gained": 0, "shared": 0, "same": 0}
     for _ in range(count):
         text = one_text(of)
         other, rule, mode = another(of, text), of.choice(RULES), of.choice(("cargo", "npm"))
@@ -118,14 +146,19 @@ def main(program, count, seed):
         asked = [of.randrange(len(GRID)) for _ in range(ASKED)]
         lines.append(f"-\tpair-{rule}-{mode}\t{text}\t{other};{' '.join(shown(GRID[at]) for at in asked)}")
         answers.append(f"-: {wanted(first, second, asked)}")
+        sets.append((first, second, f"-\twhole-pair-{rule}-{mode}\t{text}\t{other}"))
         for word, so in (("lost", first & ~second), ("gained", second & ~first), ("shared", first & second), ("same", first == second)):
             met[word] += bool(so)
-    ran = subprocess.run([program], input="".join(f"{line}\n" for line in lines), capture_output=True, text=True, check=True)
+    asked = "".join(f"{line}\n" for line in (*lines, *(line for _, _, line in sets)))
+    ran = subprocess.run([program], input=asked, capture_output=True, text=True, check=True)
     answered = ran.stdout.split("\n")
-    assert len(answered) == count + 1
+    assert len(answered) == 2 * count + 1
     for line, answer, said in zip(lines, answers, answered):
         if answer != said:
             sys.exit(f"differ: {line}\n  the grid {answer}\n  answered {said}")
+    for (first, second, line), said in zip(sets, answered[count:]):
+        if differs(first, second, said):
+            sys.exit(f"differ: {line}\n  answered {said}")
     told = ", ".join(f"{word} {times}" for word, times in met.items())
     print(f"{count} pairs of texts, seed {seed}, on {len(GRID)} versions, {len(TERMS)} terms: no difference; there was {told}")
 

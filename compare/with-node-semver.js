@@ -182,5 +182,5 @@ function compare (program, cases, { call, options }, seed) {
   for (const [departure, times] of occurred) console.log(`  ${times} times beside: ${departure}`)
 }
 
-module.exports = { Random, range, answers }
+module.exports = { Random, range, version, answers }
 if (require.main === module) main(process.argv.slice(2))

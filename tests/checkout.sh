@@ -89,9 +89,11 @@ npm: =1.2.3' stdout
     ends 0 env -i "$1/release-filter" --help
     ends 1 env -i "$1/release-filter" '^1' < /dev/null
     ends 1 env -i "$1/compare-ranges" '^1.2.0' '>=1.4.0'
-    has 'lost: 1.2.0
-gained: 2.0.0
-shared: 1.4.0' stdout
+    has 'lost: >=1.2.0 <1.4.0
+gained: >=2.0.0
+shared: >=1.4.0 <2.0.0' stdout
+    ends 0 env -i "$1/compare-ranges" '^1.2'
+    has 'means: >=1.2.0 <2.0.0' stdout
     ends 0 env -i "$1/compare-ranges" '^1.2' '>=1.2.0, <2.0.0'
     ends 0 env -i "$1/compare-ranges" --npm '^1.2' '>=1.2.0 <2.0.0'
 }

@@ -177,3 +177,49 @@ def places(*texts):
 def least(found, holds):
     """The least of some versions for which this holds."""
     return next((it for it in found if holds(it)), None)
+
+
+# ---- whole answers
+
+
+def right_behind(it):
+    """The next version of the same kind by precedence, if there is one."""
+    numbers, pre = it
+    if pre:
+        return numbers, pre + (0,)
+    above = raised(numbers)
+    return above and (above, ())
+
+
+def intervals(found, holds):
+    """The intervals of the versions of one kind for which this holds: each from a version on and below another, or without an end (`None`).
+
+    `found` are the places of this kind, in order, at which the answer can change. It is the same from one up to the next.
+    """
+    answer, inside = [], False
+    for it in found:
+        if holds(it) != inside:
+            inside = not inside
+            if inside:
+                answer.append([it, None])
+            else:
+                answer[-1][1] = it
+    return [tuple(interval) for interval in answer]
+
+
+def interval_text(interval, lowest):
+    begin, end = interval
+    if end == right_behind(begin):
+        return f"={shown(begin)}"
+    bounds = [f">={shown(begin)}"] if begin != lowest else []
+    return " ".join(bounds + ([f"<{shown(end)}"] if end else [])) or "*"
+
+
+def whole(found, holds):
+    """Two range texts: of the releases, and of the pre-releases for which this holds."""
+    texts = []
+    for pre in ((), (0,)):
+        of_kind = [it for it in found if bool(it[1]) == bool(pre)]
+        shown_ones = [interval_text(interval, ((0, 0, 0), pre)) for interval in intervals(of_kind, holds)]
+        texts.append(" || ".join(shown_ones) or "<0.0.0-0")
+    return texts

@@ -1,94 +1,96 @@
 //! The program `compare-ranges`: arguments, standard output, and exit status, nothing else. What it
-//! tells of two ranges is `VersionSet::compare` and `==` of the library, on the sets that
-//! `meaning::read` answers.
+//! says of ranges are the calls of `VersionSet`, on the sets that `meaning::read` returns.
 #![tactic(auto)]
 
 mod arguments;
+mod lines;
 
 use arguments::{Refusal, Request, Wanted};
 use reading_options::OptionError;
 use refused_ranges::told;
 use semver_parser::RangeError;
-use semver_parser::version::Version;
 use semver_parser::writing::write_whole;
-use std::alloc::AllocError;
-use std::fmt::Write as _;
 use std::io::{self, ErrorKind, Write};
 use std::process::ExitCode;
 use tool_ranges::meaning;
-use version_sets::{Comparison, VersionSet};
+use version_sets::VersionSet;
 
 /// How the program is called.
 const USAGE: &str = "\
 usage: compare-ranges [--as READING | --npm]
-                      [--releases | --pre | --pre-stated] OLD NEW";
+                      [--releases | --pre | --pre-stated] [--least] OLD NEW
+       compare-ranges [OPTION].. RANGE";
 
 /// What the program does.
 const HELP: &str = "
-Tells what is lost and what is gained where the range NEW takes the place of
-the range OLD, and what both share, each by the least version by precedence.
-Of these lines one is written for each that there is:
+Prints which versions are lost and gained if the range NEW takes the place of
+the range OLD, and which both share; of one RANGE, which versions it means.
+A line is printed for each of these that has a version:
 
-    lost: VERSION    the least version that OLD means and NEW doesn't
-    gained: VERSION  the least version that NEW means and OLD doesn't
-    shared: VERSION  the least version that both mean
+    lost: RANGES     releases that OLD means and NEW doesn't
+    gained: RANGES   releases that NEW means and OLD doesn't
+    shared: RANGES   releases that both mean
+    means: RANGES    releases that RANGE means
 
-    --as READING     whose reading of both is taken:
-                       cargo        Cargo's own; so it is without --as
-                       npm          npm's own
-                       crate-cargo  the crate semver-parser's, in Cargo mode
-                       crate-npm    the crate semver-parser's, in npm mode
+The pre-releases are on the next line: 'lost pre-releases: RANGES'. RANGES is a
+range text in npm's syntax, as '=1.2.0 || >=1.9.0 <2.0.0', or '*' for all.
+
+    --least          print the least version of each instead: 'lost: 1.2.0'
+    --as READING     read the ranges as:
+                       cargo        Cargo does; the default
+                       npm          npm does
+                       crate-cargo  the crate semver-parser does in Cargo mode
+                       crate-npm    the crate semver-parser does in npm mode
     --npm            the same as --as npm
-    --releases       count releases alone
-    --pre            count each pre-release within the bounds of a range, too; in
-                     '*' is every version
+    --releases       count releases only
+    --pre            count each pre-release within the bounds of a range, too;
+                     '*' is every version then
     --pre-stated     count pre-releases that a range means, and of which a term
                      of the same range states the three numbers and a
                      pre-release
     --               end the options
-    -h, --help       write this, and compare nothing
-    --version        write the version of this program, and compare nothing
+    -h, --help       print this help
+    --version        print the version of this program
 
 Without --pre, a range means the pre-releases that the tool takes as cargo and
 npm read it, and none as crate-cargo and crate-npm do; --pre-stated belongs to
-these two. The status is 0 where both ranges
-mean the same versions, 1 where they differ, and 2 after a fault, which
-standard error tells.";
+these two. The status is 0 if both ranges mean the same versions, 1 if they
+differ, 0 for one range, and 2 after an error.";
 
 /// The version of this program, as the file VERSION has it.
 const VERSION: &str = "compare-ranges 0.4.1";
 
-/// Why a run ended by a fault.
+/// Why a run ended by an error.
 #[derive(Drop)]
 enum Fault<'a> {
     /// This range text was refused.
     Range(RangeError, &'a str),
-    /// Memory ran out behind the ranges.
+    /// An allocation failed after the ranges were read.
     OutOfMemory,
 }
 
-/// What there is to tell of two ranges.
+/// What there is to write.
 #[derive(Drop)]
 struct Answer {
     /// The lines.
     lines: String,
-    /// Whether both mean the same versions.
-    is_same: bool,
+    /// Whether two ranges mean other versions.
+    differs: bool,
 }
 
 fn main(rt: HostRuntime) -> ExitCode {
     match arguments::requested(&rt) {
-        Ok(Request::Compare(wanted)) => run(&rt, &wanted),
+        Ok(Request::Read(wanted)) => run(&rt, &wanted),
         Ok(Request::Help) => write_text(&rt, &[USAGE, HELP]),
         Ok(Request::Version) => write_text(&rt, &[VERSION]),
         Err(refusal) => refused(&rt, &refusal),
     }
 }
 
-/// Compares, and tells the answer or a fault. All is known before anything is written. A reader of
-/// the output that wants no more is no fault.
+/// Writes what is wanted, or an error. All is known before anything is written. It is no error if
+/// the reader of the output wants no more.
 fn run(rt: &HostRuntime, wanted: &Wanted) -> ExitCode {
-    let answer = match compared(rt, wanted) {
+    let answer = match answered(rt, wanted) {
         Ok(answer) => answer,
         Err(fault) => return tell(rt, &fault, wanted),
     };
@@ -98,23 +100,28 @@ fn run(rt: &HostRuntime, wanted: &Wanted) -> ExitCode {
             let _ = eprintln!(rt; "compare-ranges: cannot write output: {error}");
             ExitCode::from(2)
         }
-        _ if answer.is_same => ExitCode::SUCCESS,
-        _ => ExitCode::from(1),
+        _ if answer.differs => ExitCode::from(1),
+        _ => ExitCode::SUCCESS,
     }
 }
 
-/// What there is to tell of the ranges.
-fn compared<'a>(rt: &HostRuntime, wanted: &'a Wanted) -> Result<Answer, Fault<'a>> {
-    let old = read(rt, wanted, wanted.old.as_str())?;
-    let new = read(rt, wanted, wanted.new.as_str())?;
-    let lines = match old.compare(rt.alloc(), &new) {
-        Ok(comparison) => lines(rt, &comparison),
-        Err(error) => Err(error),
+/// What there is to write of the ranges.
+fn answered<'a>(rt: &HostRuntime, wanted: &'a Wanted) -> Result<Answer, Fault<'a>> {
+    let range = read(rt, wanted, wanted.range.as_str())?;
+    let Some(new) = &wanted.new else {
+        return match lines::of_one(rt.alloc(), &range, wanted.extent) {
+            Ok(lines) => Ok(Answer {
+                lines,
+                differs: false,
+            }),
+            Err(_) => Err(Fault::OutOfMemory),
+        };
     };
-    match lines {
+    let new = read(rt, wanted, new.as_str())?;
+    match lines::of_two(rt.alloc(), &range, &new, wanted.extent) {
         Ok(lines) => Ok(Answer {
             lines,
-            is_same: old == new,
+            differs: range != new,
         }),
         Err(_) => Err(Fault::OutOfMemory),
     }
@@ -124,23 +131,6 @@ fn compared<'a>(rt: &HostRuntime, wanted: &'a Wanted) -> Result<Answer, Fault<'a
 fn read<'a>(rt: &HostRuntime, wanted: &Wanted, range: &'a str) -> Result<VersionSet, Fault<'a>> {
     let versions = meaning::read(rt.alloc(), wanted.meaning, range);
     versions.map_err(|error| Fault::Range(error, range))
-}
-
-/// A line for each version of a comparison.
-fn lines(rt: &HostRuntime, comparison: &Comparison) -> Result<String, AllocError> {
-    let mut lines = String::new(rt.alloc());
-    append(&mut lines, "lost", &comparison.lost)?;
-    append(&mut lines, "gained", &comparison.gained)?;
-    append(&mut lines, "shared", &comparison.shared)?;
-    Ok(lines)
-}
-
-/// Appends a line with a version, if there is one.
-fn append(lines: &mut String, word: &str, version: &Option<Version>) -> Result<(), AllocError> {
-    if let Some(version) = version {
-        write!(lines, "{word}: {version}\n")?;
-    }
-    Ok(())
 }
 
 /// Says on standard error what the fault is, of a range text with the text and the place, and gives
@@ -185,7 +175,7 @@ fn refused(rt: &impl Eprint, refusal: &Refusal) -> ExitCode {
         Refusal::Options(error) => {
             eprintln!(rt; "compare-ranges: {error}; see compare-ranges --help")
         }
-        Refusal::FewRanges => misused(rt, "fewer than two ranges"),
+        Refusal::NoRange => misused(rt, "no range"),
         Refusal::ManyRanges => misused(rt, "more than two ranges"),
     };
     ExitCode::from(2)

@@ -220,7 +220,7 @@ fn of_lines(alloc: Global) -> [(&'static str, Ending); 7] {
 }
 
 /// How each call on sets of versions ends, beside the texts of these two.
-fn of_sets(alloc: Global, first: &VersionSet, second: &VersionSet) -> [(&'static str, Ending); 8] {
+fn of_sets(alloc: Global, first: &VersionSet, second: &VersionSet) -> [(&'static str, Ending); 10] {
     [
         ("refused_set_texts", sets::of_refused_texts(alloc)),
         ("set_of_comparators", sets::of_set(alloc)),
@@ -229,6 +229,8 @@ fn of_sets(alloc: Global, first: &VersionSet, second: &VersionSet) -> [(&'static
         ("difference", sets::difference(alloc, first, second)),
         ("least", sets::least(alloc, first)),
         ("compared", sets::compared(alloc, first, second)),
+        ("release_ranges", sets::release_ranges(alloc, first)),
+        ("pre_release_ranges", sets::pre_release_ranges(alloc, first)),
         (
             "sets_without_requests",
             sets::without_requests(alloc, first, second),

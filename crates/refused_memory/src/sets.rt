@@ -2,10 +2,10 @@
 
 use super::Ending;
 use semver_parser::{Compat, RangeError, RangeSet, version};
-use std::alloc::Global;
+use std::alloc::{AllocError, Global};
 use tool_ranges::meaning::{self, Meaning};
 use tool_ranges::{cargo, npm};
-use version_sets::{PreReleases, VersionSet};
+use version_sets::{PreReleases, SetRanges, VersionSet};
 
 /// The sets of `>=1.2.0-b.c` as stated and of `<2.0.0` with all pre-releases, which the calls below
 /// are given.
@@ -189,8 +189,24 @@ pub fn compared(alloc: Global, first: &VersionSet, second: &VersionSet) -> Endin
     Ending::full_if(is_lost && is_gained && is_shared)
 }
 
+/// The releases of the first set are `>=1.2.0`.
+pub fn release_ranges(alloc: Global, first: &VersionSet) -> Ending {
+    match first.release_ranges(alloc) {
+        Ok(ranges) => Ending::full_if(has_bounds(&ranges, 1)),
+        Err(_) => Ending::Refused,
+    }
+}
+
+/// The pre-releases of the first set are `>=1.2.0-b.c <1.2.1-0`.
+pub fn pre_release_ranges(alloc: Global, first: &VersionSet) -> Ending {
+    match first.pre_release_ranges(alloc) {
+        Ok(ranges) => Ending::full_if(has_bounds(&ranges, 2)),
+        Err(_) => Ending::Refused,
+    }
+}
+
 /// What is asked of sets without a request: also the least version where there is none, a
-/// combination that has no version, and a comparison of sets that have none.
+/// combination that has no version, a comparison of sets that have none, and their ranges.
 pub fn without_requests(alloc: Global, first: &VersionSet, second: &VersionSet) -> Ending {
     let empty = VersionSet::empty(alloc);
     let is_told = empty.is_empty()
@@ -210,7 +226,27 @@ pub fn without_requests(alloc: Global, first: &VersionSet, second: &VersionSet) 
         Ok(answer) => answer.shared.is_none(),
         Err(_) => false,
     };
-    Ending::full_if(is_told && has_both && has_one && is_least && nothing && is_compared)
+    let is_shown = has_no_range(empty.release_ranges(alloc))
+        && has_no_range(empty.pre_release_ranges(alloc));
+    Ending::full_if(
+        is_told && has_both && has_one && is_least && nothing && is_compared && is_shown,
+    )
+}
+
+/// Whether there is one range, with so many comparators.
+fn has_bounds(ranges: &SetRanges, count: usize) -> bool {
+    match ranges.range_set.ranges.as_slice() {
+        [range] => range.comparator_set.len() == count,
+        _ => false,
+    }
+}
+
+/// Whether the call returned, with no range.
+fn has_no_range(ranges: Result<SetRanges, AllocError>) -> bool {
+    match ranges {
+        Ok(ranges) => ranges.range_set.ranges.is_empty(),
+        Err(_) => false,
+    }
 }
 
 /// Whether a version without identifiers, which is read without a request, is in a set.

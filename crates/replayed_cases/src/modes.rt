@@ -68,6 +68,8 @@ fn write_by_rule<W: Write>(
         "" => filtering::write_passed(alloc, text, mode, rule, steps, out),
         "set" => sets::write_set(alloc, (rule, mode), text, steps, out),
         "pair" => sets::write_pair(alloc, (rule, mode), text, steps, out),
+        "whole" => sets::write_whole(alloc, (rule, mode), text, out),
+        "whole-pair" => sets::write_whole_pair(alloc, (rule, mode), text, steps, out),
         _ => write!(out, "no such call"),
     }
 }

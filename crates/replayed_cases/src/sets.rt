@@ -73,6 +73,52 @@ pub fn write_pair<W: Write>(
     Ok(())
 }
 
+/// Writes the releases and the pre-releases that a text means as ranges, or the error of the text.
+pub fn write_whole<W: Write>(
+    alloc: Global,
+    reading: Reading,
+    text: &str,
+    out: &mut W,
+) -> io::Result<()> {
+    match set_of(alloc, reading, text) {
+        Ok(set) => write_ranges(alloc, &set, out),
+        Err(error) => write!(out, "{error}"),
+    }
+}
+
+/// Writes what the second of two texts loses, gains and keeps of the first as ranges, or the error
+/// of a text.
+pub fn write_whole_pair<W: Write>(
+    alloc: Global,
+    reading: Reading,
+    text: &str,
+    other: &str,
+    out: &mut W,
+) -> io::Result<()> {
+    let first = match set_of(alloc, reading, text) {
+        Ok(set) => set,
+        Err(error) => return write!(out, "{error}"),
+    };
+    let second = match set_of(alloc, reading, other) {
+        Ok(set) => set,
+        Err(error) => return write!(out, "{error}"),
+    };
+    let parts = Parts::of(alloc, &first, &second)?;
+    write!(out, "lost ")?;
+    write_ranges(alloc, &parts.lost, out)?;
+    write!(out, "; gained ")?;
+    write_ranges(alloc, &parts.gained, out)?;
+    write!(out, "; shared ")?;
+    write_ranges(alloc, &parts.shared, out)
+}
+
+/// Writes the releases and the pre-releases of a set as ranges.
+fn write_ranges<W: Write>(alloc: Global, set: &VersionSet, out: &mut W) -> io::Result<()> {
+    let releases = set.release_ranges(alloc)?;
+    let pre_releases = set.pre_release_ranges(alloc)?;
+    write!(out, "{releases}, pre-releases {pre_releases}")
+}
+
 /// What two sets have alone and together.
 #[derive(Drop)]
 struct Parts {

@@ -32,18 +32,18 @@ regroup Equal Equal c d = refl
 regroup Equal Greater c d = refl
 regroup Greater b c d = refl
 
-by_numbers : (v w : PlainVersion) → precedence v w ≡ ordering_then (numbers_cmp v w) (pre_cmp v.pre w.pre)
+pub by_numbers : (v w : PlainVersion) → precedence v w ≡ ordering_then (numbers_cmp v w) (pre_cmp v.pre w.pre)
 by_numbers v w = regroup (nat_cmp v.major w.major) (nat_cmp v.minor w.minor) (nat_cmp v.patch w.patch) (pre_cmp v.pre w.pre)
 
 -- a test of the pre-releases that answers as another does, behind any numbers
-then_alike : (f g : Ordering → Bool) (o r s : Ordering) → f Less ≡ g Less → f Greater ≡ g Greater → f r ≡ g s
+pub then_alike : (f g : Ordering → Bool) (o r s : Ordering) → f Less ≡ g Less → f Greater ≡ g Greater → f r ≡ g s
     → f (ordering_then o r) ≡ g (ordering_then o s)
 then_alike f g Less r s l m e = l
 then_alike f g Equal r s l m e = e
 then_alike f g Greater r s l m e = m
 
 -- the number 0 is the least list of identifiers
-zero_least : (x : IdentifierValue) (xs : List IdentifierValue) → is_ge (slice_cmp identifier_cmp (x ∷ xs) (numeric 0 ∷ [])) ≡ true
+pub zero_least : (x : IdentifierValue) (xs : List IdentifierValue) → is_ge (slice_cmp identifier_cmp (x ∷ xs) (numeric 0 ∷ [])) ≡ true
 zero_least (numeric zero) [] = refl
 zero_least (numeric zero) (x ∷ xs) = refl
 zero_least (numeric (suc n)) xs =
@@ -68,11 +68,11 @@ numbers_decide f g Equal r l m e = e
 numbers_decide f g Greater r l m e = m
 
 -- the tests of precedence by what they answer where the numbers are equal
-against : (f g : Ordering → Bool) (v w : PlainVersion) → f Less ≡ g Less → f Greater ≡ g Greater → f Equal ≡ g (pre_cmp v.pre w.pre)
+pub against : (f g : Ordering → Bool) (v w : PlainVersion) → f Less ≡ g Less → f Greater ≡ g Greater → f Equal ≡ g (pre_cmp v.pre w.pre)
     → f (numbers_cmp v w) ≡ g (precedence v w)
 against f g v w l m e = numbers_decide f g (numbers_cmp v w) _ l m e ∙ sym (ap g (by_numbers v w))
 
-release_reaches : (xs ws : List IdentifierValue) → is_empty xs ≡ true → is_ge Equal ≡ is_ge (pre_cmp xs ws)
+pub release_reaches : (xs ws : List IdentifierValue) → is_empty xs ≡ true → is_ge Equal ≡ is_ge (pre_cmp xs ws)
 release_reaches [] [] e = refl
 release_reaches [] (w ∷ ws) e = refl
 release_reaches (x ∷ xs) ws e = absurd (search rules)
@@ -87,7 +87,7 @@ below_release [] ws e f = absurd (search rules)
 below_release (x ∷ xs) [] e f = refl
 below_release (x ∷ xs) (w ∷ ws) e f = absurd (search rules)
 
-none_above : (xs ws : List IdentifierValue) → is_empty ws ≡ true → is_gt Equal ≡ is_gt (pre_cmp xs ws)
+pub none_above : (xs ws : List IdentifierValue) → is_empty ws ≡ true → is_gt Equal ≡ is_gt (pre_cmp xs ws)
 none_above [] [] f = refl
 none_above (x ∷ xs) [] f = refl
 none_above xs (w ∷ ws) f = absurd (search rules)
@@ -96,7 +96,7 @@ from_lowest : (xs : List IdentifierValue) → is_empty xs ≡ false → is_ge Eq
 from_lowest [] e = absurd (search rules)
 from_lowest (x ∷ xs) e = sym (zero_least x xs)
 
-right_behind : (xs ws : List IdentifierValue) → is_empty xs ≡ false → is_empty ws ≡ false
+pub right_behind : (xs ws : List IdentifierValue) → is_empty xs ≡ false → is_empty ws ≡ false
     → is_ge (pre_cmp xs (ws ++ numeric 0 ∷ [])) ≡ is_gt (pre_cmp xs ws)
 right_behind [] ws e f = absurd (search rules)
 right_behind (x ∷ xs) [] e f = absurd (search rules)
@@ -111,7 +111,7 @@ from (Some b) v = is_ge (precedence v b)
 abbrev pub begins : Option PlainVersion → Option PlainVersion → SetValue
 begins r p = record { releases = option_to_list r; pre_releases = option_to_list p }
 
-and_true : (b : Bool) → (b && true) ≡ b
+pub and_true : (b : Bool) → (b && true) ≡ b
 and_true true = refl
 and_true false = refl
 
@@ -213,7 +213,7 @@ is_eq_then Less s = refl
 is_eq_then Equal s = refl
 is_eq_then Greater s = refl
 
-at_and_not_above : (o : Ordering) → (is_ge o && not (is_gt o)) ≡ is_eq o
+pub at_and_not_above : (o : Ordering) → (is_ge o && not (is_gt o)) ≡ is_eq o
 at_and_not_above Less = refl
 at_and_not_above Equal = refl
 at_and_not_above Greater = refl

@@ -9,3 +9,7 @@ mod BoundLaws
 mod OutlinedPlaces
 mod SameSets
 mod FirstSwitches
+mod IntervalLaws
+mod KindLaws
+mod ReadBack
+mod SetRangeLaws

@@ -1,5 +1,5 @@
 -- Lists by their length and by their halves, and what is answered of one.
-use Rattle.std.proofs.Common.{◌≡◌, ◌==◌, ◌||◌, ℕ, Bool, List, [], ◌∷◌, map, length, refl, sym, ap, subst, arith, IfOk, Result, Ok, Err}
+use Rattle.std.proofs.Common.{◌≡◌, ◌==◌, ◌||◌, ℕ, Bool, List, [], ◌∷◌, map, length, refl, sym, ap, subst, arith, IfOk, IfErr, Result, Ok, Err}
 use Rattle.std.proofs.lemmas.Bool.Decides.{nat_tests}
 use Rattle.std.specs.List.{list_any}
 use Rattle.semver_parser.specs.Texts.{is_empty}
@@ -16,6 +16,11 @@ answered x P (Err e) _ p = tt
 pub answered_so : {T E : Type 0} {P : T → Type 0} (Q : T → Type 0) (r : Result T E) → IfOk r P → ((x : T) → P x → Q x) → IfOk r Q
 answered_so Q (Ok x) p f = f x p
 answered_so Q (Err e) _ f = tt
+
+-- what is so, is so where an error is returned
+pub on_err : {X E : Type 0} {P : Type 0} (r : Result X E) → P → IfErr r (λ _. P)
+on_err (Ok x) p = tt
+on_err (Err e) p = p
 
 pub list_any-map : {X Y : Type 0} (p : Y → Bool) (f : X → Y) (xs : List X) → list_any p (map f xs) ≡ list_any (λ x. p (f x)) xs
 list_any-map p f [] = refl

@@ -23,7 +23,7 @@ both_true : (p q : Bool) → (p && q) ≡ true → (p ≡ true) × (q ≡ true)
 both_true true q e = (refl, e)
 both_true false q e = absurd (true≢false (sym e))
 
-equal_is : (r : Ordering) → is_eq r ≡ true → r ≡ Equal
+pub equal_is : (r : Ordering) → is_eq r ≡ true → r ≡ Equal
 equal_is Less e = absurd (true≢false (sym e))
 equal_is Equal e = refl
 equal_is Greater e = absurd (true≢false (sym e))

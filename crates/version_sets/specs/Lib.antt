@@ -3,4 +3,5 @@ pub mod Releases
 pub mod VersionSets
 pub mod Comparisons
 pub mod PreReleaseRules
+pub mod SetRanges
 pub mod Steps

@@ -8,6 +8,7 @@ ghost use Rattle.semver_parser.specs.Versions.{PlainVersion};
 ghost use Rattle.version_sets.specs.VersionSets.{has, Fits};
 ghost use Rattle.version_sets.specs.Steps.Bounds.{lowest_place, numbers_cmp, reaches};
 ghost use Rattle.version_sets.specs.Releases.{release_value};
+ghost use Rattle.version_sets.specs.SetRanges.{next_release};
 ghost use Rattle.version_sets.specs.Steps.Places.{set_of, version_place};
 
 use crate::release::Release;
@@ -75,8 +76,9 @@ fn one_or_none<T: Drop>(alloc: Global, item: Option<T>) -> Result<Vec<T>, AllocE
 
 /// The numbers right behind these. There are none behind the last.
 pub(crate) fn next_numbers(numbers: Release) -> Option<Release>
-    ensures { (v : PlainVersion) → Fits v
+    ensures above { (v : PlainVersion) → Fits v
         → reaches result v ≡ is_gt (numbers_cmp v (release_value numbers)) }
+    ensures next { option_map release_value result ≡ next_release (release_value numbers) }
 {
     let (major, minor) = (numbers.major, numbers.minor);
     if let Some(patch) = numbers.patch.checked_add(1) {

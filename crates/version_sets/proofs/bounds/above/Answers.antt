@@ -23,4 +23,4 @@ returns-then-is_empty c =
     answered_so (λ set. (v : PlainVersion) → Fits v → has set v ≡ is_gt (precedence v w)) c.of_numbers_from.result c.of_numbers_from.ensures
     (λ set is v fits. is v
     ∙ passed_without c.numbers_of-numbers.result w c.numbers_of-numbers.ensures v c.next_numbers.result none
-    (c.next_numbers.ensures v fits))
+    (c.next_numbers.ensures.above v fits))

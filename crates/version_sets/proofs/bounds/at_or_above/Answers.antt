@@ -19,7 +19,7 @@ returns c =
     (elim c.if-is_empty.branch [
       | then-is_empty+in_ok-pre_release b ↦ λ v fits.
           reached_without m w c.numbers_of-numbers.ensures v c.if-is_empty.pre_release b.next_numbers.result
-          (sym none ∙ b.if-is_empty.true) (b.next_numbers.ensures v fits)
+          (sym none ∙ b.if-is_empty.true) (b.next_numbers.ensures.above v fits)
           (ap (option_map version_place) b.pre_release-is ∙ b.in_ok-pre_release.ensures)
       | else-is_empty+in_ok-version_of b ↦ λ v fits.
           reached_with m w c.numbers_of-numbers.ensures v c.if-is_empty.pre_release

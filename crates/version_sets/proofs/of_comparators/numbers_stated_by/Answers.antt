@@ -15,4 +15,4 @@ returns c =
     (λ set is v fits. is v
     ∙ ap₂ (λ a b. a && not b) (c.in_ok-from.ensures v) (c.in_ok-of_numbers_from.ensures v)
     ∙ stated_numbers c.numbers_of-numbers.result of.version c.numbers_of-numbers.ensures some v c.next_numbers.result
-    (c.next_numbers.ensures v fits))
+    (c.next_numbers.ensures.above v fits))

@@ -1,13 +1,10 @@
-use Rattle.std.proofs.Common.{rules, ◌≡◌, true, ap, ap₂, subst, sym, ◌∙◌, IfErr, Result, Ok, Err}
+use Rattle.std.proofs.Common.{rules, ◌≡◌, true, ap, ap₂, subst, sym, ◌∙◌}
 use Rattle.version_sets.specs.VersionSets.{SetValue, has, IsNormal}
 use Rattle.version_sets.specs.Steps.Places.{set_of}
 use Rattle.version_sets.specs.Steps.Combined.{keeps, pieces, keeps_some, combined_sets, KeepsSome}
+use Rattle.version_sets.proofs.Lists.{on_err}
 use Rattle.version_sets.proofs.SetLaws.{combined-normal, has-combined, some_release, some_pre_release}
 use Rattle.version_sets.proofs.version_set.VersionSet.combined.Goals as goal
-
-on_err : {X E : Type 0} {P : Type 0} (r : Result X E) → P → IfErr r (λ _. P)
-on_err (Ok x) p = tt
-on_err (Err e) p = p
 
 pub returns-in_err-releases-clause-out_of_memory : goal.returns-in_err-releases-clause-out_of_memory
 returns-in_err-releases-clause-out_of_memory c =

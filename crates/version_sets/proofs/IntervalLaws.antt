@@ -1,0 +1,80 @@
+-- The ranges of intervals are met by the versions that the switches turn on, of a kind with a next version right above each.
+use Rattle.std.proofs.Common.{◌≡◌, Bool, true, false, not, ◌&&◌, ◌||◌, cond, List, [], ◌∷◌, refl, sym, ap, ap₂, ◌∙◌}
+use Rattle.std.proofs.Common.{Ordering, Less, Equal, Greater, is_eq, is_ge, is_gt, is_lt}
+use Rattle.std.specs.Prelude.{Option, Some, None}
+use Rattle.std.specs.List.{AllByRecursion, list_any, list_all}
+use Rattle.semver_parser.specs.declared.Op.TheVariants.{Lt, Gte, Eq}
+use Rattle.semver_parser.specs.Versions.{PlainVersion}
+use Rattle.semver_parser.specs.Precedence.{precedence}
+use Rattle.semver_parser.specs.PrecedenceLaws.{precedence_total, precedence-same}
+use Rattle.semver_parser.specs.RewritingTable.{comparator}
+use Rattle.semver_parser.specs.Meeting.{meets_comparator, meets_range}
+use Rattle.version_sets.specs.Switches.{switched, IsIncreasing}
+use Rattle.version_sets.specs.SetRanges.{is_lowest, is_same_end, bounds, interval, intervals}
+use Rattle.version_sets.proofs.BoundLaws.{from, and_true, at_and_not_above}
+use Rattle.version_sets.proofs.SameSets.{equal_is}
+use Rattle.version_sets.proofs.SwitchLaws.{switched-below, below-first}
+use Rattle.version_sets.proofs.WalkLaws.{by_test}
+
+pub below_is : (o : Ordering) → is_lt o ≡ not (is_ge o)
+below_is Less = refl
+below_is Equal = refl
+below_is Greater = refl
+
+is_below : (o : Ordering) → is_ge o ≡ false → o ≡ Less
+is_below Less e = refl
+is_below Equal e = cc
+is_below Greater e = cc
+
+or_false : (b : Bool) → (b || false) ≡ b
+or_false true = refl
+or_false false = refl
+
+same_end : (x y : Option PlainVersion) → is_same_end x y ≡ true → x ≡ y
+same_end None None e = refl
+same_end None (Some w) e = cc
+same_end (Some v) None e = cc
+same_end (Some v) (Some w) e = ap Some (precedence-same v w (equal_is (precedence v w) e))
+
+-- from x on and below y, or s, where s is behind both
+turned : (x y s : Bool) → (x ≡ false → s ≡ false) → ((x && not y) || s) ≡ (x && not (y && not s))
+turned true true true h = refl
+turned true true false h = refl
+turned true false s h = refl
+turned false y s h = h refl
+
+-- a kind: the next version is right above, and none is below the lowest
+pub record IsKind (P : PlainVersion → Type 0) (next : PlainVersion → Option PlainVersion) : Type 0 where
+  pub above : (a v : PlainVersion) → P a → P v → from (next a) v ≡ is_gt (precedence v a)
+  pub lowest : (a v : PlainVersion) → P a → P v → is_lowest a ≡ true → is_ge (precedence v a) ≡ true
+
+module _ (P : PlainVersion → Type 0) (next : PlainVersion → Option PlainVersion) (k : IsKind P next) (v : PlainVersion) (pv : P v) where
+  bounds_meet : (a : PlainVersion) (to : Option PlainVersion) → P a
+      → list_all (meets_comparator v) (bounds a to) ≡ (is_ge (precedence v a) && not (from to v))
+  bounds_meet a None pa = refl
+  bounds_meet a (Some b) pa =
+      by_test (is_lowest a)
+      (λ e. ap (λ t. list_all (meets_comparator v) (cond t (comparator Lt b ∷ []) (comparator Gte a ∷ comparator Lt b ∷ []))) e
+      ∙ and_true (is_lt (precedence v b)) ∙ below_is (precedence v b)
+      ∙ sym (ap (λ g. g && not (is_ge (precedence v b))) (k.lowest a v pa pv e)))
+      (λ e. ap (λ t. list_all (meets_comparator v) (cond t (comparator Lt b ∷ []) (comparator Gte a ∷ comparator Lt b ∷ []))) e
+      ∙ ap (λ t. is_ge (precedence v a) && t) (and_true (is_lt (precedence v b)) ∙ below_is (precedence v b)))
+
+  interval_meets : (a : PlainVersion) (to : Option PlainVersion) → P a
+      → list_all (meets_comparator v) (interval next a to) ≡ (is_ge (precedence v a) && not (from to v))
+  interval_meets a to pa =
+      by_test (is_same_end to (next a))
+      (λ e. ap (λ t. list_all (meets_comparator v) (cond t (comparator Eq a ∷ []) (bounds a to))) e
+      ∙ and_true (is_eq (precedence v a)) ∙ sym (at_and_not_above (precedence v a))
+      ∙ ap (λ t. is_ge (precedence v a) && not t) (sym (k.above a v pa pv) ∙ ap (λ t. from t v) (sym (same_end to (next a) e))))
+      (λ e. ap (λ t. list_all (meets_comparator v) (cond t (comparator Eq a ∷ []) (bounds a to))) e ∙ bounds_meet a to pa)
+
+  pub intervals_meet : (xs : List PlainVersion) → IsIncreasing precedence xs → AllByRecursion P xs
+      → list_any (meets_range v) (intervals next xs) ≡ switched precedence xs v
+  intervals_meet [] s p = refl
+  intervals_meet (a ∷ []) s p = or_false _ ∙ interval_meets a None p.0
+  intervals_meet (a ∷ b ∷ xs) s p =
+      ap₂ (λ t u. t || u) (interval_meets a (Some b) p.0) (intervals_meet xs s.1.1 p.1.1)
+      ∙ turned (is_ge (precedence v a)) (is_ge (precedence v b)) (switched precedence xs v) (λ l.
+      let below = below-first precedence precedence_total v a (b ∷ xs) (is_below (precedence v a) l) s.0 in
+      switched-below precedence v xs (below-first precedence precedence_total v b xs below s.1.0))

@@ -1,0 +1,187 @@
+//! The intervals of a set's switches as ranges of comparators.
+
+ghost use Rattle.std.specs.Prelude.{◌≡◌, ◌<◌, length, map, option_map, Option};
+ghost use Rattle.std.specs.Prelude.{IfOk, IfErr};
+ghost use Rattle.semver_parser.specs.RangeViews.{comparator_of, identifier_of, range_of};
+ghost use Rattle.semver_parser.specs.RewritingTable.{comparator as plain_comparator};
+ghost use Rattle.semver_parser.specs.Versions.{PlainVersion};
+ghost use Rattle.semver_parser.specs.VersionViews.{identifier_value};
+ghost use Rattle.version_sets.specs.SetRanges.{interval, intervals, is_lowest, is_same_end};
+ghost use Rattle.version_sets.specs.SetRanges.{npm_range, bounds as plain_bounds};
+ghost use Rattle.version_sets.specs.SetRanges.{is_lowest_pre as lowest_pre};
+
+use crate::beginning::next_numbers;
+use crate::release::Release;
+use crate::switch::Switch;
+use semver_parser::version::{self, Version};
+use semver_parser::{Comparator, Compat, Identifier, Op, Range};
+use std::alloc::{AllocError, Global};
+
+/// A switch as a bound of an interval.
+pub(crate) trait Bound: Switch {
+    ghost next_place: { PlainVersion → Option PlainVersion };
+
+    /// Whether it is at the lowest version of its kind.
+    fn is_lowest(&self) -> bool
+        ensures { result ≡ is_lowest (Self.place self.now) };
+
+    /// The version of its kind right above it, if there is one. `Err` is out of memory.
+    fn next(&self, alloc: Global) -> Result<Option<Self>, AllocError>
+        ensures { IfOk result (λ above.
+            option_map Self.place above ≡ next_place (Self.place self.now)) };
+
+    /// The comparator of an operator and its version. `Err` is out of memory.
+    fn comparator(&self, alloc: Global, op: Op) -> Result<Comparator, AllocError>
+        ensures { IfOk result (λ made.
+            comparator_of made ≡ plain_comparator op (Self.place self.now)) };
+}
+
+impl Bound for Release {
+    ghost use Rattle.version_sets.specs.SetRanges.{next_release};
+
+    ghost next_place = { next_release };
+
+    fn is_lowest(&self) -> bool {
+        self.major == 0 && self.minor == 0 && self.patch == 0
+    }
+
+    /// It does not allocate.
+    fn next(&self, _alloc: Global) -> Result<Option<Release>, AllocError> {
+        Ok(next_numbers(*self))
+    }
+
+    /// It does not allocate.
+    fn comparator(&self, alloc: Global, op: Op) -> Result<Comparator, AllocError> {
+        Ok(Comparator {
+            op,
+            major: self.major,
+            minor: self.minor,
+            patch: self.patch,
+            pre: Vec::new(alloc),
+        })
+    }
+}
+
+impl Bound for Version {
+    ghost use Rattle.version_sets.specs.SetRanges.{next_pre_release};
+
+    ghost next_place = { next_pre_release };
+
+    fn is_lowest(&self) -> bool {
+        self.major == 0 && self.minor == 0 && self.patch == 0 && is_lowest_pre(&self.pre)
+    }
+
+    fn next(&self, alloc: Global) -> Result<Option<Version>, AllocError> {
+        let mut above = self.at_same_place(alloc)?;
+        above.pre.push(version::Identifier::Numeric(0))?;
+        Ok(Some(above))
+    }
+
+    fn comparator(&self, alloc: Global, op: Op) -> Result<Comparator, AllocError> {
+        Ok(Comparator {
+            op,
+            major: self.major,
+            minor: self.minor,
+            patch: self.patch,
+            pre: copied(alloc, &self.pre)?,
+        })
+    }
+}
+
+/// Whether there is no pre-release, or the lowest, `0`.
+fn is_lowest_pre(identifiers: &[version::Identifier]) -> bool
+    ensures { result ≡ lowest_pre (map identifier_value identifiers.now) }
+{
+    match identifiers {
+        [] => true,
+        [version::Identifier::Numeric(number)] => *number == 0,
+        _ => false,
+    }
+}
+
+/// Identifiers of a version, as those of a range.
+fn copied(alloc: Global, identifiers: &[version::Identifier]) -> Result<Vec<Identifier>, AllocError>
+    ensures { IfOk result (λ copies.
+        map identifier_of copies.items ≡ map identifier_value identifiers.now) }
+{
+    let mut copies = Vec::with_capacity(alloc, identifiers.len())?;
+    for identifier in identifiers {
+        copies.push(copy_of(identifier)?)?;
+    }
+    Ok(copies)
+}
+
+/// An identifier of a version, as one of a range.
+fn copy_of(identifier: &version::Identifier) -> Result<Identifier, AllocError>
+    ensures { IfOk result (λ copy. identifier_of copy ≡ identifier_value identifier.now) }
+{
+    match identifier {
+        version::Identifier::Numeric(number) => Ok(Identifier::Numeric(*number)),
+        version::Identifier::AlphaNumeric(text) => Ok(Identifier::AlphaNumeric(text.clone()?)),
+    }
+}
+
+/// The ranges of increasing switches in npm mode, one for each interval. It allocates only if there
+/// is a switch. `Err` is out of memory.
+pub(crate) fn ranges_of<T: Bound>(alloc: Global, switches: &[T]) -> Result<Vec<Range>, AllocError>
+    ensures ranges { IfOk result (λ ranges.
+        map range_of ranges.items ≡ intervals T.next_place (map T.place switches.now)) }
+    ensures out_of_memory { IfErr result (λ _. 0 < length switches.now) }
+{
+    let mut ranges = Vec::new(alloc);
+    let mut left = switches;
+    while let [from, others @ ..] = left {
+        let (to, others) = match others {
+            [to, others @ ..] => (Some(to), others),
+            [] => (None, others),
+        };
+        ranges.push(range_between(alloc, from, to)?)?;
+        left = others;
+    }
+    Ok(ranges)
+}
+
+/// The range of the versions from one on and below another, if there is one.
+fn range_between<T: Bound>(alloc: Global, from: &T, to: Option<&T>) -> Result<Range, AllocError>
+    ensures { IfOk result (λ range. range_of range ≡ npm_range (interval T.next_place
+        (T.place from.now) (option_map (λ x. T.place x.now) to.entry))) }
+{
+    let comparator_set = if is_alone(alloc, from, to)? {
+        vec![in alloc; from.comparator(alloc, Op::Eq)?]?
+    } else {
+        bounds(alloc, from, to)?
+    };
+    Ok(Range {
+        comparator_set,
+        compat: Compat::Npm,
+    })
+}
+
+/// Whether a version is the only one of its kind from itself on and below another, if there is
+/// one.
+fn is_alone<T: Bound>(alloc: Global, version: &T, to: Option<&T>) -> Result<bool, AllocError>
+    ensures { IfOk result (λ answer. answer ≡ is_same_end
+        (option_map (λ x. T.place x.now) to.entry) (T.next_place (T.place version.now))) }
+{
+    Ok(match (to, version.next(alloc)?) {
+        (Some(to), Some(next)) => to.compare(&next).is_eq(),
+        (None, None) => true,
+        _ => false,
+    })
+}
+
+/// The comparators of the versions from one on and below another, if there is one. None is below
+/// the lowest.
+fn bounds<T: Bound>(alloc: Global, from: &T, to: Option<&T>) -> Result<Vec<Comparator>, AllocError>
+    ensures { IfOk result (λ made. map comparator_of made.items
+        ≡ plain_bounds (T.place from.now) (option_map (λ x. T.place x.now) to.entry)) }
+{
+    match to {
+        None => Ok(vec![in alloc; from.comparator(alloc, Op::Gte)?]?),
+        Some(to) if from.is_lowest() => Ok(vec![in alloc; to.comparator(alloc, Op::Lt)?]?),
+        Some(to) => {
+            let from = from.comparator(alloc, Op::Gte)?;
+            Ok(vec![in alloc; from, to.comparator(alloc, Op::Lt)?]?)
+        }
+    }
+}

@@ -1,0 +1,147 @@
+//! A set as ranges of plain comparators, and their text.
+
+ghost use Rattle.std.specs.Prelude.{◌≡◌, not, map, Some, IfOk, IfErr, IsTrue};
+ghost use Rattle.std.specs.List.{list_all};
+ghost use Rattle.semver_parser.specs.declared.Compat.TheVariants.{Npm};
+ghost use Rattle.semver_parser.specs.Meeting.{meets_set};
+ghost use Rattle.semver_parser.specs.PrintedRanges.{is_printable_version};
+ghost use Rattle.semver_parser.specs.RangeViews.{comparator_of, identifier_of, range_of, set_of};
+ghost use Rattle.semver_parser.specs.Versions.{PlainVersion};
+ghost use Rattle.version_sets.specs.SetRanges.{release_ranges, pre_release_ranges};
+ghost use Rattle.version_sets.specs.SetRanges.{is_whole, ranges_text, ReadsBack};
+ghost use Rattle.version_sets.specs.SetRanges.{is_lowest_pre, is_from_lowest as from_lowest};
+ghost use Rattle.version_sets.specs.VersionSets.{has, IsIn, IsRelease, IsPreRelease};
+
+use crate::intervals::ranges_of;
+use crate::version_set::VersionSet;
+use semver_parser::{Comparator, Compat, Identifier, Op, Range, RangeSet, laws};
+use std::alloc::{AllocError, Global};
+use std::fmt;
+
+/// The releases or the pre-releases of a set as ranges of plain comparators: one range for each
+/// interval, in ascending order.
+///
+/// `Display` writes a range text of npm mode: `=1.2.0 || >=1.9.0 <2.0.0`. It writes `*` if all are
+/// in the set, and `<0.0.0-0`, which no version meets, if none is.
+#[derive(Debug, Drop)]
+pub struct SetRanges {
+    /// The ranges, in `Compat::Npm`. Each has one or two comparators.
+    pub range_set: RangeSet,
+}
+
+impl VersionSet {
+    // Answer: equation.
+    /// The releases of the set as ranges of plain comparators.
+    ///
+    /// The set of `^1.2.0` less that of `>=1.2.1 <1.9.0` gives `=1.2.0 || >=1.9.0 <2.0.0`:
+    ///
+    /// - `=1.2.0` if 1.2.0 is alone in its interval, else `>=1.9.0 <2.0.0`;
+    /// - `>=1.9.0` if the interval has no end, and `<2.0.0` if it begins with 0.0.0;
+    /// - `>=0.0.0` if all releases are in the set, which `Display` writes as `*`;
+    /// - no range if the set has no release.
+    ///
+    /// It takes time in the number of switches, and allocates only if the set has a release. `Err`
+    /// is out of memory.
+    pub fn release_ranges(&self, alloc: Global) -> Result<SetRanges, AllocError>
+        ensures ranges { IfOk result (λ ranges.
+            set_of ranges.range_set ≡ release_ranges self.now) }
+        // A release meets them exactly if it is in the set.
+        ensures meaning { IfOk result (λ ranges. (v : PlainVersion) → IsRelease v
+            → meets_set v (set_of ranges.range_set) ≡ has self.now v) }
+        // The text, read in npm mode, gives comparators that the same releases meet.
+        ensures reads_back { IfOk result (λ ranges.
+            ReadsBack (ranges_text (set_of ranges.range_set)) IsRelease self.now) }
+        // It is out of memory only if the set has a release.
+        ensures out_of_memory { IfErr result (λ _. (v : PlainVersion)
+            × IsRelease v × IsIn v self.now) }
+    {
+        laws::printed_sets_read_back();
+        let ranges = ranges_of(alloc, &self.releases)?;
+        Ok(in_npm_mode(ranges))
+    }
+
+    // Answer: equation.
+    /// The pre-releases of the set as ranges of plain comparators, as
+    /// [`VersionSet::release_ranges`] returns the releases. A pre-release meets them by precedence.
+    ///
+    /// Each bound has a pre-release: the set of `>1.2.3 <2.0.0-0` gives `>=1.2.4-0 <2.0.0-0`. The
+    /// version right above 1.2.3-a is 1.2.3-a.0, so 1.2.3-a alone is `=1.2.3-a`. The lowest is
+    /// 0.0.0-0, and all pre-releases are `>=0.0.0-0`.
+    ///
+    /// It takes time in the number of switches, and allocates only if the set has a pre-release.
+    /// `Err` is out of memory.
+    pub fn pre_release_ranges(&self, alloc: Global) -> Result<SetRanges, AllocError>
+        ensures ranges { IfOk result (λ ranges.
+            set_of ranges.range_set ≡ pre_release_ranges self.now) }
+        // A pre-release meets them exactly if it is in the set.
+        ensures meaning { IfOk result (λ ranges. (v : PlainVersion) → IsPreRelease v
+            → meets_set v (set_of ranges.range_set) ≡ has self.now v) }
+        // If the identifiers are printable, the text, read in npm mode, gives comparators that the
+        // same pre-releases meet. The exception is `*`, which npm mode reads as `>=0.0.0`.
+        ensures reads_back { IsTrue (list_all is_printable_version self.now.pre_releases)
+            → IfOk result (λ ranges. IsTrue (not (is_whole (set_of ranges.range_set).ranges))
+            → ReadsBack (ranges_text (set_of ranges.range_set)) IsPreRelease self.now) }
+        // It is out of memory only if the set has a pre-release.
+        ensures out_of_memory { IfErr result (λ _. (v : PlainVersion)
+            × IsPreRelease v × IsIn v self.now) }
+    {
+        laws::printed_sets_read_back();
+        let ranges = ranges_of(alloc, &self.pre_releases)?;
+        Ok(in_npm_mode(ranges))
+    }
+}
+
+/// Ranges as a set in npm mode.
+fn in_npm_mode(ranges: Vec<Range>) -> SetRanges
+    ensures { set_of result.range_set ≡ record { ranges = map range_of ranges.items; compat = Npm } }
+{
+    SetRanges {
+        range_set: RangeSet {
+            ranges,
+            compat: Compat::Npm,
+        },
+    }
+}
+
+// Answer: equation.
+impl fmt::Display for SetRanges {
+    ghost use Rattle.version_sets.specs.SetRanges.{ranges_text};
+
+    ghost output = { λ ranges. Some (ranges_text (set_of ranges.range_set)) };
+
+    /// Writes the ranges as a range text of npm mode, separated by ` || `: `*` for `>=0.0.0` and
+    /// `>=0.0.0-0`, and `<0.0.0-0` for no range. It does not allocate, and its only error is the
+    /// writer's.
+    fn fmt<W: fmt::Write>(&self, f: &mut fmt::Formatter<W>) -> fmt::Result {
+        let (set, ranges) = (&self.range_set, self.range_set.ranges.as_slice());
+        match ranges {
+            [] => f.write_str("<0.0.0-0"),
+            [range] if is_from_lowest(&range.comparator_set) => f.write_str("*"),
+            _ => write!(f, "{set}"),
+        }
+    }
+}
+
+/// Whether the comparators are `>=0.0.0` alone, or `>=0.0.0-0`.
+fn is_from_lowest(comparators: &[Comparator]) -> bool
+    ensures { result ≡ from_lowest (map comparator_of comparators.now) }
+{
+    match comparators {
+        [only] => {
+            let is_zero = only.major == 0 && only.minor == 0 && only.patch == 0;
+            matches!(&only.op, Op::Gte) && is_zero && is_lowest(&only.pre)
+        }
+        _ => false,
+    }
+}
+
+/// Whether there is no pre-release, or the lowest, `0`.
+fn is_lowest(identifiers: &[Identifier]) -> bool
+    ensures { result ≡ is_lowest_pre (map identifier_of identifiers.now) }
+{
+    match identifiers {
+        [] => true,
+        [Identifier::Numeric(number)] => *number == 0,
+        _ => false,
+    }
+}
