@@ -46,9 +46,9 @@
 /* The version of the library that this header belongs to. While the first number is 0, the second
  * one is raised if a call changes. */
 #define SEMVER_PARSER_VERSION_MAJOR 0
-#define SEMVER_PARSER_VERSION_MINOR 4
-#define SEMVER_PARSER_VERSION_PATCH 1
-#define SEMVER_PARSER_VERSION "0.4.1"
+#define SEMVER_PARSER_VERSION_MINOR 5
+#define SEMVER_PARSER_VERSION_PATCH 0
+#define SEMVER_PARSER_VERSION "0.5.0"
 
 #ifdef __cplusplus
 extern "C" {
