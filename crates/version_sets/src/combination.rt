@@ -38,8 +38,8 @@ impl Combination {
         Walk::over(first, second).any(|piece| self.keeps(piece.in_first, piece.in_second))
     }
 
-    /// The switches of the combination, which are those where being in it changes. `Err` is want of
-    /// memory, which is asked for only where there is some.
+    /// The switches of the combination, which are those where being in it changes. `Err` is out of
+    /// memory; nothing is allocated if there are none.
     pub(crate) fn of<T: Switch>(
         self,
         alloc: Global,

@@ -48,8 +48,8 @@ impl Release {
         }
     }
 
-    /// Whether a release is below another by precedence: by each number, so that the answer hangs
-    /// on no branch.
+    /// Whether a release is below another by precedence: by each number, so that the answer takes
+    /// no branch.
     #[inline(always)]
     pub(crate) fn is_below(&self, other: &Release) -> bool
         ensures { result ≡ is_lt (precedence (release_value self.now) (release_value other.now)) }
