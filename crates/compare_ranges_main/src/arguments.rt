@@ -1,6 +1,6 @@
 //! What the arguments ask for.
 
-use reading_options::{OptionError, ReadingOptions};
+use command_line::{ArgumentError, MeaningOptions};
 use std::env;
 use std::rt::Env;
 use tool_ranges::meaning::Meaning;
@@ -38,41 +38,20 @@ pub enum Extent {
     Least,
 }
 
-/// Why the arguments ask for nothing.
-#[derive(Drop)]
-pub enum Refusal {
-    /// They can't be read.
-    Unreadable,
-    /// This option is unknown.
-    UnknownOption(String),
-    /// An option is wrong, or doesn't fit to another.
-    Options(OptionError),
-    /// There is no range text.
-    NoRange,
-    /// There are more than two range texts.
-    ManyRanges,
-}
-
-impl From<OptionError> for Refusal {
-    fn from(error: OptionError) -> Refusal {
-        Refusal::Options(error)
-    }
-}
-
 /// What the arguments ask for. What begins with a hyphen is an option, up to the first `--`, but
 /// for what follows `--as`.
-pub fn requested(rt: &(impl Env + AllocGlobal)) -> Result<Request, Refusal> {
+pub fn requested(rt: &(impl Env + AllocGlobal)) -> Result<Request, ArgumentError> {
     let Ok(mut arguments) = env::args(rt) else {
-        return Err(Refusal::Unreadable);
+        return Err(ArgumentError::Unreadable);
     };
     let _program = arguments.next();
     let mut range = None;
     let mut new = None;
-    let mut reading = ReadingOptions::new();
+    let mut options = MeaningOptions::new();
     let mut extent = Extent::Whole;
     let mut has_more = true;
     for argument in arguments {
-        if has_more && reading.take(rt.alloc(), argument.as_str())? {
+        if has_more && options.take(rt.alloc(), argument.as_str())? {
             continue;
         }
         match argument.as_str() {
@@ -81,14 +60,14 @@ pub fn requested(rt: &(impl Env + AllocGlobal)) -> Result<Request, Refusal> {
             "--least" if has_more => extent = least_after(extent)?,
             "--" if has_more => has_more = false,
             text if has_more && text.starts_with('-') => {
-                return Err(Refusal::UnknownOption(argument));
+                return Err(ArgumentError::UnknownOption(argument));
             }
-            _ if new.is_some() => return Err(Refusal::ManyRanges),
+            _ if new.is_some() => return Err(ArgumentError::MoreThanTwoRanges),
             _ if range.is_some() => new = Some(argument),
             _ => range = Some(argument),
         }
     }
-    let meaning = reading.finish()?;
+    let meaning = options.finish()?;
     match range {
         Some(range) => Ok(Request::Read(Wanted {
             range,
@@ -96,14 +75,14 @@ pub fn requested(rt: &(impl Env + AllocGlobal)) -> Result<Request, Refusal> {
             meaning,
             extent,
         })),
-        None => Err(Refusal::NoRange),
+        None => Err(ArgumentError::NoRange),
     }
 }
 
 /// What `--least` asks for, if it wasn't given before.
-fn least_after(extent: Extent) -> Result<Extent, OptionError> {
+fn least_after(extent: Extent) -> Result<Extent, ArgumentError> {
     match extent {
         Extent::Whole => Ok(Extent::Least),
-        Extent::Least => Err(OptionError::GivenTwice("--least")),
+        Extent::Least => Err(ArgumentError::GivenTwice("--least")),
     }
 }

@@ -5,19 +5,23 @@
 mod arguments;
 mod lines;
 
-use arguments::{Refusal, Request, Wanted};
-use reading_options::OptionError;
-use refused_ranges::told;
+use arguments::{Request, Wanted};
+use command_line::Program;
 use semver_parser::RangeError;
 use semver_parser::writing::write_whole;
-use std::io::{self, ErrorKind, Write};
+use std::io::{self, ErrorKind};
 use std::process::ExitCode;
 use tool_ranges::meaning;
 use version_sets::VersionSet;
 
+/// The program.
+const PROGRAM: Program = Program {
+    name: "compare-ranges",
+};
+
 /// How the program is called.
 const USAGE: &str = "\
-usage: compare-ranges [--as READING | --npm]
+usage: compare-ranges [--as DIALECT | --npm]
                       [--releases | --pre | --pre-stated] [--least] OLD NEW
        compare-ranges [OPTION].. RANGE";
 
@@ -36,7 +40,7 @@ The pre-releases are on the next line: 'lost pre-releases: RANGES'. RANGES is a
 range text in npm's syntax, as '=1.2.0 || >=1.9.0 <2.0.0', or '*' for all.
 
     --least          print the least version of each instead: 'lost: 1.2.0'
-    --as READING     read the ranges as:
+    --as DIALECT     read the ranges as:
                        cargo        Cargo does; the default
                        npm          npm does
                        crate-cargo  the crate semver-parser does in Cargo mode
@@ -81,9 +85,9 @@ struct Answer {
 fn main(rt: HostRuntime) -> ExitCode {
     match arguments::requested(&rt) {
         Ok(Request::Read(wanted)) => run(&rt, &wanted),
-        Ok(Request::Help) => write_text(&rt, &[USAGE, HELP]),
-        Ok(Request::Version) => write_text(&rt, &[VERSION]),
-        Err(refusal) => refused(&rt, &refusal),
+        Ok(Request::Help) => PROGRAM.write_texts(&rt, &[USAGE, HELP]),
+        Ok(Request::Version) => PROGRAM.write_texts(&rt, &[VERSION]),
+        Err(error) => PROGRAM.misused(&rt, &error),
     }
 }
 
@@ -92,14 +96,17 @@ fn main(rt: HostRuntime) -> ExitCode {
 fn run(rt: &HostRuntime, wanted: &Wanted) -> ExitCode {
     let answer = match answered(rt, wanted) {
         Ok(answer) => answer,
-        Err(fault) => return tell(rt, &fault, wanted),
+        Err(Fault::Range(error, range)) => {
+            return PROGRAM.refuse_range(rt, wanted.meaning.reading(), &error, range);
+        }
+        Err(Fault::OutOfMemory) => {
+            let _ = eprintln!(rt; "{}: out of memory", PROGRAM.name);
+            return ExitCode::from(2);
+        }
     };
     let written = write_whole(&mut io::writer(rt), answer.lines.as_bytes());
     match written {
-        Err(error) if error.kind() != ErrorKind::BrokenPipe => {
-            let _ = eprintln!(rt; "compare-ranges: cannot write output: {error}");
-            ExitCode::from(2)
-        }
+        Err(error) if error.kind() != ErrorKind::BrokenPipe => PROGRAM.cannot_write(rt, &error),
         _ if answer.differs => ExitCode::from(1),
         _ => ExitCode::SUCCESS,
     }
@@ -131,57 +138,4 @@ fn answered<'a>(rt: &HostRuntime, wanted: &'a Wanted) -> Result<Answer, Fault<'a
 fn read<'a>(rt: &HostRuntime, wanted: &Wanted, range: &'a str) -> Result<VersionSet, Fault<'a>> {
     let versions = meaning::read(rt.alloc(), wanted.meaning, range);
     versions.map_err(|error| Fault::Range(error, range))
-}
-
-/// Says on standard error what the fault is, of a range text with the text and the place, and gives
-/// status 2.
-fn tell(rt: &HostRuntime, fault: &Fault<'_>, wanted: &Wanted) -> ExitCode {
-    let _ = match fault {
-        Fault::Range(error, range) => {
-            match told(rt.alloc(), wanted.meaning.reading(), error, range) {
-                Ok(told) => eprintln!(rt; "compare-ranges: {told}"),
-                Err(_) => eprintln!(rt; "compare-ranges: {error}: {range:?}"),
-            }
-        }
-        Fault::OutOfMemory => eprintln!(rt; "compare-ranges: out of memory"),
-    };
-    ExitCode::from(2)
-}
-
-/// Writes texts to standard output, each with a line feed.
-fn write_text(rt: &HostRuntime, texts: &[&str]) -> ExitCode {
-    for text in texts {
-        match println!(rt; "{text}") {
-            Ok(()) => {}
-            Err(error) if error.kind() == ErrorKind::BrokenPipe => return ExitCode::SUCCESS,
-            Err(error) => {
-                let _ = eprintln!(rt; "compare-ranges: cannot write output: {error}");
-                return ExitCode::from(2);
-            }
-        }
-    }
-    ExitCode::SUCCESS
-}
-
-/// Says on standard error why the arguments ask for nothing, in one line, and gives status 2.
-fn refused(rt: &impl Eprint, refusal: &Refusal) -> ExitCode {
-    let _ = match refusal {
-        Refusal::UnknownOption(option) => eprintln!(rt;
-            "compare-ranges: unknown option: {option:?}; see compare-ranges --help"
-        ),
-        Refusal::Unreadable | Refusal::Options(OptionError::OutOfMemory) => {
-            eprintln!(rt; "compare-ranges: cannot read arguments")
-        }
-        Refusal::Options(error) => {
-            eprintln!(rt; "compare-ranges: {error}; see compare-ranges --help")
-        }
-        Refusal::NoRange => misused(rt, "no range"),
-        Refusal::ManyRanges => misused(rt, "more than two ranges"),
-    };
-    ExitCode::from(2)
-}
-
-/// Says on standard error what is wrong with the arguments.
-fn misused(rt: &impl Eprint, why: &str) -> io::Result<()> {
-    eprintln!(rt; "compare-ranges: {why}; see compare-ranges --help")
 }

@@ -1,18 +1,26 @@
-//! Tests of the library that need more than data, on what its calls write and append: printed
-//! values, whole writes and the report, at writers that fail, and the lines of a text in pieces. It
-//! writes what it found. What that has to be is in the file beside this crate: it comes from the
-//! written rules.
+//! Tests of the library that need more than data. On what its calls return: what is read of texts,
+//! sets of versions, the derived orders and precedence, and values made by hand. On what they write
+//! and append: printed values, whole writes and the report, at writers that fail, and the lines of
+//! a text in pieces. It writes what it found. What that has to be is in the file beside this crate:
+//! it comes from the written rules and from the declarations of the Rust crate.
 #![tactic(auto)]
 
+mod bytes;
 mod lines;
+mod made;
+mod orders;
+mod precedence;
 mod printing;
+mod reading;
 mod reports;
+mod sets;
 mod writers;
 mod writes;
 
 use std::io;
 
 fn main(rt: HostRuntime) -> io::Result<()> {
+    write_values(&rt)?;
     printing::write_versions(&rt, rt.alloc())?;
     printing::write_sets(&rt, rt.alloc())?;
     printing::write_errors(&rt, rt.alloc())?;
@@ -22,4 +30,16 @@ fn main(rt: HostRuntime) -> io::Result<()> {
     lines::write_strict_lines(&rt, rt.alloc())?;
     lines::write_invalid_lines(&rt, rt.alloc())?;
     lines::write_prefixes(&rt, rt.alloc())
+}
+
+/// What calls return.
+fn write_values(rt: &HostRuntime) -> io::Result<()> {
+    bytes::write_bytes(rt, rt.alloc())?;
+    reading::write_reading(rt, rt.alloc())?;
+    sets::write_sets(rt, rt.alloc())?;
+    orders::write_enums(rt, rt.alloc())?;
+    orders::write_structs(rt, rt.alloc())?;
+    precedence::write_precedence(rt, rt.alloc())?;
+    made::write_versions(rt, rt.alloc())?;
+    made::write_sets(rt, rt.alloc())
 }

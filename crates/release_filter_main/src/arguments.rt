@@ -1,6 +1,6 @@
 //! What the arguments ask for.
 
-use reading_options::{OptionError, ReadingOptions};
+use command_line::{ArgumentError, MeaningOptions};
 use release_filter::{Filter, Lines, Wanted};
 use std::alloc::Global;
 use std::env;
@@ -69,10 +69,10 @@ impl Options {
 
     /// Takes an option, and tells whether it is known. It is refused where an earlier one has
     /// settled the same.
-    fn take(&mut self, rt: &impl AllocGlobal, option: &str) -> Result<bool, Refusal> {
+    fn take(&mut self, rt: &impl AllocGlobal, option: &str) -> Result<bool, ArgumentError> {
         if let Some(prefix) = option.strip_prefix("--prefix=") {
             let Ok(prefix) = prefix.to_string(rt.alloc()) else {
-                return Err(Refusal::Unreadable);
+                return Err(ArgumentError::Unreadable);
             };
             self.take_prefix(prefix)?;
             return Ok(true);
@@ -91,11 +91,11 @@ impl Options {
     }
 
     /// Takes which lines are wanted, and the option that asks for them.
-    fn select(&mut self, option: &'static str, wanted: Wanted) -> Result<(), OptionError> {
+    fn select(&mut self, option: &'static str, wanted: Wanted) -> Result<(), ArgumentError> {
         let earlier = self.asked;
         match earlier {
-            Some(_) if self.wanted == wanted => Err(OptionError::GivenTwice(option)),
-            Some(earlier) => Err(OptionError::Contradiction(option, earlier)),
+            Some(_) if self.wanted == wanted => Err(ArgumentError::GivenTwice(option)),
+            Some(earlier) => Err(ArgumentError::Contradiction(option, earlier)),
             None => {
                 self.wanted = wanted;
                 self.asked = Some(option);
@@ -105,56 +105,33 @@ impl Options {
     }
 
     /// Takes a prefix.
-    fn take_prefix(&mut self, prefix: String) -> Result<(), Refusal> {
+    fn take_prefix(&mut self, prefix: String) -> Result<(), ArgumentError> {
         self.wants_prefix = false;
         match self.prefixes.push(prefix) {
             Ok(()) => Ok(()),
-            Err(_) => Err(Refusal::Unreadable),
+            Err(_) => Err(ArgumentError::Unreadable),
         }
     }
 }
 
 /// Takes an option that has no value.
-fn given_once(option: &'static str, is_given: &mut bool) -> Result<(), OptionError> {
+fn given_once(option: &'static str, is_given: &mut bool) -> Result<(), ArgumentError> {
     if *is_given {
-        return Err(OptionError::GivenTwice(option));
+        return Err(ArgumentError::GivenTwice(option));
     }
     *is_given = true;
     Ok(())
 }
 
-/// Why the arguments ask for nothing.
-#[derive(Drop)]
-pub enum Refusal {
-    /// They can't be read.
-    Unreadable,
-    /// This option is unknown.
-    UnknownOption(String),
-    /// An option is wrong, or doesn't fit to another.
-    Options(OptionError),
-    /// `--prefix` is the last argument.
-    NoPrefix,
-    /// There is no range text.
-    NoRange,
-    /// There is more than one range text.
-    ManyRanges,
-}
-
-impl From<OptionError> for Refusal {
-    fn from(error: OptionError) -> Refusal {
-        Refusal::Options(error)
-    }
-}
-
 /// What the arguments ask for. What begins with a hyphen is an option, up to the first `--`, but
 /// for what follows `--prefix` and `--as`.
-pub fn requested(rt: &(impl Env + AllocGlobal)) -> Result<Request, Refusal> {
+pub fn requested(rt: &(impl Env + AllocGlobal)) -> Result<Request, ArgumentError> {
     let Ok(mut arguments) = env::args(rt) else {
-        return Err(Refusal::Unreadable);
+        return Err(ArgumentError::Unreadable);
     };
     let _program = arguments.next();
     let mut range = None;
-    let mut reading = ReadingOptions::new();
+    let mut reading = MeaningOptions::new();
     let mut options = Options::new(rt.alloc());
     for argument in arguments {
         if options.wants_prefix {
@@ -169,10 +146,10 @@ pub fn requested(rt: &(impl Env + AllocGlobal)) -> Result<Request, Refusal> {
             "--version" if options.has_more => return Ok(Request::Version),
             text if options.has_more && text.starts_with('-') => {
                 if !options.take(rt, text)? {
-                    return Err(Refusal::UnknownOption(argument));
+                    return Err(ArgumentError::UnknownOption(argument));
                 }
             }
-            _ if range.is_some() => return Err(Refusal::ManyRanges),
+            _ if range.is_some() => return Err(ArgumentError::MoreThanOneRange),
             _ => range = Some(argument),
         }
     }
@@ -182,11 +159,11 @@ pub fn requested(rt: &(impl Env + AllocGlobal)) -> Result<Request, Refusal> {
 /// What arguments ask for that are taken one by one.
 fn request_of(
     range: Option<String>,
-    reading: ReadingOptions,
+    reading: MeaningOptions,
     options: Options,
-) -> Result<Request, Refusal> {
+) -> Result<Request, ArgumentError> {
     if options.wants_prefix {
-        return Err(Refusal::NoPrefix);
+        return Err(ArgumentError::NoPrefix);
     }
     let meaning = reading.finish()?;
     match range {
@@ -195,6 +172,6 @@ fn request_of(
             meaning,
             options,
         })),
-        None => Err(Refusal::NoRange),
+        None => Err(ArgumentError::NoRange),
     }
 }

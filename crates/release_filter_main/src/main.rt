@@ -5,9 +5,8 @@
 
 mod arguments;
 
-use arguments::{Filtering, Options, Refusal, Request};
-use reading_options::OptionError;
-use refused_ranges::told;
+use arguments::{Filtering, Options, Request};
+use command_line::Program;
 use release_filter::{Counts, Filter, Lines, LinesError};
 use semver_parser::RangeError;
 use semver_parser::writing::write_whole;
@@ -16,25 +15,30 @@ use std::process::ExitCode;
 use tool_ranges::meaning::{self, Meaning};
 use tool_ranges::reading::Reading;
 
+/// The program.
+const PROGRAM: Program = Program {
+    name: "release-filter",
+};
+
 /// How the program is called.
 const USAGE: &str = "\
-usage: release-filter [--as READING | --npm]
+usage: release-filter [--as DIALECT | --npm]
                       [--releases | --pre | --pre-stated]
                       [--greatest | --least | --sort]
                       [--prefix TEXT]... [--strict] RANGE";
 
 /// What the program does.
 const HELP: &str = "
-Copies those lines of standard input to standard output, as they stand,
-that spell a version which RANGE means.
+Copies to standard output those lines of standard input, unchanged,
+that are a version which RANGE means.
 
-    --as READING     the dialect of RANGE and of the versions:
-                       cargo        Cargo's own; so it is without --as
-                       npm          npm's own
+    --as DIALECT     the dialect of RANGE and of the versions:
+                       cargo        Cargo's; the default
+                       npm          npm's
                        crate-cargo  the crate semver-parser's, in Cargo mode
                        crate-npm    the crate semver-parser's, in npm mode
     --npm            the same as --as npm
-    --releases       copy releases alone
+    --releases       copy releases only
     --pre            copy each pre-release within the bounds of RANGE, too; with
                      '*' every version
     --pre-stated     copy pre-releases that RANGE means, and of which a term
@@ -54,8 +58,8 @@ that spell a version which RANGE means.
     --line-buffered  accepted, and changes nothing: each line is written
                      before more input is read
     --               end the options
-    -h, --help       write this, and read no input
-    --version        write the version of this program, and read no input
+    -h, --help       print this, and read no input
+    --version        print the version of this program, and read no input
 
 Without --pre, the pre-releases are copied that cargo or npm takes, and none as
 crate-cargo and crate-npm read RANGE; --pre-stated belongs to these two. The
@@ -87,9 +91,9 @@ enum Fault {
 fn main(rt: HostRuntime) -> ExitCode {
     match arguments::requested(&rt) {
         Ok(Request::Filter(filtering)) => run(&rt, filtering),
-        Ok(Request::Help) => write_text(&rt, &[USAGE, HELP]),
-        Ok(Request::Version) => write_text(&rt, &[VERSION]),
-        Err(refusal) => refused(&rt, &refusal),
+        Ok(Request::Help) => PROGRAM.write_texts(&rt, &[USAGE, HELP]),
+        Ok(Request::Version) => PROGRAM.write_texts(&rt, &[VERSION]),
+        Err(error) => PROGRAM.misused(&rt, &error),
     }
 }
 
@@ -104,10 +108,7 @@ fn run(rt: &HostRuntime, filtering: Filtering) -> ExitCode {
         Ok(true) => ExitCode::SUCCESS,
         Ok(false) => ExitCode::from(1),
         Err(Fault::Write(error)) if error.kind() == ErrorKind::BrokenPipe => ExitCode::SUCCESS,
-        Err(fault) => {
-            tell(rt, &fault, meaning.reading(), range.as_str());
-            ExitCode::from(2)
-        }
+        Err(fault) => failed(rt, &fault, meaning.reading(), range.as_str()),
     }
 }
 
@@ -201,54 +202,13 @@ fn shown(front: &[u8]) -> (&[u8], &'static str) {
     }
 }
 
-/// Reports on standard error what the error is, of a range text with the text and the place.
-fn tell(rt: &HostRuntime, fault: &Fault, reading: Reading, range: &str) {
+/// Reports on standard error what the error is, and returns status 2.
+fn failed(rt: &HostRuntime, fault: &Fault, reading: Reading, range: &str) -> ExitCode {
     let _ = match fault {
-        Fault::Range(error) => match told(rt.alloc(), reading, error, range) {
-            Ok(told) => eprintln!(rt; "release-filter: {told}"),
-            Err(_) => eprintln!(rt; "release-filter: {error}: {range:?}"),
-        },
+        Fault::Range(error) => return PROGRAM.refuse_range(rt, reading, error, range),
+        Fault::Write(error) => return PROGRAM.cannot_write(rt, error),
         Fault::Lines(error) => eprintln!(rt; "release-filter: {error}"),
         Fault::Read(error) => eprintln!(rt; "release-filter: cannot read input: {error}"),
-        Fault::Write(error) => eprintln!(rt; "release-filter: cannot write output: {error}"),
-    };
-}
-
-/// Writes texts to standard output, each with a line feed.
-fn write_text(rt: &HostRuntime, texts: &[&str]) -> ExitCode {
-    for text in texts {
-        match println!(rt; "{text}") {
-            Ok(()) => {}
-            Err(error) if error.kind() == ErrorKind::BrokenPipe => return ExitCode::SUCCESS,
-            Err(error) => {
-                let _ = eprintln!(rt; "release-filter: cannot write output: {error}");
-                return ExitCode::from(2);
-            }
-        }
-    }
-    ExitCode::SUCCESS
-}
-
-/// Says on standard error why the arguments ask for nothing, in one line, and gives status 2.
-fn refused(rt: &impl Eprint, refusal: &Refusal) -> ExitCode {
-    let _ = match refusal {
-        Refusal::UnknownOption(option) => eprintln!(rt;
-            "release-filter: unknown option: {option:?}; see release-filter --help"
-        ),
-        Refusal::Unreadable | Refusal::Options(OptionError::OutOfMemory) => {
-            eprintln!(rt; "release-filter: cannot read arguments")
-        }
-        Refusal::Options(error) => {
-            eprintln!(rt; "release-filter: {error}; see release-filter --help")
-        }
-        Refusal::NoPrefix => misused(rt, "--prefix wants a text"),
-        Refusal::NoRange => misused(rt, "no range"),
-        Refusal::ManyRanges => misused(rt, "more than one range"),
     };
     ExitCode::from(2)
-}
-
-/// Says on standard error what is wrong with the arguments.
-fn misused(rt: &impl Eprint, why: &str) -> io::Result<()> {
-    eprintln!(rt; "release-filter: {why}; see release-filter --help")
 }

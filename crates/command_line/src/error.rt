@@ -1,0 +1,48 @@
+//! What is wrong with arguments.
+
+use std::alloc::AllocError;
+use thiserror::Error;
+
+/// What is wrong with the arguments of a program. Each text names options as they are written.
+#[derive(Debug, Error, Drop)]
+pub enum ArgumentError {
+    /// They can't be read, or memory ran out.
+    #[error("cannot read arguments")]
+    Unreadable,
+    /// This option is unknown.
+    #[error("unknown option: {0:?}")]
+    UnknownOption(String),
+    /// Nothing follows `--as`.
+    #[error("--as wants a dialect")]
+    NoDialect,
+    /// What follows `--as` names no dialect.
+    #[error("unknown dialect: {0:?}")]
+    UnknownDialect(String),
+    /// Nothing follows `--prefix`.
+    #[error("--prefix wants a text")]
+    NoPrefix,
+    /// Before this option it, or another of the same meaning, was given.
+    #[error("{0} is given twice")]
+    GivenTwice(&'static str),
+    /// The first option says otherwise than the second, which was given before.
+    #[error("{0} contradicts {1}")]
+    Contradiction(&'static str, &'static str),
+    /// `--pre-stated` was given with the dialect of Cargo or npm, whose default it is.
+    #[error("--pre-stated belongs to --as crate-cargo and --as crate-npm")]
+    NoRuleOfTool,
+    /// There is no range text.
+    #[error("no range")]
+    NoRange,
+    /// There is more than one range text.
+    #[error("more than one range")]
+    MoreThanOneRange,
+    /// There are more than two range texts.
+    #[error("more than two ranges")]
+    MoreThanTwoRanges,
+}
+
+impl From<AllocError> for ArgumentError {
+    fn from(_error: AllocError) -> ArgumentError {
+        ArgumentError::Unreadable
+    }
+}

@@ -1,0 +1,19 @@
+//! What the programs `release-filter` and `compare-ranges` share: the options that choose the
+//! dialect and which pre-releases count, and what a program writes of itself and of errors.
+#![tactic(auto)]
+
+mod ending;
+mod error;
+mod hints;
+mod options;
+mod place;
+mod program;
+mod refused;
+mod shown;
+
+pub use error::ArgumentError;
+pub use hints::hint;
+pub use options::MeaningOptions;
+pub use place::fault_place;
+pub use program::Program;
+pub use refused::refused_text;

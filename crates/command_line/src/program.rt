@@ -1,0 +1,62 @@
+//! What a program writes of itself and of errors.
+
+use crate::error::ArgumentError;
+use crate::refused::refused_text;
+use semver_parser::RangeError;
+use std::io::{self, ErrorKind};
+use std::process::ExitCode;
+use tool_ranges::reading::Reading;
+
+/// A program. Each line that it writes on standard error begins with its name. What can't be
+/// written there is left out.
+#[derive(Clone, Copy, Drop)]
+pub struct Program {
+    /// The name.
+    pub name: &'static str,
+}
+
+impl Program {
+    /// Writes texts to standard output, each with a line feed, and returns the status. It is no
+    /// error if the reader of the output wants no more.
+    pub fn write_texts(self, rt: &HostRuntime, texts: &[&str]) -> ExitCode {
+        for text in texts {
+            match println!(rt; "{text}") {
+                Ok(()) => {}
+                Err(error) if error.kind() == ErrorKind::BrokenPipe => return ExitCode::SUCCESS,
+                Err(error) => return self.cannot_write(rt, &error),
+            }
+        }
+        ExitCode::SUCCESS
+    }
+
+    /// Writes what is wrong with the arguments, in one line, and returns status 2.
+    pub fn misused(self, rt: &impl Eprint, error: &ArgumentError) -> ExitCode {
+        let name = self.name;
+        let _ = match error {
+            ArgumentError::Unreadable => eprintln!(rt; "{name}: {error}"),
+            _ => eprintln!(rt; "{name}: {error}; see {name} --help"),
+        };
+        ExitCode::from(2)
+    }
+
+    /// Writes that output can't be written, and returns status 2.
+    pub fn cannot_write(self, rt: &impl Eprint, error: &io::Error) -> ExitCode {
+        let _ = eprintln!(rt; "{}: cannot write output: {error}", self.name);
+        ExitCode::from(2)
+    }
+
+    /// Writes the error of a range text, with the text and the place, and returns status 2.
+    pub fn refuse_range(
+        self,
+        rt: &HostRuntime,
+        reading: Reading,
+        error: &RangeError,
+        range: &str,
+    ) -> ExitCode {
+        let _ = match refused_text(rt.alloc(), reading, error, range) {
+            Ok(text) => eprintln!(rt; "{}: {text}", self.name),
+            Err(_) => eprintln!(rt; "{}: {error}: {range:?}", self.name),
+        };
+        ExitCode::from(2)
+    }
+}
