@@ -230,7 +230,7 @@ pub(crate) fn outline(input: &[u8], dialect: Dialect) -> Option<Outline<'_>>
 }
 
 /// The outline of the version that a text spells, if it spells one, and if the text begins with
-/// these numbers, of so many bytes, and the rest follows them.
+/// these numbers, of so many bytes, and the rest follows them. Numbers alone are never too long.
 #[inline(always)]
 pub(crate) fn outline_of_numbers(
     major: u64,
@@ -244,7 +244,7 @@ pub(crate) fn outline_of_numbers(
     ensures { (text : Text) → BeginsWithNumbers text major minor patch rest.now
         → length text ≡ numbers_end + length rest.now → IsOutlinedBy dialect text result }
 {
-    if !is_short(numbers_end, rest, dialect) {
+    if !rest.is_empty() && !is_short(numbers_end, rest, dialect) {
         return None;
     }
     behind_numbers(major, minor, patch, numbers_end, rest, dialect)
