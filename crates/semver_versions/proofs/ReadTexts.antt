@@ -1,12 +1,13 @@
 -- A whole text that spells a version in a dialect is read as it, and as no other.
-use Rattle.std.proofs.Common.{codes, ◌≡◌, inl, inr, ⊎_elim, ℕ, ◌+◌, ◌<◌, ◌^◌, cond, Bool, true, List, [], ◌∷◌, ◌++◌, length}
+use Rattle.std.proofs.Common.{codes, ◌≡◌, inl, inr, ⊎_elim, ℕ, ◌+◌, ◌<◌, ◌≤◌, ◌^◌, cond, Bool, true, List, [], ◌∷◌, ◌++◌, length}
 use Rattle.std.proofs.Common.{refl, ◌∙◌, arith, ap, sym, subst, append_assoc, append-nil, length-append, decimal, map, one-add}
-use Rattle.std.specs.Prelude.{not, Option, Some, None, slice_index}
+use Rattle.std.specs.Prelude.{◌==◌, not, Option, Some, None, slice_index}
 use Rattle.std.specs.Char.{is_ascii_digit}
 use Rattle.std.specs.List.{join_with_byte, list_all}
+use Rattle.std.proofs.lemmas.Bool.{eqb-true}
 use Rattle.std.proofs.lemmas.Bool.Decides.{nat_tests}
-use Rattle.std.proofs.lemmas.List.Sums.{sum_by-cons}
-use Rattle.std.proofs.lemmas.Fmt.{decimal_nonempty}
+use Rattle.std.proofs.lemmas.List.Sums.{count_by-le-length, sum_by-cons}
+use Rattle.std.proofs.lemmas.Fmt.{decimal_nonempty, length-decimal-le}
 use Rattle.semver_texts.specs.Texts.{Text, BeginsWithNumbers, has_no_leading_zero, is_dotted_byte, is_part, marked}
 use Rattle.semver_texts.specs.ToolVersions.{AreWhiteSpaces, SpellsIn, SpellsSemver, before_numbers, characters, goes_on}
 use Rattle.semver_texts.specs.Versions.{VersionValue, numbers}
@@ -332,3 +333,25 @@ module _ (text : Text) (major minor patch : ℕ) (rest : Text) (n : BeginsWithNu
       one_each (b ∷ front) more all =
           let first : ◌≡◌ {A = ℕ} (cond (begins b) 1 0) 1 = ap (λ y. cond {A = ℕ} y 1 0) all.0 in
           omega (arith, sum_by-cons (λ x. cond (begins x) 1 0) b (front ++ more), first, one_each front more all.1)
+
+  -- numbers alone are within the limit
+  pub short_numbers : (d : Dialect) → (length rest == 0) ≡ true → IsShort d (characters text)
+  short_numbers Crate e = tt
+  short_numbers Cargo e = tt
+  short_numbers Npm e =
+      let split : text ≡ decimal major ++ (46 ∷ (decimal minor ++ (46 ∷ (decimal patch ++ rest)))) = n.split ∙ simp append_assoc in
+      omega (
+        arith,
+        eqb-true (length rest) 0 e,
+        count_by-le-length (λ b. not (goes_on b)) text,
+        ap length split,
+        length-append (decimal major) (46 ∷ (decimal minor ++ (46 ∷ (decimal patch ++ rest)))),
+        length-append (decimal minor) (46 ∷ (decimal patch ++ rest)),
+        length-append (decimal patch) rest,
+        digits major n.major_fits,
+        digits minor n.minor_fits,
+        digits patch n.patch_fits,
+      )
+    where
+      digits : (k : ℕ) → k < 2 ^ 64 → length (decimal k) ≤ 20
+      digits k small = length-decimal-le 20 k (omega arith) (omega (arith, small)) small

@@ -10,6 +10,7 @@ ghost use Rattle.std.specs.Prelude.{◌≡◌, ◌≤◌, ◌<◌, ◌+◌, ◌+
 ghost use Rattle.std.specs.Prelude.{MatchOption};
 ghost use Rattle.semver_texts.specs.Texts.{Text, BeginsWithNumbers, cut_at_dots};
 ghost use Rattle.semver_texts.specs.ToolVersions.{characters};
+ghost use Rattle.semver_texts.specs.declared.dialect.Dialect.TheVariants.{Npm};
 ghost use Rattle.semver_versions.specs.Steps.Reading.{AreAround, AreParts, IsBefore, IsOutlinedAt};
 ghost use Rattle.semver_versions.specs.Steps.Reading.{IsOutlinedBy, IsShort, NumbersFit, ZerosFit};
 ghost use Rattle.semver_versions.specs.Steps.Reading.{around_size, hyphens_of};
@@ -103,18 +104,24 @@ fn may_end(bytes: &[u8], dialect: Dialect) -> bool
     bytes.is_empty() || behind_around(bytes, dialect).is_empty()
 }
 
+/// Whether the numbers of a version are within npm's limit.
+#[inline(always)]
+fn are_small(major: u64, minor: u64, patch: u64) -> bool
+    ensures yes { result ≡ true → NumbersFit Npm major minor patch }
+    ensures no { result ≡ false → ¬ (NumbersFit Npm major minor patch) }
+{
+    major | minor | patch <= GREATEST
+}
+
 /// Whether the numbers of a version are within the limit, which npm alone has.
 #[inline(always)]
 fn fit(major: u64, minor: u64, patch: u64, dialect: Dialect) -> bool
     ensures yes { result ≡ true → NumbersFit dialect major minor patch }
     ensures no { result ≡ false → ¬ (NumbersFit dialect major minor patch) }
 {
-    if major | minor | patch <= GREATEST {
-        return true;
-    }
     match dialect {
         Dialect::Crate | Dialect::Cargo => true,
-        Dialect::Npm => false,
+        Dialect::Npm => are_small(major, minor, patch),
     }
 }
 
@@ -207,11 +214,11 @@ fn behind_numbers(
         → numbers_end + length rest.now ≡ before + length text
         → IsOutlinedAt dialect before text result }
 {
+    if rest.is_empty() && are_small(major, minor, patch) {
+        return Some(with_parts(major, minor, patch, numbers_end, &[], &[]));
+    }
     if !fit(major, minor, patch, dialect) {
         return None;
-    }
-    if rest.is_empty() {
-        return Some(with_parts(major, minor, patch, numbers_end, &[], &[]));
     }
     let (pre, build) = parts(rest, dialect)?;
     Some(with_parts(major, minor, patch, numbers_end, pre, build))
@@ -230,7 +237,7 @@ pub(crate) fn outline(input: &[u8], dialect: Dialect) -> Option<Outline<'_>>
 }
 
 /// The outline of the version that a text spells, if it spells one, and if the text begins with
-/// these numbers, of so many bytes, and the rest follows them.
+/// these numbers, of so many bytes, and the rest follows them. Numbers alone are never too long.
 #[inline(always)]
 pub(crate) fn outline_of_numbers(
     major: u64,
@@ -244,7 +251,7 @@ pub(crate) fn outline_of_numbers(
     ensures { (text : Text) → BeginsWithNumbers text major minor patch rest.now
         → length text ≡ numbers_end + length rest.now → IsOutlinedBy dialect text result }
 {
-    if !is_short(numbers_end, rest, dialect) {
+    if !rest.is_empty() && !is_short(numbers_end, rest, dialect) {
         return None;
     }
     behind_numbers(major, minor, patch, numbers_end, rest, dialect)

@@ -1,6 +1,8 @@
-use Rattle.std.proofs.Common.{arith}
-use Rattle.semver_versions.proofs.ReadTexts.{at_front, characters_of, digit_begins, none_before, short_of, whole_outlined}
+use Rattle.std.proofs.Common.{arith, sym, ◌∙◌}
+use Rattle.semver_versions.proofs.ReadTexts.{at_front, characters_of, digit_begins, none_before, short_numbers, short_of, whole_outlined}
 use Rattle.semver_versions.proofs.reader.outline_of_numbers.Goals as goal
+use Rattle.semver_versions.proofs.reader.outline_of_numbers.Goals.{else-not-is_empty-via-then-not-is_empty+else-not-is_short}
+use Rattle.semver_versions.proofs.reader.outline_of_numbers.Goals.{else-not-is_empty-via-else-not-is_empty}
 
 pub returns-then-not-is_short : goal.returns-then-not-is_short
 returns-then-not-is_short c = λ text n at w.
@@ -10,5 +12,10 @@ returns-then-not-is_short c = λ text n at w.
 pub returns : goal.returns
 returns c = λ text n at.
     whole_outlined c.args.dialect text text c.behind_numbers.result (at_front c.args.dialect text (digit_begins n))
-    (rw (characters_of text _ _ _ c.args.rest.now n c.args.numbers_end at) (c.is_short.ensures.yes c.if-not-is_short.false))
+    (elim c.else-not-is_empty.branch [
+      | else-not-is_empty-via-then-not-is_empty+else-not-is_short w ↦
+          rw (characters_of text _ _ _ c.args.rest.now n c.args.numbers_end at) (w.is_short.ensures.yes w.if-not-is_short.false)
+      | else-not-is_empty-via-else-not-is_empty w ↦
+          short_numbers text _ _ _ c.args.rest.now n c.args.dialect (sym c.is_empty.ensures ∙ w.if-not-is_empty.false)
+    ])
     (rw (none_before text _ _ _ c.args.rest.now n) (c.behind_numbers.ensures text 0 n (omega (arith, at))))
