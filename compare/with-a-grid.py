@@ -76,18 +76,28 @@ def wanted(first, second, asked):
 # ---- ranges that are answered
 
 
-def meets(it, comparator):
-    """Whether a version meets a comparator by precedence."""
-    sign = comparator[: len(comparator) - len(comparator.lstrip("<>="))]
-    at, bound = precedence(it), precedence(version(comparator[len(sign) :]))
-    return {"=": at == bound, "<": at < bound, ">=": at >= bound}[sign]
+COMPARATORS = {}
+
+
+def of_comparator(comparator):
+    """The versions of the grid that meet a comparator by precedence."""
+    if comparator not in COMPARATORS:
+        bound = comparator.lstrip("<>=")
+        sign, at = comparator[: -len(bound)], precedence(version(bound))
+        holds = {"=": lambda it: precedence(it) == at, "<": lambda it: precedence(it) < at, ">=": lambda it: precedence(it) >= at}[sign]
+        COMPARATORS[comparator] = mask(holds)
+    return COMPARATORS[comparator]
 
 
 def of_ranges(text, of_kind):
     """The versions of a kind, as bits of the grid, that meet ranges."""
-    if text == "*":
-        return of_kind
-    return of_kind & mask(lambda it: any(all(meets(it, part) for part in one.split(" ")) for one in text.split(" || ")))
+    found = 0
+    for one in text.split(" || "):
+        met = of_kind
+        for comparator in () if one == "*" else one.split(" "):
+            met &= of_comparator(comparator)
+        found |= met
+    return found
 
 
 def differs(first, second, answer):
