@@ -18,8 +18,8 @@ use Rattle.semver_versions.specs.Outlines.{OutlineValue, IsOutlineIn, IsOutlineO
 use Rattle.semver_versions.specs.Outlines.{version_of}
 use Rattle.semver_versions.specs.Steps.Reading.{IsOutlinedBy}
 use Rattle.semver_versions.proofs.KeptTexts.{dotted_kept, kept_is}
-use Rattle.semver_versions.proofs.ReadTexts.{Digit, crate_before, crate_read, digit_begins, front_len, front_of, front_then, one_version_in, read_of}
-use Rattle.semver_versions.proofs.ReadTexts.{three}
+use Rattle.semver_versions.proofs.ReadTexts.{Digit, crate_before, crate_read, digit_begins, front_len, front_of, front_then}
+use Rattle.semver_versions.proofs.ReadTexts.{one_version_in, read_of, three}
 use Rattle.semver_versions.proofs.ReadVersions.{its_numbers}
 
 -- ---- the version that an outline is of

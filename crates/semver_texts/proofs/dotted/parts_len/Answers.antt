@@ -1,4 +1,4 @@
-use Rattle.std.proofs.Common.{◌≡◌, ℕ, [], length, get_or, drop, false, sym, ap, ◌∙◌, subst, arith}
+use Rattle.std.proofs.Common.{◌≡◌, ℕ, [], length, get_or, drop, sym, ap, ◌∙◌, subst, arith}
 use Rattle.std.specs.List.{prefix_len}
 use Rattle.std.proofs.lemmas.List.{drop_all}
 use Rattle.semver_texts.specs.Texts.{Text, is_dotted_byte}
