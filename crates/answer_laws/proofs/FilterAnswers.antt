@@ -41,7 +41,7 @@ module _ (same : (dialect : Dialect) (v w : VersionValue) (text : Text) → Spel
   one_judged (Passes o) (Passes o') p q = ap Passes (p.0.2 ∙ ap (outline_behind _) (same dialect p.0.0 q.0.0 text p.0.1 q.0.1) ∙ sym q.0.2)
 
 module _ {X : Type 0} (total : IsTotalOrder precedence) (Has : X → VersionValue → Type 0) where
-  -- one that an item behind it isn't above isn't below that
+  -- one that an item after it isn't above isn't below that
   behind : (x y : X) (v w : VersionValue) → Has x v → Has y w → IsBelow precedence Has w x → (front back : List X)
       → AllByRecursion (IsNotAbove precedence Has v) (front ++ y ∷ back) → ⊥
   behind x y v w h k below [] back p = p.0 w k (total.antisymm w.plain v.plain ∙ ap ordering_reverse (below v h))

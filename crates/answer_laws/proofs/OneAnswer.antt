@@ -48,7 +48,7 @@ one_made view (Ok a) (Err e) h = inr (inr (a, refl, refl))
 one_made view (Err e) (Ok b) h = inr (inl (b, refl, refl))
 one_made view (Err e) (Err f) h = inl refl
 
--- what is answered exactly where a condition holds
+-- the result exactly where a condition holds
 pub one_found : {A : Type 0} (P : A → Type 0) (x y : Option A) → ((a : A) → (x ≡ Some a) ↔ P a) → ((a : A) → (y ≡ Some a) ↔ P a) → x ≡ y
 one_found P (Some a) y f g = sym ((g a).1 ((f a).0 refl))
 one_found P x (Some b) f g = (f b).1 ((g b).0 refl)

@@ -8,7 +8,7 @@ const LONG: usize = 250;
 pub struct Ending {
     /// How many dots it has before a pre-release and a build.
     dots: usize,
-    /// Where it begins behind its operator, and where its last number or identifier does.
+    /// Where it begins after its operator, and where its last number or identifier does.
     begin: usize,
     word: usize,
     /// Whether it has come to a pre-release, and to a build.

@@ -10,8 +10,8 @@ use tool_ranges::reading::{self, Reading};
 /// space and a number after an operator, a comma and the hyphen of a hyphen range.
 const RESTS: [&str; 5] = ["", "*", "a", "|", " 1"];
 
-/// The place of the first byte of a refused text that no range text of the reading has behind what
-/// stands before it: 4 in `1.2 || 3` as Cargo reads it. It is the length of the text where
+/// The place of the first byte of a refused text that no range text of the reading has after what
+/// is before it: 4 in `1.2 || 3` as Cargo reads it. It is the length of the text where
 /// something is missing at the end, as in `>=`.
 ///
 /// It takes time in n log n for n bytes, and memory for the comparators that are answered. `Err` is

@@ -3,7 +3,7 @@
 use std::alloc::AllocError;
 use std::fmt::{self, Display, Formatter, Write};
 
-/// How many bytes before and behind the place are shown of a long text.
+/// How many bytes before and after the place are shown of a long text.
 const REACH: usize = 32;
 
 /// What is shown of a text.
@@ -11,9 +11,9 @@ const REACH: usize = 32;
 pub struct Shown<'a> {
     /// The part that is shown.
     text: &'a str,
-    /// How much of it stands before the place.
+    /// How much of it is before the place.
     before: &'a str,
-    /// What stands for what is left out before it, and behind it.
+    /// What stands for what is left out before it, and after it.
     left_out: (&'static str, &'static str),
 }
 
@@ -61,7 +61,7 @@ impl Display for Shown<'_> {
     }
 }
 
-/// The last place between two characters that isn't behind a place.
+/// The last place between two characters that isn't after a place.
 fn boundary(text: &str, place: usize) -> usize {
     for back in 0..4 {
         let at = place.saturating_sub(back);

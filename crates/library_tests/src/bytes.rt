@@ -21,7 +21,7 @@ const BYTES: [(&[u8], Option<&str>); 14] = [
     (b"\xc2\xa01.2.3", None),
 ];
 
-/// Texts, and their parts, each with how many bytes stand in front of it.
+/// Texts, and their parts, each with how many bytes are before it.
 const PARTS: [(&str, (&str, usize), (&str, usize)); 6] = [
     ("1.2.3", ("", 0), ("", 0)),
     ("1.2.3-rc.1+b5", ("rc.1", 6), ("b5", 11)),
@@ -89,7 +89,7 @@ fn are_outlined_as(alloc: Global, bytes: &[u8], wanted: Option<&str>) -> Result<
     }
 }
 
-/// Whether a text has these parts, and tells where they begin.
+/// Whether a text has these parts, and returns where they begin.
 fn has_parts(text: &str, pre: (&str, usize), build: (&str, usize)) -> bool {
     let Some(outline) = version::outline(text) else {
         return false;
@@ -100,7 +100,7 @@ fn has_parts(text: &str, pre: (&str, usize), build: (&str, usize)) -> bool {
         && outline.build_offset() == build.1
 }
 
-/// Whether the parts of `1.2.3-rc.4+b5` are read behind its numbers, and none of `1.2.3.4`.
+/// Whether the parts of `1.2.3-rc.4+b5` are read after its numbers, and none of `1.2.3.4`.
 fn are_read_behind_numbers() -> bool {
     let Some(outline) = version::outline_of_numbers(1, 2, 3, 5, b"-rc.4+b5", Dialect::Crate) else {
         return false;
@@ -121,7 +121,7 @@ fn are_versions(bytes: &[u8], wanted: [bool; 3]) -> bool {
         && version::outline_in(bytes, Dialect::Npm).is_some() == by_npm
 }
 
-/// Whether the parts of `1.2.3-a--b+b5` are read behind its numbers as npm reads it, and none of it
+/// Whether the parts of `1.2.3-a--b+b5` are read after its numbers as npm reads it, and none of it
 /// in the crate's dialect.
 fn are_read_of_numbers() -> bool {
     let rest = b"-a--b+b5";

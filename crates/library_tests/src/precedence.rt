@@ -36,7 +36,7 @@ pub fn write_precedence(rt: &impl Print, alloc: Global) -> io::Result<()> {
     println!(rt; "precedence: {} versions", versions.len())
 }
 
-/// The versions, each with this text behind it.
+/// The versions, each with this text after it.
 fn versions_with(alloc: Global, build: &str) -> Result<Vec<Version>, AllocError> {
     let mut versions = Vec::new(alloc);
     for text in ASCENDING {

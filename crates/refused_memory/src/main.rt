@@ -243,7 +243,7 @@ fn of_long_texts(alloc: Global) -> [(&'static str, Ending); 1] {
     [("refused_at_the_end", ranges::refused_at_the_end(alloc))]
 }
 
-/// Makes as many requests as the input says, and tells how many these were.
+/// Makes as many requests as the input says, and returns how many these were.
 fn spend_requests(alloc: Global, input: &mut impl Read) -> io::Result<u32> {
     let mut digits = [0u8; 8];
     let count = input.read(&mut digits)?;

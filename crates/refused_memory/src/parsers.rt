@@ -9,7 +9,7 @@ use semver_parser::version::Identifier;
 use std::alloc::Global;
 
 /// `identifier` on `a-b-1.2/`: refused, it leaves an end part of the tokens, and the bad character
-/// behind them.
+/// after them.
 pub fn identifier(alloc: Global) -> Ending {
     let Ok(mut parser) = Parser::new("a-b-1.2/") else {
         return Ending::Wrong;
@@ -24,7 +24,7 @@ pub fn identifier(alloc: Global) -> Ending {
 }
 
 /// `version` on `1.2.3-a-b.c+d 4/`: refused, it leaves an end part of the tokens, and the bad
-/// character behind them.
+/// character after them.
 pub fn version(alloc: Global) -> Ending {
     let Ok(mut parser) = Parser::new("1.2.3-a-b.c+d 4/") else {
         return Ending::Wrong;

@@ -74,7 +74,7 @@ pub fn read_with_identifiers(alloc: Global) -> Ending {
     }
 }
 
-/// The tokens behind a version are asked for at once.
+/// The tokens after a version are asked for at once.
 pub fn more_input(alloc: Global) -> Ending {
     match version::parse(alloc, "1.2.3 a.b.c") {
         Err(Error::MoreInput(rest)) => Ending::full_if(rest.len() == 5),

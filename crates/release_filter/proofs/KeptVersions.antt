@@ -1,4 +1,4 @@
--- Versions that pass, put in front of others and kept, some at a time.
+-- Versions that pass, put before others and kept, some at a time.
 use Rattle.std.proofs.Common.{◌≡◌, ℕ, zero, suc, ◌+◌, ◌<◌, ◌≤◌, Bool, true, false, List, [], ◌∷◌, ◌++◌, map, filter, take, drop, set}
 use Rattle.std.proofs.Common.{length, get_or}
 use Rattle.std.proofs.Common.{refl, sym, ap, ap₂, ◌∙◌, subst, arith, Any, IsTrue, cond, add-zero, Some}
@@ -100,7 +100,7 @@ pub all_in_front : {X : Type 0} (p : X → Bool) (xs : List X) (places : List �
     → AreInFront p xs places count at → map (slice_get xs) (take count places) ≡ map Some (filter p xs)
 all_in_front p xs places count at low high before = before.put ∙ ap (λ l. map Some (filter p l)) (all_taken xs at low high)
 
--- what stands at a place in front
+-- what is at a place in front
 pub stands_at : {X : Type 0} (xs : List X) (places : List ℕ) (ys : List X) (i d : ℕ) (e : X) → i < length places
     → map (slice_get xs) places ≡ map Some ys → slice_get xs (get_or places i d) ≡ Some (get_or ys i e)
 stands_at xs [] ys i d e inside same = absurd (omega (arith, inside))
@@ -114,13 +114,13 @@ same_length xs places ys same = sym (length-map places (slice_get xs)) ∙ ap le
 
 -- ---- some at a time
 
--- the versions in front of the rest have been judged, and those that pass are kept
+-- the versions before the rest have been judged, and those that pass are kept
 pub record IsJudgedUpTo {X B : Type 0} (p : X → Bool) (f : B → X) (xs rest : List X) (kept : List B) : Type 0 where
   pub front : List X
   pub whole : xs ≡ front ++ rest
   pub keeps : map f kept ≡ filter p front
 
--- a list is its front and what is behind it
+-- a list is its front and what is after it
 pub cut_at : {X : Type 0} (rest some others : List X) (n : ℕ) → some ≡ take n rest → others ≡ drop n rest → rest ≡ some ++ others
 cut_at rest some others n front back = sym (take-append-drop n rest) ∙ ap₂ (λ x y. x ++ y) (sym front) (sym back)
 

@@ -1,4 +1,4 @@
--- A line that begins with three numbers, and whose end was sought behind them.
+-- A line that begins with three numbers, and whose end was sought after them.
 use Rattle.std.proofs.Common.{◌≡◌, ℕ, zero, suc, ◌+◌, ◌-◌, ◌<◌, ◌≢◌, ◌==◌, ◌||◌, Bool, true, false, List, [], ◌∷◌, ◌++◌}
 use Rattle.std.proofs.Common.{length, take, map, decimal}
 use Rattle.std.proofs.Common.{refl, sym, ap, subst, ◌∙◌, arith, append-nil, length-append, slice_index}
@@ -49,9 +49,9 @@ module _ {text rest : Text} {major minor patch : ℕ} (n : BeginsWithNumbers tex
 never_ten : (b : ℕ) → is_number_byte b ≡ true → b ≢ 10
 never_ten b e ten = absurd (not_both e (ap is_number_byte ten))
 
--- ---- what stands in front of a line's end
+-- ---- what is before a line's end
 
--- numbers in front of a whole line make one with it
+-- numbers before a whole line make one with it
 whole_behind : (front line : List ℕ) → Passes is_number_byte front → IsWholeLine line → IsWholeLine (front ++ line)
 whole_behind front line pass (some, stops, ends) = (
   omega (arith, length-append front line, some),
@@ -64,7 +64,7 @@ whole_behind front line pass (some, stops, ends) = (
     last : length (front ++ line) - 1 ≡ length front + (length line - 1)
     last = omega (arith, length-append front line, some)
 
--- a byte at the end of what stands behind is the one at the end of both
+-- a byte at the end of what is after is the one at the end of both
 strip_behind : (byte : ℕ) (front back : List ℕ) → 0 < length back → strip_last byte (front ++ back) ≡ front ++ strip_last byte back
 strip_behind byte front back some =
     by_test (ends_with_byte byte back)
@@ -90,7 +90,7 @@ strip_numbers (x ∷ []) pass = let first = pass.0 in rw (other first) refl
 strip_numbers (x ∷ y ∷ ys) pass =
     strip_behind 13 (x ∷ []) (y ∷ ys) (omega arith) ∙ ap (λ t. x ∷ t) (strip_numbers (y ∷ ys) pass.1)
 
--- so the text of a line is the numbers, and the text of what stands behind them
+-- so the text of a line is the numbers, and the text of what is after them
 text_behind : (front back : List ℕ) → Passes is_number_byte front → 0 < length back → line_text (front ++ back) ≡ front ++ line_text back
 text_behind front back pass some = ap (strip_last 13) (strip_behind 10 front back some) ∙ at (strip_last 10 back)
   where
@@ -108,7 +108,7 @@ strip_kept : (byte : ℕ) (xs : List ℕ) → is_ascii_digit (slice_index xs 0) 
     → is_ascii_digit (slice_index (strip_last byte xs) 0) ≡ false
 strip_kept byte xs other = by_test (ends_with_byte byte xs) (λ y. rw y (front_kept (length xs - 1) xs other)) (λ n. rw n other)
 
--- no line feed in numbers, and none behind them
+-- no line feed in numbers, and none after them
 pub none_before : {bytes rest : List ℕ} {major minor patch : ℕ} → BeginsWithNumbers bytes major minor patch rest → All (λ x. x ≢ 10) rest
     → All (λ x. x ≢ 10) bytes
 none_before {rest = rest} n none =
@@ -117,7 +117,7 @@ none_before {rest = rest} n none =
 
 module _ (bytes rest back : List ℕ) {major minor patch : ℕ} (n : BeginsWithNumbers bytes major minor patch rest)
     (begins : StartsWith rest back) (whole : IsWholeLine back) where
-  -- the line, up to the end of what stands behind its numbers
+  -- the line, up to the end of what is after its numbers
   abbrev line : List ℕ
   line = take (length bytes - length rest + length back) bytes
 

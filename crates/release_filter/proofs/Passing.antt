@@ -36,7 +36,7 @@ pub no_length : (xs : List ℕ) → (length xs == 0) ≡ true → xs ≡ []
 no_length [] e = refl
 no_length (x ∷ xs) e = absurd (search rules)
 
--- what is answered of a text is each version that it spells, and that passes
+-- the result of a text is each version that it spells, and that passes
 pub exactly_that : (dialect : Dialect) (test : VersionValue → Bool) (text : Text) (u : VersionValue) → IsVersionTextIn dialect text
     → ((v : VersionValue) → SpellsIn dialect v text → (test v ≡ true) × (u ≡ v)) → (v : VersionValue)
     → (Some u ≡ Some v) ↔ (SpellsIn dialect v text × IsTrue (test v))

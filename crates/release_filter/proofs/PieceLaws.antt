@@ -215,7 +215,7 @@ module _ (same : OneVersion) (total : IsTotalOrder precedence) where
 
 -- ---- a whole text
 
--- the first line, and the lines behind it
+-- the first line, and the lines after it
 lines_from : (x : ℕ) (xs : List ℕ) → lines_of (x ∷ xs) ≡ take_through 10 (x ∷ xs) ∷ lines_of (drop_through 10 (x ∷ xs))
 lines_from x [] = at (eqb x 10)
   where

@@ -13,7 +13,7 @@ Strips prefix bytes found =
     (λ x. (pointwise eqb (take (length prefix) bytes) prefix ≡ true) × (x.now ≡ drop (length prefix) bytes)
     × (length x.now + length prefix ≡ length bytes))
 
--- what stands behind the prefix, if the bytes begin with it
+-- what is after the prefix, if the bytes begin with it
 pub behind : (prefix bytes : List ℕ) (found : Option (Bor (List ℕ))) → Strips prefix bytes found
     → MatchOption found ((t : List ℕ) → ¬ (bytes ≡ prefix ++ t)) (λ x. bytes ≡ prefix ++ x.now)
 behind prefix bytes None other = λ t e. not_both ((bytes_decides (take (length prefix) bytes) prefix).1

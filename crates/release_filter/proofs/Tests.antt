@@ -66,7 +66,7 @@ first_of_both p q (x ∷ xs) e = at (p x) (q x) _ _ e (first_of_both p q xs)
     at true b c d e f = refl
     at false b c d e f = f e
 
--- the front of a list and the item behind it
+-- the front of a list and the item after it
 pub one_more : {X : Type 0} (xs : List X) (i : ℕ) (x : X) → i < length xs → x ≡ get_or xs i x → take (i + 1) xs ≡ take i xs ++ x ∷ []
 one_more xs i x inside is =
     let next : i + 1 ≡ suc i = omega arith in

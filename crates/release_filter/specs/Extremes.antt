@@ -18,7 +18,7 @@ module _ {X : Type 0} (order : PlainVersion → PlainVersion → Ordering)
   abbrev pub IsNotAbove : VersionValue → X → Type 0
   IsNotAbove v x = (w : VersionValue) → Has x w → order w.plain v.plain ≢ Greater
 
-  -- the item stands in the list and has a version that passes; those of earlier items are below it,
+  -- the item is in the list and has a version that passes; those of earlier items are below it,
   -- and none of a later item is above it. So it is the first among equals
   pub record IsGreatestBy (items : List X) (item : X) : Type 0 where
     pub version : VersionValue

@@ -58,7 +58,7 @@ impl Filter {
     ///
     /// Those of `RangeSet::parse`. `NotARange` exactly where the text isn't in the range grammar.
     /// `NumberTooLarge` exactly where it is, and a stated number or a raised bound is above
-    /// 2^64 - 1. These two take no memory; `OutOfMemory` stands in place of a filter alone.
+    /// 2^64 - 1. These two take no memory; `OutOfMemory` comes in place of a filter alone.
     pub fn new(
         alloc: Global,
         range: &str,
@@ -157,8 +157,8 @@ impl Filter {
 ///
 /// The text is read first, so its refusal doesn't depend on the versions: `NotARange` where it
 /// isn't in the range grammar, `NumberTooLarge` where it is and a stated number or a raised bound
-/// is above 2^64 - 1. `OutOfMemory` stands in place of an answer alone. Pre-releases are never
-/// among what is answered, whatever the text says.
+/// is above 2^64 - 1. `OutOfMemory` comes in place of an answer alone. Pre-releases are never
+/// among the result, whatever the text says.
 ///
 /// Each version is judged once. Memory for the answer is asked for as it grows, and not at all
 /// where no version is kept.
@@ -169,7 +169,7 @@ pub fn filter_text<'v>(
     versions: &'v [Version],
 ) -> Result<Vec<&'v Version>, RangeError>
     ensures refusals { RefusesExactly compat text.now result }
-    // What is answered is what each tree of the text keeps.
+    // The result is what each tree of the text keeps.
     ensures kept { IfOk result (λ kept. (tree : SetTree) → Spells tree text.now
         → map (λ v. v.now) kept.items ≡ kept_releases compat tree versions.now) }
 {

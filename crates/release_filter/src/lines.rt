@@ -266,7 +266,7 @@ impl Lines {
         Ok(Some((line, is_valid)))
     }
 
-    /// Takes the end of the line that has not ended, and tells whether the line is no invalid one.
+    /// Ends the line that has not ended, and returns whether it isn't an invalid one.
     /// So that a long line isn't held twice, one that is kept is handed over if nothing was
     /// appended before it.
     fn take_line(
@@ -322,7 +322,7 @@ impl Lines {
 }
 
 /// Whether a kept line may take the place of what was appended, since it is all that is: it has no
-/// byte order mark in front of it, and nothing was appended.
+/// byte order mark before it, and nothing was appended.
 fn may_hand_over(wanted: Wanted, line: &[u8], marked: &[u8], kept: &[u8]) -> bool
     ensures { result ≡ true → (wanted ≡ Wanted.Each) × (length line.now ≡ length marked.now)
         × (kept.now ≡ []) }
@@ -333,7 +333,7 @@ fn may_hand_over(wanted: Wanted, line: &[u8], marked: &[u8], kept: &[u8]) -> boo
     }
 }
 
-/// Whether a kept line may be held as it is: it has no byte order mark in front of it, and the best
+/// Whether a kept line may be held as it is: it has no byte order mark before it, and the best
 /// line is wanted.
 fn may_hold(wanted: Wanted, line: &[u8], marked: &[u8]) -> bool
     ensures { result ≡ true → ((wanted ≡ Wanted.Greatest) ⊎ (wanted ≡ Wanted.Least))
@@ -345,7 +345,7 @@ fn may_hold(wanted: Wanted, line: &[u8], marked: &[u8]) -> bool
     }
 }
 
-/// Takes a line of which a filter says this, and tells whether it is no invalid one.
+/// Takes a line of which a filter says this, and returns whether it is no invalid one.
 #[inline(always)]
 fn take(
     alloc: Global,

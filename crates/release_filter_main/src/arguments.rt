@@ -67,7 +67,7 @@ impl Options {
         Lines::new(alloc, filter, self.prefixes, self.wanted, self.is_strict)
     }
 
-    /// Takes an option, and tells whether it is known. It is refused where an earlier one has
+    /// Takes an option, and returns whether it is known. It is refused where an earlier one has
     /// settled the same.
     fn take(&mut self, rt: &impl AllocGlobal, option: &str) -> Result<bool, ArgumentError> {
         if let Some(prefix) = option.strip_prefix("--prefix=") {

@@ -23,7 +23,7 @@ pub fn write_kept<W: Write>(
 }
 
 /// Writes the versions of a list, separated by blanks, that pass a filter, or the fault of the
-/// text. Where the filter reads other ones of the texts itself, that is told behind them.
+/// text. Where the filter reads other ones of the texts itself, that is told after them.
 pub fn write_passed<W: Write>(
     alloc: Global,
     text: &str,

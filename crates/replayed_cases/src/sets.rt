@@ -43,7 +43,7 @@ pub fn write_set<W: Write>(
 }
 
 /// Writes how the sets of two texts stand to each other, or the fault of a text. The second text
-/// may have a semicolon behind it and then versions, separated by blanks: of each is written what
+/// may have a semicolon after it and then versions, separated by blanks: of each is written what
 /// it is in.
 pub fn write_pair<W: Write>(
     alloc: Global,

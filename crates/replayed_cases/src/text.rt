@@ -48,7 +48,7 @@ fn push_repeated(text: &mut String, repeated: &str) -> Result<bool, AllocError> 
     Ok(true)
 }
 
-/// Appends a text without repetitions, which stands at a place of a list or at none. False where an
+/// Appends a text without repetitions, which is at a place of a list or at none. False where an
 /// escape isn't known.
 fn push_unescaped(
     text: &mut String,

@@ -8,7 +8,7 @@ use std::alloc::Global;
 use std::io;
 use std::io::Write;
 
-/// Writes the fields of a version, or the fault that stands in its place.
+/// Writes the fields of a version, or the fault that is in its place.
 pub fn write_version<W: Write>(answer: &Result<Version, Error<'_>>, out: &mut W) -> io::Result<()> {
     match answer {
         Ok(version) => write_fields(version, out),

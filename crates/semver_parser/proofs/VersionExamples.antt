@@ -46,7 +46,7 @@ past_ascii : IsStateOf (49 ∷ 195 ∷ 169 ∷ 50 ∷ []) (record { remaining = 
 unfolding scan first_token component sign chars
 past_ascii = (195 ∷ 169 ∷ 50 ∷ [], tokens_found _ _ _ refl, refl)
 
--- on `.1/` the dot is consumed, and the number behind it isn't given
+-- on `.1/` the dot is consumed, and the number after it isn't given
 dot_one_slash : dot_component (record { remaining = token.Dot ∷ token.Numeric 1 ∷ []; pending = Some 47 })
     ≡ (Err (state.Lexer 47), record { remaining = token.Numeric 1 ∷ []; pending = Some 47 })
 dot_one_slash = refl
@@ -89,7 +89,7 @@ zero_one_prints = refl
 
 -- ---- reading
 
--- `a/`: the lookahead behind `a` is the bad character
+-- `a/`: the lookahead after `a` is the bad character
 slash_behind_word : IsOutcomeOf (codes "a/") (Err (state.Lexer 47))
 unfolding scan first_token component sign chars
 slash_behind_word = record {

@@ -17,7 +17,7 @@ use Rattle.semver_tokens.proofs.VersionSteps.{version_is_read}
 use Rattle.semver_tokens.proofs.VersionTaking.{holds_later, mark_of, sign_holds}
 use Rattle.semver_parser.proofs.WholeText.{is_no_mark, letter_no_mark, has, spelled_may_run_out}
 
--- ---- behind a mark comes a run
+-- ---- after a mark comes a run
 
 mark_leads : (mark : Part) (p q : Place) → step p (mark_of mark) ≡ Some q → (part : Part) × (q ≡ at_run part)
 mark_leads pre_release (behind_number patch) q e = (pre_release, cc)

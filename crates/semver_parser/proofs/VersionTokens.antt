@@ -46,7 +46,7 @@ run_leads : (part : Part) (run : List ℕ) → step (at_run part) (component run
 run_leads part run = component_cases run (λ t. step (at_run part) t ≡ Some (behind_run part)) (λ c. refl) (λ other. refl)
 
 module _ (text : List ℕ) where
-  -- a token, and what ends behind it
+  -- a token, and what ends after it
   one_more : (t : TokenValue) (p q : Place) (more spelled : List ℕ) (at : ℕ) → drop at text ≡ token_text text t ++ more
       → IsTokenAt text at t → continues_into t more ≡ false → step p t ≡ Some q → EndsWith text more q spelled
       → AreEnding text p (inner_text t ++ spelled) at

@@ -47,7 +47,7 @@ release a b c = filled (a ∷ b ∷ c ∷ []) []
 abbrev pub version : ℕ → ℕ → ℕ → List IdentifierValue → PlainVersion
 version a b c pre = filled (a ∷ b ∷ c ∷ []) pre
 
--- one simple as a range, and its text as a whole set: what stands before the partial, and the
+-- one simple as a range, and its text as a whole set: what is before the partial, and the
 -- partial
 abbrev pub lone : Form → PartialTree → SetTree
 lone form p = simples (record { form = form; partial = p }) [] ∷ []
@@ -211,7 +211,7 @@ pre_side_prints mode = let l : PartialTree = three (codes "1") (codes "2") (code
       refl,
     )
 
--- what stands behind a wildcard isn't stated, and may be of any size
+-- what is after a wildcard isn't stated, and may be of any size
 pub behind_wildcard : (mode : Compat)
     → IsRewritten (codes "1.*.99999999999999999999") mode (codes ">=1.0.0 <2.0.0")
 unfolding digits

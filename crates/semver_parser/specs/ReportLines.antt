@@ -35,7 +35,7 @@ range_fault_word NotARange = codes "not-a-range"
 range_fault_word NumberTooLarge = codes "number-too-large"
 range_fault_word OutOfMemory = codes "out-of-memory"
 
--- what stands behind `version: ` for a text, and whether it is no fault word
+-- what is after `version: ` for a text, and whether it is no fault word
 pub data VersionLine : Text → Bool → Text → Type 0 where
   -- the version that the text is, printed
   version_printed : (text : Text) (v : VersionValue) → IsOutcomeOf text (Ok v)
@@ -50,7 +50,7 @@ pub data VersionLine : Text → Bool → Text → Type 0 where
   version_unprinted : (text : Text) (v : VersionValue) → IsOutcomeOf text (Ok v)
       → VersionLine text false (version_fault_word fault.OutOfMemory)
 
--- what stands behind `cargo: ` and `npm: ` for a text, and whether it is no fault word
+-- what is after `cargo: ` and `npm: ` for a text, and whether it is no fault word
 pub data RangeLine : Compat → Text → Bool → Text → Type 0 where
   -- the comparators of the tree that spells the text, printed
   set_printed : (mode : Compat) (text : Text) (tree : SetTree) → Spells tree text

@@ -1,4 +1,4 @@
--- What was written to a writer that tells its bytes.
+-- What was written to a writer that returns its bytes.
 use Rattle.std.specs.Prelude.{◌≡◌, ℕ, List, ◌++◌, Option, Result, MatchResult}
 use Rattle.std.specs.Io.KnownBytes.{Appends}
 

@@ -18,7 +18,7 @@ use semver_ranges::{Compat, RangeError, RangeSet};
 use std::alloc::Global;
 use std::io::{self, Write};
 
-/// What a line shows behind its label.
+/// What a line shows after its label.
 #[derive(Drop)]
 enum Shown {
     /// A printed value.
@@ -48,7 +48,7 @@ pub fn run<W: Write>(alloc: Global, text: &str, out: &mut W) -> Result<bool, io:
     write_lines(out, &version, &cargo, &npm)
 }
 
-/// Writes the lines, and tells whether some line holds no fault word.
+/// Writes the lines, and returns whether some line holds no fault word.
 fn write_lines<W: Write>(
     out: &mut W,
     version: &Shown,

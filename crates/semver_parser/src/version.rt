@@ -26,10 +26,10 @@ use std::alloc::Global;
 /// - `UnexpectedEnd`: the text ends where a version can't, as `1.2` and the empty text.
 /// - `UnexpectedToken`: a token comes that can't come there, as the second hyphen of `1.2.3--1`, or
 ///   `AlphaNumeric("01")` in `01.0.0`.
-/// - `MoreInput`: a version is followed by something else. It holds all tokens behind the version
+/// - `MoreInput`: a version is followed by something else. It holds all tokens after the version
 ///   and its white space: `1.2.3 a.b` gives `AlphaNumeric("a")`, `Dot`, `AlphaNumeric("b")`.
 /// - `Lexer`: a character comes that begins no token. Since a token is read ahead, it is found
-///   before a fault of the token in front of it: `a/` gives `Lexer(UnexpectedChar('/'))`. Behind a
+///   before a fault of the token before it: `a/` gives `Lexer(UnexpectedChar('/'))`. Behind a
 ///   whole version it goes before `MoreInput`.
 /// - `OutOfMemory`: an allocation failed. Each identifier that isn't a number allocates, and so do
 ///   the lists of identifiers and the tokens of `MoreInput`; a text that spells a version without

@@ -35,7 +35,7 @@ told_next n xs i x rest all told after text longer within is so_far after_is lon
       texts = simp (longer_is, append_assoc) w.texts;
     }
 
--- at each place stands the pre-release, where the texts stand behind some bytes
+-- at each place stands the pre-release, where the texts are after some bytes
 places_have : (text before behind : Text) (at : ℕ) (cs : List Numbered) → text ≡ before ++ (pre_releases cs ++ behind)
     → at ≡ length before → HasPreReleases text (told_from at cs) cs
 places_have text before behind at [] is at_is = tt
@@ -44,7 +44,7 @@ places_have text before behind at (c ∷ cs) is at_is = (
   places_have text (before ++ pre_release c) behind _ cs (simp (is, append_assoc)) (simp (at_is, length-append)),
 )
 
--- where both are put, both stand at the front
+-- where both are put, both are at the front
 fronts : (a : Putting RewrittenComparator) (b : Putting ℕ) (r : ℤ) → PutsBoth a b r → r ≡ ok
     → IsAtFront a.items a.old a.new × IsAtFront b.items b.old b.new
 fronts a b r puts is = grind arith

@@ -1,4 +1,4 @@
--- The comparators of a set as they are told, and the texts of their pre-releases, one behind the
+-- The comparators of a set as they are told, and the texts of their pre-releases, one after the
 -- other.
 use Rattle.std.specs.Prelude.{◌≡◌, ℕ, ℤ, ◌+◌, List, [], ◌∷◌, ◌++◌, length, map}
 use Rattle.std.specs.List.{AllZip, flat_map}
@@ -38,7 +38,7 @@ comparators_of s = comparators_from 0 s.ranges
 abbrev pub pre_release : Numbered → Text
 pre_release c = dotted_text c.comparator.version.pre
 
--- those of comparators, one behind the other
+-- those of comparators, one after the other
 abbrev pub pre_releases : List Numbered → Text
 pre_releases cs = flat_map pre_release cs
 

@@ -41,11 +41,11 @@ pub record TellsWhich (m : Meaning) (old new : TreeOf (reading_of m)) (places : 
   pub gained : IsEmptyWithout (IsMeantAlone m new old) places.gained
   pub shared : IsEmptyWithout (IsMeantByBoth m old new) places.shared
 
--- the texts of the three, one behind the other
+-- the texts of the three, one after the other
 abbrev pub joined_texts : Comparison → Text
 joined_texts told = (text_of told.lost ++ text_of told.gained) ++ text_of told.shared
 
--- where the text of a version lies behind so many bytes; nowhere where there is none
+-- where the text of a version lies after so many bytes; nowhere where there is none
 abbrev pub place_behind : ℕ → Option Version → Part
 place_behind at None = record { offset = 0; length = 0 }
 place_behind at (Some version) =

@@ -2,12 +2,12 @@
 use Rattle.std.specs.Prelude.{◌≡◌, ◌⊎◌, ◌≤◌, ◌<◌, ◌++◌, ℕ, ℤ, List, length, drop}
 use Rattle.semver_parser_c.specs.Numbers.{ok, no_room}
 
--- the items stand at the front of the room, and nothing behind them changed
+-- the items are at the front of the room, and nothing after them changed
 abbrev pub IsAtFront : {A : Type 0} → List A → List A → List A → Type 0
 IsAtFront items old new =
     (length items ≤ length old) × (new ≡ items ++ drop (length items) old)
 
--- their number is told; the items stand at the front of the room and nothing else changed, or the
+-- their number is told; the items are at the front of the room and nothing else changed, or the
 -- room is too small and as it was
 abbrev pub Puts : {A : Type 0} → List A → List A → List A → ℕ → ℤ → Type 0
 Puts items old new told r = (told ≡ length items)
@@ -21,7 +21,7 @@ pub record Putting (A : Type 0) : Type 0 where
   pub new : List A
   pub told : ℕ
 
--- both numbers are told; each list stands at the front of its room and nothing else changed, or one
+-- both numbers are told; each list is at the front of its room and nothing else changed, or one
 -- of the rooms is too small and both are as they were
 abbrev pub PutsBoth : {A B : Type 0} → Putting A → Putting B → ℤ → Type 0
 PutsBoth a b r = (a.told ≡ length a.items) × (b.told ≡ length b.items)

@@ -19,7 +19,7 @@ use std::fmt;
 pub struct Told {
     /// The comparators, in order.
     pub comparators: Vec<RewrittenComparator>,
-    /// The texts of their pre-releases, one behind the other.
+    /// The texts of their pre-releases, one after the other.
     pub pre_releases: String,
 }
 

@@ -1,4 +1,4 @@
-//! The texts of what two sets have alone and together, one behind the other.
+//! The texts of what two sets have alone and together, one after the other.
 
 ghost use Rattle.std.specs.Prelude.{◌≡◌, ◌++◌, IfOk, OnOk, length, string_bytes};
 ghost use Rattle.version_sets.specs.declared.comparison.Comparison.{Comparison as SomeComparison};
@@ -16,7 +16,7 @@ use std::alloc::{AllocError, Global};
 use std::fmt::Write;
 use version_sets::{Comparison, VersionSet};
 
-/// The texts of three versions, one behind the other, and where each lies.
+/// The texts of three versions, one after the other, and where each lies.
 #[derive(Drop)]
 pub struct Printed {
     /// The texts.
@@ -61,7 +61,7 @@ fn print(alloc: Global, comparison: &Comparison) -> Result<Printed, AllocError>
     })
 }
 
-/// Appends the text of a version, if there is one, and tells where it lies.
+/// Appends the text of a version, if there is one, and returns where it lies.
 fn append(text: &mut String, version: &Option<Version>) -> Result<Part, AllocError>
     ensures text { OnOk result
         (string_bytes text.new ≡ string_bytes text.old ++ text_of version.now) }

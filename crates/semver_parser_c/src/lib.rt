@@ -66,7 +66,7 @@ use version_fronts::reasons::refused;
 #[repr(C)]
 #[derive(Clone, Copy)]
 pub struct Part {
-    /// How many bytes stand in front of it.
+    /// How many bytes are before it.
     pub offset: usize,
     /// How many bytes it has.
     pub length: usize,
@@ -83,9 +83,9 @@ pub struct ReadVersion {
     pub minor: u64,
     /// The third number.
     pub patch: u64,
-    /// The identifiers of the pre-release, joined by dots, without the `-` in front of them.
+    /// The identifiers of the pre-release, joined by dots, without the `-` before them.
     pub pre: Part,
-    /// The identifiers of the build, joined by dots, without the `+` in front of them.
+    /// The identifiers of the build, joined by dots, without the `+` before them.
     pub build: Part,
 }
 
@@ -243,7 +243,7 @@ pub extern "C" fn semver_parser_proved_explain_version(
 /// `<2.0.0`.
 ///
 /// `length` becomes the length of the printed set, also where `out` has no room for it (`NO_ROOM`);
-/// so a call with an empty `out` asks for the length. `out` is as it was behind the printed set,
+/// so a call with an empty `out` asks for the length. `out` is as it was after the printed set,
 /// and all of it after any answer but `OK`. `length` is as it was after a fault of the text.
 ///
 /// # Faults
@@ -288,7 +288,7 @@ pub extern "C" fn semver_parser_proved_rewrite(
 /// Rewrites a range text into plain comparators, as `semver_parser_proved_rewrite` does, and tells
 /// them as plain data: `OK` with the comparators at the front of `comparators`, and at the front of
 /// `out` the identifiers of their pre-releases, joined by dots, those of one comparator right
-/// behind those of the one before.
+/// after those of the one before.
 ///
 /// `^1.2.3-rc.1 || <2.0.0-a` gives three with exact bounds, and `rc.10a`: of range 0 `>=` 1.2.3
 /// with a pre-release at offset 0 with length 4 and `<` 2.0.0 with one at offset 4 with length 1,
@@ -297,7 +297,7 @@ pub extern "C" fn semver_parser_proved_rewrite(
 /// `count` and `length` become how many comparators and how many bytes there are, also where one of
 /// the rooms is too small (`NO_ROOM`); then both rooms are as they were. So a call with two empty
 /// rooms asks for both. After a fault of the text both rooms are as they were, and so are `count`
-/// and `length`. What is behind what was put into a room is as it was.
+/// and `length`. What is after what was put into a room is as it was.
 ///
 /// # Faults
 ///
@@ -316,7 +316,7 @@ pub extern "C" fn semver_parser_proved_comparators(
     ensures numbers { IsOneOf (number.ok ∷ number.no_room ∷ number.no_such_reading ∷ range_faults)
         result }
     // What is put into the rooms are the comparators that the text is rewritten to, in order, each
-    // with the number of its range, and the texts of their pre-releases, one behind the other.
+    // with the number of its range, and the texts of their pre-releases, one after the other.
     ensures rewritten { (result ≡ number.ok) ⊎ (result ≡ number.no_room)
         → (r : Reading) × (reading ≡ reading_number r)
         × (tree : TreeOf r) × SpellsAs r tree text.now × IsTrue (fits_as r tree)
@@ -472,7 +472,7 @@ pub extern "C" fn semver_parser_proved_meets_each(
 /// build; numbers go up to 2^64 - 1.
 ///
 /// `length` becomes the length of the text, also where `out` has no room for it (`NO_ROOM`). It is
-/// 0 exactly where the range means no version. `out` is as it was behind the text, and all of it
+/// 0 exactly where the range means no version. `out` is as it was after the text, and all of it
 /// after any answer but `OK`. `length` is as it was after a fault of the numbers or of the text.
 ///
 /// # Faults
@@ -517,7 +517,7 @@ pub extern "C" fn semver_parser_proved_least(
 // Answer: law semver_parser_c::laws::one_comparison.
 /// Compares what an old range means with what a new one means, both by the reading and by the rule
 /// for pre-releases that numbers name, as in `semver_parser_proved_meets`: `OK` with three texts at
-/// the front of `out`, one behind the other, and where each lies in `comparison`. They are the
+/// the front of `out`, one after the other, and where each lies in `comparison`. They are the
 /// least version that the old range means and the new one doesn't, the least that the new one means
 /// and the old one doesn't, and the least that both mean. Least are they by precedence (SemVer
 /// 2.0.0, section 11), and they have no build; numbers go up to 2^64 - 1.
@@ -526,7 +526,7 @@ pub extern "C" fn semver_parser_proved_least(
 ///
 /// `length` becomes the length of the three texts together and `comparison` where they lie, also
 /// where `out` has no room for them (`NO_ROOM`), so a call with an empty `out` asks which there
-/// are. `out` is as it was behind the texts, and all of it after any answer but `OK`. `length` and
+/// are. `out` is as it was after the texts, and all of it after any answer but `OK`. `length` and
 /// `comparison` are as they were after a fault of the numbers or of a text.
 ///
 /// # Faults
@@ -617,7 +617,7 @@ pub extern "C" fn semver_parser_proved_precedence(
     in_other: &mut bool,
 ) -> i32
     ensures numbers { IsOneOf (number.ok ∷ number.no_such_reading ∷ version_faults) result }
-    // What is answered is the precedence of the versions that both texts spell.
+    // The result is the precedence of the versions that both texts spell.
     ensures precedence { (d : Dialect) → IsDialect d reading → result ≡ number.ok
         → (v w : VersionValue) → SpellsIn d v version.now → SpellsIn d w other.now
         → order.new ≡ order_number (precedence v.plain w.plain) }

@@ -36,7 +36,7 @@ module _ {fit : Simple → Bool} {written : Simple → List PlainComparator} (ta
       (λ n. by_test (states_nothing l) (λ y. rw (n, y) refl) (λ m. rw (n, m, table.begun lower l) refl))
   begun_fits lower (simples first others) = refl
 
--- simples in front of events
+-- simples before events
 front_fits : (fit : Simple → Bool) (ss : List Simple) (es : List Event)
     → list_all (event_fits fit) (in_front ss es) ≡ (list_all fit ss && list_all (event_fits fit) es)
 front_fits fit [] es = refl

@@ -13,7 +13,7 @@ use Rattle.semver_ranges.specs.Steps.RangeEvents.{set_events, events, at_bars, o
 use Rattle.semver_ranges.proofs.ReadingSound.{read_sound}
 use Rattle.semver_ranges.proofs.ReadingSteps.{simples_end, simples_step, read_step}
 
--- simples in front of what is left
+-- simples before what is left
 pub put_some : (ss : List Simple) (es : List Event) → put_simples ss (Some es) ≡ Some (in_front ss es)
 put_some [] es = refl
 put_some (s ∷ ss) es = rw (put_some ss es)
@@ -23,7 +23,7 @@ put_none [] = refl
 put_none (s ∷ ss) = rw (put_none ss)
 
 module _ (d : Dialect) (lower : LowerBounds) where
-  -- a range that is read, and what is left behind it
+  -- a range that is read, and what is left after it
   onto_events : (r : RangeTree) (t : Text) (o : Option SetTree) → read d t ≡ o
       → set_events lower (onto r o) ≡ put_simples (yielded lower r) (put next_range (set_events lower o))
   onto_events r t None e = sym (put_none (yielded lower r))

@@ -55,7 +55,7 @@ sum_end d {fits = fits} table t fit ended e = at (read d t) refl e where
       let sums = found_same e in
       (r ∷ others, is, sym (set_fits table Stated (r ∷ others)) ∙ sums.0 ∙ and-true fit, omega (arith, sums.1, set_bars r others))
 
--- one range more of a set, and what is left behind it
+-- one range more of a set, and what is left after it
 pub one_range_more : (d : Dialect) (lower : LowerBounds) (fits : Simple → Bool) (written : Simple → List PlainComparator)
     (mode : Compat) (made : RangeTree → PlainRange) → ((x : RangeTree) → range_of_simples written mode (yielded lower x) ≡ made x)
     → (tree left : SetTree) (before : List PlainRange) (r : PlainRange) (cursor : Events) (at : ℕ)

@@ -23,7 +23,7 @@ flag_small true = omega arith
 flag_small false = omega arith
 
 module _ (d : Dialect) where
-  -- a simple that comes first, and what is left behind it
+  -- a simple that comes first, and what is left after it
   pub record FirstSimple (o : Option (List Event)) (simple : read.Simple) (cursor : Events) : Type 0 where
     pub s : Simple
     pub left : Option (List Event)
@@ -52,7 +52,7 @@ module _ (d : Dialect) where
   next_simple es simple cursor (one_simple s, Some behind, is, has, e) = record { s = s; behind = behind; is = is; has = has; whole = cc }
   next_simple es simple cursor (next_range, left, is, has, e) = absurd is
 
-  -- no simple comes first: the range is at its end, and behind it are the others
+  -- no simple comes first: the range is at its end, and after it are the others
   pub record RangeEnd (es : List Event) (cursor : Events) : Type 0 where
     pub simples : range_simples es ≡ []
     pub has : HasLeft d cursor (Some (range_others es))

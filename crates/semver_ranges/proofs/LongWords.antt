@@ -86,7 +86,7 @@ joined_cut : (t : Text) → join_with_byte 46 (cut_at_dots t) ≡ t
 joined_cut [] = refl
 joined_cut (b ∷ t) = join_with_byte-slice_split 46 (b ∷ t)
 
--- parts behind a mark of one byte
+-- parts after a mark of one byte
 marked_is : (mark : ℕ) (xs : List Text) (t : Text) → xs ≡ cut_at_dots t → length (marked (mark ∷ []) xs) ≡ marked_length t
 marked_is mark [] [] e = refl
 marked_is mark [] (b ∷ t) e =

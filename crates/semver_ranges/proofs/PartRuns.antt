@@ -10,7 +10,7 @@ use Rattle.semver_texts.proofs.PartRuns.{runs_ahead}
 use Rattle.semver_ranges.specs.Steps.Reading.{front, back}
 use Rattle.semver_ranges.specs.Steps.CursorViews.{marked_parts}
 
--- the front is what stands before the first byte that doesn't pass
+-- the front is what is before the first byte that doesn't pass
 front_taken : (p : ℕ → Bool) (t : Text) → (front p t ≡ take (prefix_len p t) t) × (back p t ≡ drop (prefix_len p t) t)
 front_taken p [] = (refl, refl)
 front_taken p (b ∷ t) = let rest = front_taken p t in
@@ -20,7 +20,7 @@ some_parts : (t : Text) → list_all is_part (slice_split is_dot t) ≡ true →
 some_parts [] e = cc
 some_parts (b ∷ t) e = refl
 
--- ---- the parts behind a mark
+-- ---- the parts after a mark
 
 pub parts_found : (mark : ℕ) (t inner rest : Text) → marked_part Any mark t ≡ Some (inner, rest)
     → (marked_parts mark t ≡ Some (cut_at_dots inner, rest)) × (list_all is_part (cut_at_dots inner) ≡ true)

@@ -1,4 +1,4 @@
--- Printed sets read back, and what is answered is printable.
+-- Printed sets read back, and the result is printable.
 use Rattle.std.proofs.Common.{◌≡◌, ℕ, zero, suc, ◌<◌, Bool, true, false, not, List, [], ◌∷◌, ◌++◌}
 use Rattle.std.proofs.Common.{map, codes, refl, sym, None, All, append_assoc, append-nil, decimal, get_or, arith}
 use Rattle.std.proofs.lemmas.Bool.{and_from, ltb-true}
@@ -163,7 +163,7 @@ module _ (bound_pre : List IdentifierValue) (mode : Compat) where
   comparators_fit [] e = refl
   comparators_fit (c ∷ cs) e = grind (arith, comparator_fits c, comparators_fit cs)
 
-  -- what a tree of a range says, and one of a set, the first range behind some blanks
+  -- what a tree of a range says, and one of a set, the first range after some blanks
   record Again (spells : Type 0) (again : Type 0) (fitting : Bool) : Type 0 where
     spelled : spells
     same : again

@@ -1,4 +1,4 @@
--- Whether a pre-release or a build stands behind three components.
+-- Whether a pre-release or a build is after three components.
 use Rattle.std.proofs.lemmas.Bool.Decides.{nat_tests}
 use Rattle.std.proofs.Common.{arith}
 use Rattle.std.proofs.Common.{◌≡◌, not, List, [], ◌∷◌, ◌++◌, codes, Some}
@@ -7,7 +7,7 @@ use Rattle.semver_texts.specs.Texts.{Text, is_empty, is_dotted_byte, marked}
 use Rattle.semver_ranges.specs.Steps.Reading.{front, behind_three, begins_qualifier}
 use Rattle.semver_texts.proofs.PartRuns.{pieces}
 
--- what stands behind three components is some qualifier exactly where the mark of one stands there
+-- what is after three components is some qualifier exactly where the mark of one is there
 pub qualified : (a b c : Text) (pre build : List Text) (t u : Text) → behind_three a b c t ≡ Some (three a b c pre build, u)
     → begins_qualifier t ≡ not (is_empty (marked (codes "-") pre ++ marked (codes "+") build))
 qualified a b c pre build [] u e = grind arith

@@ -75,7 +75,7 @@ module _ (d : Dialect) where
   gap_ends [] t (some, h) = cc
   gap_ends (b ∷ gap) t (some, h) = grind arith
 
-  -- simples: the first, and the others behind it
+  -- simples: the first, and the others after it
   record Simples (first : Simple) (others : List Simple) (t u : Text) : Type 0 where
     rest : Text
     head : simple d t ≡ Some (first, rest)

@@ -1,4 +1,4 @@
--- What the reader finds at the front of a text stands there: components, parts, partials, operators and simples.
+-- What the reader finds at the front of a text is there: components, parts, partials, operators and simples.
 use Rattle.std.proofs.Common.{◌≡◌, ℕ, Bool, true, false, ◌&&◌, ◌||◌, ◌==◌, ◌⊎◌, List, [], ◌∷◌, ◌++◌, codes, refl, sym, ap, ◌∙◌, inl}
 use Rattle.std.proofs.Common.{arith, inr, Option, Some, None, append_assoc, ◌-◌, length, length-append, subst}
 use Rattle.std.proofs.lemmas.Bool.{and_parts, or_left, eqb-true}
@@ -45,7 +45,7 @@ component_sound [] = tt
 component_sound (b ∷ t) = let back = front-back is_ascii_digit t in
     grind (arith, nat_tests, digits (front is_ascii_digit t) (front_all is_ascii_digit t))
 
--- parts behind their mark
+-- parts after their mark
 abbrev PartsAt : Text → Option (List Text × Text) → Type 0
 PartsAt t None = Unit {0}
 PartsAt t (Some found) = (list_all is_part found.0 ≡ true) × ((mark : ℕ) → mark ∷ t ≡ marked (mark ∷ []) found.0 ++ found.1)
@@ -63,7 +63,7 @@ abbrev pub PartialAt : Text → Option (PartialTree × Text) → Type 0
 PartialAt t None = Unit {0}
 PartialAt t (Some found) = (w : Text) × SpellsPartial found.0 w × (t ≡ w ++ found.1)
 
--- behind components that are joined by dots
+-- after components that are joined by dots
 abbrev Behind : List Text → Text → Option (PartialTree × Text) → Type 0
 Behind cs t o = list_all is_component cs ≡ true → PartialAt (join_with_byte 46 cs ++ t) o
 
@@ -145,7 +145,7 @@ partial_starts (one a) t (h, k, e) = rw e (component_starts a [] (grind arith))
 partial_starts (two a b) t (h, k, e) = rw (e, append_assoc) (component_starts a _ (grind arith))
 partial_starts (three a b c pre build) t (h, k, e) = rw (e, append_assoc) (component_starts a _ (grind arith))
 
--- a word: a partial behind what may stand in front of it
+-- a word: a partial after what may are before it
 pub record Word (d : Dialect) (role : Role) (p : PartialTree) (t : Text) : Type 0 where
   pub front : Text
   pub back : Text
@@ -196,7 +196,7 @@ WordAt d role t None = Unit {0}
 WordAt d role t (Some found) =
     (w : Text) × SpellsWord d role found.0 w × (t ≡ w ++ found.1) × (ends_word d found.1 ≡ true)
 
--- how long what stands before a rest is
+-- how long what is before a rest is
 pub length_before : (t w u : Text) → t ≡ w ++ u → length t - length u ≡ length w
 length_before t w u e = omega (arith, simp length-append at (ap length e))
 
@@ -230,7 +230,7 @@ module _ (d : Dialect) where
   pub partial_sound : (role : Role) (t : Text) → WordAt d role t (partial d role t)
   partial_sound role t = let u = behind_v d t in word_sound role t _ (first_sound u _ (component_sound u))
 
-  -- an operator: its sign, and the blanks behind it
+  -- an operator: its sign, and the blanks after it
   abbrev pub FormAt : Text → Form × Text → Type 0
   FormAt t found = (w : Text) × SpellsForm d found.0 w × (t ≡ w ++ found.1)
 
@@ -273,7 +273,7 @@ module _ (d : Dialect) where
       (λ e. rw (eqb-true b 94 e) (signed (codes "^") t))
       (λ n5. rw (n1, n2, n3, n4, n5) ([], refl, refl))))))
 
-  -- a gap parts what stands before it from what follows: it has a blank, or the range ends there
+  -- a gap parts what is before it from what follows: it has a blank, or the range ends there
   abbrev pub IsGap : Text → Text → Type 0
   IsGap gap t = AreBlanks d gap × ((is_empty gap ≡ false) ⊎ (ends_range t ≡ true))
 
@@ -281,7 +281,7 @@ module _ (d : Dialect) where
   gap_parts [] e = (refl, inr refl)
   gap_parts (b ∷ t) e = grind (arith, front_all (is_blank d) t)
 
-  -- a simple, and the gap behind it
+  -- a simple, and the gap after it
   abbrev pub SimpleAt : Text → Option (Simple × Text) → Type 0
   SimpleAt t None = Unit {0}
   SimpleAt t (Some found) = (w : Text) × (gap : Text) × SpellsSimple d found.0 w × IsGap gap found.1 × (t ≡ w ++ (gap ++ found.1))

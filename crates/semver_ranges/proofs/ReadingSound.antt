@@ -33,7 +33,7 @@ no_end : (t : Text) → begins_with 45 t ≡ true → ends_range t ≡ false
 no_end [] e = cc
 no_end (b ∷ t) e = grind (arith, nat_tests)
 
--- what stands behind two bars
+-- what is after two bars
 abbrev BarsAt : Text → Option Text → Type 0
 BarsAt t None = Unit {0}
 BarsAt t (Some u) = t ≡ codes "||" ++ u
@@ -44,7 +44,7 @@ bars_sound (b ∷ []) = tt
 bars_sound (b ∷ c ∷ t) = grind (arith, nat_tests)
 
 module _ (d : Dialect) where
-  -- a first simple and the others that are found behind it and its gap
+  -- a first simple and the others that are found after it and its gap
   abbrev SimplesAt : Simple → Text → Option (List Simple × Text) → Type 0
   SimplesAt s t None = Unit {0}
   SimplesAt s t (Some found) =
@@ -74,7 +74,7 @@ module _ (d : Dialect) where
       (λ e. rw e (w, gap, spelled, parts.0, refl))
       (λ e. rw e (next_sound s w gap t _ _ (simples_sound n) spelled (some_blanks gap t parts e) (simple_sound d t)))
 
-  -- a range behind the blanks at the front of a text, and the blanks behind it
+  -- a range after the blanks at the front of a text, and the blanks after it
   abbrev RangeAt : Text → Option (RangeTree × Text) → Type 0
   RangeAt t None = Unit {0}
   RangeAt t (Some found) = (inner : Text) × (after : Text) × SpellsRange d found.0 inner × AreBlanks d after

@@ -14,7 +14,7 @@ use Rattle.semver_ranges.specs.Steps.Reading.{with_others, behind_first, range, 
 use Rattle.semver_ranges.specs.Steps.Reading.{some_ranges, read}
 use Rattle.semver_texts.proofs.Lists.{by_test}
 
--- what is left behind an answer is at most so long
+-- what is left after an answer is at most so long
 abbrev Leaves : {X : Type 0} → ℕ → Option (X × Text) → Type 0
 Leaves n None = Unit {0}
 Leaves n (Some found) = length found.1 ≤ n
@@ -129,7 +129,7 @@ module _ (d : Dialect) where
       leaves None h = tt
       leaves (Some found) h = h.short
 
-  -- two readers of the rest that agree on shorter texts agree behind a simple
+  -- two readers of the rest that agree on shorter texts agree after a simple
   agree_simples : (f g : Text → Option (List Simple × Text)) (t : Text) → ((u : Text) → length u < length t → f u ≡ g u)
       → (o : Option (Simple × Text)) → simple d t ≡ o → behind_simple f o ≡ behind_simple g o
   agree_simples f g t h None e = refl
@@ -148,7 +148,7 @@ module _ (d : Dialect) where
   pub simples_step : (t : Text) → ends_range t ≡ false → all_simples d t ≡ behind_simple (all_simples d) (simple d t)
   simples_step t e = rw e (agree_simples _ (all_simples d) t (λ u l. enough_simples (length t) (suc (length u)) u l (omega arith)) _ refl)
 
-  -- two readers of the rest that agree on shorter texts agree behind a range
+  -- two readers of the rest that agree on shorter texts agree after a range
   agree_behind : (f g : Text → Option SetTree) (n : ℕ) → ((t : Text) → length t < n → f t ≡ g t) → (o : Option (RangeTree × Text))
       → Leaves n o → behind_range f o ≡ behind_range g o
   agree_behind f g n h None l = refl

@@ -217,7 +217,7 @@ module _ (d : Dialect) where
   ]
   operator_read _ sign t (blanks, h, text) e = rw (text, blanks_behind blanks t h (no_blank t e))
 
-  -- a simple, and the blanks behind it
+  -- a simple, and the blanks after it
   pub simple_read : (s : Simple) (w gap u : Text) → SpellsSimple d s w → AreBlanks d gap → ends_word d (gap ++ u) ≡ true
       → stops (is_blank d) u ≡ true → simple d (w ++ (gap ++ u)) ≡ Some (s, u)
   simple_read s w gap u (sign, text, form, spelled, whole) blanks ends first =

@@ -19,7 +19,7 @@ use Rattle.semver_ranges.specs.Terms.{Term, of_simple, of_nothing, terms}
 abbrev pub agrees : ℕ → List ℕ → PlainVersion → Bool
 agrees n s v = starts_with nat_eq (numbers v) (take n s)
 
--- stated numbers and a version's, side by side: the same, and behind a 0 the next ones too
+-- stated numbers and a version's, side by side: the same, and after a 0 the next ones too
 abbrev pub agrees_past_zeros : List ℕ → List ℕ → Bool
 agrees_past_zeros [] others = true
 agrees_past_zeros (n ∷ rest) [] = false

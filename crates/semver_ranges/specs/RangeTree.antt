@@ -14,17 +14,17 @@ use Rattle.semver_texts.specs.Texts.{marked}
 use Rattle.semver_ranges.specs.NpmLengths.{is_short_number, is_short_pre, is_short_build}
 use Rattle.semver_ranges.specs.NpmLengths.{is_short_version}
 
--- a partial: one to three components; behind three, the parts of a pre-release and of a build
+-- a partial: one to three components; after three, the parts of a pre-release and of a build
 pub data PartialTree : Type 0 where
   one : Text → PartialTree
   two : Text → Text → PartialTree
   three : Text → Text → Text → List Text → List Text → PartialTree
 
--- what stands before a partial: nothing, or one of seven operators
+-- what is before a partial: nothing, or one of seven operators
 pub data Form : Type 0 where
   bare equal less at_most greater at_least tilde caret : Form
 
--- a partial and what stands before it
+-- a partial and what is before it
 pub record Simple : Type 0 where
   pub form : Form
   pub partial : PartialTree
@@ -117,14 +117,14 @@ states_three (one a) = false
 states_three (two a b) = false
 states_three (three a b c pre build) = not (is_wildcard a || (is_wildcard b || is_wildcard c))
 
--- what a word, which is a partial's text in a range, stands behind: what is before it in a simple,
+-- what a word, which is a partial's text in a range, is after: what is before it in a simple,
 -- nothing at the left of a hyphen range, and the hyphen at its right
 pub data Role : Type 0 where
   behind_form : Form → Role
   behind_hyphen : Role
 
 -- whether node-semver takes a word of three stated numbers over into its comparator with its `v`
--- and its build: not behind `~` and `^`, and not behind a hyphen if it has a pre-release
+-- and its build: not after `~` and `^`, and not after a hyphen if it has a pre-release
 abbrev pub is_taken_whole : Role → PartialTree → Bool
 is_taken_whole (behind_form tilde) p = false
 is_taken_whole (behind_form caret) p = false
@@ -148,7 +148,7 @@ is_short_word role p n = has_short_parts p && has_short_version role p n
 abbrev pub is_word_of_npm : Role → PartialTree → ℕ → Bool
 is_word_of_npm role p n = has_no_leading_zeros p && is_short_word role p n
 
--- a word: to npm one `v` may stand in front of the partial
+-- a word: to npm one `v` may are before the partial
 abbrev pub SpellsWord : Dialect → Role → PartialTree → Text → Type 0
 SpellsWord Crate role p t = SpellsPartial p t
 SpellsWord Cargo role p t = SpellsPartial p t
@@ -159,7 +159,7 @@ SpellsWord Npm role p t = (front : Text) × (back : Text) × ((front ≡ []) ⊎
 abbrev pub IsSignAndBlanks : Dialect → Text → Text → Type 0
 IsSignAndBlanks d sign t = (blanks : Text) × AreBlanks d blanks × (t ≡ sign ++ blanks)
 
--- what stands before the partial: nothing, or the operator's sign and any blanks; `~>` is `~`
+-- what is before the partial: nothing, or the operator's sign and any blanks; `~>` is `~`
 abbrev pub SpellsForm : Dialect → Form → Text → Type 0
 SpellsForm d bare t = t ≡ []
 SpellsForm d equal t = IsSignAndBlanks d (codes "=") t
@@ -170,7 +170,7 @@ SpellsForm d at_least t = IsSignAndBlanks d (codes ">=") t
 SpellsForm d tilde t = IsSignAndBlanks d (codes "~") t ⊎ IsSignAndBlanks d (codes "~>") t
 SpellsForm d caret t = IsSignAndBlanks d (codes "^") t
 
--- a simple's text: what stands before the partial, and the partial's
+-- a simple's text: what is before the partial, and the partial's
 abbrev pub SpellsSimple : Dialect → Simple → Text → Type 0
 SpellsSimple d s t =
     (front : Text) × (back : Text) × SpellsForm d s.form front

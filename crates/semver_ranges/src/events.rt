@@ -21,7 +21,7 @@ use crate::range_set::RangeError;
 use semver_texts::dialect::Dialect;
 use semver_texts::dotted::behind_mark;
 
-/// What stands next in a range text.
+/// What is next in a range text.
 #[derive(Clone, Copy)]
 pub enum Event<'input> {
     /// A simple of the range. An empty range is a bare wildcard, and a hyphen range `>=` of its
@@ -90,7 +90,7 @@ impl<'input> Events<'input> {
         }
     }
 
-    /// Goes on behind the event at the front of the text; none where the text isn't in the grammar.
+    /// Goes on after the event at the front of the text; none where the text isn't in the grammar.
     #[inline(always)]
     fn read_event(&mut self, dialect: Dialect) -> Option<Event<'input>>
         requires alone { self.old.upper ≡ None }
@@ -109,7 +109,7 @@ impl<'input> Events<'input> {
         Some(Event::Simple(Simple::wildcard()))
     }
 
-    /// Goes on behind two bars.
+    /// Goes on after two bars.
     #[inline(always)]
     fn read_bars(&mut self, dialect: Dialect) -> Option<Event<'input>>
         requires alone { self.old.upper ≡ None }
@@ -123,7 +123,7 @@ impl<'input> Events<'input> {
         Some(Event::NextRange)
     }
 
-    /// Goes on behind a simple, or behind a hyphen range, which begins its range and is yielded in
+    /// Goes on after a simple, or after a hyphen range, which begins its range and is yielded in
     /// two.
     #[inline(always)]
     fn read_in_range(&mut self, begins_range: bool, dialect: Dialect) -> Option<Event<'input>>
@@ -143,7 +143,7 @@ impl<'input> Events<'input> {
         }
     }
 
-    /// Goes on behind a hyphen range, whose left side and hyphen were read.
+    /// Goes on after a hyphen range, whose left side and hyphen were read.
     #[inline(always)]
     fn read_sides(
         &mut self,

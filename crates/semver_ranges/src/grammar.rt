@@ -1,4 +1,4 @@
-//! What stands at the front of a range text: a simple, or the right side of a hyphen range.
+//! What is at the front of a range text: a simple, or the right side of a hyphen range.
 //!
 //! Nothing here takes memory, and a call looks at each byte a fixed number of times. What can't be
 //! read is `None`.
@@ -40,7 +40,7 @@ use semver_texts::dotted::{Hyphens, behind_mark, have_no_leading_zeros, marked_p
 /// A word of so many bytes is never too long to npm.
 const SHORT: usize = 250;
 
-/// What stands before a partial: nothing, or an operator.
+/// What is before a partial: nothing, or an operator.
 #[derive(Clone, Copy, PartialEq, Eq)]
 pub enum Form {
     /// Nothing.
@@ -61,19 +61,19 @@ pub enum Form {
     Caret,
 }
 
-/// What a word stands behind, which is a partial and its `v`.
+/// What a word is after, which is a partial and its `v`.
 #[derive(Clone, Copy)]
 pub(crate) enum Role {
-    /// What stands before it in a simple, or nothing at the left of a hyphen range.
+    /// What is before it in a simple, or nothing at the left of a hyphen range.
     BehindForm(Form),
     /// The hyphen of a hyphen range.
     BehindHyphen,
 }
 
-/// A partial and what stands before it.
+/// A partial and what is before it.
 #[derive(Clone, Copy)]
 pub struct Simple<'input> {
-    /// What stands before it.
+    /// What is before it.
     pub form: Form,
     /// The partial.
     pub partial: Partial<'input>,
@@ -93,7 +93,7 @@ impl<'input> Simple<'input> {
     }
 }
 
-/// The right side of a hyphen range behind its hyphen, up to the end of the range, and what follows
+/// The right side of a hyphen range after its hyphen, up to the end of the range, and what follows
 /// it.
 #[inline(always)]
 pub(crate) fn read_right_side(behind: &[u8], dialect: Dialect) -> Option<(Partial<'_>, &[u8])>
@@ -110,7 +110,7 @@ pub(crate) fn read_right_side(behind: &[u8], dialect: Dialect) -> Option<(Partia
     }
 }
 
-/// The simple at the front of a text, and what follows it and the blanks behind it; none where
+/// The simple at the front of a text, and what follows it and the blanks after it; none where
 /// there is none.
 #[inline(always)]
 pub(crate) fn read_simple(text: &[u8], dialect: Dialect) -> Option<(Simple<'_>, &[u8])>
@@ -168,7 +168,7 @@ pub(crate) fn behind_v(text: &[u8], dialect: Dialect) -> &[u8]
     }
 }
 
-/// Whether the word is read that stands before a rest.
+/// Whether the word is read that is before a rest.
 #[inline(always)]
 fn takes(text: &[u8], rest: &[u8], written: &Components<'_>, dialect: Dialect, role: Role) -> bool
     requires { (p : PartialTree) × IsBefore dialect p text.now rest.now }
@@ -189,7 +189,7 @@ fn has_no_leading_zeros(written: &Components<'_>) -> bool
     written.count < 3 || have_no_leading_zeros(written.pre)
 }
 
-/// Whether the word isn't too long to npm that stands before a rest.
+/// Whether the word isn't too long to npm that is before a rest.
 #[inline(always)]
 fn is_short(text: &[u8], rest: &[u8], role: Role) -> bool
     requires { (p : PartialTree) × IsBefore dialect.Npm p text.now rest.now }
@@ -252,7 +252,7 @@ fn begins_qualifier(text: &[u8]) -> bool
     matches!(text, [b'-' | b'+', ..])
 }
 
-/// The pre-release at the front of a text and the build behind it, each where it is there, and what
+/// The pre-release at the front of a text and the build after it, each where it is there, and what
 /// follows them.
 #[inline(always)]
 fn read_qualifier(text: &[u8]) -> Option<(&[u8], &[u8], &[u8])>
@@ -291,7 +291,7 @@ fn read_component(text: &[u8]) -> Option<(Component, &[u8])>
 }
 
 /// The value of a first digit and the digits at the front of a text, and what follows them. One
-/// digit alone is told first, for speed: so the loop runs for longer numbers only.
+/// digit alone is read first, for speed: so the loop runs for longer numbers only.
 #[inline(always)]
 fn read_digits(first: u64, text: &[u8]) -> (Option<u64>, &[u8])
     requires { first < 10 }

@@ -39,11 +39,11 @@ pub struct Components<'input> {
     pub patch: Component,
     /// How many are written.
     pub count: usize,
-    /// The parts of the pre-release behind three, joined by dots.
+    /// The parts of the pre-release after three, joined by dots.
     pub pre: &'input [u8],
     /// Those of the build.
     pub build: &'input [u8],
-    /// Whether a pre-release or a build is written behind three.
+    /// Whether a pre-release or a build is written after three.
     pub is_qualified: bool,
 }
 
@@ -86,7 +86,7 @@ pub enum LowerBounds {
     Lowest,
 }
 
-/// The numbers that a partial states, with zeros for the others, and its pre-release behind three,
+/// The numbers that a partial states, with zeros for the others, and its pre-release after three,
 /// as a slice of the text.
 #[derive(Clone, Copy)]
 pub struct Partial<'input> {
@@ -101,7 +101,7 @@ pub struct Partial<'input> {
 impl<'input> Partial<'input> {
     // Answer: equation.
     /// The partial of three components, of which those that aren't there are wildcards, and of the
-    /// parts of a pre-release, which count behind three numbers alone.
+    /// parts of a pre-release, which count after three numbers alone.
     #[inline(always)]
     pub fn new(
         major: Component,
@@ -270,7 +270,7 @@ impl<'input> Partial<'input> {
     }
 
     // Answer: equation.
-    /// Whether a pre-release is stated behind three numbers.
+    /// Whether a pre-release is stated after three numbers.
     #[inline(always)]
     pub fn has_pre_release(&self) -> bool
         ensures { result ≡ not (is_empty (version_of self.now).pre) }
@@ -346,7 +346,7 @@ impl<'input> Partial<'input> {
 
     // Answer: equation.
     /// Below the bound above all versions with these numbers up to a place: that number is raised
-    /// by one, and those behind it are 0.
+    /// by one, and those after it are 0.
     #[inline(always)]
     pub fn raised(
         &self,

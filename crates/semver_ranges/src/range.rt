@@ -70,7 +70,7 @@ impl fmt::Display for Op {
 
     ghost output = { λ op. Some (op_text op) };
 
-    /// Writes the operator as it stands in a range text: `Op::Gte` as `>=`. It takes no memory, and
+    /// Writes the operator as it is in a range text: `Op::Gte` as `>=`. It takes no memory, and
     /// its only fault is the writer's.
     fn fmt<W: fmt::Write>(&self, f: &mut fmt::Formatter<W>) -> fmt::Result {
         f.write_str(match self {

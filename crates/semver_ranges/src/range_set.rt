@@ -67,7 +67,7 @@ impl RangeSet {
     ///
     /// The text is one or more ranges separated by `||`. A range is nothing, one or more simples
     /// separated by blanks, or two partials round a hyphen between blanks; a simple is a partial
-    /// behind `=`, `<`, `<=`, `>`, `>=`, `~`, `~>`, `^` or no operator. A blank is a space or a
+    /// after `=`, `<`, `<=`, `>`, `>=`, `~`, `~>`, `^` or no operator. A blank is a space or a
     /// tab. `docs/GRAMMAR.md` states the whole grammar, and `docs/MEANING.md` which comparators
     /// stand for which simple, and what they mean.
     ///
@@ -91,10 +91,10 @@ impl RangeSet {
     ///   partial, or an upper bound that is raised by one, is above 2^64 - 1, as
     ///   `<=18446744073709551615`.
     /// - `OutOfMemory` if an allocation failed. The first two answers take no memory, so this
-    ///   one stands in place of a set alone.
+    ///   one comes in place of a set alone.
     pub fn parse(alloc: Global, input: &str, compat: Compat) -> Result<RangeSet, RangeError>
         // What isn't in the grammar and what is too large is refused, exactly; all else is read.
-        // What is answered is what each tree of the text is rewritten to, in this mode.
+        // The result is what each tree of the text is rewritten to, in this mode.
         ensures refusals { RefusesExactly compat input.now result }
         ensures as_rewritten { IfOk result (λ set. (tree : SetTree) → Spells tree input.now
             → set_of set ≡ rewritten compat tree) }
@@ -113,7 +113,7 @@ impl RangeSet {
             → Spells tree input.now → IsTrue (meets_tree compat tree v) →
             IsTrue (meets_set v (set_of set))) }
 
-        // What is answered is printable, and the text of a printable set in this mode gives that
+        // The result is printable, and the text of a printable set in this mode gives that
         // set again.
         ensures printable { IfOk result (λ set. IsPrintableSet (set_of set)) }
         ensures reads_back { (s : PlainSet) → IsPrintableSet s → s.compat ≡ compat
@@ -138,11 +138,11 @@ impl RangeSet {
     ///
     /// # Errors
     ///
-    /// Those of `RangeSet::parse`, for the same texts. `OutOfMemory` stands in place of a set
+    /// Those of `RangeSet::parse`, for the same texts. `OutOfMemory` comes in place of a set
     /// alone.
     pub fn parse_exact(alloc: Global, input: &str, compat: Compat) -> Result<RangeSet, RangeError>
         // What isn't in the grammar and what is too large is refused, exactly; all else is read.
-        // What is answered is what each tree of the text is rewritten to exactly, in this mode.
+        // The result is what each tree of the text is rewritten to exactly, in this mode.
         ensures refusals { RefusesExactly compat input.now result }
         ensures as_rewritten { IfOk result (λ set. (tree : SetTree) → Spells tree input.now
             → set_of set ≡ rewritten_exactly compat tree) }
@@ -152,7 +152,7 @@ impl RangeSet {
             → Spells tree input.now →
             meets_set v (set_of set) ≡ meets_tree compat tree v) }
 
-        // What is answered is printable, and its text is a range text that `RangeSet::parse`
+        // The result is printable, and its text is a range text that `RangeSet::parse`
         // rewrites to that set again.
         ensures printable { IfOk result (λ set. IsPrintableSet (set_of set)) }
         ensures reads_back { IfOk result (λ set. (tree : SetTree)

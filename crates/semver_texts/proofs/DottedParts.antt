@@ -96,7 +96,7 @@ abbrev pub size_behind : Option (Bor Text) → ℕ
 size_behind None = 0
 size_behind (Some rest) = length rest.now + 1
 
--- the bytes are a part and its dot, and what is behind it, if anything is
+-- the bytes are a part and its dot, and what is after it, if anything is
 abbrev pub IsSplit : Text → Text → Option (Bor Text) → Type 0
 IsSplit bytes part behind = MatchOption behind ((slice_split is_dot bytes ≡ part ∷ []) × (bytes ≡ part))
     (λ behind. (slice_split is_dot bytes ≡ part ∷ slice_split is_dot behind.now) × (bytes ≡ part ++ 46 ∷ behind.now))

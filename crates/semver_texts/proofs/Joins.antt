@@ -12,7 +12,7 @@ pub flat_map_step : {X : Type 0} (f : X → Text) (xs : List X) (i : ℕ) (x : X
 flat_map_step f xs i x within is =
     flat_map_more f [] (take i xs) x ∙ ap (flat_map f) (ap (λ y. take i xs ++ y ∷ []) is ∙ sym (take_more xs i x within))
 
--- the first item, and each other behind the separator
+-- the first item, and each other after the separator
 joined_first : {X : Type 0} (f : X → Text) (separator : Text) (x : X) (xs : List X)
     → f x ++ flat_map (λ y. separator ++ f y) xs ≡ joined separator (map f (x ∷ xs))
 joined_first f separator x [] = append-nil (f x)

@@ -77,7 +77,7 @@ prefix_is p [] [] all past stop = refl
 prefix_is p [] (y ∷ ys) all past stop = rw stop
 prefix_is p (x ∷ xs) ys all past stop = rw (all.0, prefix_is p xs ys all.1 past stop, one-add)
 
--- texts that pass, joined by a byte that does, and behind a mark
+-- texts that pass, joined by a byte that does, and after a mark
 pub joined_pass : (p : ℕ → Bool) (between : ℕ) → p between ≡ true → (xs : List (List ℕ)) → AllByRecursion (Passes p) xs
     → Passes p (join_with_byte between xs)
 joined_pass p between here [] all = tt

@@ -142,7 +142,7 @@ number_read text rest n len digit no_zero small is count left =
 pub too_large : (text : List ℕ) → 2 ^ 64 ≤ digits_value 10 (digits_front text) → (n : ℕ) (rest : List ℕ) → ¬ (BeginsWithNumber text n rest)
 too_large text large n rest w = absurd (omega (arith, large, (front_canonical text n rest w).1.small))
 
--- where no digit stands at the front, where a zero stands before a digit, and where a digit stands alone
+-- where no digit is at the front, where a zero is before a digit, and where a digit is alone
 pub no_digit : (text : List ℕ) → is_ascii_digit (slice_index text 0) ≡ false → (n : ℕ) (rest : List ℕ)
     → ¬ (BeginsWithNumber text n rest)
 no_digit [] other n rest w = absurd (omega (arith, (front_canonical [] n rest w).0))

@@ -84,7 +84,7 @@ joined between [] = []
 joined between (t ∷ []) = t
 joined between (t ∷ next ∷ others) = t ++ between ++ joined between (next ∷ others)
 
--- parts joined by dots behind their mark; nothing where there are none
+-- parts joined by dots after their mark; nothing where there are none
 abbrev pub marked : Text → List Text → Text
 marked mark [] = []
 marked mark (part ∷ parts) = mark ++ join_with_byte (code ".") (part ∷ parts)

@@ -30,7 +30,7 @@ pub record SpellsPart (mark : Text) (ids : List IdentifierValue) (text : Text) :
   pub joined : text ≡ marked mark texts
 
 -- the text is the version without white space round it: three numbers joined by dots, the
--- pre-release behind `-`, the build behind `+`
+-- pre-release after `-`, the build after `+`
 pub record SpellsCore (v : VersionValue) (text : Text) : Type 0 where
   pub pre_text : Text
   pub build_text : Text

@@ -11,7 +11,7 @@ ghost use Rattle.semver_texts.specs.Steps.Decimals.{digits_front};
 const LIMIT: u64 = 1_000_000_000_000_000_000;
 
 // Answer: equation.
-/// The number with one digit more behind it.
+/// The number with one digit more after it.
 #[inline(always)]
 pub fn with_digit(number: u64, digit: u8) -> Option<u64>
     requires { digit < 10 }
@@ -46,7 +46,7 @@ fn digits(bytes: &[u8]) -> Option<(u64, usize)>
 }
 
 // Answer: equation.
-/// Whether a digit stands at the front: of `1.2`, and not of `.2` or of nothing.
+/// Whether a digit is at the front: of `1.2`, and not of `.2` or of nothing.
 #[inline(always)]
 pub fn begins_with_digit(bytes: &[u8]) -> bool
     ensures { result ≡ is_ascii_digit (slice_index bytes.now 0) }
@@ -59,7 +59,7 @@ pub fn begins_with_digit(bytes: &[u8]) -> bool
 
 /// The number at the front, and what follows it, which doesn't begin with a digit.
 ///
-/// One digit alone is told first, for speed: so a loop runs for longer numbers only.
+/// One digit alone is read first, for speed: so a loop runs for longer numbers only.
 #[inline(always)]
 fn number(bytes: &[u8]) -> Option<(u64, &[u8])>
     ensures { MatchOption result ((n : ℕ) (rest : Text) → ¬ (BeginsWithNumber bytes.now n rest))
@@ -91,7 +91,7 @@ pub fn whole_number(text: &str) -> Option<u64>
     if rest.is_empty() { Some(number) } else { None }
 }
 
-/// The number behind a dot, and what follows it.
+/// The number after a dot, and what follows it.
 #[inline(always)]
 fn dot_number(bytes: &[u8]) -> Option<(u64, &[u8])>
     ensures { MatchOption result ((n : ℕ) (behind rest : Text) → bytes.now ≡ 46 ∷ behind

@@ -1,4 +1,4 @@
-//! Parts joined by dots behind their mark, as the identifiers of a pre-release and those of a build
+//! Parts joined by dots after their mark, as the identifiers of a pre-release and those of a build
 //! are written in version texts and in range texts.
 ghost use Rattle.std.specs.Prelude.{◌≡◌, ◌||◌, ◌==◌, ◌<◌, [], ◌∷◌, ◌++◌, None, Some, Ok, true};
 ghost use Rattle.std.specs.Prelude.{false, length, IsTrue, IfOk, IfErr, MatchOption};
@@ -22,7 +22,7 @@ pub enum Hyphens {
     BetweenRuns,
 }
 
-/// Whether the byte goes on with a run: a letter or a digit, and a hyphen where any may stand.
+/// Whether the byte goes on with a run: a letter or a digit, and a hyphen where any may be.
 #[inline(always)]
 fn is_run_byte(byte: u8, hyphens: Hyphens) -> bool
     ensures { result ≡ is_run_byte hyphens byte }
@@ -83,8 +83,8 @@ pub fn behind_mark(bytes: &[u8], mark: u8) -> Option<&[u8]>
 }
 
 // Answer: equation.
-/// The parts behind the mark, and what follows them; where the bytes don't begin with the mark,
-/// nothing and all of them. None where what stands behind the mark are no parts.
+/// The parts after the mark, and what follows them; where the bytes don't begin with the mark,
+/// nothing and all of them. None where what is after the mark are no parts.
 #[inline(always)]
 pub fn marked_part(bytes: &[u8], mark: u8, hyphens: Hyphens) -> Option<(&[u8], &[u8])>
     ensures { MatchOption result (marked_part hyphens mark bytes.now ≡ None)
@@ -109,7 +109,7 @@ pub fn text_of_parts(bytes: &[u8]) -> &str
 }
 
 // Answer: law answer_laws::texts::one_split_at_dot.
-/// What stands in front of the first dot, and what follows it; all, where there is no dot.
+/// What is before the first dot, and what follows it; all, where there is no dot.
 #[inline(always)]
 pub fn split_at_dot(bytes: &[u8]) -> (&[u8], Option<&[u8]>)
     ensures { MatchOption result.1

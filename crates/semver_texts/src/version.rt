@@ -24,10 +24,10 @@ pub struct Version {
     pub minor: u64,
     /// The third number: 3 in `1.2.3-rc.4+5aedf`.
     pub patch: u64,
-    /// The identifiers behind `-`, none where there is no pre-release: `"rc"` and 4 in
+    /// The identifiers after `-`, none where there is no pre-release: `"rc"` and 4 in
     /// `1.2.3-rc.4+5aedf`.
     pub pre: Vec<Identifier>,
-    /// The identifiers behind `+`, none where there is no build: `"5aedf"` in `1.2.3-rc.4+5aedf`.
+    /// The identifiers after `+`, none where there is no build: `"5aedf"` in `1.2.3-rc.4+5aedf`.
     pub build: Vec<Identifier>,
 }
 

@@ -31,7 +31,7 @@ IsAscii-token_text text place GtEq w = small_ascii (token_text text GtEq) (refl,
 IsAscii-token_text text place Or w = small_ascii (token_text text Or) (refl, (refl, tt))
 IsAscii-token_text text place t w = small_ascii (token_text text t) (refl, tt)
 
--- a text may be cut behind ASCII
+-- a text may be cut after ASCII
 pub cut_after_ascii : (text : List ℕ) (place : ℕ) (xs more : List ℕ) → IsUtf8 text → drop place text ≡ xs ++ more → 0 < length xs
     → IsAscii xs → IsCharBoundary text (place + length xs)
 cut_after_ascii text place xs more utf8 e some ascii =
@@ -43,7 +43,7 @@ cut_after_ascii text place xs more utf8 e some ascii =
     let after : place + last + 1 ≡ place + length xs = omega arith in
     subst (IsCharBoundary text) after (IsCharBoundary-after_ascii text (place + last) utf8 (omega arith) small)
 
--- and behind the first token of what stands at a place
+-- and after the first token of what is at a place
 pub cut_after_token : (text : List ℕ) (place : ℕ) (t : TokenValue) (n : ℕ) → place ≤ length text → IsUtf8 (drop place text)
     → first_token place (drop place text) ≡ Some (t, n) → IsCharBoundary text (place + n)
 cut_after_token text place t n within utf8 e =
@@ -54,7 +54,7 @@ cut_after_token text place t n within utf8 e =
     IsCharBoundary-from_rest text place n within (subst (IsCharBoundary (drop place text))
     (zero-add (length (token_text text t)) ∙ f.len) cut)
 
--- and behind the longest front of bytes that pass a test, where these are ASCII
+-- and after the longest front of bytes that pass a test, where these are ASCII
 module _ (p : ℕ → Bool) (small : (b : ℕ) → p b ≡ true → b < 128) where
   cut_after_some : (bs : List ℕ) → IsUtf8 bs → 0 < prefix_len p bs → IsCharBoundary bs (prefix_len p bs)
   cut_after_some bs utf8 some =
@@ -71,6 +71,6 @@ module _ (p : ℕ → Bool) (small : (b : ℕ) → p b ≡ true → b < 128) whe
       at_len zero e = IsCharBoundary-start bs utf8
       at_len (suc n) e = rw e (cut_after_some bs utf8 (omega (arith, e)))
 
--- so behind the longest front of letters and digits
+-- so after the longest front of letters and digits
 pub cut_after_run : (bs : List ℕ) → IsUtf8 bs → IsCharBoundary bs (prefix_len is_ascii_alphanumeric bs)
 cut_after_run bs utf8 = cut_after_prefix is_ascii_alphanumeric run_ascii bs utf8

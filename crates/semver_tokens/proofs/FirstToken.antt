@@ -1,4 +1,4 @@
--- The first token of a text, and what stands behind it.
+-- The first token of a text, and what is after it.
 use Rattle.std.proofs.Common.{◌≡◌, ℕ, ◌+◌, ◌-◌, ◌<◌, ◌≤◌, Bool, true, false, eqb, ◌&&◌, ◌||◌, List, [], ◌∷◌, ◌++◌, length, take, drop}
 use Rattle.std.proofs.Common.{Option, Some, None, sym, refl, ap, ◌∙◌, arith, length-drop, take-append-drop}
 use Rattle.std.specs.Prelude.{is_some, slice_range, slice_index, take_while}
@@ -35,7 +35,7 @@ continues _ b = false
 abbrev pub continues_into : TokenValue → List ℕ → Bool
 continues_into t bs = continues t (slice_index bs 0)
 
--- what stands at a place begins with a token, which ends where more begins
+-- what is at a place begins with a token, which ends where more begins
 pub record IsFront (text : List ℕ) (place : ℕ) (t : TokenValue) (bs more : List ℕ) : Type 0 where
   pub spelled : bs ≡ token_text text t ++ more
   pub is_token : IsTokenAt text place t
@@ -72,7 +72,7 @@ unfolding first_token
 is_some-first_token place [] = refl
 is_some-first_token place (b ∷ bs) = grind (arith, nat_tests, is_some-sign)
 
--- the token of a run, or white space, is found where it stands
+-- the token of a run, or white space, is found where it is
 pub first_token-at_run : (place b : ℕ) (bs : List ℕ) → is_ascii_alphanumeric b ≡ true
     → first_token place (b ∷ bs) ≡ Some (component (take_while is_ascii_alphanumeric (b ∷ bs)), prefix_len is_ascii_alphanumeric (b ∷ bs))
 unfolding first_token

@@ -30,7 +30,7 @@ id_step true _ = None
 abbrev pub hyphened : List TokenValue → List TokenValue
 hyphened runs = flat_map (λ t. Hyphen ∷ t ∷ []) runs
 
--- a first run, and each other behind a hyphen
+-- a first run, and each other after a hyphen
 pub record HasFirstRun (ts : List TokenValue) : Type 0 where
   pub first : TokenValue
   pub runs : List TokenValue
@@ -74,7 +74,7 @@ identifier_leads_on : (ts : List TokenValue) → IsIdentifierShape ts → run id
 identifier_leads_on ts w =
     let f = first_run_of ts w in rw f.is (component_leads f.first f.first_run (hyphened f.runs) ∙ runs_lead f.runs f.each_run)
 
--- what was taken from where a run is wanted, and from behind one
+-- what was taken from where a run is wanted, and from after one
 abbrev HasRuns : Bool → List TokenValue → Type 0
 HasRuns false ts = HasFirstRun ts
 HasRuns true ts = (runs : List TokenValue) × AllByRecursion (λ t. IsTrue (is_component t)) runs × (ts ≡ hyphened runs)

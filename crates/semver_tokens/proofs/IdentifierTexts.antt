@@ -72,7 +72,7 @@ well_formed text place (Numeric n) w = w
 well_formed text place (AlphaNumeric s) w = w
 well_formed text place _ w = tt
 
--- each of them stands in some place
+-- each of them is in some place
 abbrev pub IsPlaced : List ℕ → TokenValue → Type 0
 IsPlaced text t = (at : ℕ) × IsTokenAt text at t
 

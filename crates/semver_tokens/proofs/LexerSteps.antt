@@ -15,7 +15,7 @@ pub state_at_start : (text : List ℕ) → IsStateOf text (state_left text 0 fal
 unfolding state_left state_from
 state_at_start text = ((scan (length text) text 0).1, scan_finds text (length text) 0 (omega arith), refl)
 
--- from a place on it is the state of what stands there
+-- from a place on it is the state of what is there
 pub state_at_place : (text : List ℕ) (place : ℕ) → IsStateFrom (drop place text) (state_left text place false)
 unfolding state_left state_from
 state_at_place text place = record {
@@ -44,7 +44,7 @@ pub from_start : (text : List ℕ) (s : ParserState) → IsStateOf text s → Is
 from_start text s w = record { input = text; place = 0; rest = w.0; begins = refl; tokens = w.1; pending = w.2 }
 
 module _ (text : List ℕ) (place : ℕ) where
-  -- behind a token
+  -- after a token
   pub items_left-token : (t : TokenValue) (n : ℕ) → first_token place (drop place text) ≡ Some (t, n)
       → items_left (state_left text place false) ≡ Ok t ∷ items_left (state_left text (place + n) false)
   unfolding state_left state_from

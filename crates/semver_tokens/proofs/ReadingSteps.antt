@@ -32,7 +32,7 @@ module _ {S : Type 0} (step : S → TokenValue → Option S) where
       → run step s (ts ++ t ∷ []) ≡ Some q
   one_more_leads s p q ts t leads on = run-append s p ts (t ∷ []) leads ∙ ap (option_and_then (λ v. Some v)) on
 
-  -- no front that leads on is longer than one behind which nothing does
+  -- no front that leads on is longer than one after which nothing does
   stopped_is_longest : (s p q : S) (front rest longer more : List TokenValue) → longer ++ more ≡ front ++ rest → run step s front ≡ Some p
       → Stops p rest → run step s longer ≡ Some q → length longer ≤ length front
   stopped_is_longest s p q front rest [] more same leads stops on = omega arith
@@ -218,7 +218,7 @@ module _ {S : Type 0} {step : S → TokenValue → Option S} {accepts : S → Bo
           last_of (x ∷ []) = refl
           last_of (x ∷ y ∷ front) = last_of (y ∷ front)
 
-          -- at a pending character nothing is whole without a token behind it
+          -- at a pending character nothing is whole without a token after it
           not_known : {front : List TokenValue} (c : ℕ) → Some c ≡ s.pending → ¬ (IsWhole Shape front s.pending [])
           not_known c same whole = ⊎_elim (λ some. omega (arith, some)) (λ none. cc) whole.known
 

@@ -11,7 +11,7 @@ use Rattle.semver_tokens.specs.Steps.Taking.{behind_number, at_run, behind_run, 
 use Rattle.semver_tokens.proofs.ReadingSteps.{run-append, IsReadBy}
 use Rattle.semver_tokens.proofs.IdentifierSteps.{id_step, one_run, run_more, identifier_is_read}
 
--- the place where a run of a part is wanted, and the one behind it
+-- the place where a run of a part is wanted, and the one after it
 abbrev pub run_place : Part → Bool → Place
 run_place part false = at_run part
 run_place part true = behind_run part
@@ -61,12 +61,12 @@ no_part sign = record { ids = []; each = tt; parted = inl (refl, refl) }
 
 -- ---- from what is accepted to its parts
 
--- where a run is wanted, identifiers; behind a run, what goes on with it
+-- where a run is wanted, identifiers; after a run, what goes on with it
 abbrev CompletesIds : Bool → List TokenValue → Type 0
 CompletesIds false ts = AreIds ts
 CompletesIds true ts = (t : TokenValue) → IsTrue (is_component t) → AreIds (t ∷ ts)
 
--- what stands behind the identifiers of a part
+-- what is after the identifiers of a part
 data Follows (u : Place) : Part → List TokenValue → Type 0 where
   nothing : (part : Part) → Follows u part []
   space : (part : Part) (a b : ℕ) (ts : List TokenValue) → run step end ts ≡ Some u → Follows u part (Whitespace a b ∷ ts)
@@ -111,7 +111,7 @@ outer_rest u _ _ (nothing part) is = (omega arith, tt)
 outer_rest u _ _ (space part a b ts e) is = space_rest u a b ts e
 outer_rest u _ _ (plus ts e) is = cc
 
--- a part, if it is there, and what stands behind it
+-- a part, if it is there, and what is after it
 record IsParted (sign : TokenValue) (Rest : List TokenValue → Type 0) (ts : List TokenValue) : Type 0 where
   part : List TokenValue
   rest : List TokenValue
@@ -143,7 +143,7 @@ patch_rest (Plus ∷ ts) u ok e = none_there (build_rest u ok pre_release _ (plu
 patch_rest (Whitespace a b ∷ ts) u ok e = none_there (build_rest u ok pre_release _ (space pre_release a b ts e))
 patch_rest (_ ∷ ts) u ok e = cc
 
--- three numbers, and what stands behind them
+-- three numbers, and what is after them
 numbers_rest : (ts : List TokenValue) (u : Place) → accepts u ≡ true → run step (at_number major) ts ≡ Some u
     → (a b c : ℕ) × (rest : List TokenValue) × (ts ≡ Numeric a ∷ Dot ∷ Numeric b ∷ Dot ∷ Numeric c ∷ rest)
     × (run step (behind_number patch) rest ≡ Some u)
@@ -209,7 +209,7 @@ module _ (part : Part) where
   ids_lead [] some all = absurd (omega (arith, some))
   ids_lead (id ∷ ids) some all = run-append step (at_run part) (behind_run part) id (dotted ids) (id_leads id all.0) ∙ dotted_lead ids all.1
 
-  -- a part leads on behind its last run, or nothing is there
+  -- a part leads on after its last run, or nothing is there
   part_leads : (sign : TokenValue) (from : Place) (ts : List TokenValue) → step from sign ≡ Some (at_run part) → IsPartShape sign ts
       → (run step from ts ≡ Some from) ⊎ (run step from ts ≡ Some (behind_run part))
   part_leads sign from ts leads w =

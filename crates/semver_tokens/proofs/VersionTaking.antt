@@ -85,7 +85,7 @@ dot_text : (x : TokenValue) (d : Unit {0}) → dot_of x ≡ Some d → inner_tex
 dot_text Dot d e = refl
 dot_text _ d e = cc
 
--- the number behind another
+-- the number after another
 abbrev following : Number → Number
 following major = minor
 following _ = patch
@@ -255,7 +255,7 @@ holds_longer ts t h = record {
   is_run = h.is_run;
 }
 
--- behind a sign comes a run
+-- after a sign comes a run
 pub sign_holds : (sign : TokenValue) → (sign ≡ Hyphen) ⊎ (sign ≡ Plus) → (part : Part) (ts : List TokenValue) (last : Place)
     → run step (at_run part) ts ≡ Some last → accepts last ≡ true → HoldsIdentifierRun (sign ∷ ts)
 sign_holds sign is_sign part [] last e ok = cc
@@ -286,13 +286,13 @@ holds_from (behind_number patch) before (Whitespace a b ∷ t ∷ ts) part e = c
 holds_from p before (_ ∷ ts) part e = cc
 
 module _ {part : Part} {s : ParserState} where
-  -- a front behind a run, taken as far as it goes
+  -- a front after a run, taken as far as it goes
   runs_out : {u : ParserState} (front rest : List TokenValue) → s.remaining ≡ front ++ rest → run step start front ≡ Some (behind_run part)
       → IsEndPart s u → MayRunOutInVersion s u
   runs_out front rest split leads left =
       runs_out_behind version_is_read holds_longer front rest (behind_run part) split leads (holds_from start refl front part leads) left
 
-  -- behind a run
+  -- after a run
   taken_runs_out : {t : ParserState} {text : Text} → IsTakenTo s (behind_run part) text t → MayRunOutInVersion s t
   taken_runs_out {t} k =
       runs_out k.front t.remaining k.taken.split k.taken.leads
@@ -325,7 +325,7 @@ module _ {part : Part} {s : ParserState} where
 
 -- ---- the identifiers of a part
 
--- texts, each with a dot behind it
+-- texts, each with a dot after it
 abbrev pub dotted : List Text → Text
 dotted [] = []
 dotted (x ∷ xs) = (x ++ codes ".") ++ dotted xs
@@ -407,13 +407,13 @@ abbrev pub mark_of : Part → TokenValue
 mark_of pre_release = Hyphen
 mark_of build = Plus
 
--- where a token leads on behind a part
+-- where a token leads on after a part
 abbrev way_on : Part → TokenValue → Option Place
 way_on part (Whitespace a b) = Some end
 way_on pre_release Plus = Some (at_run build)
 way_on _ _ = None
 
--- behind a part or its absence: the version may end here
+-- after a part or its absence: the version may end here
 pub record IsBehind (s : ParserState) (part : Part) (text : Text) (t : ParserState) : Type 0 where
   pub place : Place
   pub taken : IsTakenTo s place text t

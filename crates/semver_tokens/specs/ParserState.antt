@@ -2,7 +2,7 @@
 use Rattle.std.specs.Prelude.{◌≡◌, ℕ, List, Option, slice_get, chars, drop}
 use Rattle.semver_tokens.specs.Tokens.{TokenValue, AreTokensFrom, AreTokensOf}
 
--- the tokens that remain, and the character behind the last of them where no token begins
+-- the tokens that remain, and the character after the last of them where no token begins
 pub record ParserState : Type 0 where
   pub remaining : List TokenValue
   pub pending : Option ℕ

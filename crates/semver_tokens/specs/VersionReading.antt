@@ -159,7 +159,7 @@ pub record HoldsRun (front : List TokenValue) : Type 0 where
   pub split : front ≡ before ++ component ∷ after
   pub is_run : IsTrue (is_component component)
 
--- the front of a version holds a run of an identifier: a component behind a `-` or a `+`
+-- the front of a version holds a run of an identifier: a component after a `-` or a `+`
 pub record HoldsIdentifierRun (front : List TokenValue) : Type 0 where
   pub before : List TokenValue
   pub sign : TokenValue

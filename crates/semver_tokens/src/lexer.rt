@@ -47,7 +47,7 @@ pub enum Token<'input> {
     /// `||`
     Or,
     /// A longest run of spaces, tabs, line feeds and carriage returns: the byte where it begins,
-    /// and the byte behind it.
+    /// and the byte after it.
     Whitespace(usize, usize),
     /// A longest run of ASCII letters and digits that is the canonical decimal of a number up to
     /// 2^64 - 1: `0`, or digits that don't begin with `0`.
@@ -151,7 +151,7 @@ fn front_token<'input>(rest: &'input str, start: usize) -> Option<(Token<'input>
 /// Gives the tokens of a text one after the other, then at most one error, and then nothing for
 /// good.
 ///
-/// It holds the text, the byte where it stands, and whether its error was given.
+/// It holds the text, the byte where it is, and whether its error was given.
 #[derive(Debug, Drop)]
 pub struct Lexer<'input> {
     input: &'input str,
@@ -235,9 +235,9 @@ pub fn copy<'input>(lexer: &Lexer<'input>) -> Lexer<'input>
 
 // Answer: free, which text: must-fail/rest_begins_at_the_start_of_the_text.edit.
 /// What stands from the first token that is left on: a text with the tokens that are left, and with
-/// the bad character behind them. Nothing once the error was given.
+/// the bad character after them. Nothing once the error was given.
 ///
-/// Of `1.2` it is `.2` behind the first token.
+/// Of `1.2` it is `.2` after the first token.
 #[inline(always)]
 pub fn rest<'input>(lexer: &Lexer<'input>) -> &'input str
     ensures { IsStateFrom result.now lexer.now }
@@ -249,7 +249,7 @@ pub fn rest<'input>(lexer: &Lexer<'input>) -> &'input str
 }
 
 // Answer: equation.
-/// How many tokens are left, and a lexer behind the last of them: on `1.2/` these are 3, and a
+/// How many tokens are left, and a lexer after the last of them: on `1.2/` these are 3, and a
 /// lexer whose next item is the error.
 pub fn count_tokens<'input>(lexer: &Lexer<'input>) -> (usize, Lexer<'input>)
     ensures count { result.0 ≡ length lexer.now.remaining }

@@ -41,11 +41,11 @@ use std::marker::Model;
 pub enum Error<'input> {
     /// A token was needed, and the text is at its end.
     UnexpectedEnd,
-    /// This token is none that can stand here. It has been consumed.
+    /// This token is none that can be here. It has been consumed.
     UnexpectedToken(Token<'input>),
     /// The text goes on with a character that opens no token.
     Lexer(lexer::Error),
-    /// These tokens stand behind the version.
+    /// These tokens are after the version.
     MoreInput(Vec<Token<'input>>),
     /// Kept for its name: no call answers it.
     EmptyPredicate,
@@ -154,7 +154,7 @@ impl<'input> Parser<'input> {
         })
     }
 
-    /// Takes the first token. The one behind it is read first, so a fault changes nothing.
+    /// Takes the first token. The one after it is read first, so a fault changes nothing.
     #[inline(always)]
     fn pop(&mut self) -> Result<Token<'input>, Error<'input>>
         ensures { step_of token_value result self.new ≡ spec.pop self.old }
@@ -175,7 +175,7 @@ impl<'input> Parser<'input> {
     /// Takes a number: on `1.2` it answers 1, and `.` and `2` remain.
     ///
     /// `UnexpectedToken` of any other token, which is consumed; `UnexpectedEnd` where no token
-    /// remains, and `Lexer` where a character is pending behind at most one token: both leave the
+    /// remains, and `Lexer` where a character is pending after at most one token: both leave the
     /// parser as it was. It takes no memory.
     #[inline(always)]
     pub fn numeric(&mut self) -> Result<u64, Error<'input>>
@@ -260,7 +260,7 @@ impl<'input> Parser<'input> {
         self.lookahead.is_none()
     }
 
-    /// Takes a run of letters and digits, and tells its number where it is one.
+    /// Takes a run of letters and digits, and returns its number where it is one.
     #[inline(always)]
     fn run(&mut self) -> Result<Option<u64>, Error<'input>>
         ensures { step_of (λ n. n) result self.new ≡ expect_run self.old }
@@ -296,7 +296,7 @@ impl<'input> Parser<'input> {
         matches!(self.peek(), Some(Token::Dot))
     }
 
-    /// Takes the runs of an identifier and the hyphens between them, and tells its number where it
+    /// Takes the runs of an identifier and the hyphens between them, and returns its number if it
     /// is one number alone.
     fn pass_identifier(&mut self) -> Result<Option<u64>, Error<'input>>
         ensures { TakesIdentifier self.old (step_of (λ n. n) result self.new).0 self.new }
@@ -318,7 +318,7 @@ impl<'input> Parser<'input> {
     ///
     /// Refusals, and the tokens that remain then:
     ///
-    /// - `UnexpectedToken`: another token comes where a run has to, at the start or behind a
+    /// - `UnexpectedToken`: another token comes where a run has to, at the start or after a
     ///   hyphen. It is taken too.
     /// - `UnexpectedEnd`: no token remains there. What came before stays taken.
     /// - `Lexer`: a bad character is pending and at most one token remains. That token stays, since
@@ -344,7 +344,7 @@ impl<'input> Parser<'input> {
         Ok(Identifier::AlphaNumeric(kept))
     }
 
-    /// Takes what comes next and an identifier behind it, and so on at each dot.
+    /// Takes what comes next and an identifier after it, and so on at each dot.
     fn identifiers(&mut self, alloc: Global) -> Result<Vec<Identifier>, Error<'input>>
         ensures answer { UnlessOutOfMemory result
             (TakesPart true self.old (step_of (λ ids. map identifier_value ids.items) result
@@ -405,7 +405,7 @@ impl<'input> Parser<'input> {
     // Answer: law answer_laws::versions::one_version_of_parser.
     /// A version and the white space round it: `1.2.3-rc.4+5aedf` gives the numbers 1, 2 and 3, the
     /// pre-release `"rc"`, 4 and the build `"5aedf"`. It ends where no further token fits, and the
-    /// tokens behind it remain: of `1.2.3 a` the token `AlphaNumeric("a")`.
+    /// tokens after it remain: of `1.2.3 a` the token `AlphaNumeric("a")`.
     ///
     /// Refusals, and the tokens that remain then:
     ///

@@ -29,18 +29,18 @@ pub record IsLeft (text : Text) (others : List Identifier) (rest : Option (Bor T
   pub decides : (ids : List IdentifierValue) → AllZip IsKeptAs ids (slice_split is_dot text)
       → (behind : List IdentifierValue) × AllZip IsKeptAs behind (parts_behind rest) × (compared ids others ≡ compared behind left)
 
--- one of them and those behind it
+-- one of them and those after it
 pub at_item : (others : List Identifier) (i : ℕ) (x : Identifier) → i < length others → x ≡ get_or others i x
     → drop i others ≡ x ∷ drop (i + 1) others
 at_item others i x inside is = drop_more others i x inside ∙ rw (← is)
 
--- a text in parts is its first part, and those behind it
+-- a text in parts is its first part, and those after it
 pub split_parts : (bytes part : Text) (behind : Option (Bor Text)) → IsSplit bytes part behind
     → slice_split is_dot bytes ≡ part ∷ parts_behind behind
 split_parts bytes part None h = h.0
 split_parts bytes part (Some behind) h = h.0
 
--- behind all of them there is none
+-- after all of them there is none
 pub all_compared : {text : Text} (others : List Identifier) (rest : Option (Bor Text)) (i : ℕ) → length others ≤ i
     → IsLeft text others rest (drop i others) → IsLeft text others rest []
 all_compared others rest i past w = rw (drop_all i others past) at w

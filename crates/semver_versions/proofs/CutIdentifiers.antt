@@ -111,7 +111,7 @@ run_stands : (in_run : Bool) (run more : Text) → IsRun run → stands in_run (
 run_stands in_run [] more is = absurd (omega (arith, is.0))
 run_stands in_run (b ∷ run) more is = rw is.1.0 (letters_stand run more is.1.1)
 
--- a text behind which a run is being read
+-- a text after which a run is being read
 abbrev Stands : Text → Type 0
 Stands text = (in_run : Bool) (more : Text) → stands in_run (text ++ more) ≡ stands true more
 
@@ -173,7 +173,7 @@ found_stand BetweenRuns bytes some each =
     ∙ identifiers_stand false (cut_at_dots (front bytes)) (drop n bytes) count each
     ∙ other_stands (drop n bytes) (prefix_stops is_dotted_byte bytes refl)
 
--- ---- a part behind its mark
+-- ---- a part after its mark
 
 module _ (h : Hyphens) (mark : ℕ) where
   none_found : (t inner rest : Text) → ◌≡◌ {A = Option (Text × Text)} (Some ([], t)) (Some (inner, rest))

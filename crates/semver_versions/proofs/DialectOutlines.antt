@@ -120,7 +120,7 @@ both_stand d text o (v, spells, e) =
           )),
     )
 
--- ---- what is answered
+-- ---- the result
 
 module _ (d : Dialect) (text : Text) where
   pub exactly_in : (found : Option OutlineValue) → IsOutlinedBy d text found → (o : OutlineValue) → (found ≡ Some o) ↔ IsOutlineIn d text o

@@ -177,7 +177,7 @@ dotted_kept ids ts all =
     let is : dotted_text ids ≡ join_with_byte 46 ts = ap (join_with_byte 46) (sym (kept_texts ids ts all)) in
     (is, subst (AllZip IsKeptAs ids) (sym (ap cut_at_dots is ∙ parts_cut ts (kept_parts ids ts all))) all)
 
--- ---- parts behind their mark
+-- ---- parts after their mark
 
 marked_some : (mark : Text) (ts : List Text) → 0 < length ts → marked mark ts ≡ mark ++ join_with_byte 46 ts
 marked_some mark [] some = absurd (omega (arith, some))

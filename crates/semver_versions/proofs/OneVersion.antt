@@ -40,7 +40,7 @@ pub numbers_first : {text rest : List ℕ} {major minor patch : ℕ} → BeginsW
 numbers_first n = no_space (digit_begins n)
 
 module _ {v : VersionValue} {text : List ℕ} (w : SpellsVersion v text) where
-  -- what stands behind the white space before it, and what behind its numbers
+  -- what is after the white space before it, and what after its numbers
   abbrev pub at_numbers : List ℕ
   at_numbers = w.core ++ w.after
 

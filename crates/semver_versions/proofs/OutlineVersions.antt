@@ -52,7 +52,7 @@ has_some before text o is some =
           (λ build. inr (some_where o.build is.0.build (ap (λ (u : VersionValue). u.build) e) build)) some,
     )
 
--- ---- what is answered of it
+-- ---- the result of it
 
 pub if_ok_more : {A E : Type 0} {P Q : A → Type 0} (r : Result A E) → ((x : A) → P x → Q x) → IfOk r P → IfOk r Q
 if_ok_more (Ok x) more p = more x p

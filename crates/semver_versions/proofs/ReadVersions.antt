@@ -42,7 +42,7 @@ no_plus b h = grind (arith, nat_tests)
 no_digit : (b : ℕ) → is_outer b ≡ true → is_ascii_digit b ≡ false
 no_digit b h = grind (arith, nat_tests)
 
--- ---- the parts behind the numbers
+-- ---- the parts after the numbers
 
 is_none : {X : Type 0} {x : X} → None ≡ Some x → ⊥
 is_none e = cc

@@ -13,7 +13,7 @@ use Rattle.semver_texts.specs.declared.dialect.Dialect.{Dialect}
 use Rattle.semver_texts.specs.PrintedText.{identifier_text, plain_text}
 use Rattle.semver_texts.specs.VersionGrammar.{SpellsVersion}
 
--- three numbers, two texts, and how many bytes stand in front of each of these
+-- three numbers, two texts, and how many bytes are before each of these
 pub record OutlineValue : Type 0 where
   pub major : ℕ
   pub minor : ℕ
@@ -27,14 +27,14 @@ pub record OutlineValue : Type 0 where
 abbrev pub dotted_text : List IdentifierValue → Text
 dotted_text ids = join_with_byte (code ".") (map identifier_text ids)
 
--- where a part begins whose mark stands at the place: behind it; 0 where there is no part
+-- where a part begins whose mark is at the place: after it; 0 where there is no part
 abbrev pub behind_mark : ℕ → Text → ℕ
 behind_mark place [] = 0
 behind_mark place (byte ∷ part) = suc place
 
--- the outline of a version that stands behind so many bytes: its numbers, and the texts of its
--- identifiers, each behind its mark; that of the pre-release stands behind the numbers, and that of
--- the build behind the version without it
+-- the outline of a version that is after so many bytes: its numbers, and the texts of its
+-- identifiers, each after its mark; that of the pre-release is after the numbers, and that of
+-- the build after the version without it
 abbrev pub outline_behind : ℕ → VersionValue → OutlineValue
 outline_behind before v = record {
   major = v.plain.major;
@@ -79,6 +79,6 @@ version_of o = record {
   build = map identifier_of (cut_at_dots o.build);
 }
 
--- the part stands in the text at the offset
+-- the part is in the text at the offset
 abbrev pub StandsAt : ℕ → Text → Text → Type 0
 StandsAt offset part text = take (length part) (drop offset text) ≡ part

@@ -20,7 +20,7 @@ use std::cmp::Ordering;
 use std::marker::Model;
 
 /// A version text in outline: the three numbers, and the texts of the pre-release and of the build
-/// with where they stand. `version::outline` answers it, and the version can be made of it.
+/// with where they are. `version::outline` answers it, and the version can be made of it.
 #[derive(Debug, Drop)]
 pub struct Outline<'t> {
     pub(crate) major: u64,
@@ -80,7 +80,7 @@ impl<'t> Outline<'t> {
     }
 
     // Answer: equation.
-    /// The identifiers of the pre-release joined by dots, without the `-` in front of them; empty
+    /// The identifiers of the pre-release joined by dots, without the `-` before them; empty
     /// where there is no pre-release: `rc.4` in `1.2.3-rc.4+5aedf`.
     #[inline(always)]
     pub fn pre(&self) -> &'t str
@@ -90,7 +90,7 @@ impl<'t> Outline<'t> {
     }
 
     // Answer: equation.
-    /// The identifiers of the build joined by dots, without the `+` in front of them; empty where
+    /// The identifiers of the build joined by dots, without the `+` before them; empty where
     /// there is no build: `5aedf` in `1.2.3-rc.4+5aedf`.
     #[inline(always)]
     pub fn build(&self) -> &'t str
@@ -114,7 +114,7 @@ impl<'t> Outline<'t> {
     }
 
     // Answer: equation.
-    /// How many bytes of the text that was read stand in front of the identifiers of the
+    /// How many bytes of the text that was read are before the identifiers of the
     /// pre-release: 7 of ` 1.2.3-rc.4`. It is 0 where there is no pre-release.
     #[inline(always)]
     pub fn pre_offset(&self) -> usize
@@ -124,7 +124,7 @@ impl<'t> Outline<'t> {
     }
 
     // Answer: equation.
-    /// How many bytes of the text that was read stand in front of the identifiers of the build: 11
+    /// How many bytes of the text that was read are before the identifiers of the build: 11
     /// of `1.2.3-rc.4+5aedf`. It is 0 where there is no build.
     #[inline(always)]
     pub fn build_offset(&self) -> usize
@@ -236,7 +236,7 @@ fn marked_len(part: &[u8]) -> usize
     if part.is_empty() { 0 } else { part.len() + 1 }
 }
 
-/// Where a part begins whose mark stands at the place; 0 where there is no part.
+/// Where a part begins whose mark is at the place; 0 where there is no part.
 #[inline(always)]
 fn behind_mark_at(place: usize, part: &[u8]) -> usize
     requires { place + length part.now < 2 ^ 64 }

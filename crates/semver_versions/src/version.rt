@@ -48,7 +48,7 @@ pub fn read(alloc: Global, input: &str) -> Result<Option<Version>, AllocError>
 
 // Answer: law answer_laws::versions::one_read_bytes.
 /// What [`read`] answers of a text, of bytes that needn't be UTF-8: `1.2.3-rc.4` gives that
-/// version, and `1.2.3` with a byte 255 behind it gives `None`, as all bytes that are no UTF-8.
+/// version, and `1.2.3` with a byte 255 after it gives `None`, as all bytes that are no UTF-8.
 ///
 /// The bytes aren't checked for UTF-8, since each byte of a version is ASCII. So for lines of a
 /// file this is quicker than such a check and [`read`].
@@ -71,7 +71,7 @@ pub fn read_bytes(alloc: Global, input: &[u8]) -> Result<Option<Version>, AllocE
 
 // Answer: law answer_laws::versions::one_outline.
 /// The version that the text spells in outline, if it spells one: `" 1.2.3-rc.4+b5\n"` gives the
-/// numbers 1, 2 and 3, the pre-release `rc.4` behind 7 bytes and the build `b5` behind 12, and
+/// numbers 1, 2 and 3, the pre-release `rc.4` after 7 bytes and the build `b5` after 12, and
 /// `1.2` and `1.2.3 a` give `None`.
 ///
 /// It does not allocate: the texts are slices of the input.
@@ -88,7 +88,7 @@ pub fn outline(input: &str) -> Option<Outline<'_>>
     // So with the build.
     ensures build { (v : VersionValue) → SpellsVersion v input.now →
         IfSome result (λ o. (o.build ≡ []) ↔ (v.build ≡ [])) }
-    // Both texts stand in the input at their offsets.
+    // Both texts are in the input at their offsets.
     ensures places { IfSome result (λ o. StandsAt o.pre_offset o.pre input.now
         × StandsAt o.build_offset o.build input.now) }
 {
@@ -97,7 +97,7 @@ pub fn outline(input: &str) -> Option<Outline<'_>>
 
 // Answer: law answer_laws::versions::one_outline_bytes.
 /// What [`outline`] answers of a text, of bytes that needn't be UTF-8: `1.2.3-rc.4` gives the
-/// numbers 1, 2 and 3 and the pre-release `rc.4`, and `1.2.3` with a byte 255 behind it gives
+/// numbers 1, 2 and 3 and the pre-release `rc.4`, and `1.2.3` with a byte 255 after it gives
 /// `None`, as all bytes that are no UTF-8. They aren't checked for it. It does not allocate.
 #[inline(always)]
 pub fn outline_bytes(input: &[u8]) -> Option<Outline<'_>>
@@ -112,7 +112,7 @@ pub fn outline_bytes(input: &[u8]) -> Option<Outline<'_>>
     // So with the build.
     ensures build { (v : VersionValue) → SpellsVersion v input.now →
         IfSome result (λ o. (o.build ≡ []) ↔ (v.build ≡ [])) }
-    // Both texts stand in the input at their offsets.
+    // Both texts are in the input at their offsets.
     ensures places { IfSome result (λ o. StandsAt o.pre_offset o.pre input.now
         × StandsAt o.build_offset o.build input.now) }
 {

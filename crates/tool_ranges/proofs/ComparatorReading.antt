@@ -1,4 +1,4 @@
--- What the reader finds at the front of a requirement is what stands there: one comparator, up to its comma or the end.
+-- What the reader finds at the front of a requirement is what is there: one comparator, up to its comma or the end.
 use Rattle.std.proofs.Common.{◌≡◌, ℕ, Bool, true, false, ◌==◌, [], ◌∷◌, ◌++◌, codes, refl, sym, ap, ◌∙◌, subst}
 use Rattle.std.proofs.Common.{Option, Some, None, append_assoc, append-nil, inl, inr}
 use Rattle.std.proofs.lemmas.Bool.{and_parts, and_from, eqb-true, not-true, true≢false}
@@ -16,7 +16,7 @@ use Rattle.semver_texts.proofs.Lists.{by_test}
 use Rattle.tool_ranges.specs.CargoGrammar.{AreSpaces, sign, is_of_cargo, SpellsComparator}
 use Rattle.tool_ranges.specs.Steps.CargoReading.{begins_with_tilde_greater, at_end, with_operator, comparator_here, comparator_at}
 
--- ---- what is found stands there
+-- ---- what is found is there
 
 -- a comparator up to its comma or the end
 abbrev pub Follows : Text → Text → Option Text → Type 0
@@ -41,7 +41,7 @@ form_signed greater w t h n = h
 form_signed at_least w t h n = h
 form_signed caret w t h n = h
 
--- a comparator of its pieces, behind which nothing or a comma stands
+-- a comparator of its pieces, after which nothing or a comma stands
 made : (s : Simple) (before gap word after v t : Text) → AreSpaces before → AreSpaces gap → AreSpaces after → SpellsPartial s.partial word
     → is_of_cargo s ≡ true → t ≡ before ++ ((sign s.form ++ gap) ++ (word ++ (after ++ v))) → ComparatorAt t (at_end s v)
 made s before gap word after [] t b g a p r text = (
@@ -104,7 +104,7 @@ comparator_sound t =
     (λ e. rw e (here_sound (front (is_blank Cargo) t) u t (operator Cargo u)
     (front_all (is_blank Cargo) t) (front-back (is_blank Cargo) t) e (operator_sound Cargo u)))
 
--- ---- what stands there is found
+-- ---- what is there is found
 
 no_tilde : (a : ℕ) (t : Text) → (a == 126) ≡ false → begins_with_tilde_greater (a ∷ t) ≡ false
 no_tilde a [] e = refl
@@ -136,7 +136,7 @@ begins_with tilde gap x g e other =
     (tilde_alone (gap ++ x) (no_sign Cargo 62 refl refl gap x g e), operator_read Cargo tilde (codes "~" ++ gap) x (inl (gap, g, refl)) e)
 begins_with caret gap x g e other = (no_tilde 94 (gap ++ x) refl, operator_read Cargo caret (codes "^" ++ gap) x (gap, g, refl) e)
 
--- behind blanks, the operator and what it stands before
+-- after blanks, the operator and what it is before
 abbrev Reads : Form → Text → Text → Type 0
 Reads f u x = (begins_with_tilde_greater u ≡ false) × (operator Cargo u ≡ (f, x))
 

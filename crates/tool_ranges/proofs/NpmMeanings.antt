@@ -1,4 +1,4 @@
--- The comparators of a range text mean what it means to npm, where `>=0.0.0` asks nothing; on releases they do as they stand.
+-- The comparators of a range text mean what it means to npm, where `>=0.0.0` asks nothing; on releases they do as they are.
 use Rattle.std.proofs.Common.{◌≡◌, ℕ, ◌+◌, Bool, true, false, ◌&&◌, ◌||◌, ◌==◌, if◌then◌else◌, List, [], ◌∷◌, length}
 use Rattle.std.proofs.Common.{refl, sym, ap, ◌∙◌, arith}
 use Rattle.std.proofs.Math.Bool.{and-true, and-false}

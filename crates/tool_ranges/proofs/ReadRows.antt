@@ -30,7 +30,7 @@ use Rattle.tool_ranges.specs.Steps.Cells.{bound_at, cell_fits, cell_place, cell_
 abbrev pub above : read.Simple → Bool
 above simple = is_greater (form_of simple.form) && states_some (stated_of simple.partial)
 
--- where its numbers fit, that is what stands there
+-- where its numbers fit, that is what is there
 same_above : (s : Simple) (simple : read.Simple) → IsSimpleOf s simple → simple.partial.fits ≡ true → above simple ≡ begins_above s
 same_above s simple is f =
     ap (λ x. is_greater x && states_some (stated_of simple.partial)) is.0 ∙ ap (λ x. is_greater s.form && states_some x) (is.1.1 f).0
@@ -67,7 +67,7 @@ few _ _ ns e = cc
 no_pre_release : (s : Simple) → (length (stated s.partial) == 3) ≡ false → pre_release s.partial ≡ []
 no_pre_release s e = rw e refl
 
--- the three cells: where the numbers fit, what stands there decides, and else nothing fits
+-- the three cells: where the numbers fit, what is there decides, and else nothing fits
 module _ (mode : Compat) (s : Simple) (simple : read.Simple) (is : IsSimpleOf s simple) where
   parts : PartsPass simple.partial
   parts = is.1.3
@@ -118,7 +118,7 @@ module _ (mode : Compat) (s : Simple) (simple : read.Simple) (is : IsSimpleOf s 
       bound_of (Below place) = refl
       bound_of (Between place) = refl
 
--- what is answered says what follows from it
+-- the result says what follows from it
 pub if_ok : {A E : Type 0} {P Q : A → Type 0} (r : Result A E) → ((x : A) → P x → Q x) → IfOk r P → IfOk r Q
 if_ok (Ok x) f h = f x h
 if_ok (Err e) f h = tt

@@ -1,4 +1,4 @@
--- Whatever the reading is: a text has one tree, and what is refused isn't by what is answered.
+-- Whatever the reading is: a text has one tree, and what is refused isn't by the result.
 use Rattle.std.proofs.Common.{◌≡◌, Ok, Err}
 use Rattle.semver_texts.specs.Texts.{Text}
 use Rattle.semver_texts.specs.declared.dialect.Dialect.TheVariants as dialect

@@ -33,7 +33,7 @@ pub record IsAt (text : Text) (done : List Simple) (rest : Text) : Type 0 where
 pub at_start : (text : Text) → IsAt text [] text
 at_start text = record { sound = λ left h. h; whole = λ tree h. (tree, refl, h) }
 
--- the comparators that are left where one was found: itself, and those behind its comma
+-- the comparators that are left where one was found: itself, and those after its comma
 abbrev pub Left : List Simple → Option Text → Type 0
 Left others None = others ≡ []
 Left others (Some u) = SpellsComparators others u
@@ -169,7 +169,7 @@ stands_with_others [] some many e = omega (arith, many)
 stands_with_others (s ∷ []) some many e = omega (arith, many)
 stands_with_others (s ∷ next ∷ ss) some many e = both_ways _ some (sym (all_none (s ∷ next ∷ ss)) ∙ e)
 
--- the end of the text: what is answered
+-- the end of the text: the result
 module _ (text : Text) (done : List Simple) (rest : Text) (at : ℕ) (states_all fit n f : Bool) (s : Simple)
     (is : IsSurveyed text done rest at states_all fit) (e : comparator_at rest ≡ Some (s, None)) (few : at < 32)
     (number : n ≡ states_number s) (fits : f ≡ read_fits s) where
@@ -209,7 +209,7 @@ module _ (text : Text) (done : List Simple) (rest : Text) (at : ℕ) (states_all
       (done ++ s ∷ [], spelled h.0, sym (more read_fits done s fit f is.fitting fits) ∙ h.1)
   surveyed_end (Err OutOfMemory) h = absurd h
 
--- ---- building: what is found fits, and its comparators come behind those of what was read
+-- ---- building: what is found fits, and its comparators come after those of what was read
 
 pub next_fits : (text : Text) (done : List Simple) (rest : Text) (s : Simple) (behind : Option Text) (tree : List Simple)
     → IsAt text done rest → comparator_at rest ≡ Some (s, behind) → SpellsRequirement tree text → requirement_fits tree ≡ true

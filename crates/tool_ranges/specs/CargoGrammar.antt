@@ -26,14 +26,14 @@ sign at_least = codes ">="
 sign tilde = codes "~"
 sign caret = codes "^"
 
--- whether nothing but wildcards stands behind a wildcard
+-- whether nothing but wildcards is after a wildcard
 abbrev pub wildcards_are_last : List Text → Bool
 wildcards_are_last [] = true
 wildcards_are_last (c ∷ cs) =
     if is_wildcard c then list_all is_wildcard cs else wildcards_are_last cs
 
--- whether Cargo reads a partial: no number stands behind a wildcard, and a pre-release or a build
--- behind three numbers alone
+-- whether Cargo reads a partial: no number is after a wildcard, and a pre-release or a build
+-- after three numbers alone
 abbrev pub is_partial_of_cargo : PartialTree → Bool
 is_partial_of_cargo p = wildcards_are_last (components p)
     && ((is_empty (qualifier p) || length (stated p) == 3)
@@ -51,7 +51,7 @@ is_bare _ = false
 abbrev pub is_every : Simple → Bool
 is_every s = is_bare s.form && (is_one s.partial && states_nothing s.partial)
 
--- whether Cargo reads a comparator: its first number is stated, but where it stands for every
+-- whether Cargo reads a comparator: its first number is stated, but where it is for every
 -- release
 abbrev pub is_of_cargo : Simple → Bool
 is_of_cargo s = is_partial_of_cargo s.partial && (is_every s || not (states_nothing s.partial))
@@ -77,7 +77,7 @@ SpellsComparators (s ∷ next ∷ others) t = (front : Text) × (back : Text)
     × SpellsComparator s front × SpellsComparators (next ∷ others) back
     × (t ≡ front ++ (codes "," ++ back))
 
--- whether a wildcard that stands for every release stands alone
+-- whether a wildcard that stands for every release is alone
 abbrev pub stands_alone : List Simple → Bool
 stands_alone (s ∷ []) = true
 stands_alone ss = not (list_any (λ s. states_nothing s.partial) ss)

@@ -15,7 +15,7 @@ is_white_space c = (c == 0xA0) || ((c == 0x1680) || (is_in_range 0x2000 0x200A c
     || ((c == 0x2028) || ((c == 0x2029) || ((c == 0x202F) || ((c == 0x205F) || ((c == 0x3000)
     || (c == 0xFEFF))))))))
 
--- a character that may stand in a range text
+-- a character that may be in a range text
 abbrev pub may_stand : ℕ → Bool
 may_stand c = is_in_range 0 127 c || is_white_space c
 

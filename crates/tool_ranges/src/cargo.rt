@@ -71,7 +71,7 @@ pub fn rewrite(alloc: Global, requirement: &str) -> Result<RangeSet, RangeError>
     ensures releases { IfOk result (λ set. (tree : List SimpleTree) (v : PlainVersion)
         → SpellsRequirement tree requirement.now → v.pre ≡ [] →
         meets_set v (set_of set) ≡ meets_requirement tree v) }
-    // What is answered is printable, and its text is a range text that `RangeSet::parse` rewrites
+    // The result is printable, and its text is a range text that `RangeSet::parse` rewrites
     // to that set again.
     ensures printable { IfOk result (λ set. IsPrintableSet (set_of set)) }
     ensures reads_back { IfOk result (λ set. (tree : SetTree)

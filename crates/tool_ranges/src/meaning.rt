@@ -69,7 +69,7 @@ impl Meaning {
 ///
 /// `NotARange` exactly where the reading's grammar has no such text, and `NumberTooLarge` exactly
 /// where it has, and a number that it states or a bound that is raised by one is above 2^64 - 1, or
-/// as npm reads it above 2^53 - 1. These two take no memory; `OutOfMemory` stands in place of a set alone.
+/// as npm reads it above 2^53 - 1. These two take no memory; `OutOfMemory` comes in place of a set alone.
 pub fn read(alloc: Global, meaning: Meaning, range: &str) -> Result<VersionSet, RangeError>
     // What the reading's grammar hasn't and what is too large is refused, exactly.
     ensures refusals { RefusesAs (reading_of meaning) range.now result }

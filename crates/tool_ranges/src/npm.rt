@@ -68,7 +68,7 @@ pub fn rewrite(alloc: Global, range: &str) -> Result<RangeSet, RangeError>
     ensures releases { IfOk result (λ set. (tree : SetTree) (v : PlainVersion)
         → SpellsNpm tree range.now → v.pre ≡ [] →
         meets_set v (set_of set) ≡ meets_npm tree v) }
-    // What is answered is printable, and its text is a range text that `RangeSet::parse` rewrites
+    // The result is printable, and its text is a range text that `RangeSet::parse` rewrites
     // to that set again.
     ensures printable { IfOk result (λ set. IsPrintableSet (set_of set)) }
     ensures reads_back { IfOk result (λ set. (tree : SetTree)

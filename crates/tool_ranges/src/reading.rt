@@ -53,9 +53,9 @@ impl Reading {
 ///
 /// `NotARange` exactly where the reading's grammar has no such text, and `NumberTooLarge` exactly
 /// where it has, and a number that it states or a bound that is raised by one is above 2^64 - 1, or
-/// as npm reads it above 2^53 - 1. These two take no memory; `OutOfMemory` stands in place of a set alone.
+/// as npm reads it above 2^53 - 1. These two take no memory; `OutOfMemory` comes in place of a set alone.
 pub fn rewrite(alloc: Global, reading: Reading, range: &str) -> Result<RangeSet, RangeError>
-    // What the reading's grammar hasn't and what is too large is refused, exactly. What is answered
+    // What the reading's grammar hasn't and what is too large is refused, exactly. The result
     // is what each tree of the text is rewritten to.
     ensures refusals { RefusesAs reading range.now result }
     ensures as_rewritten { IfOk result (λ set. IsRewrittenAs reading range.now (set_of set)) }
@@ -63,7 +63,7 @@ pub fn rewrite(alloc: Global, reading: Reading, range: &str) -> Result<RangeSet,
     ensures releases { IfOk result (λ set. (tree : TreeOf reading) (v : PlainVersion)
         → SpellsAs reading tree range.now → v.pre ≡ [] →
         meets_set v (set_of set) ≡ means_release reading tree v) }
-    // What is answered is printable, and its text is a range text that `RangeSet::parse` rewrites
+    // The result is printable, and its text is a range text that `RangeSet::parse` rewrites
     // to that set again, in the set's mode.
     ensures printable { IfOk result (λ set. IsPrintableSet (set_of set)) }
     ensures reads_back { IfOk result (λ set. (tree : SetTree)

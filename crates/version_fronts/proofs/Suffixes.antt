@@ -44,7 +44,7 @@ pub record InIdentifiers (d : Dialect) (section : Section) (part : Part) (L : Te
   pub whole : t ≡ join_with_byte 46 (first ∷ others) ++ rest
   pub next : L rest
 
--- identifiers behind their mark, or nothing, and then such a text
+-- identifiers after their mark, or nothing, and then such a text
 pub record AreMarked (d : Dialect) (section : Section) (mark : ℕ) (L : Text → Type 0) (t : Text) : Type 0 where
   pub parts : List Text
   pub rest : Text

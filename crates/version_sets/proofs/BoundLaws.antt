@@ -35,7 +35,7 @@ regroup Greater b c d = refl
 pub by_numbers : (v w : PlainVersion) → precedence v w ≡ ordering_then (numbers_cmp v w) (pre_cmp v.pre w.pre)
 by_numbers v w = regroup (nat_cmp v.major w.major) (nat_cmp v.minor w.minor) (nat_cmp v.patch w.patch) (pre_cmp v.pre w.pre)
 
--- a test of the pre-releases that answers as another does, behind any numbers
+-- a test of the pre-releases that answers as another does, after any numbers
 pub then_alike : (f g : Ordering → Bool) (o r s : Ordering) → f Less ≡ g Less → f Greater ≡ g Greater → f r ≡ g s
     → f (ordering_then o r) ≡ g (ordering_then o s)
 then_alike f g Less r s l m e = l
@@ -50,7 +50,7 @@ zero_least (numeric (suc n)) xs =
     ap (λ o. is_ge (ordering_then o (slice_cmp identifier_cmp xs []))) (sym (nat_cmp_is (suc n) 0 Greater (omega arith)))
 zero_least (alphanumeric t) xs = refl
 
--- nothing is between a list and that with the number 0 behind it
+-- nothing is between a list and that with the number 0 after it
 nothing_between : (xs ws : List IdentifierValue)
     → is_ge (slice_cmp identifier_cmp xs (ws ++ numeric 0 ∷ [])) ≡ is_gt (slice_cmp identifier_cmp xs ws)
 nothing_between [] [] = refl

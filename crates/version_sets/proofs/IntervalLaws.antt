@@ -36,7 +36,7 @@ same_end None (Some w) e = cc
 same_end (Some v) None e = cc
 same_end (Some v) (Some w) e = ap Some (precedence-same v w (equal_is (precedence v w) e))
 
--- from x on and below y, or s, where s is behind both
+-- from x on and below y, or s, where s is after both
 turned : (x y s : Bool) → (x ≡ false → s ≡ false) → ((x && not y) || s) ≡ (x && not (y && not s))
 turned true true true h = refl
 turned true true false h = refl

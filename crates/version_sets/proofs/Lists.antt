@@ -1,4 +1,4 @@
--- Lists by their length and by their halves, and what is answered of one.
+-- Lists by their length and by their halves, and the result of one.
 use Rattle.std.proofs.Common.{◌≡◌, ◌==◌, ◌||◌, ℕ, Bool, List, [], ◌∷◌, map, length, refl, sym, ap, subst, arith, IfOk, IfErr, Result, Ok, Err}
 use Rattle.std.proofs.lemmas.Bool.Decides.{nat_tests}
 use Rattle.std.specs.List.{list_any}

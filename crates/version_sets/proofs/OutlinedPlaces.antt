@@ -59,7 +59,7 @@ of_texts set o same outlines answer told text v outlined spells =
 abbrev pub is_reached : PlainVersion → Version → Bool
 is_reached v = is_passed precedence precedence_total version_place v
 
--- the switches in front of a place are at or below the version, those from another on are above it
+-- the switches before a place are at or below the version, those from another on are above it
 abbrev pub IsNarrowed : PlainVersion → List Version → ℕ → ℕ → Type 0
 IsNarrowed v switches low high =
     AllWithin (λ s. is_reached v s ≡ true) switches 0 low × AllWithin (λ s. is_reached v s ≡ false) switches high (length switches)

@@ -84,7 +84,7 @@ module _ {T : Type 0} (cmp : T → T → Ordering) (o : IsTotalOrder cmp) (v : T
   pub turns_begin : IsIncreasing cmp all → IsTurned cmp v all all false
   turns_begin increase = record { increase = increase; turned = refl }
 
-  -- the next switch is above it, and so are those behind, or it isn't
+  -- the next switch is above it, and so are those after, or it isn't
   pub turn_next : (b : T) (left : List T) (known below : Bool) → below ≡ is_lt (cmp v b) → IsTurned cmp v all (b ∷ left) known
       → IsTurned cmp v all left (differ known (not below))
   turn_next b left known below told w = record {

@@ -110,7 +110,7 @@ module _ (how : Combination) (a b : SetValue) (s : IsNormal a) (t : IsNormal b) 
       (λ e. or_second _ _ (kept_some IsPreRelease how a.pre_releases b.pre_releases s.pre_releases t.pre_releases v
       (sym (ap₂ (keeps how) (has-pre_release a v e) (has-pre_release b v e)) ∙ h)))
 
-  -- the answer of both kinds tells whether some version is in the combination
+  -- the answer of both kinds returns whether some version is in the combination
   pub tells_some : (r : Bool) → r ≡ keeps_any → (r ≡ true) ↔ KeepsSome how a b
   tells_some r e = (λ h. some_is (sym e ∙ h), λ k. e ∙ is_some k.0 k.1.1)
 

@@ -48,7 +48,7 @@ module _ {T : Type 0} (cmp : T → T → Ordering) where
     pub switched-first : (b : T) (ys : List T) → IsBelowFirst cmp b ys → switched cmp (b ∷ ys) b ≡ true
     switched-first b ys h = switched-at b b ys (ap is_ge (tied_itself o b)) ∙ ap not (switched-below b ys h)
 
-    -- what lists with one first element switch alike, they switch alike behind it
+    -- what lists with one first element switch alike, they switch alike after it
     alike_behind : (v b : T) (xs ys : List T) → IsBelowFirst cmp b xs → IsBelowFirst cmp b ys
         → switched cmp (b ∷ xs) v ≡ switched cmp (b ∷ ys) v → switched cmp xs v ≡ switched cmp ys v
     alike_behind v b xs ys s t h =

@@ -74,7 +74,7 @@ fn one_or_none<T: Drop>(alloc: Global, item: Option<T>) -> Result<Vec<T>, AllocE
     Ok(items)
 }
 
-/// The numbers right behind these. There are none behind the last.
+/// The numbers right after these. There are none after the last.
 pub(crate) fn next_numbers(numbers: Release) -> Option<Release>
     ensures above { (v : PlainVersion) → Fits v
         → reaches result v ≡ is_gt (numbers_cmp v (release_value numbers)) }

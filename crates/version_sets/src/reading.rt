@@ -29,7 +29,7 @@ impl VersionSet {
     ///
     /// Those of `RangeSet::parse`. `NotARange` exactly where the text isn't in the range grammar.
     /// `NumberTooLarge` exactly where it is, and a stated number or a raised bound is above
-    /// 2^64 - 1, as in `<=18446744073709551615`. These two take no memory; `OutOfMemory` stands in
+    /// 2^64 - 1, as in `<=18446744073709551615`. These two take no memory; `OutOfMemory` is in
     /// place of a set alone.
     pub fn of_text(
         alloc: Global,

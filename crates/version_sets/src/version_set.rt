@@ -138,7 +138,7 @@ impl VersionSet {
 
     // Answer: equation.
     /// Whether the version of an outline is in the set, as [`VersionSet::has`] tells of a version.
-    /// Its identifiers are compared as they stand in the text. It takes no memory.
+    /// Its identifiers are compared as they are in the text. It takes no memory.
     #[inline(always)]
     pub fn has_outline(&self, outline: &Outline<'_>) -> bool
         // It is that of the version of each text that has this outline.

@@ -71,7 +71,7 @@ pub record IsUnjudged (reading rule : ℤ) (range version : Text) (n : ℤ) : Ty
   pub out_of_memory : (d : Dialect) → IsDialect d reading → n ≡ number.version_out_of_memory
       → MayRunOutIn d version
 
--- what is answered where a range is read
+-- the result where a range is read
 abbrev pub other_numbers : List ℤ
 other_numbers =
     number.ok ∷ number.no_room ∷ number.range_out_of_memory ∷ version_faults ++ new_range_faults

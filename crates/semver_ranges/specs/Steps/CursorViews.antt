@@ -33,12 +33,12 @@ abbrev pub Finds : {X A : Type 0} → (X → A → Type 0) → Option (X × Text
 Finds Is o None = o ≡ None
 Finds {X = X} Is o (Some found) = (x : X) × (o ≡ Some (x, found.1.now)) × Is x found.0
 
--- the parts behind a mark; none where the text doesn't begin with it
+-- the parts after a mark; none where the text doesn't begin with it
 abbrev pub marked_parts : ℕ → Text → Option (List Text × Text)
 marked_parts mark [] = Some ([], [])
 marked_parts mark (b ∷ t) = if b == mark then parts t else Some ([], b ∷ t)
 
--- the parts of a pre-release and of a build that stand behind three components, and what follows
+-- the parts of a pre-release and of a build that are after three components, and what follows
 -- them
 abbrev pub FindsPre : Text → Option (Bor Text × Bor Text × Bor Text) → Type 0
 FindsPre t None = (a b c : Text) → behind_three a b c t ≡ None
@@ -47,7 +47,7 @@ FindsPre t (Some found) =
     ≡ Some (three a b c (cut_at_dots found.0.now) (cut_at_dots found.1.now), found.2.now))
     × (list_all is_part (cut_at_dots found.0.now) ≡ true)
 
--- what stands before a partial
+-- what is before a partial
 abbrev pub form_of : Form → tree.Form
 form_of form.Bare = tree.bare
 form_of form.Equal = tree.equal
@@ -58,7 +58,7 @@ form_of form.AtLeast = tree.at_least
 form_of form.Tilde = tree.tilde
 form_of form.Caret = tree.caret
 
--- what a word stands behind
+-- what a word is after
 abbrev pub role_of : Role → tree.Role
 role_of (role.BehindForm f) = tree.behind_form (form_of f)
 role_of role.BehindHyphen = tree.behind_hyphen
@@ -97,7 +97,7 @@ abbrev pub HasLeft : Dialect → Events → Option (List list.Event) → Type 0
 HasLeft d cursor o =
     HasBehind cursor.upper (events_left d cursor.lower cursor.begins_range cursor.rest.now) o
 
--- the first of the events that are left, and a cursor behind it
+-- the first of the events that are left, and a cursor after it
 abbrev pub IsFirst : Dialect → Option (List list.Event) → Event → Events → Type 0
 IsFirst d o e behind =
     (x : list.Event) × (left : Option (List list.Event)) × IsEventOf x e × HasLeft d behind left
@@ -119,7 +119,7 @@ size_at begins_range t = 2 * length t + flag begins_range
 abbrev pub size_left : Events → ℕ
 size_left cursor = size_at cursor.begins_range cursor.rest.now + flag (is_some cursor.upper)
 
--- the event at the front of a text that is left, and the cursor behind it
+-- the event at the front of a text that is left, and the cursor after it
 abbrev pub TakesEvent : Dialect → LowerBounds → Bool → Text → Option Event → Events → Type 0
 TakesEvent d lower begins_range t None behind = (events_left d lower begins_range t ≡ None)
     × (behind.begins_range ≡ false) × (behind.upper ≡ None) × (behind.rest.now ≡ t)

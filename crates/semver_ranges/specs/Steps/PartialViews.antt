@@ -106,7 +106,7 @@ AreComponentsOf (three a b c parts build) major minor patch pre =
     × (parts ≡ cut_at_dots pre)
 
 -- the same, with the bytes of the build, how many components are written, and whether something is
--- written behind three
+-- written after three
 pub record AreWritten (t : PartialTree) (c : Components) : Type 0 where
   pub stand : AreComponentsOf t c.major c.minor c.patch c.pre.now
   pub pre : pre_parts t ≡ cut_at_dots c.pre.now

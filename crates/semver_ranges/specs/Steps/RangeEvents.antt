@@ -33,7 +33,7 @@ yielded lower (hyphen left right) =
     else left_side (begun_as lower left) ∷ right_side right ∷ [])
 yielded lower (simples first others) = first ∷ others
 
--- simples in front of events
+-- simples before events
 abbrev pub in_front : List Simple → List Event → List Event
 in_front [] es = es
 in_front (s ∷ ss) es = one_simple s ∷ in_front ss es
@@ -45,7 +45,7 @@ events_of lower (r ∷ []) = in_front (yielded lower r) []
 events_of lower (r ∷ next ∷ others) =
     in_front (yielded lower r) (next_range ∷ events_of lower (next ∷ others))
 
--- the simples of the range that events are in, and the events behind the next bars
+-- the simples of the range that events are in, and the events after the next bars
 abbrev pub range_simples : List Event → List Simple
 range_simples [] = []
 range_simples (one_simple s ∷ es) = s ∷ range_simples es
@@ -67,7 +67,7 @@ abbrev pub event_fits : (Simple → Bool) → Event → Bool
 event_fits fit (one_simple s) = fit s
 event_fits fit next_range = true
 
--- an event, and simples, in front of the events that are left
+-- an event, and simples, before the events that are left
 abbrev pub put : Event → Option (List Event) → Option (List Event)
 put e None = None
 put e (Some es) = Some (e ∷ es)
@@ -84,7 +84,7 @@ set_events lower (Some tree) = Some (events_of lower tree)
 abbrev pub events : Dialect → LowerBounds → Text → Option (List Event)
 events d lower t = set_events lower (read d t)
 
--- what is left behind a range, from its end on
+-- what is left after a range, from its end on
 abbrev pub at_bars : Dialect → LowerBounds → Option Text → Option (List Event)
 at_bars d lower None = None
 at_bars d lower (Some t) = put next_range (events d lower t)
@@ -93,12 +93,12 @@ abbrev pub others_left : Dialect → LowerBounds → Text → Option (List Event
 others_left d lower [] = Some []
 others_left d lower (b ∷ t) = at_bars d lower (behind_bars (b ∷ t))
 
--- what is left behind simples
+-- what is left after simples
 abbrev pub simples_left : Dialect → LowerBounds → Option (List Simple × Text) → Option (List Event)
 simples_left d lower None = None
 simples_left d lower (Some (ss, end)) = put_simples ss (others_left d lower end)
 
--- what is left at the begin of a range, behind its blanks, and in a range
+-- what is left at the begin of a range, after its blanks, and in a range
 abbrev pub events_left : Dialect → LowerBounds → Bool → Text → Option (List Event)
 events_left d lower true t = set_events lower (behind_range (read d) (range_here d t))
 events_left d lower false t = simples_left d lower (all_simples d t)

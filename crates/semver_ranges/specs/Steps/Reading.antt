@@ -1,5 +1,5 @@
 -- A means of proof, which no public clause cites: the functions on lists that the cursor of range
--- texts follows, from the left to the right. Each answers what stands at the front of a text, and
+-- texts follows, from the left to the right. Each answers what is at the front of a text, and
 -- what follows it; `read` answers the tree that a text spells, or none.
 use Prim.Native.Char.{code}
 use Rattle.std.specs.Prelude.{ℕ, zero, suc, ◌-◌, Bool, true, false, ◌&&◌, ◌||◌, ◌==◌, if◌then◌else◌}
@@ -152,7 +152,7 @@ operator d (b ∷ t) =
     else (if b == code "^" then (caret, behind_blanks d t)
     else (bare, b ∷ t)))))
 
--- a simple, and what follows it and the blanks behind it
+-- a simple, and what follows it and the blanks after it
 abbrev pub with_form : Dialect → Form → Option (PartialTree × Text) → Option (Simple × Text)
 with_form d form None = None
 with_form d form (Some found) =
@@ -180,7 +180,7 @@ some_simples d (suc n) t =
 abbrev pub all_simples : Dialect → Text → Option (List Simple × Text)
 all_simples d t = some_simples d (suc (length t)) t
 
--- the right side of a hyphen range, from the hyphen on, and what follows it and the blanks behind
+-- the right side of a hyphen range, from the hyphen on, and what follows it and the blanks after
 -- it
 abbrev pub range_end : Dialect → Option (PartialTree × Text) → Option (PartialTree × Text)
 range_end d None = None
@@ -205,7 +205,7 @@ with_right s None = None
 with_right s (Some found) =
     if is_bare s.form then Some (hyphen s.partial found.0, found.1) else None
 
--- the simples behind a first
+-- the simples after a first
 abbrev pub with_others : Simple → Option (List Simple × Text) → Option (RangeTree × Text)
 with_others s None = None
 with_others s (Some found) = Some (simples s found.0, found.1)

@@ -8,12 +8,12 @@ use Rattle.semver_texts.specs.Texts.{Text, is_part_byte, is_dotted_byte}
 use Rattle.semver_texts.specs.declared.dotted.Hyphens.{Hyphens}
 use Rattle.semver_texts.specs.declared.dotted.Hyphens.TheVariants.{Any, BetweenRuns}
 
--- a byte of a run: a letter or a digit, and a hyphen where any may stand
+-- a byte of a run: a letter or a digit, and a hyphen where any may be
 abbrev pub is_run_byte : Hyphens → ℕ → Bool
 is_run_byte Any b = is_part_byte b
 is_run_byte BetweenRuns b = is_ascii_alphanumeric b
 
--- before the first byte that can't stand there, each dot, and each hyphen that belongs to no run,
+-- before the first byte that can't are there, each dot, and each hyphen that belongs to no run,
 -- stands between two runs
 abbrev pub runs_stand : (ℕ → Bool) → Bool → Text → Bool
 runs_stand run in_run [] = in_run
@@ -27,7 +27,7 @@ parts_ahead hyphens t =
     if runs_stand (is_run_byte hyphens) false t then Some
     (take (prefix_len is_dotted_byte t) t, drop (prefix_len is_dotted_byte t) t) else None
 
--- the parts behind their mark, and what follows them; nothing where the mark isn't there
+-- the parts after their mark, and what follows them; nothing where the mark isn't there
 abbrev pub marked_part : Hyphens → ℕ → Text → Option (Text × Text)
 marked_part hyphens mark [] = Some ([], [])
 marked_part hyphens mark (b ∷ t) =

@@ -33,7 +33,7 @@ sign b c =
     else (if b == code "|" then (if c == code "|" then Some (Or, 2) else None)
     else None))))))))))
 
--- the first token of what stands at a place, and its length
+-- the first token of what is at a place, and its length
 unfoldable pub first_token : ℕ → List ℕ → Option (TokenValue × ℕ)
 first_token place [] = None
 first_token place (b ∷ bs) =

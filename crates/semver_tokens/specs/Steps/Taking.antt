@@ -30,7 +30,7 @@ pub record IsTaken {S : Type 0} (step : S → TokenValue → Option S) (start : 
   -- the last token before a pending character wasn't taken
   pub known : (front ≡ []) ⊎ ((0 < length t.remaining) ⊎ (t.pending ≡ None))
 
--- what holds of a step: P of a value and the state behind it, and F of a fault and the state behind
+-- what holds of a step: P of a value and the state after it, and F of a fault and the state after
 -- that
 abbrev pub Gives : {A : Type 0} → (Fault → ParserState → Type 0) → (A → ParserState → Type 0)
     → Step A → Type 0
@@ -89,7 +89,7 @@ pub data Place : Type 0 where
 abbrev pub if_component : Place → TokenValue → Option Place
 if_component next t = if is_component t then Some next else None
 
--- where a token leads from a place, if it may stand there
+-- where a token leads from a place, if it may be there
 abbrev pub step : Place → TokenValue → Option Place
 step start (Whitespace a b) = Some (at_number major)
 step start (Numeric n) = Some (behind_number major)

@@ -49,7 +49,7 @@ comparator_here t =
 abbrev pub comparator_at : Text → Option (Simple × Option Text)
 comparator_at t = comparator_here (behind_blanks dialect.Cargo t)
 
--- what stands behind a comma, where one is there
+-- what is after a comma, where one is there
 abbrev pub behind_comma : Option (Bor Text) → Option Text
 behind_comma None = None
 behind_comma (Some rest) = Some rest.now
@@ -96,7 +96,7 @@ IsRewrittenOne s (Err NotARange) = ⊥
 IsRewrittenOne s (Err NumberTooLarge) = fits_in Cargo s ≡ false
 IsRewrittenOne s (Err OutOfMemory) = fits_in Cargo s ≡ true
 
--- what is answered at the end of a text, where a wildcard stands alone or not, and all fits or not
+-- the result at the end of a text, where a wildcard is alone or not, and all fits or not
 abbrev pub EndsAs : Bool → Bool → Result ℕ RangeError → Type 0
 EndsAs alone fit (Ok count) = (alone ≡ true) × (fit ≡ true)
 EndsAs alone fit (Err NotARange) = alone ≡ false

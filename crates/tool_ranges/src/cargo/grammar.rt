@@ -1,4 +1,4 @@
-//! What stands at the front of a requirement: a comparator.
+//! What is at the front of a requirement: a comparator.
 //!
 //! Nothing here takes memory, and a call looks at each byte a fixed number of times. What can't be
 //! read is `None`.
@@ -77,8 +77,8 @@ fn has_wildcard(written: &Components<'_>) -> bool
 }
 
 /// Whether Cargo reads such a comparator: a wildcard alone stands for every release, and else the
-/// first number is stated, nothing but wildcards stands behind a wildcard, and a pre-release or a
-/// build behind three numbers alone.
+/// first number is stated, nothing but wildcards is after a wildcard, and a pre-release or a
+/// build after three numbers alone.
 #[inline(always)]
 fn is_read(form: Form, written: &Components<'_>) -> bool
     ensures { (s : SimpleTree) → form_of form ≡ s.form → AreWritten s.partial written.now

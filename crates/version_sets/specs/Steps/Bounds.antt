@@ -1,4 +1,4 @@
--- The numbers of a version against those of a release, or behind all: a means of proof.
+-- The numbers of a version against those of a release, or after all: a means of proof.
 use Rattle.std.specs.Prelude.{Bool, false, ◌∷◌, [], Option, Some, None}
 use Rattle.std.specs.Ordering.{is_ge, nat_cmp, on, then_cmp}
 use Rattle.std.specs.declared.cmp.Ordering.{Ordering}

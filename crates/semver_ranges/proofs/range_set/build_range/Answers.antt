@@ -13,7 +13,7 @@ use Rattle.semver_ranges.proofs.FoundEvents.{NextSimple, next_simple, RangeEnd, 
 use Rattle.semver_ranges.proofs.range_set.build_range.Goals as goal
 use Rattle.semver_ranges.proofs.range_set.build_range.Goals.{In-Some-Ok-Simple}
 
--- the simple that comes first, and what is left behind it
+-- the simple that comes first, and what is left after it
 taken : (c : In-Some-Ok-Simple) (left : List Event) → HasLeft Crate c.loop-simple.events (Some left)
     → NextSimple Crate left c.in-Some-Ok-Simple.simple c.next.new.self
 taken c left has =

@@ -46,7 +46,7 @@ returns-then-is_space c =
     ∙ sym (front_space c.args.start c.args.rest.now _ (first_byte (goal.at.returns-then-is_space c).In_ok-first)
     (sym c.if-is_space.ensures))
 
--- the run isn't empty, and the text may be cut behind it
+-- the run isn't empty, and the text may be cut after it
 run_some : (c : After-run_len-len) → 0 < prefix_len is_ascii_alphanumeric c.args.rest.now
 run_some c = some_of_prefix is_ascii_alphanumeric c.args.rest.now _ (first_byte (at_first c)) (sym c.if-is_ascii_alphanumeric.ensures.value)
   where

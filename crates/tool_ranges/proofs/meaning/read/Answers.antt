@@ -11,7 +11,7 @@ use Rattle.tool_ranges.specs.Meanings.{MeansAs, reading_of}
 use Rattle.tool_ranges.proofs.ReadRows.{if_ok}
 use Rattle.tool_ranges.proofs.meaning.read.Goals as goal
 
--- what is answered by a meaning
+-- the result by a meaning
 abbrev Answers : Text → Result VersionSet RangeError → Meaning → Type 0
 Answers t r meaning = RefusesAs (reading_of meaning) t r × IfOk r (λ set. MeansAs meaning t set)
 

@@ -16,7 +16,7 @@ use Rattle.tool_ranges.specs.Steps.LowerBounds.{written_for}
 use Rattle.tool_ranges.proofs.npm.build_range.Goals as goal
 use Rattle.tool_ranges.proofs.npm.build_range.Goals.{In-Some-Ok-Simple}
 
--- the simple that comes first, and what is left behind it
+-- the simple that comes first, and what is left after it
 taken : (c : In-Some-Ok-Simple) (left : List Event) → HasLeft dialect.Npm c.loop-simple.events (Some left)
     → NextSimple dialect.Npm left c.in-Some-Ok-Simple.simple c.next_in.new.self
 taken c left has =

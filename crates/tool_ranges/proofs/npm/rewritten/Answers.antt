@@ -12,7 +12,7 @@ use Rattle.tool_ranges.specs.Steps.NpmReading.{HasRanges, IsNpmRefusal}
 use Rattle.tool_ranges.proofs.NpmLaws.{npm_read, answered, refused}
 use Rattle.tool_ranges.proofs.npm.rewritten.Goals as goal
 
--- the characters of the text may stand there
+-- the characters of the text may be there
 abbrev Stands : Text → Type 0
 Stands t = list_all may_stand (chars t) ≡ true
 

@@ -1,4 +1,4 @@
--- The places of those that pass are in front of the others, and then the versions there are kept.
+-- The places of those that pass are before the others, and then the versions there are kept.
 use Rattle.std.proofs.Common.{◌≡◌, ◌++◌, map, take}
 use Rattle.std.specs.Prelude.{filter}
 use Rattle.semver_parser.specs.VersionViews.{version_value}

@@ -1,4 +1,4 @@
--- The versions in front of the rest have been judged, and those that pass are kept.
+-- The versions before the rest have been judged, and those that pass are kept.
 use Rattle.std.proofs.Common.{length}
 use Rattle.semver_parser.specs.VersionViews.{version_value}
 use Rattle.release_filter.specs.Filters.{passes}

@@ -61,7 +61,7 @@ returns-in_err-character-clause-steps c =
     (c.in_err-character.ensures.steps.2 ∙ ap (λ bs. slice_get (chars bs) 0) c.chars.ensures.rest) in
     rw c.from_residual.ensures (none, none)
 
--- it is the one item, and nothing is left behind it
+-- it is the one item, and nothing is left after it
 bad_here : (c : goal.After-self-2-1)
     → items_left c.args.self.now ≡ Err (UnexpectedChar c.in_ok-character.character)
     ∷ items_left (state_left c.self.inside.input.now c.self.inside.position true)
