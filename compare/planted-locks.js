@@ -1,7 +1,7 @@
 // Compares what check-lock-file lists of changed lock files with node-semver.
 //
-// `node planted-locks.js PROGRAM COUNT SEED FILE..`, where each FILE is a yarn.lock of which nothing
-// is listed. Of each it makes COUNT copies in which one package has another version, finds by itself
+// `node planted-locks.js PROGRAM COUNT SEED FILE..`, where each FILE is a yarn.lock or a
+// package-lock.json with "packages", of which nothing is listed. Of each it makes COUNT copies in which one package has another version, finds by itself
 // which asks that breaks, and compares the lines. It prints the first difference, and then ends with
 // status 1.
 'use strict'
@@ -57,6 +57,43 @@ function asksOfYarn (text) {
   return { packages, asks }
 }
 
+// The place at which a package of npm's tree finds a name: in its own node_modules, or in that of one
+// above.
+function placeOf (entries, from, name) {
+  for (let base = from; ;) {
+    const place = `${base}${base === '' ? '' : '/'}node_modules/${name}`
+    if (place in entries) return place
+    if (base === '') return undefined
+    base = base.slice(0, Math.max(base.lastIndexOf('node_modules/'), 0)).replace(/\/$/, '')
+  }
+}
+
+// The asks of a package-lock.json: of the names that two kinds of dependencies have, the later counts.
+function asksOfNpm (text) {
+  const entries = JSON.parse(text).packages
+  const places = Object.keys(entries).filter((place) => place.includes('node_modules/') && entries[place].version)
+  const packages = places.map((place) => ({ keys: [place], version: entries[place].version }))
+  const asks = []
+  for (const [place, it] of Object.entries(entries)) {
+    const isOwn = !place.includes('node_modules/')
+    const peers = Object.entries(it.peerDependencies ?? {})
+      .filter(([name]) => !(it.peerDependenciesMeta ?? {})[name]?.optional)
+    const needs = { ...Object.fromEntries(peers), ...it.dependencies, ...it.optionalDependencies, ...(isOwn ? it.devDependencies : {}) }
+    for (const [need, spec] of Object.entries(needs)) {
+      const at = places.indexOf(placeOf(entries, place, need))
+      asks.push({ who: place === '' ? 'the project' : place, name: need, spec, at })
+    }
+  }
+  return { packages, asks }
+}
+
+// A copy of a package-lock.json with another version at a place.
+function changedOfNpm (text, place, version) {
+  const lock = JSON.parse(text)
+  lock.packages[place].version = version
+  return JSON.stringify(lock, null, 2)
+}
+
 // The range that is asked for; null if it is none.
 const rangeOf = (spec) => {
   const bare = spec.startsWith('npm:') ? spec.slice(4).replace(/^@?[^@]+@/, '') : spec
@@ -66,21 +103,28 @@ const rangeOf = (spec) => {
 const whoIs = (ask) => ask.by === undefined ? ask.who
   : ask.by.version === '0.0.0-use.local' ? ask.who : `${ask.who} ${ask.by.version}`
 
-// A copy of a yarn.lock with another version of a package, and the lines that it has to have.
-function planted (text, parsed, at, version) {
-  const { packages, asks } = parsed
-  const old = packages[at]
+// A copy of a yarn.lock with another version of a package; null where it isn't found.
+function changedOfYarn (text, old, version) {
   const key = old.keys.length === 1 || text.includes('__metadata:') ? old.keys.join(', ') : null
   const begin = text.split('\n').findIndex((line) => line.endsWith(':') && !line.startsWith(' ') &&
     (key === null ? line.includes(old.keys[0]) && line.includes(old.keys[1]) : line.slice(0, -1).replace(/^"|"$/g, '') === key))
   const lines = text.split('\n')
   if (begin < 0) return null
   lines[begin + 1] = lines[begin + 1].replace(old.version, version)
+  return lines.join('\n')
+}
+
+// A changed copy of a lock file, and the lines that are to be listed of it.
+function planted (text, parsed, at, version) {
+  const { packages, asks } = parsed
+  const old = packages[at]
+  const copy = text.startsWith('{') ? changedOfNpm(text, old.keys[0], version) : changedOfYarn(text, old, version)
+  if (copy === null) return null
   const changed = { ...old, version }
   const wanted = asks.filter((ask) => ask.at === at && rangeOf(ask.spec) !== null &&
     !semver.satisfies(version, rangeOf(ask.spec)))
     .map((ask) => `${ask.spec}\t${version}\t${whoIs({ ...ask, by: ask.by === old ? changed : ask.by })} asks for ${ask.name}`)
-  return { copy: lines.join('\n'), wanted }
+  return { copy, wanted }
 }
 
 function main () {
@@ -91,7 +135,8 @@ function main () {
   let faults = 0
   for (const file of files) {
     const text = fs.readFileSync(file, 'utf8')
-    const parsed = asksOfYarn(text)
+    const parsed = text.startsWith('{') ? asksOfNpm(text) : asksOfYarn(text)
+    const name = path.basename(file)
     const manifest = path.join(path.dirname(file), 'package.json')
     if (fs.existsSync(manifest)) fs.copyFileSync(manifest, path.join(folder, 'package.json'))
     for (let made = 0; made < Number(count);) {
@@ -101,8 +146,8 @@ function main () {
       const plant = planted(text, parsed, at, version)
       if (plant === null) continue
       made += 1
-      fs.writeFileSync(path.join(folder, 'yarn.lock'), plant.copy)
-      const ran = spawnSync(program, [path.join(folder, 'yarn.lock')], { encoding: 'utf8' })
+      fs.writeFileSync(path.join(folder, name), plant.copy)
+      const ran = spawnSync(program, [path.join(folder, name)], { encoding: 'utf8' })
       const listed = ran.stdout.split('\n').filter((it) => it !== '').sort()
       if (listed.join('\n') !== [...plant.wanted].sort().join('\n')) {
         console.log(`${file}: ${parsed.packages[at].keys[0]} with ${version}`)
