@@ -55,7 +55,7 @@ const TEXTS: [(&str, PreReleases, &str, Option<&str>); 21] = [
     ("<0.1 || >=2", PreReleases::Included, "1.0.0", None),
 ];
 
-/// A text, and what a filter of `^1.2` says of it, releases alone: the printed version, or why
+/// A text, and what a filter of `^1.2` says of it, releases only: the printed version, or why
 /// none passes.
 const JUDGED: [(&[u8], &str); 7] = [
     (b"1.2", "no version"),

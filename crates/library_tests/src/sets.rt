@@ -76,7 +76,7 @@ const TEXTS: [(&str, PreReleases, &str, bool); 24] = [
     ),
 ];
 
-/// Range texts that mean the same versions, releases alone.
+/// Range texts that mean the same versions, releases only.
 const SAME: [(&str, &str); 3] = [
     (">=1.0.0 <2.0.0 || >=2.0.0 <3.0.0", ">=1.0.0 <3.0.0"),
     (">=1.0.0-rc", ">=1.0.0"),

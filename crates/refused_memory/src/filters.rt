@@ -80,7 +80,7 @@ pub fn read_version(alloc: Global, filter: &Filter) -> Ending {
     }
 }
 
-/// Texts that a filter of releases alone doesn't read, and one that it does: without a request but
+/// Texts that a filter of only releases doesn't read, and one that it does: without a request but
 /// for the filter's own.
 pub fn read_without_requests(alloc: Global) -> Ending {
     let made = Filter::new(alloc, "^1.2", Compat::Cargo, PreReleases::Excluded);

@@ -1,4 +1,4 @@
-//! A writer that takes no memory.
+//! A writer that does not allocate.
 ghost use Rattle.std.specs.Prelude.{◌≤◌};
 
 use std::io::Write;

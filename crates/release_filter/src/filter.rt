@@ -58,7 +58,7 @@ impl Filter {
     ///
     /// Those of `RangeSet::parse`. `NotARange` exactly where the text isn't in the range grammar.
     /// `NumberTooLarge` exactly where it is, and a stated number or a raised bound is above
-    /// 2^64 - 1. These two take no memory; `OutOfMemory` comes in place of a filter alone.
+    /// 2^64 - 1. These two do not allocate; `OutOfMemory` comes only in place of a filter.
     pub fn new(
         alloc: Global,
         range: &str,
@@ -82,7 +82,7 @@ impl Filter {
 
     // Answer: equation.
     /// A filter that the versions of a set pass, as those that a tool's own reading of a range text
-    /// answers, and that reads version texts by a dialect. It takes no memory.
+    /// answers, and that reads version texts by a dialect. It does not allocate.
     pub fn of_versions(versions: VersionSet, dialect: Dialect) -> Filter
         ensures set { result.set ≡ versions }
         // Which pre-releases count, the set says by itself.
@@ -113,7 +113,7 @@ impl Filter {
     }
 
     // Answer: equation.
-    /// Whether a version passes. Its build doesn't count. It takes no memory.
+    /// Whether a version passes. Its build doesn't count. It does not allocate.
     pub fn meets(&self, version: &Version) -> bool
         ensures meets { result ≡ passes self.now (version_value version.now) }
     {
@@ -157,7 +157,7 @@ impl Filter {
 ///
 /// The text is read first, so its refusal doesn't depend on the versions: `NotARange` where it
 /// isn't in the range grammar, `NumberTooLarge` where it is and a stated number or a raised bound
-/// is above 2^64 - 1. `OutOfMemory` comes in place of an answer alone. Pre-releases are never
+/// is above 2^64 - 1. `OutOfMemory` comes only in place of an answer. Pre-releases are never
 /// among the result, whatever the text says.
 ///
 /// Each version is judged once. Memory for the answer is asked for as it grows, and not at all

@@ -29,16 +29,16 @@ pub enum Judged<'t> {
 
 impl Filter {
     // Answer: law answer_laws::filters::one_judge.
-    /// What the filter says of a text: one of `^1.2`, releases alone, says of `1.2` that it is no
+    /// What the filter says of a text: one of `^1.2`, releases only, says of `1.2` that it is no
     /// version, of `2.0.0` and of `1.3.0-rc` that they don't pass, and of `1.9.0+b5` that 1.9.0+b5
     /// passes.
     ///
     /// The text is read as by `version::outline_in`, by the dialect of the filter, and needn't be
-    /// UTF-8. It takes no memory.
+    /// UTF-8. It does not allocate.
     #[inline(always)]
     pub fn judge<'t>(&self, text: &'t [u8]) -> Judged<'t>
         ensures judged { IsJudged self.now.dialect (passes self.now) text.now result }
-        // A pre-release doesn't pass where releases alone do.
+        // A pre-release doesn't pass where only releases do.
         ensures releases { (v : VersionValue) → SpellsIn self.now.dialect v text.now
             → ¬ (v.plain.pre ≡ []) → self.now.pre_releases ≡ PreReleases.Excluded
             → result ≡ Judged.DoesNotPass }
@@ -70,7 +70,7 @@ impl Filter {
 
     // Answer: law answer_laws::filters::one_read.
     /// The version that a text spells, if it spells one that passes: with a filter of `^1.2`,
-    /// releases alone, `1.9.0+b5` gives that version, and `2.0.0`, `1.3.0-rc` and `1.2` give
+    /// releases only, `1.9.0+b5` gives that version, and `2.0.0`, `1.3.0-rc` and `1.2` give
     /// `None`. Which of the two it is that these are, [`Filter::judge`] says.
     ///
     /// The text is read by the dialect of the filter, but only as far as is needed. Memory is taken
@@ -92,7 +92,7 @@ impl Filter {
         ensures out_of_memory { IfErr result (λ _. (v : VersionValue)
             × SpellsIn self.now.dialect v text.now × IsTrue (passes self.now v)
             × ((0 < length v.plain.pre) ⊎ (0 < length v.build))) }
-        // A pre-release takes no memory where releases alone pass.
+        // A pre-release does not allocate where only releases pass.
         ensures releases { (v : VersionValue) → SpellsIn self.now.dialect v text.now
             → ¬ (v.plain.pre ≡ []) → self.now.pre_releases ≡ PreReleases.Excluded
             → result ≡ Result.Ok None }

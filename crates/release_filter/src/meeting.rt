@@ -36,7 +36,7 @@ pub fn release_meets(set: &RangeSet, version: &Version) -> bool
 /// `1.0.0-beta.11` meets the set of `>=1.0.0-beta.2 <1.0.0`; `1.0.0-alpha` doesn't, and neither
 /// does `1.0.0`. A pre-release needs no comparator with its own numbers: `2.0.0-alpha` meets
 /// `>=1.0.0`, and `<2.0.0` too. No version meets a set without ranges, and each meets a range
-/// without comparators. It takes no memory.
+/// without comparators. It does not allocate.
 pub fn version_meets(set: &RangeSet, version: &Version) -> bool
     ensures meets { result ≡ meets_set (version_value version.now).plain (set_of set.now) }
 {
@@ -51,7 +51,7 @@ pub fn version_meets(set: &RangeSet, version: &Version) -> bool
 ///
 /// `1.0.0-beta.11` meets the set of `>=1.0.0-beta.2 <1.0.0`, and not that of `<1.0.0`. With the
 /// sets that `RangeSet::parse_exact` answers this is what the text means as stated
-/// (docs/MEANING.md). It takes no memory.
+/// (docs/MEANING.md). It does not allocate.
 pub fn version_meets_as_stated(set: &RangeSet, version: &Version) -> bool
     ensures meets { result
         ≡ meets_set_as_stated (version_value version.now).plain (set_of set.now) }

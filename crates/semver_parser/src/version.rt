@@ -42,7 +42,7 @@ pub fn parse(alloc: Global, input: &str) -> Result<Version, parser::Error<'_>>
     ensures exact { (v : VersionValue) →
         UnlessOutOfMemory result ((answer_of version_value result ≡ Ok v)
         ↔ SpellsVersion v input.now) }
-    // A version without pre-release and build takes no memory.
+    // A version without pre-release and build does not allocate.
     ensures plain { (v : VersionValue) → SpellsVersion v input.now → v.plain.pre ≡ []
         → v.build ≡ [] →
         answer_of version_value result ≡ Ok v }

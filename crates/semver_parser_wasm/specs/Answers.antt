@@ -48,7 +48,7 @@ not_a_version = pos 5
 abbrev pub no_such_dialect : ℤ
 no_such_dialect = pos 6
 
--- the number of an error of a range that takes no memory to read
+-- the number of an error of a range that is not out of memory
 abbrev pub error_number : RangeError → ℤ
 error_number NotARange = not_a_range
 error_number NumberTooLarge = number_too_large

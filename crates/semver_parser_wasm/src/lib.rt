@@ -32,8 +32,8 @@ pub const NO_SUCH_DIALECT: i32 = 6;
 /// Returns whether a range means a version: `MEETS` for `^1.2` and `1.9.0`, and `DOES_NOT_MEET` for
 /// `^1.2` and `2.0.0`, in each dialect. It does not allocate.
 ///
-/// The dialect is 0 for Cargo's, 1 for npm's, and 2 and 3 for the Rust crate's in its Cargo mode and
-/// its npm mode. It is that of the range and of the version, and pre-releases count by its default
+/// The dialect is 0 for Cargo's, 1 for npm's, and 2 and 3 for the Rust crate's in Cargo and in npm
+/// mode. It is that of the range and of the version, and pre-releases count by its default
 /// rule (docs/MEANING.md).
 ///
 /// # Errors
@@ -87,7 +87,7 @@ fn answer(meaning: Meaning, range: &[u8], version: &[u8]) -> i32
     }
 }
 
-/// The number of an error of a range that takes no memory to read.
+/// The number of an error of a range that is not out of memory.
 fn number_of(error: RangeError) -> i32
     requires { error ≢ OutOfMemory }
     ensures { result ≡ error_number error }

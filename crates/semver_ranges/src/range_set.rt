@@ -90,8 +90,8 @@ impl RangeSet {
     /// - `NumberTooLarge` exactly where it is, and a number before the first wildcard of its
     ///   partial, or an upper bound that is raised by one, is above 2^64 - 1, as
     ///   `<=18446744073709551615`.
-    /// - `OutOfMemory` if an allocation failed. The first two answers take no memory, so this
-    ///   one comes in place of a set alone.
+    /// - `OutOfMemory` if an allocation failed. The first two answers do not allocate, so this
+    ///   one comes only in place of a set.
     pub fn parse(alloc: Global, input: &str, compat: Compat) -> Result<RangeSet, RangeError>
         // What isn't in the grammar and what is too large is refused, exactly; all else is read.
         // The result is what each tree of the text is rewritten to, in this mode.
@@ -374,7 +374,7 @@ impl fmt::Display for RangeSet {
     ghost output = { λ s. Some (set_text (set_of s)) };
 
     /// Writes the ranges with ` || ` between each two: `>=1.2.3 <2.0.0 || =3.0.0`. The mode isn't
-    /// written. It takes no memory, and its only fault is the writer's.
+    /// written. It does not allocate, and its only fault is the writer's.
     fn fmt<W: fmt::Write>(&self, f: &mut fmt::Formatter<W>) -> fmt::Result {
         write_joined(f, " || ", &self.ranges)
     }

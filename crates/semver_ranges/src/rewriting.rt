@@ -1,8 +1,8 @@
 //! How simples are rewritten to comparators: which operator compares with which version, and which
 //! number is raised for the bound above.
 //!
-//! The rewriting takes no memory and raises nothing: only building does both, once all is known to
-//! fit.
+//! The rewriting does not allocate or raise: only building does both, once all is
+//! known to fit.
 
 ghost use Rattle.std.specs.Prelude.{◌≡◌, ◌≤◌, ◌++◌, ◌∷◌, [], length, map, true, IfOk};
 ghost use Rattle.semver_ranges.specs.declared.partial.Partial.{Partial as PartialView};

@@ -8,7 +8,7 @@ use std::cmp::Ordering;
 
 // Answer: equation.
 /// How two versions compare by precedence (SemVer 2.0.0, section 11): `Less` where the first is
-/// below the other. Builds don't count. It takes no memory.
+/// below the other. Builds don't count. It does not allocate.
 ///
 /// The first difference decides of the three numbers, the first of them first. Where these are
 /// equal, no pre-release is above any, and two go by the first identifiers that differ: numbers as

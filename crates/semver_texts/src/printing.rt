@@ -8,7 +8,7 @@ use std::fmt;
 // Answer: equation.
 /// Writes the mark and then the items joined by dots; nothing where there are none.
 ///
-/// Of the mark `-` and the items 7 and `"rc"` it writes `-7.rc`. It takes no memory, and its only
+/// Of the mark `-` and the items 7 and `"rc"` it writes `-7.rc`. It does not allocate, and its only
 /// fault is the writer's.
 pub fn write_part<W: fmt::Write, T: fmt::Display>(
     f: &mut fmt::Formatter<W>,
@@ -28,7 +28,7 @@ pub fn write_part<W: fmt::Write, T: fmt::Display>(
 // Answer: equation.
 /// Writes the items with the separator between each two.
 ///
-/// Of the separator `.` and the items 7 and `"rc"` it writes `7.rc`. It takes no memory, and its
+/// Of the separator `.` and the items 7 and `"rc"` it writes `7.rc`. It does not allocate, and its
 /// only fault is the writer's.
 pub fn write_joined<W: fmt::Write, T: fmt::Display>(
     f: &mut fmt::Formatter<W>,

@@ -200,7 +200,7 @@ impl<'input> Iterator for Lexer<'input> {
     ghost remaining = { item_count items_left };
 
     /// The next token; where no token begins, the error that names the character there, once; at
-    /// the end, and after the error, `None`. It takes no memory.
+    /// the end, and after the error, `None`. It does not allocate.
     ///
     /// On `1é2` it gives `Ok(Numeric(1))`, `Err(UnexpectedChar('é'))`, and then `None` each time.
     #[inline(always)]

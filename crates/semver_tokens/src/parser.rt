@@ -75,7 +75,7 @@ impl<'input> fmt::Display for Error<'input> {
 
     ghost output = { fixed_text };
 
-    /// Writes a sentence for a person, as `expected more input`. It takes no memory, and its only
+    /// Writes a sentence for a person, as `expected more input`. It does not allocate, and its only
     /// fault is the writer's.
     fn fmt<W: fmt::Write>(&self, f: &mut fmt::Formatter<W>) -> fmt::Result {
         match self {
@@ -135,7 +135,7 @@ impl<'input> Model for Parser<'input> {
 impl<'input> Parser<'input> {
     // Answer: law answer_laws::versions::one_parser.
     /// A parser at the start of the text: all its tokens remain, and where it ends in a character
-    /// that opens no token, that character is pending. It takes no memory.
+    /// that opens no token, that character is pending. It does not allocate.
     ///
     /// `Lexer` exactly where the text begins with such a character, as `/` does; `1 /` and the
     /// empty text are read.
@@ -176,7 +176,7 @@ impl<'input> Parser<'input> {
     ///
     /// `UnexpectedToken` of any other token, which is consumed; `UnexpectedEnd` where no token
     /// remains, and `Lexer` where a character is pending after at most one token: both leave the
-    /// parser as it was. It takes no memory.
+    /// parser as it was. It does not allocate.
     #[inline(always)]
     pub fn numeric(&mut self) -> Result<u64, Error<'input>>
         ensures step { step_of (λ n. n) result self.new ≡ spec.numeric self.old }
@@ -197,7 +197,7 @@ impl<'input> Parser<'input> {
     // Answer: equation.
     /// Takes a number, or a wildcard as `None`: on `X.1` it answers `None`, and `.` and `1` remain.
     ///
-    /// It refuses as `numeric` does, and takes no memory.
+    /// It refuses as `numeric` does, and does not allocate.
     #[inline(always)]
     pub fn component(&mut self) -> Result<Option<u64>, Error<'input>>
         ensures step { step_of (λ n. n) result self.new ≡ spec.component self.old }
@@ -219,8 +219,8 @@ impl<'input> Parser<'input> {
     /// true)` for a wildcard. Where none comes next, it answers `(None, false)` and takes nothing.
     ///
     /// It refuses as `component` does; the dot is then consumed, but where it is itself the last
-    /// token before a pending character. It takes no memory. On `.1.x` two calls answer `(Some(1),
-    /// false)` and `(None, true)`.
+    /// token before a pending character. It does not allocate. On `.1.x` two calls return
+    /// `(Some(1), false)` and `(None, true)`.
     #[inline(always)]
     pub fn dot_component(&mut self) -> Result<(Option<u64>, bool), Error<'input>>
         ensures step { step_of (λ n. n) result self.new ≡ spec.dot_component self.old }
@@ -237,7 +237,7 @@ impl<'input> Parser<'input> {
     /// Takes a dot and a number: on `.7` it answers 7.
     ///
     /// It refuses as `numeric` does, of either token; what it took before the refusal stays
-    /// consumed. It takes no memory.
+    /// consumed. It does not allocate.
     #[inline(always)]
     pub fn dot_numeric(&mut self) -> Result<u64, Error<'input>>
         ensures step { step_of (λ n. n) result self.new ≡ spec.dot_numeric self.old }
@@ -324,7 +324,7 @@ impl<'input> Parser<'input> {
     /// - `Lexer`: a bad character is pending and at most one token remains. That token stays, since
     ///   it can't be told whether the identifier ends with it.
     /// - `OutOfMemory`: there is no memory for the text, which is taken at once. Its tokens stay
-    ///   taken, and no more. A number takes no memory.
+    ///   taken, and no more. A number does not allocate.
     pub fn identifier(&mut self, alloc: Global) -> Result<Identifier, Error<'input>>
         ensures answer { UnlessOutOfMemory result
             (ReadsIdentifier self.old (step_of identifier_value result self.new).0 self.new) }
@@ -414,7 +414,7 @@ impl<'input> Parser<'input> {
     /// - `UnexpectedEnd`: no token remains there. What came before stays taken.
     /// - `Lexer`: a bad character is pending and at most one token remains. That token stays.
     /// - `OutOfMemory`: an allocation failed for an identifier's text or for a list of identifiers.
-    ///   What was taken stays taken. A version without pre-release and build takes no memory.
+    ///   What was taken stays taken. A version without pre-release and build does not allocate.
     pub fn version(&mut self, alloc: Global) -> Result<Version, Error<'input>>
         ensures answer { UnlessOutOfMemory result
             (ReadsVersion self.old (step_of version_value result self.new).0 self.new) }

@@ -25,7 +25,7 @@ fn identifier(alloc: Global, text: &str) -> Result<Identifier, AllocError>
 }
 
 /// The identifiers that the texts between the dots are kept as; none if there are no bytes, which
-/// takes no memory.
+/// does not allocate.
 #[inline(always)]
 pub(crate) fn identifiers(alloc: Global, bytes: &[u8]) -> Result<Vec<Identifier>, AllocError>
     requires { ArePartTexts bytes.now }

@@ -169,7 +169,7 @@ pub extern "C" fn speed_filter(alloc: Global, ranges: &[u8], versions: &[u8]) ->
     kept
 }
 
-/// Reads those versions that the range means in Cargo mode, releases alone: how many there are.
+/// Reads those versions that the range means in Cargo mode, releases only: how many there are.
 /// Each version is a line. `u64::MAX` where the range isn't read, or memory ran out.
 #[unsafe(no_mangle)]
 pub extern "C" fn speed_read_kept(alloc: Global, range: &[u8], versions: &[u8]) -> u64

@@ -36,7 +36,7 @@ against s v = slice_cmp nat_cmp (take (length s) (numbers v)) s
 abbrev pub is_release_of : List ℕ → PlainVersion → Bool
 is_release_of s v = is_eq (against s v) && is_empty v.pre
 
--- one or two numbers stated: by these alone, and a pre-release isn't one of them but for `^`
+-- one or two numbers stated: by only these, and a pre-release isn't one of them but for `^`
 abbrev pub meets_some_stated : Form → List ℕ → PlainVersion → Bool
 meets_some_stated less s v = is_lt (against s v)
 meets_some_stated greater s v = is_gt (against s v)

@@ -30,7 +30,7 @@ meets_nothing_stated less = false
 meets_nothing_stated greater = false
 meets_nothing_stated _ = true
 
--- one or two numbers stated: `<` and `<=` by these alone, `>` from the version on in which the last
+-- one or two numbers stated: `<` and `<=` by only these, `>` from the version on in which the last
 -- of them is raised
 abbrev pub meets_some_stated : Form → List ℕ → PlainVersion → PlainVersion → Bool
 meets_some_stated less s z v = is_lt (against s v)

@@ -61,7 +61,7 @@ impl Meaning {
 /// Reads a range text into the set of the versions that it means.
 ///
 /// It is [`cargo::read`](crate::cargo::read), [`npm::read`](crate::npm::read) or
-/// `VersionSet::of_text`, of which the releases are taken where these alone are asked for:
+/// `VersionSet::of_text`, of which the releases are taken where only these are asked for:
 /// `^1.2.0, <1.5` has 1.4.0 as Cargo reads it, and is refused by the others. By `CargoAll` and
 /// `NpmAll` the set of `^1.2` begins with 1.2.0-0, and `*` is every version.
 ///
@@ -69,7 +69,8 @@ impl Meaning {
 ///
 /// `NotARange` exactly where the reading's grammar has no such text, and `NumberTooLarge` exactly
 /// where it has, and a number that it states or a bound that is raised by one is above 2^64 - 1, or
-/// as npm reads it above 2^53 - 1. These two take no memory; `OutOfMemory` comes in place of a set alone.
+/// as npm reads it above 2^53 - 1. These two do not allocate; `OutOfMemory` comes only in place of
+/// a set.
 pub fn read(alloc: Global, meaning: Meaning, range: &str) -> Result<VersionSet, RangeError>
     // What the reading's grammar hasn't and what is too large is refused, exactly.
     ensures refusals { RefusesAs (reading_of meaning) range.now result }

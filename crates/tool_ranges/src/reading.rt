@@ -53,7 +53,8 @@ impl Reading {
 ///
 /// `NotARange` exactly where the reading's grammar has no such text, and `NumberTooLarge` exactly
 /// where it has, and a number that it states or a bound that is raised by one is above 2^64 - 1, or
-/// as npm reads it above 2^53 - 1. These two take no memory; `OutOfMemory` comes in place of a set alone.
+/// as npm reads it above 2^53 - 1. These two do not allocate; `OutOfMemory` comes only in place of
+/// a set.
 pub fn rewrite(alloc: Global, reading: Reading, range: &str) -> Result<RangeSet, RangeError>
     // What the reading's grammar hasn't and what is too large is refused, exactly. The result
     // is what each tree of the text is rewritten to.

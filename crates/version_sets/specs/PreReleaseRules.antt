@@ -18,7 +18,7 @@ use Rattle.version_sets.specs.declared.rules.PreReleases.TheVariants.{Excluded, 
 abbrev pub is_release : VersionValue → Bool
 is_release v = is_empty v.plain.pre
 
--- whether a version meets a text by a rule for pre-releases: by the own meaning, of releases alone
+-- whether a version meets a text by a rule for pre-releases: by the own meaning, of releases only
 -- or of all versions; or as stated, where a pre-release counts beside a term of the same three
 -- numbers and a pre-release
 abbrev pub meets_text_with : PreReleases → Compat → SetTree → VersionValue → Bool

@@ -30,7 +30,7 @@ impl Combination {
         }
     }
 
-    /// Whether some piece of two sets is in the combination. It takes no memory.
+    /// Whether some piece of two sets is in the combination. It does not allocate.
     pub(crate) fn keeps_some<T: Switch>(self, first: &[T], second: &[T]) -> bool
         ensures { result ≡ keeps_some self
             (pieces (map T.place first.now) (map T.place second.now)) }

@@ -11,7 +11,7 @@ use crate::version_set::VersionSet;
 
 impl VersionSet {
     // Answer: equation.
-    /// Whether no version is in the set. It takes no memory.
+    /// Whether no version is in the set. It does not allocate.
     ///
     /// That of `>2.0.0 <1.0.0` is empty.
     pub fn is_empty(&self) -> bool

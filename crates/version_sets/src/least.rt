@@ -39,7 +39,7 @@ impl VersionSet {
 
     // Answer: law answer_laws::sets::one_least_release.
     /// The least release in the set by precedence; `None` exactly where it has no release. That of
-    /// `>1.0.0-rc.1 <1.0.0 || >=2.0.0` has 2.0.0. It takes no memory.
+    /// `>1.0.0-rc.1 <1.0.0 || >=2.0.0` has 2.0.0. It does not allocate.
     pub fn least_release(&self) -> Option<Release>
         ensures least { IfSome result (λ release.
             IsLeast IsRelease self.now (release_value release)) }

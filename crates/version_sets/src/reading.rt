@@ -29,7 +29,7 @@ impl VersionSet {
     ///
     /// Those of `RangeSet::parse`. `NotARange` exactly where the text isn't in the range grammar.
     /// `NumberTooLarge` exactly where it is, and a stated number or a raised bound is above
-    /// 2^64 - 1, as in `<=18446744073709551615`. These two take no memory; `OutOfMemory` is in
+    /// 2^64 - 1, as in `<=18446744073709551615`. These two do not allocate; `OutOfMemory` is in
     /// place of a set alone.
     pub fn of_text(
         alloc: Global,
@@ -52,7 +52,7 @@ impl VersionSet {
 }
 
 /// Reads a range text into comparators that say, by the rule, what the text means. Raised bounds
-/// count for pre-releases alone, so releases alone do with a set that takes less memory: of `^1.2`
+/// count for pre-releases only, so for releases shorter ones are enough: of `^1.2`
 /// it is `>=1.2.0 <2.0.0`, and by the other rules `>=1.2.0 <2.0.0-0`.
 ///
 /// # Errors

@@ -35,7 +35,7 @@ impl Release {
     }
 
     // Answer: equation.
-    /// The release as a version, without a pre-release and without a build. It takes no memory.
+    /// The release as a version, without a pre-release and without a build. It does not allocate.
     pub fn version(self, alloc: Global) -> Version
         ensures { version_value result ≡ record { plain = release_value self; build = [] } }
     {

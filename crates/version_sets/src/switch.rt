@@ -32,7 +32,7 @@ impl Switch for Release {
         self.cmp(other)
     }
 
-    /// It takes no memory.
+    /// It does not allocate.
     fn at_same_place(&self, _alloc: Global) -> Result<Release, AllocError> {
         Ok(*self)
     }

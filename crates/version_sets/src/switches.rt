@@ -71,7 +71,7 @@ fn is_odd(number: usize) -> bool
     number % 2 == 1
 }
 
-/// Whether two lists of switches have the same places. It takes no memory.
+/// Whether two lists of switches have the same places. It does not allocate.
 pub(crate) fn are_same<T: Switch>(switches: &[T], others: &[T]) -> bool
     ensures { result ≡ pointwise (eq_by_cmp precedence) (map T.place switches.now)
         (map T.place others.now) }

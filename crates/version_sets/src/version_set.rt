@@ -44,14 +44,14 @@ impl Model for VersionSet {
 
 impl VersionSet {
     // Answer: law answer_laws::sets::one_empty.
-    /// The set without versions. It takes no memory.
+    /// The set without versions. It does not allocate.
     pub fn empty(alloc: Global) -> VersionSet
         ensures empty { (v : PlainVersion) → has result v ≡ false }
     {
         VersionSet::of_switches(Vec::new(alloc), Vec::new(alloc))
     }
 
-    /// The set with these switches, which are in the normal form. It takes no memory.
+    /// The set with these switches, which are in the normal form. It does not allocate.
     pub(crate) fn of_switches(releases: Vec<Release>, pre_releases: Vec<Version>) -> VersionSet
         requires { IsNormal (set_of releases.items pre_releases.items) }
         ensures { result ≡ set_of releases.items pre_releases.items }
@@ -71,7 +71,7 @@ impl VersionSet {
 
     // Answer: law answer_laws::sets::one_only_releases.
     /// The releases of the set: of `>=1.2.0-rc` by `PreReleases::Included` 1.2.0 is left, and
-    /// 1.2.0-rc.2 isn't. It takes no memory.
+    /// 1.2.0-rc.2 isn't. It does not allocate.
     pub fn only_releases(self, alloc: Global) -> VersionSet
         ensures releases { (v : PlainVersion) → has result v
             ≡ (is_empty v.pre && has self v) }
@@ -102,7 +102,7 @@ impl VersionSet {
     // Answer: equation.
     /// Whether each of some versions is in the set, as [`VersionSet::has`] tells of one. Of many
     /// versions it is quicker to ask so: where the set has no pre-release and at most two switches
-    /// of releases, as that of `^1.2.0` has, no answer depends on a branch. It takes no memory.
+    /// of releases, as that of `^1.2.0` has, no answer depends on a branch. It does not allocate.
     ///
     /// `answers` has to have as many places as there are versions. Of 1.1.0, 1.9.0 and 2.0.0 the
     /// set of `^1.2.0` answers `false`, `true` and `false`.
@@ -138,7 +138,7 @@ impl VersionSet {
 
     // Answer: equation.
     /// Whether the version of an outline is in the set, as [`VersionSet::has`] tells of a version.
-    /// Its identifiers are compared as they are in the text. It takes no memory.
+    /// Its identifiers are compared as they are in the text. It does not allocate.
     #[inline(always)]
     pub fn has_outline(&self, outline: &Outline<'_>) -> bool
         // It is that of the version of each text that has this outline.

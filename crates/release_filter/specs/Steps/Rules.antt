@@ -6,7 +6,7 @@ use Rattle.version_sets.specs.VersionSets.{SetValue, has, Fits}
 use Rattle.version_sets.specs.declared.PreReleases.{PreReleases}
 use Rattle.version_sets.specs.declared.PreReleases.TheVariants.{Excluded}
 
--- where releases alone count, it has no pre-release
+-- where only releases count, it has no pre-release
 abbrev pub HeedsRule : PreReleases → SetValue → Type 0
 HeedsRule rule set = rule ≡ Excluded → (v : PlainVersion) → Fits v → is_empty v.pre ≡ false
     → has set v ≡ false

@@ -33,7 +33,7 @@ use version_sets::{PreReleases, VersionSet};
 ///
 /// Those of [`rewrite`](crate::cargo::rewrite): `NotARange` exactly where Cargo reads no such
 /// requirement, and `NumberTooLarge` exactly where it is one, and a number that it states or a
-/// bound that is raised by one is above 2^64 - 1. These two take no memory; `OutOfMemory` is in
+/// bound that is raised by one is above 2^64 - 1. These two do not allocate; `OutOfMemory` is in
 /// place of a set alone.
 pub fn read(alloc: Global, requirement: &str) -> Result<VersionSet, RangeError>
     // What isn't a requirement and what is too large is refused, exactly; all else is read.

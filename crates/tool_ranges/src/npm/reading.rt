@@ -32,8 +32,8 @@ use version_sets::{PreReleases, VersionSet};
 ///
 /// Those of [`rewrite`](crate::npm::rewrite): `NotARange` exactly where npm's grammar has no such
 /// text, as where something is too long, and `NumberTooLarge` exactly where it has, and a number
-/// that it states or a bound that is raised by one is above 2^53 - 1. These two take no memory;
-/// `OutOfMemory` comes in place of a set alone.
+/// that it states or a bound that is raised by one is above 2^53 - 1. These two do not allocate;
+/// `OutOfMemory` comes only in place of a set.
 pub fn read(alloc: Global, range: &str) -> Result<VersionSet, RangeError>
     // What isn't in npm's grammar and what is too large is refused, exactly; all else is read.
     ensures refusals { RefusesNpm range.now result }
