@@ -1,4 +1,17 @@
 //! One range asked of one version, for WebAssembly: a module of one call, which allocates nothing.
+//!
+//! The caller writes both texts into the module's memory of 4 MiB, from `__heap_base` on. In
+//! JavaScript, where addresses and lengths are of type `BigInt`:
+//!
+//! ```text
+//! const source = await WebAssembly.instantiateStreaming(fetch('semver_parser.wasm'))
+//! const { memory, meets, __heap_base } = source.instance.exports
+//! const [range, version] = ['^1.2', '1.9.0'].map((text) => new TextEncoder().encode(text))
+//! const begin = __heap_base.value
+//! new Uint8Array(memory.buffer).set([...range, ...version], Number(begin))
+//! const [length, other] = [range, version].map((text) => BigInt(text.length))
+//! meets(begin, length, 0, begin + length, other) // 1, by Cargo's dialect
+//! ```
 #![tactic(auto)]
 
 ghost use Rattle.std.specs.Prelude.{◌≡◌, ◌≢◌, MatchOption};
