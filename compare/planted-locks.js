@@ -1,7 +1,8 @@
 // Compares what check-lock-file lists of changed lock files with node-semver.
 //
-// `node planted-locks.js PROGRAM COUNT SEED FILE..`, where each FILE is a yarn.lock or a
-// package-lock.json with "packages", of which nothing is listed. Of each it makes COUNT copies in which one package has another version, finds by itself
+// `node planted-locks.js PROGRAM COUNT SEED FILE..`, where each FILE is a yarn.lock, a
+// package-lock.json with "packages" or what `cargo metadata` writes, of which nothing is listed.
+// node-semver stands for Cargo too: on carets and such versions both agree. Of each it makes COUNT copies in which one package has another version, finds by itself
 // which asks that breaks, and compares the lines. It prints the first difference, and then ends with
 // status 1.
 'use strict'
@@ -87,16 +88,42 @@ function asksOfNpm (text) {
   return { packages, asks }
 }
 
-// A copy of a package-lock.json with another version at a place.
-function changedOfNpm (text, place, version) {
+// The asks of what `cargo metadata` writes.
+function asksOfCargo (text) {
+  const graph = JSON.parse(text)
+  const packages = graph.packages.map((it) => ({ keys: [it.id], version: it.version }))
+  const places = graph.packages.map((it) => it.id)
+  const asks = []
+  for (const node of graph.resolve.nodes) {
+    const from = places.indexOf(node.id)
+    const it = graph.packages[from]
+    for (const dep of node.deps) {
+      const at = places.indexOf(dep.pkg)
+      const kinds = dep.dep_kinds.map(({ kind, target }) => `${kind} ${target}`)
+      for (const need of it.dependencies) {
+        if (need.name !== graph.packages[at].name || !kinds.includes(`${need.kind} ${need.target}`)) continue
+        asks.push({ who: it.name, by: packages[from], name: need.name, spec: need.req, at })
+      }
+    }
+  }
+  return { packages, asks }
+}
+
+// What is read of a file, by its kind.
+const asksOf = (text) => !text.startsWith('{') ? asksOfYarn(text)
+  : 'resolve' in JSON.parse(text) ? asksOfCargo(text) : asksOfNpm(text)
+
+// A copy of JSON with another version of a package.
+function changedOfJson (text, place, version) {
   const lock = JSON.parse(text)
-  lock.packages[place].version = version
+  const entry = lock.packages[place] ?? lock.packages.find((it) => it.id === place)
+  entry.version = version
   return JSON.stringify(lock, null, 2)
 }
 
 // The range that is asked for; null if it is none.
 const rangeOf = (spec) => {
-  const bare = spec.startsWith('npm:') ? spec.slice(4).replace(/^@?[^@]+@/, '') : spec
+  const bare = spec.startsWith('npm:') ? spec.slice(4).replace(/^@?[^@]+@/, '') : spec.replace(/, */g, ' ')
   return semver.validRange(bare) === null ? null : bare
 }
 
@@ -118,7 +145,7 @@ function changedOfYarn (text, old, version) {
 function planted (text, parsed, at, version) {
   const { packages, asks } = parsed
   const old = packages[at]
-  const copy = text.startsWith('{') ? changedOfNpm(text, old.keys[0], version) : changedOfYarn(text, old, version)
+  const copy = text.startsWith('{') ? changedOfJson(text, old.keys[0], version) : changedOfYarn(text, old, version)
   if (copy === null) return null
   const changed = { ...old, version }
   const wanted = asks.filter((ask) => ask.at === at && rangeOf(ask.spec) !== null &&
@@ -135,7 +162,7 @@ function main () {
   let faults = 0
   for (const file of files) {
     const text = fs.readFileSync(file, 'utf8')
-    const parsed = text.startsWith('{') ? asksOfNpm(text) : asksOfYarn(text)
+    const parsed = asksOf(text)
     const name = path.basename(file)
     const manifest = path.join(path.dirname(file), 'package.json')
     if (fs.existsSync(manifest)) fs.copyFileSync(manifest, path.join(folder, 'package.json'))
