@@ -1,10 +1,8 @@
-use Rattle.std.proofs.Common.{◌≡◌, ◌≢◌, ◌∙◌, ap, Bool, IsUtf8, Ok, Err, if◌then◌else◌, rules, to_z, of_z, w32}
-use Rattle.semver_parser.specs.ToolVersions.{SpellsIn}
+use Rattle.std.proofs.Common.{◌≡◌, ◌≢◌, ◌∙◌, ap, Bool, IsUtf8, Ok, Err, rules, to_z, of_z, w32}
 use Rattle.semver_parser.specs.declared.RangeError.TheVariants.{OutOfMemory}
 use Rattle.semver_parser.specs.Outlines.{version_of}
 use Rattle.tool_ranges.specs.Meanings.{meant_as, reading_of}
 use Rattle.tool_ranges.specs.Readings.{RefusesAs, SpellsAs, TreeOf, dialect_of}
-use Rattle.semver_parser_wasm.specs.Answers.{IsAnswer, does_not_meet, meets}
 use Rattle.semver_parser_wasm.proofs.Answering.{answered, refused}
 use Rattle.semver_parser_wasm.proofs.answer.Goals as goal
 

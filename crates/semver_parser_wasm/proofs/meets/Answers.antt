@@ -1,5 +1,5 @@
 use Rattle.std.proofs.Common.{◌≡◌, inr, rules, sym, to_z, of_z, w32}
-use Rattle.semver_parser_wasm.specs.Answers.{IsAnswer, IsNamed}
+use Rattle.semver_parser_wasm.specs.Answers.{IsNamed}
 use Rattle.tool_ranges.specs.declared.meaning.Meaning.{Meaning}
 use Rattle.semver_parser_wasm.proofs.meets.Goals as goal
 

@@ -1,6 +1,4 @@
-use Rattle.std.proofs.Common.{◌≡◌, ℤ, rules, to_z, of_z, w32}
-use Rattle.semver_parser_wasm.specs.Answers.{IsAnswer, IsDialect, IsNamed}
-use Rattle.tool_ranges.specs.declared.meaning.Meaning.{Meaning}
+use Rattle.std.proofs.Common.{◌≡◌, rules, to_z, of_z, w32}
 use Rattle.semver_parser_wasm.proofs.Answering.{decided, one_answer}
 use Rattle.semver_parser_wasm.proofs.laws.one_meets.Goals as goal
 
