@@ -170,7 +170,7 @@ MayRunOutIn dialect.Cargo text = HasPreRelease dialect.Cargo text
 MayRunOutIn dialect.Npm text = HasPreRelease dialect.Npm text
 
 -- what a call refuses of a version text by the number that it answers: bytes that are no UTF-8,
--- exactly; a text that spells no version by its error; and a version if memory runs out.
+-- exactly; a text that spells no version by its error; and a version only if memory runs out.
 -- Memory runs out only where it may
 pub record RefusesVersion (dialect : Dialect) (text : Text) (n : ℤ) : Type 0 where
   pub one : IsOneOf version_faults n

@@ -27,7 +27,7 @@ def alias_of(spec: str) -> Optional[Tuple[str, str]]:
 
 
 def range_of(spec: str) -> str:
-    """What stands in the place of the range in what is asked for."""
+    """What comes in place of the range in what is asked for."""
     alias = alias_of(spec)
     return spec if alias is None else alias[1]
 

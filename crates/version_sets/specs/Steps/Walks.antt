@@ -20,7 +20,7 @@ walk_alone x y [] = []
 walk_alone x y (b ∷ ys) =
     record { from = b; in_first = x; in_second = not y } ∷ walk_alone x (not y) ys
 
--- the first list has the switch a, and then those that `after` walks
+-- the first list has the switch a, and then those that `behind` walks
 abbrev pub walk_step : {T : Type 0} → (T → T → Ordering) → T → WalkWith T → WalkWith T
 walk_step cmp a behind x y [] =
     record { from = a; in_first = not x; in_second = y } ∷ behind (not x) y []
