@@ -12,8 +12,5 @@ mod refused;
 mod shown;
 
 pub use error::ArgumentError;
-pub use hints::hint;
 pub use options::MeaningOptions;
-pub use place::fault_place;
 pub use program::Program;
-pub use refused::refused_text;

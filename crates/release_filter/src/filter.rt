@@ -158,7 +158,7 @@ impl Filter {
 /// The text is read first, so its refusal doesn't depend on the versions: `NotARange` where it
 /// isn't in the range grammar, `NumberTooLarge` where it is and a stated number or a raised bound
 /// is above 2^64 - 1. `OutOfMemory` comes only in place of an answer. Pre-releases are never
-/// among the result, whatever the text says.
+/// in the result, whatever the text says.
 ///
 /// Each version is judged once. Memory for the answer is asked for as it grows, and not at all
 /// where no version is kept.

@@ -46,8 +46,8 @@ pub const NO_SUCH_DIALECT: i32 = 6;
 /// `^1.2` and `2.0.0`, in each dialect. It does not allocate.
 ///
 /// The dialect is 0 for Cargo's, 1 for npm's, and 2 and 3 for the Rust crate's in Cargo and in npm
-/// mode. It is that of the range and of the version, and pre-releases count by its default
-/// rule (docs/MEANING.md).
+/// mode. It is that of the range and of the version. Pre-releases count by the default rule of npm
+/// and Cargo (docs/MEANING.md), in the crate's modes too.
 ///
 /// # Errors
 ///

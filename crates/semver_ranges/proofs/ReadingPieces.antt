@@ -145,7 +145,7 @@ partial_starts (one a) t (h, k, e) = rw e (component_starts a [] (grind arith))
 partial_starts (two a b) t (h, k, e) = rw (e, append_assoc) (component_starts a _ (grind arith))
 partial_starts (three a b c pre build) t (h, k, e) = rw (e, append_assoc) (component_starts a _ (grind arith))
 
--- a word: a partial after what may are before it
+-- a word: a partial after what may be before it
 pub record Word (d : Dialect) (role : Role) (p : PartialTree) (t : Text) : Type 0 where
   pub front : Text
   pub back : Text

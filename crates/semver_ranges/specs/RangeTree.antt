@@ -148,7 +148,7 @@ is_short_word role p n = has_short_parts p && has_short_version role p n
 abbrev pub is_word_of_npm : Role → PartialTree → ℕ → Bool
 is_word_of_npm role p n = has_no_leading_zeros p && is_short_word role p n
 
--- a word: to npm one `v` may are before the partial
+-- a word: to npm one `v` may be before the partial
 abbrev pub SpellsWord : Dialect → Role → PartialTree → Text → Type 0
 SpellsWord Crate role p t = SpellsPartial p t
 SpellsWord Cargo role p t = SpellsPartial p t

@@ -33,7 +33,7 @@ pub none_made : {X Y : Type 0} (f : X → Y) (xs : List X) (n : ℕ) (r : Bool) 
 none_made f [] n r e l y = refl
 none_made f (x ∷ xs) n r e l y = absurd (both_ways r (e ∙ ne_eqb n 0 (λ h. omega (arith, l, h))) y)
 
--- of a release and of a pre-release: e returns which it is, x whether it meets what is rewritten, a whether it is judged so, p whether it
+-- of a release and of a pre-release: e says which it is, x whether it meets what is rewritten, a whether it is judged so, p whether it
 -- counts as a pre-release, and s whether it is stated
 of_release : (e x a p m s : Bool) → e ≡ true → p ≡ (not e && s) → x ≡ m → ((e && x) || (a && p)) ≡ m
 of_release true x a p m s is counts means = rw (counts, and-false a, or-false x) means

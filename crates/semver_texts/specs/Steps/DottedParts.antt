@@ -13,7 +13,7 @@ abbrev pub is_run_byte : Hyphens → ℕ → Bool
 is_run_byte Any b = is_part_byte b
 is_run_byte BetweenRuns b = is_ascii_alphanumeric b
 
--- before the first byte that can't are there, each dot, and each hyphen that belongs to no run,
+-- before the first byte that can't be there, each dot, and each hyphen that belongs to no run,
 -- stands between two runs
 abbrev pub runs_stand : (ℕ → Bool) → Bool → Text → Bool
 runs_stand run in_run [] = in_run
