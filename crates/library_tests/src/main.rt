@@ -29,6 +29,7 @@ fn main(rt: HostRuntime) -> io::Result<()> {
     lines::write_cuts(&rt, rt.alloc())?;
     lines::write_strict_lines(&rt, rt.alloc())?;
     lines::write_invalid_lines(&rt, rt.alloc())?;
+    lines::write_long_lines(&rt, rt.alloc())?;
     lines::write_prefixes(&rt, rt.alloc())
 }
 
