@@ -26,7 +26,7 @@ is_below Less e = refl
 is_below Equal e = cc
 is_below Greater e = cc
 
-or_false : (b : Bool) → (b || false) ≡ b
+pub or_false : (b : Bool) → (b || false) ≡ b
 or_false true = refl
 or_false false = refl
 
