@@ -18,11 +18,7 @@ use Rattle.version_sets.specs.Releases.{release_value}
 
 regroup : (a b c d : Ordering)
     → ordering_then a (ordering_then b (ordering_then c d)) ≡ ordering_then (ordering_then a (ordering_then b c)) d
-regroup Less b c d = refl
-regroup Equal Less c d = refl
-regroup Equal Equal c d = refl
-regroup Equal Greater c d = refl
-regroup Greater b c d = refl
+regroup a b c d = grind arith
 
 pub by_numbers : (v w : PlainVersion) → precedence v w ≡ ordering_then (numbers_cmp v w) (pre_cmp v.pre w.pre)
 by_numbers v w = regroup (nat_cmp v.major w.major) (nat_cmp v.minor w.minor) (nat_cmp v.patch w.patch) (pre_cmp v.pre w.pre)
@@ -97,8 +93,7 @@ abbrev pub from : Option PlainVersion → PlainVersion → Bool
 from b v = reached precedence b v
 
 pub and_true : (b : Bool) → (b && true) ≡ b
-and_true true = refl
-and_true false = refl
+and_true b = grind arith
 
 pub from-lowest : (n : Option Release) (v : PlainVersion) → is_empty v.pre ≡ false → from (option_map lowest_place n) v ≡ reaches n v
 from-lowest None v e = refl
@@ -107,14 +102,10 @@ from-lowest (Some r) v e = sym (against is_ge is_ge v (lowest_place r) refl refl
 -- ---- the numbers of a version and no others
 
 is_eq_then : (r s : Ordering) → is_eq (ordering_then r s) ≡ (is_eq r && is_eq s)
-is_eq_then Less s = refl
-is_eq_then Equal s = refl
-is_eq_then Greater s = refl
+is_eq_then r s = grind arith
 
 pub at_and_not_above : (o : Ordering) → (is_ge o && not (is_gt o)) ≡ is_eq o
-at_and_not_above Less = refl
-at_and_not_above Equal = refl
-at_and_not_above Greater = refl
+at_and_not_above o = grind arith
 
 same_number : (m n : ℕ) → is_eq (nat_cmp m n) ≡ nat_eq m n
 same_number m n = grind (arith, nat_tests)
