@@ -5,6 +5,7 @@ mod SearchLaws
 mod EachAnswer
 mod Lists
 mod SetLaws
+mod SpanLaws
 mod BoundLaws
 mod OutlinedPlaces
 mod SameSets
@@ -13,3 +14,4 @@ mod IntervalLaws
 mod KindLaws
 mod ReadBack
 mod SetRangeLaws
+mod MetLaws
