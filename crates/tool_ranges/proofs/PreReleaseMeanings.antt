@@ -25,7 +25,7 @@ use Rattle.semver_texts.proofs.Lists.{by_test}
 use Rattle.version_sets.specs.VersionSets.{Fits}
 use Rattle.tool_ranges.specs.CargoGrammar.{is_bare}
 use Rattle.tool_ranges.specs.CargoMeaning.{has_wildcard, as_read, meets_by_count, meets_one}
-use Rattle.tool_ranges.specs.declared.cargo.judging.Judged.TheVariants.{PreReleases}
+use Rattle.tool_ranges.specs.declared.cargo.judging.JudgedVersions.TheVariants.{PreReleases}
 use Rattle.tool_ranges.specs.Steps.CargoPreReleases.{below_all, counting, counting_one, greatest, judged_by_count, judging, judging_one}
 use Rattle.tool_ranges.specs.Steps.CargoPreReleases.{pre_releases_of}
 use Rattle.tool_ranges.proofs.ReadMeanings.{step, behind, not_less, no_lower, is_less, is_caret, never_bare}

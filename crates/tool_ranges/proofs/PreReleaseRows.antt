@@ -15,7 +15,7 @@ use Rattle.semver_ranges.specs.ExactBounds.{lowest_pre_release}
 use Rattle.semver_ranges.specs.Steps.PartialViews.{stated_at, stated_of, version_of}
 use Rattle.semver_ranges.specs.Steps.CursorViews.{form_of, IsSimpleOf}
 use Rattle.tool_ranges.specs.ToolTable.{fits_in, is_greater, states_some, written_in}
-use Rattle.tool_ranges.specs.declared.cargo.judging.Judged.TheVariants.{PreReleases}
+use Rattle.tool_ranges.specs.declared.cargo.judging.JudgedVersions.TheVariants.{PreReleases}
 use Rattle.tool_ranges.specs.Steps.CargoPreReleases.{below_all, judged_by_count, judging_read, some_judged}
 use Rattle.tool_ranges.proofs.ReadRows.{fit_numbers}
 

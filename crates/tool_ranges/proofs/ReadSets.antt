@@ -19,7 +19,7 @@ use Rattle.version_sets.specs.VersionSets.{Fits}
 use Rattle.tool_ranges.specs.CargoGrammar.{SpellsComparators}
 use Rattle.tool_ranges.specs.CargoMeaning.{meets_requirement}
 use Rattle.tool_ranges.specs.CargoTable.{rewritten_requirement}
-use Rattle.tool_ranges.specs.declared.cargo.judging.Judged.TheVariants.{PreReleases}
+use Rattle.tool_ranges.specs.declared.cargo.judging.JudgedVersions.TheVariants.{PreReleases}
 use Rattle.tool_ranges.specs.Steps.CargoPreReleases.{counting, counting_one, judging}
 use Rattle.tool_ranges.proofs.ReadMeanings.{requirement_meets}
 use Rattle.tool_ranges.proofs.PreReleaseMeanings.{judged, counted}

@@ -31,7 +31,7 @@ mod reading;
 use crate::rows::{self, Cell};
 pub(crate) use asking::{ask, ask_with_all};
 use grammar::read_comparator;
-use judging::{Judged, push_judging};
+use judging::{JudgedVersions, push_judging};
 pub use reading::read;
 pub(crate) use reading::read_with_all;
 use semver_ranges::grammar::Simple;
@@ -109,7 +109,7 @@ fn rewritten_all(alloc: Global, text: &[u8]) -> Result<Vec<Range>, RangeError>
         Ok(count) => count,
         Err(refusal) => return Err(refusal),
     };
-    match build(alloc, text, count, Judged::Releases) {
+    match build(alloc, text, count, JudgedVersions::Releases) {
         Ok(ranges) => Ok(ranges),
         Err(_) => Err(RangeError::OutOfMemory),
     }
@@ -199,7 +199,12 @@ fn ended(stands_alone: bool, fit: bool, count: usize) -> Result<usize, RangeErro
 }
 
 /// The range of a requirement that was surveyed, by which some versions are judged.
-fn build(alloc: Global, text: &[u8], count: usize, judged: Judged) -> Result<Vec<Range>, AllocError>
+fn build(
+    alloc: Global,
+    text: &[u8],
+    count: usize,
+    judged: JudgedVersions,
+) -> Result<Vec<Range>, AllocError>
     requires { (tree : List SimpleTree) × SpellsRequirement tree text.now
         × IsTrue (requirement_fits tree) }
     ensures { IfOk result (λ ranges. (tree : List SimpleTree) → SpellsRequirement tree text.now
@@ -213,7 +218,7 @@ fn build_comparators(
     alloc: Global,
     text: &[u8],
     count: usize,
-    judged: Judged,
+    judged: JudgedVersions,
 ) -> Result<Vec<Comparator>, AllocError>
     requires { (tree : List SimpleTree) × SpellsRequirement tree text.now
         × IsTrue (requirement_fits tree) }

@@ -14,8 +14,9 @@ use Rattle.semver_ranges.specs.Partials.{leading_place}
 use Rattle.semver_ranges.specs.RewritingTable.{PlainComparator, PlainRange, PlainSet, comparator}
 use Rattle.semver_ranges.specs.RewritingTable.{cell, up_with, with_pre_release, written_cell}
 use Rattle.semver_ranges.specs.ExactBounds.{lowest_pre_release}
-use Rattle.tool_ranges.specs.declared.cargo.judging.Judged.{Judged}
-use Rattle.tool_ranges.specs.declared.cargo.judging.Judged.TheVariants.{Releases, PreReleases, All}
+use Rattle.tool_ranges.specs.declared.cargo.judging.JudgedVersions.{JudgedVersions}
+use Rattle.tool_ranges.specs.declared.cargo.judging.JudgedVersions.TheVariants.{Releases}
+use Rattle.tool_ranges.specs.declared.cargo.judging.JudgedVersions.TheVariants.{PreReleases, All}
 use Rattle.tool_ranges.specs.CargoMeaning.{as_read}
 use Rattle.tool_ranges.specs.ToolTable.{written_in}
 use Rattle.tool_ranges.specs.Steps.LowerBounds.{written_for}
@@ -56,15 +57,15 @@ judged_by_count form (a ∷ b ∷ c ∷ rest) z =
     written_cell lowest_pre_release (cell Cargo form (a ∷ b ∷ c ∷ rest)) (a ∷ b ∷ c ∷ rest) z
 
 -- the comparators that judge releases, pre-releases, or all versions, of one as it is read
-abbrev pub judging_read : Judged → Simple → List PlainComparator
+abbrev pub judging_read : JudgedVersions → Simple → List PlainComparator
 judging_read Releases s = written_in Cargo s
 judging_read PreReleases s = judged_by_count s.form (stated s.partial) (zero_filled s.partial)
 judging_read All s = written_for Lowest Cargo s
 
-abbrev pub judging_one : Judged → Simple → List PlainComparator
+abbrev pub judging_one : JudgedVersions → Simple → List PlainComparator
 judging_one judged s = judging_read judged (as_read s)
 
-abbrev pub judging : Judged → List Simple → PlainSet
+abbrev pub judging : JudgedVersions → List Simple → PlainSet
 judging judged tree =
     record {
       ranges = record { comparators = flat_map (judging_one judged) tree; compat = Cargo } ∷ [];

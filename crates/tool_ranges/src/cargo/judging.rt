@@ -17,7 +17,7 @@ use std::alloc::{AllocError, Global};
 
 /// Which versions comparators judge: Cargo's `=1.2` takes 1.2.0, and no pre-release.
 #[derive(Clone, Copy)]
-pub(crate) enum Judged {
+pub(crate) enum JudgedVersions {
     Releases,
     PreReleases,
     /// All, where each pre-release within the bounds counts.
@@ -28,7 +28,7 @@ pub(crate) enum Judged {
 #[inline(always)]
 pub(crate) fn push_judging(
     alloc: Global,
-    judged: Judged,
+    judged: JudgedVersions,
     simple: &Simple<'_>,
     comparators: &mut Vec<Comparator>,
 ) -> Result<(), AllocError>
@@ -38,7 +38,7 @@ pub(crate) fn push_judging(
         ≡ map comparator_of comparators.old.items ++ judging_read judged s) }
 {
     match judged {
-        Judged::Releases => {
+        JudgedVersions::Releases => {
             rows::push(
                 alloc,
                 simple,
@@ -47,8 +47,8 @@ pub(crate) fn push_judging(
                 comparators,
             )
         }
-        Judged::PreReleases => pre_releases::push(alloc, simple, comparators),
-        Judged::All => rows::push(
+        JudgedVersions::PreReleases => pre_releases::push(alloc, simple, comparators),
+        JudgedVersions::All => rows::push(
             alloc,
             simple,
             Compat::Cargo,

@@ -12,7 +12,7 @@ ghost use Rattle.semver_ranges.specs.RangeViews.{comparator_of, identifier_of, r
 ghost use Rattle.semver_ranges.specs.Steps.PartialViews.{stated_of, version_of};
 ghost use Rattle.semver_ranges.specs.Steps.PartialViews.{IsPartialOf, PartsPass};
 ghost use Rattle.semver_ranges.specs.Steps.CursorViews.{form_of, IsSimpleOf};
-ghost use Rattle.tool_ranges.specs.declared.cargo.judging.Judged.TheVariants.{PreReleases};
+ghost use Rattle.tool_ranges.specs.declared.cargo.judging.JudgedVersions.TheVariants.{PreReleases};
 ghost use Rattle.tool_ranges.specs.ToolTable.{fits_in, states_some};
 ghost use Rattle.tool_ranges.specs.Steps.CargoPreReleases.{below_all, counting_beside};
 ghost use Rattle.tool_ranges.specs.Steps.CargoPreReleases.{judging_read, last, lowest};

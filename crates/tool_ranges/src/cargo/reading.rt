@@ -12,10 +12,10 @@ ghost use Rattle.tool_ranges.specs.AllPreReleases.{meets_requirement_with_all};
 ghost use Rattle.tool_ranges.specs.CargoMeaning.{meets_requirement};
 ghost use Rattle.tool_ranges.specs.CargoTable.{requirement_fits, rewritten_requirement};
 ghost use Rattle.tool_ranges.specs.CargoTexts.{RefusesRequirement};
-ghost use Rattle.tool_ranges.specs.declared.cargo.judging.Judged.TheVariants as judged;
+ghost use Rattle.tool_ranges.specs.declared.cargo.judging.JudgedVersions.TheVariants as judged;
 ghost use Rattle.tool_ranges.specs.Steps.CargoPreReleases.{counting, counting_one, judging};
 
-use crate::cargo::judging::Judged;
+use crate::cargo::judging::JudgedVersions;
 use crate::cargo::{build, build_counting, rewrite, survey};
 use semver_ranges::{Compat, Range, RangeError, RangeSet};
 use std::alloc::{AllocError, Global};
@@ -65,7 +65,7 @@ pub(crate) fn read_with_all(alloc: Global, requirement: &str) -> Result<VersionS
         Ok(count) => count,
         Err(refusal) => return Err(refusal),
     };
-    match judged(alloc, text, count, Judged::All) {
+    match judged(alloc, text, count, JudgedVersions::All) {
         Ok(set) => Ok(set),
         Err(_) => Err(RangeError::OutOfMemory),
     }
@@ -76,7 +76,7 @@ fn judged(
     alloc: Global,
     text: &[u8],
     count: usize,
-    judged: Judged,
+    judged: JudgedVersions,
 ) -> Result<VersionSet, AllocError>
     requires { (tree : List SimpleTree) × SpellsRequirement tree text.now
         × IsTrue (requirement_fits tree) }
@@ -137,7 +137,7 @@ fn counted(
         ranges,
         compat: Compat::Cargo,
     };
-    let judged = judged(alloc, text, count, Judged::PreReleases)?;
+    let judged = judged(alloc, text, count, JudgedVersions::PreReleases)?;
     judged.intersection(
         alloc,
         &VersionSet::of_set(alloc, &counting, PreReleases::Included)?,
