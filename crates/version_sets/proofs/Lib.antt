@@ -13,3 +13,7 @@ mod IntervalLaws
 mod KindLaws
 mod ReadBack
 mod SetRangeLaws
+mod PartTexts
+mod FlatTexts
+mod FlatLists
+mod FlatSets
