@@ -178,7 +178,7 @@ prove_in_lane() {
     done
     echo "proving $1 ($(grep -nx "$1" "$work/lanes" | cut -d: -f1) of $(wc -l < "$work/lanes"))" >&2
     copy_into_lane "$1" || return
-    make_in "$lane" "$1" > "$work/notes-$1" 2>&1 &
+    make_in "$lane" "$1" $(jobs_of "$1") > "$work/notes-$1" 2>&1 &
     proving=$!
     wait "$proving" || {
         : > "$work/unproved"
@@ -186,6 +186,16 @@ prove_in_lane() {
         return 1
     }
     mkdir -p "$top/crates/$1/out" && mv "$lane/crates/$1/out"/* "$top/crates/$1/out" && : > "$work/proved-$1"
+}
+
+# jobs_of CRATE: the flags for as many jobs as there are cores, each with some 2.5 GB of memory, where
+# no other crate of the list can be proved beside this one; else none, and `rt` chooses.
+jobs_of() {
+    for other in $(cat "$work/lanes"); do
+        { crates_of "$1" | grep -qx "$other"; } || { crates_of "$other" | grep -qx "$1"; } || return 0
+    done
+    jobs=$(awk -v cores="$(nproc)" '/^MemAvailable:/ { jobs = int($2 / 2500000); print jobs < cores ? jobs : cores }' /proc/meminfo)
+    [ "${jobs:-0}" -lt 3 ] || echo "--jobs $jobs"
 }
 
 # copy_into_lane CRATE: the crate's files and its line in crates.txt, and of those that it stands on
@@ -212,13 +222,16 @@ crate_of() {
     esac
 }
 
-# make_in TOP CRATE: makes what a crate is for, in a copy of the repository: a library, that for C
-# without what c/ has, or a program, which also runs once and has to end with status 0.
+# make_in TOP CRATE FLAG..: makes what a crate is for, in a copy of the repository, with flags for
+# `rt`: a library, that for C without what c/ has, or a program, which also runs once and has to end
+# with status 0.
 make_in() {
-    case $2 in
-    semver_parser_main) in_crate_of "$@" rt run -- 1.2.3 ;;
-    *_main) in_crate_of "$@" rt run -- --help ;;
-    *) in_crate_of "$@" rt lib ;;
+    made_in=$1 made=$2
+    shift 2
+    case $made in
+    semver_parser_main) in_crate_of "$made_in" "$made" rt run "$@" -- 1.2.3 ;;
+    *_main) in_crate_of "$made_in" "$made" rt run "$@" -- --help ;;
+    *) in_crate_of "$made_in" "$made" rt lib "$@" ;;
     esac
 }
 

@@ -1,8 +1,15 @@
 //! The options `--as`, `--npm`, `--releases`, `--pre` and `--pre-stated`.
 
+ghost use Rattle.std.specs.Prelude.{◌≡◌, ◌++◌, codes, Ok, None, Some, true, false};
+ghost use Rattle.std.specs.Prelude.{IfErr, IfOk};
+ghost use Rattle.version_sets.specs.declared.PreReleases.{PreReleases};
+ghost use Rattle.tool_ranges.specs.declared.reading.Reading.{Reading};
+ghost use Rattle.command_line.specs.Options.{meant, name_of, no_options, option_of};
+
 use crate::error::ArgumentError;
 use semver_parser::Compat;
 use std::alloc::Global;
+use std::marker::Model;
 use tool_ranges::meaning::Meaning;
 use tool_ranges::reading::Reading;
 use version_sets::PreReleases;
@@ -18,9 +25,25 @@ pub struct MeaningOptions {
     wants_name: bool,
 }
 
+impl Model for MeaningOptions {
+    ghost use Rattle.std.specs.Option.{option_map};
+    ghost use Rattle.command_line.specs.Options.{OptionsValue};
+
+    ghost Value = { OptionsValue };
+
+    ghost view = { λ o. record {
+      reading = option_map (λ asked. asked.0) o.reading;
+      rule = o.rule;
+      wants_name = o.wants_name;
+    } };
+}
+
 impl MeaningOptions {
+    // Answer: equation.
     /// What holds without an option.
-    pub fn new() -> MeaningOptions {
+    pub fn new() -> MeaningOptions
+        ensures { result ≡ no_options }
+    {
         MeaningOptions {
             reading: None,
             rule: None,
@@ -35,7 +58,22 @@ impl MeaningOptions {
     ///
     /// `UnknownDialect` of a name that no dialect has; `GivenTwice` and `Contradiction` if an
     /// earlier option says the same or otherwise; `Unreadable` in place of `UnknownDialect` only.
-    pub fn take(&mut self, alloc: Global, argument: &str) -> Result<bool, ArgumentError> {
+    pub fn take(&mut self, alloc: Global, argument: &str) -> Result<bool, ArgumentError>
+        // A dialect that is named is that one, if none was asked for before.
+        ensures dialect { (dialect : Reading) → argument.now ≡ codes "--as=" ++ name_of dialect
+            → self.old.wants_name ≡ false → self.old.reading ≡ None
+            → (result ≡ Ok true) × (self.new ≡ record self.old { reading = Some dialect }) }
+        // So it is with the name after `--as`.
+        ensures name { (dialect : Reading) → argument.now ≡ name_of dialect
+            → self.old.wants_name ≡ true → self.old.reading ≡ None → (result ≡ Ok true)
+            × (self.new ≡ record self.old { reading = Some dialect; wants_name = false }) }
+        // A rule for pre-releases that is asked for is that one, if none was before.
+        ensures rule { (rule : PreReleases) → argument.now ≡ option_of rule
+            → self.old.wants_name ≡ false → self.old.rule ≡ None
+            → (result ≡ Ok true) × (self.new ≡ record self.old { rule = Some rule }) }
+        // Other arguments change nothing.
+        ensures other { result ≡ Ok false → self.new ≡ self.old }
+    {
         if self.wants_name {
             self.wants_name = false;
             self.ask_by_name(alloc, argument)?;
@@ -62,7 +100,9 @@ impl MeaningOptions {
     ///
     /// `NoDialect` if nothing followed `--as`, and `NoRuleOfTool` if `--pre-stated` was taken with
     /// the dialect of Cargo or npm.
-    pub fn finish(self) -> Result<Meaning, ArgumentError> {
+    pub fn finish(self) -> Result<Meaning, ArgumentError>
+        ensures { result ≡ meant self }
+    {
         if self.wants_name {
             return Err(ArgumentError::NoDialect);
         }
@@ -82,7 +122,12 @@ impl MeaningOptions {
     }
 
     /// Takes the dialect of a name.
-    fn ask_by_name(&mut self, alloc: Global, name: &str) -> Result<(), ArgumentError> {
+    fn ask_by_name(&mut self, alloc: Global, name: &str) -> Result<(), ArgumentError>
+        ensures known { (dialect : Reading) → name.now ≡ name_of dialect
+            → self.old.reading ≡ None → IfErr result (λ _. ⊥) }
+        ensures asked { (dialect : Reading) → name.now ≡ name_of dialect
+            → IfOk result (λ _. self.new ≡ record self.old { reading = Some dialect }) }
+    {
         match name {
             "cargo" => self.ask(Reading::Cargo, "--as cargo"),
             "npm" => self.ask(Reading::Npm, "--as npm"),
@@ -93,7 +138,10 @@ impl MeaningOptions {
     }
 
     /// Takes the dialect that an option asks for.
-    fn ask(&mut self, reading: Reading, option: &'static str) -> Result<(), ArgumentError> {
+    fn ask(&mut self, reading: Reading, option: &'static str) -> Result<(), ArgumentError>
+        ensures first { self.old.reading ≡ None → IfErr result (λ _. ⊥) }
+        ensures asked { IfOk result (λ _. self.new ≡ record self.old { reading = Some reading }) }
+    {
         let earlier = self.reading;
         match earlier {
             Some((earlier, _)) if earlier == reading => Err(ArgumentError::GivenTwice(option)),
@@ -106,7 +154,10 @@ impl MeaningOptions {
     }
 
     /// Takes the rule for pre-releases that an option asks for.
-    fn count(&mut self, rule: PreReleases) -> Result<(), ArgumentError> {
+    fn count(&mut self, rule: PreReleases) -> Result<(), ArgumentError>
+        ensures first { self.old.rule ≡ None → IfErr result (λ _. ⊥) }
+        ensures asked { IfOk result (λ _. self.new ≡ record self.old { rule = Some rule }) }
+    {
         let option = option_of(rule);
         let earlier = self.rule;
         match earlier {

@@ -45,6 +45,17 @@ const PREFIXES: [(&str, &str, &str, &str); 6] = [
     ("v", "w", "é11.2.0\nv\n11.2.0\n", ""),
 ];
 
+/// How long lines begin, the byte that follows again and again, and whether `^1.2` keeps them.
+const LONG_LINES: [(&str, u8, bool); 7] = [
+    ("", b'a', false),
+    ("1.2.0x", b'1', false),
+    ("\u{FEFF}1.2.0_", b'a', false),
+    ("", b' ', false),
+    ("1.2.0+", b'a', true),
+    ("1.2.0", b' ', true),
+    ("1.2.0", b'\r', true),
+];
+
 /// Writes at which cuts of the text something else is appended, and how many cuts there were.
 pub fn write_cuts(rt: &impl Print, alloc: Global) -> io::Result<()> {
     let mut cuts = 0u32;
@@ -99,6 +110,28 @@ pub fn write_invalid_lines(rt: &impl Print, alloc: Global) -> io::Result<()> {
         }
     }
     println!(rt; "lines: {count} invalid lines")
+}
+
+/// Writes which long lines are kept, skipped or counted otherwise, and how many there were. The
+/// first 4,096 bytes show of most that they are no version.
+pub fn write_long_lines(rt: &impl Print, alloc: Global) -> io::Result<()> {
+    let mut count = 0u32;
+    for (front, byte, is_kept) in &LONG_LINES {
+        for length in 4094..4100usize {
+            let mut line = Vec::new(alloc);
+            line.extend_from_slice(front.as_bytes())?;
+            while line.len() < length {
+                line.push(*byte)?;
+            }
+            for place in [0, 1, 4095, 4096, 4097, length] {
+                if !takes_long(alloc, line.as_slice(), place, *is_kept)? {
+                    println!(rt; "lines: wrong at {length} bytes that begin with {front:?}")?;
+                }
+                count = count.saturating_add(1);
+            }
+        }
+    }
+    println!(rt; "lines: {count} long lines")
 }
 
 /// Writes with which prefixes something else is kept, and how many pairs of them there were.
@@ -237,6 +270,34 @@ fn skips(alloc: Global, before: &str, line: &[u8], after: &str) -> Result<bool, 
     let is_counted = counts.invalid == 1
         && counts.first_invalid.as_ref().is_some_and(|first| first.number == number
             && first.front.as_slice() == line);
+    Ok(has_ended && is_counted && kept == wanted)
+}
+
+/// Whether a long line that is cut after so many bytes is kept or else counted, and the line after
+/// it is kept.
+fn takes_long(alloc: Global, line: &[u8], place: usize, is_kept: bool) -> Result<bool, AllocError> {
+    let mut lines = lines_of(alloc, "^1.2", Wanted::Each, false)?;
+    let mut kept = Vec::new(alloc);
+    let mut wanted = Vec::new(alloc);
+    if is_kept {
+        wanted.extend_from_slice(line)?;
+        wanted.extend_from_slice(b"\n")?;
+    }
+    wanted.extend_from_slice(b"1.9.0")?;
+    let (front, back) = line.split_at(place.min(line.len()));
+    for piece in [front, back, b"", b"\n", b"1.9.0"] {
+        if lines.push(alloc, piece, &mut kept).is_err() {
+            return Ok(false);
+        }
+    }
+    let has_ended = lines.finish(alloc, &mut kept).is_ok();
+    let text = line
+        .strip_prefix(b"\xEF\xBB\xBF".as_slice())
+        .unwrap_or(line);
+    let is_counted = match &lines.counts().first_invalid {
+        Some(first) => !is_kept && first.number == 1 && first.front.as_slice() == &text[..81],
+        None => is_kept,
+    };
     Ok(has_ended && is_counted && kept == wanted)
 }
 

@@ -1,11 +1,13 @@
 //! Tests of the library that need more than data. On what its calls return: what is read of texts,
 //! sets of versions, the derived orders and precedence, and values made by hand. On what they write
 //! and append: printed values, whole writes and the report, at writers that fail, and the lines of
-//! a text in pieces. It writes what it found. What that has to be is in the file beside this crate:
-//! it comes from the written rules and from the declarations of the Rust crate.
+//! a text in pieces. At the end it runs the example of README.md. It writes what it found. What that
+//! has to be is in the file beside this crate: it comes from the written rules and from the
+//! declarations of the Rust crate.
 #![tactic(auto)]
 
 mod bytes;
+mod example;
 mod flat;
 mod lines;
 mod made;
@@ -30,7 +32,10 @@ fn main(rt: HostRuntime) -> io::Result<()> {
     lines::write_cuts(&rt, rt.alloc())?;
     lines::write_strict_lines(&rt, rt.alloc())?;
     lines::write_invalid_lines(&rt, rt.alloc())?;
-    lines::write_prefixes(&rt, rt.alloc())
+    lines::write_long_lines(&rt, rt.alloc())?;
+    lines::write_prefixes(&rt, rt.alloc())?;
+    let _ = example::write_operators(&rt, rt.alloc());
+    Ok(())
 }
 
 /// What calls return.

@@ -7,7 +7,7 @@ use Rattle.semver_parser.specs.Texts.{Text, is_empty}
 use Rattle.semver_parser.specs.Versions.{PlainVersion}
 use Rattle.release_filter.specs.Counting.{CountsValue, counted_as, one_more}
 use Rattle.release_filter.specs.LineTexts.{IsWholeLine, after_mark, line_text, lines_of}
-use Rattle.release_filter.specs.Pieces.{Completes, EndsInvalid, LinesValue, Takes}
+use Rattle.release_filter.specs.Pieces.{Completes, EndsInvalid, LinesValue, TakesAll}
 use Rattle.release_filter.specs.Steps.Outlined.{JudgesBy}
 use Rattle.release_filter.specs.Steps.Taking.{Concludes, Outlines, PassesAs, TakesLine, TakesWhole, verdict_of}
 use Rattle.release_filter.specs.Verdicts.{AreJudged, HasVersion, IsVerdictOn, JudgedLine, Verdict, asked, has_invalid, is_invalid, kept}
@@ -21,7 +21,7 @@ use Rattle.release_filter.proofs.HeldLines.{holds_best}
 use Rattle.release_filter.proofs.Holding.{holds_none, kept_one}
 use Rattle.release_filter.proofs.JudgedLines.{OneVersion, judged_none, judged_one, one_judging, verdict}
 use Rattle.release_filter.proofs.Passing.{not_both}
-use Rattle.release_filter.proofs.TakenPieces.{NoEnd, judged_as, line_with, no_end_marked, one_left, took_line}
+use Rattle.release_filter.proofs.TakenPieces.{NoEnd, judged_as, line_with, no_end_marked, only_line, took_line}
 
 -- ---- one line
 
@@ -131,7 +131,7 @@ took_judged s end left line said front g d old new valid whole none is judges ta
     let on = subst (λ l. IsVerdictOn s.filter s.prefixes l v) is told.2 in
     let taken = subst (λ l. TakesLine s.held s.counts l v g d old new) is one.0 in (
       judged_as s end v,
-      subst (λ b. Takes s end (judged_as s end v ∷ []) (record s { at_front = b; unended = left; held = g; counts = d }) old new) (sym
+      subst (λ b. TakesAll s end (judged_as s end v ∷ []) (record s { at_front = b; unended = left; held = g; counts = d }) old new) (sym
           later)
           (took_line s end left v g d old new whole none on taken none_left),
       none_left,
@@ -207,10 +207,6 @@ module _ (s : LinesValue) (line : Text) (is : line ≡ after_mark s.at_front s.u
   module _ (some : line ≡ [] → ⊥) (none : NoEnd s.unended) (said : Judged)
       (judges : JudgesBy (HasVersion s.filter.dialect (asked s.prefixes) line) s.filter said)
     where
-      one_line : (l : Text) → (l ≡ [] → ⊥) → NoEnd l → lines_of l ≡ l ∷ []
-      one_line [] some none = absurd (some refl)
-      one_line (x ∷ xs) some none = one_left x xs none
-
       told : (plain : PlainVersion) × PassesAs said plain × IsVerdictOn s.filter s.prefixes line (verdict_of said plain line)
       told = verdict s.filter s.prefixes line said judges
 
@@ -221,7 +217,7 @@ module _ (s : LinesValue) (line : Text) (is : line ≡ after_mark s.at_front s.u
       last_judged =
           subst (λ l. AreJudged s.filter s.prefixes (lines_of l) (last ∷ [])) is
           (subst (λ l. AreJudged s.filter s.prefixes l (last ∷ []))
-          (sym (one_line line some (subst NoEnd (sym is) (no_end_marked s.at_front s.unended none))))
+          (sym (only_line line some (subst NoEnd (sym is) (no_end_marked s.at_front s.unended none))))
           (judged_one s.filter s.prefixes line (verdict_of said told.0 line) told.2))
 
       pub finished_one : (d : CountsValue) (old new : Text)

@@ -11,5 +11,8 @@ mod SortedLines
 mod NotedLines
 mod Sorting
 mod TakenPieces
+mod SkippedFronts
+mod SkippedLines
 mod Endings
 mod PieceLaws
+mod SkippedPieces

@@ -65,7 +65,7 @@ whole_behind front line pass (some, stops, ends) = (
     last = omega (arith, length-append front line, some)
 
 -- a byte at the end of what is after is the one at the end of both
-strip_behind : (byte : ℕ) (front back : List ℕ) → 0 < length back → strip_last byte (front ++ back) ≡ front ++ strip_last byte back
+pub strip_behind : (byte : ℕ) (front back : List ℕ) → 0 < length back → strip_last byte (front ++ back) ≡ front ++ strip_last byte back
 strip_behind byte front back some =
     by_test (ends_with_byte byte back)
     (λ y. rw (ends ∙ y, y) (ap (λ k. take k (front ++ back)) last ∙ take-append-add front back (length back - 1)))

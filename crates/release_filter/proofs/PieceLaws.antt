@@ -19,7 +19,8 @@ use Rattle.semver_parser.specs.Precedence.{precedence}
 use Rattle.semver_parser.specs.Texts.{Text, is_empty}
 use Rattle.release_filter.specs.Counting.{counted}
 use Rattle.release_filter.specs.LineTexts.{IsWholeLine, onto_first, after_mark, lines_of, marked_off, without_mark}
-use Rattle.release_filter.specs.Pieces.{Completes, Finishes, LinesValue, RefusesEnd, StopsAs, Takes, begun}
+use Rattle.release_filter.specs.Pieces.{Completes, Finishes, LinesValue, RefusesEnd, StopsAs, Takes, TakesAll, begun}
+use Rattle.release_filter.specs.Skipping.{IsLeft}
 use Rattle.release_filter.specs.declared.lines.LinesError.{LinesError}
 use Rattle.release_filter.specs.declared.lines.LinesError.TheVariants.{OutOfMemory, NoVersion}
 use Rattle.release_filter.specs.declared.lines.Stopped.{Stopped}
@@ -30,6 +31,7 @@ use Rattle.release_filter.proofs.Holding.{holds_more, kept_append, one_holding, 
 use Rattle.release_filter.proofs.JudgedLines.{OneVersion, judged_more, judged_none, one_judging}
 use Rattle.release_filter.proofs.Passing.{not_both}
 use Rattle.release_filter.proofs.Sorting.{one_answer}
+use Rattle.release_filter.proofs.SkippedLines.{same_left}
 use Rattle.release_filter.proofs.TakenPieces.{NoEnd, as_chosen, counted_append, marked_append}
 
 -- ---- one cut
@@ -135,8 +137,8 @@ in_front (j ∷ js) (k ∷ ks) zs x y e is valid = in_front js ks zs x y (cc) is
 
 module _ (same : OneVersion) (total : IsTotalOrder precedence) where
   -- what a piece does is fixed
-  pub one_taking : (s t u : LinesValue) (piece : Text) (js ks : List JudgedLine) (old new other : Text) → Takes s piece js t old new
-      → Takes s piece ks u old other → (js ≡ ks) × (t ≡ u) × (new ≡ other)
+  pub one_taking : (s t u : LinesValue) (piece : Text) (js ks : List JudgedLine) (old new other : Text) → TakesAll s piece js t old new
+      → TakesAll s piece ks u old other → (js ≡ ks) × (t ≡ u) × (new ≡ other)
   one_taking s t u piece js ks old new other a b =
       let cut = same_lines a.lines b.lines t.unended u.unended a.cut.each b.cut.each a.cut.no_end b.cut.no_end
       (sym a.cut.whole ∙ b.cut.whole) in
@@ -156,6 +158,20 @@ module _ (same : OneVersion) (total : IsTotalOrder precedence) where
         a.appended ∙ ap (λ l. old ++ l) held.1 ∙ sym b.appended,
       )
 
+  -- so it is where of the line that it does not end is left what may be needed
+  pub one_piece : (s t u : LinesValue) (piece : Text) (js ks : List JudgedLine) (old new other : Text) → Takes s piece js t old new
+      → Takes s piece ks u old other → (js ≡ ks) × (t ≡ u) × (new ≡ other)
+  one_piece s t u piece js ks old new other a b =
+      let t' : LinesValue = record t { unended = a.unended } in
+      let u' : LinesValue = record u { unended = b.unended } in
+      let one = one_taking s t' u' piece js ks old new other a.all b.all in
+      let front = ap (λ (v : LinesValue). v.at_front) one.1 in
+      let rest = ap (λ (v : LinesValue). v.unended) one.1 in
+      let there = subst (λ f. IsLeft s.filter.dialect s.prefixes f b.unended u.unended) (sym front) b.left in
+      let left = same_left s.filter.dialect s.prefixes t.at_front a.unended t.unended u.unended a.left
+      (subst (λ r. IsLeft s.filter.dialect s.prefixes t.at_front r u.unended) (sym rest) there) in
+      (one.0, λ i. record (one.1 i) { unended = left i }, one.2)
+
   -- what the end of a text does is fixed
   pub one_completion : (s t u : LinesValue) (text : Text) (js ks : List JudgedLine) (old new other : Text) → Completes s text js t old new
       → Completes s text ks u old other → (js ≡ ks) × (t ≡ u) × (new ≡ other)
@@ -173,8 +189,8 @@ module _ (same : OneVersion) (total : IsTotalOrder precedence) where
   -- ---- the first invalid line
 
   -- of a piece and what follows it the first lines are those of the piece, if it ends with a line
-  front_judged : (s t u : LinesValue) (p q : Text) (js ks : List JudgedLine) (old mid other new : Text) → Takes s p js t old mid
-      → t.unended ≡ [] → Takes s (p ++ q) ks u other new
+  front_judged : (s t u : LinesValue) (p q : Text) (js ks : List JudgedLine) (old mid other new : Text) → TakesAll s p js t old mid
+      → t.unended ≡ [] → TakesAll s (p ++ q) ks u other new
       → (zs : List JudgedLine) × (ks ≡ js ++ zs) × (zs ≡ [] → u.unended ≡ [] → q ≡ [])
   front_judged s t u p q js ks old mid other new a none b =
       let whole = sym (append_nil_of (concat a.lines) t.unended none) ∙ sym a.cut.whole in
@@ -193,24 +209,24 @@ module _ (same : OneVersion) (total : IsTotalOrder precedence) where
       )
 
   module _ (s t u : LinesValue) (piece : Text) (js ks : List JudgedLine) (x y : JudgedLine) (old mid other new : Text) (a b : ℕ)
-      (first : Takes s (take a piece) (js ++ x ∷ []) t old mid) (is : x.verdict ≡ invalid) (ended : t.unended ≡ []) where
+      (first : TakesAll s (take a piece) (js ++ x ∷ []) t old mid) (is : x.verdict ≡ invalid) (ended : t.unended ≡ []) where
     -- where a piece stops at its first invalid line, it stops at one place
-    pub not_later : a ≤ b → b ≤ length piece → Takes s (take b piece) (ks ++ y ∷ []) u other new → has_invalid ks ≡ false → u.unended ≡ []
+    pub not_later : a ≤ b → b ≤ length piece → TakesAll s (take b piece) (ks ++ y ∷ []) u other new → has_invalid ks ≡ false → u.unended ≡ []
         → a ≡ b
     not_later before within second valid ended' =
         let more = take (b - a) (drop a piece) in
         let cut : take b piece ≡ take a piece ++ more = ap (λ n. take n piece) (let le = before in omega arith)
         ∙ take-add a (b - a) piece in
         let parts = front_judged s t u (take a piece) more (js ++ x ∷ []) (ks ++ y ∷ []) old mid other new first ended
-        (subst (λ l. Takes s l (ks ++ y ∷ []) u other new) cut second) in
+        (subst (λ l. TakesAll s l (ks ++ y ∷ []) u other new) cut second) in
         let none = parts.2 (in_front js ks parts.0 x y (sym parts.1) is valid) ended' in
         omega (arith, ap length none, length-take (b - a) (drop a piece), length-drop a piece)
 
     -- and isn't taken whole
-    pub not_whole : Takes s piece ks u other new → has_invalid ks ≡ false → ⊥
+    pub not_whole : TakesAll s piece ks u other new → has_invalid ks ≡ false → ⊥
     not_whole second valid =
         let parts = front_judged s t u (take a piece) (drop a piece) (js ++ x ∷ []) ks old mid other new first ended
-        (subst (λ l. Takes s l ks u other new) (sym (take-append-drop a piece)) second) in
+        (subst (λ l. TakesAll s l ks u other new) (sym (take-append-drop a piece)) second) in
         not_both (ap has_invalid parts.1 ∙ has_front js parts.0 x is) valid
 
 -- ---- a whole text
@@ -246,7 +262,7 @@ cut_lines (line ∷ lines) rest each =
     ap lines_of (append_assoc line (concat lines) rest) ∙ lines_before line (concat lines ++ rest) each.0
     ∙ ap (λ l. line ∷ l) (cut_lines lines rest each.1)
 
-whole_tail : (x y : ℕ) (ys : Text) → IsWholeLine (x ∷ y ∷ ys) → IsWholeLine (y ∷ ys)
+pub whole_tail : (x y : ℕ) (ys : Text) → IsWholeLine (x ∷ y ∷ ys) → IsWholeLine (y ∷ ys)
 whole_tail x y ys (some, stops, ends) =
     let long : length (x ∷ y ∷ ys) - 1 ≡ suc (length ys) = omega arith in
     let less : length (y ∷ ys) - 1 ≡ length ys = omega arith in
@@ -302,7 +318,7 @@ marked_lines (line ∷ lines) rest each =
 
 -- all of a text was taken, and its end
 pub took_text : IsTotalOrder precedence → (s t u : LinesValue) (text : Text) (js ks : List JudgedLine) (old mid new : Text)
-    → Takes (begun s) text js t old mid → Finishes t ks u mid new → Completes (begun s) (without_mark text) (js ++ ks) u old new
+    → TakesAll (begun s) text js t old mid → Finishes t ks u mid new → Completes (begun s) (without_mark text) (js ++ ks) u old new
 took_text total s t u text js ks old mid new a b =
     let filter = ap (λ (v : LinesValue). v.filter) a.state in
     let prefixes = ap (λ (v : LinesValue). v.prefixes) a.state in
@@ -357,11 +373,11 @@ ok_err (Err e) q A B C both a b = tt
 abbrev pub Stops : LinesValue → LinesValue → Text → Text → Text → Stopped → Type 0
 Stops s t piece old new e = (e.taken ≤ length piece) × StopsAs e.error s (take e.taken piece) t old new
 
-abbrev pub TakesAll : LinesValue → LinesValue → Text → Text → Text → Type 0
-TakesAll s t piece old new = (judged : List JudgedLine) × Takes s piece judged t old new × (IsTrue s.is_strict → has_invalid judged ≡ false)
+abbrev pub Took : LinesValue → LinesValue → Text → Text → Text → Type 0
+Took s t piece old new = (judged : List JudgedLine) × Takes s piece judged t old new × (IsTrue s.is_strict → has_invalid judged ≡ false)
 
 stopped_taking : (e : LinesError) (s t : LinesValue) (piece old new : Text) → StopsAs e s piece t old new
-    → (judged : List JudgedLine) × Takes s piece judged t old new
+    → (judged : List JudgedLine) × TakesAll s piece judged t old new
 stopped_taking OutOfMemory s t piece old new stops = (stops.0, stops.1)
 stopped_taking (NoVersion n) s t piece old new stops = (stops.1 ++ stops.2 ∷ [], stops.3)
 
@@ -370,10 +386,10 @@ module _ (same : OneVersion) (total : IsTotalOrder precedence) (s r t u : LinesV
   on_first : (P : LinesValue → Text → Type 0) → P r before → P s old
   on_first P p = subst (λ (x : LinesValue). P x old) (sym states) (subst (P r) (sym bytes) p)
 
-  pub two_taken : TakesAll s t piece old new → TakesAll r u piece before other → (t ≡ u) × (new ≡ other)
+  pub two_taken : Took s t piece old new → Took r u piece before other → (t ≡ u) × (new ≡ other)
   two_taken (js, a, _) b =
-      let b' = on_first (λ (x : LinesValue) (l : Text). TakesAll x u piece l other) b in
-      let one = one_taking same total s t u piece js b'.0 old new other a b'.1 in (one.1, one.2)
+      let b' = on_first (λ (x : LinesValue) (l : Text). Took x u piece l other) b in
+      let one = one_piece same total s t u piece js b'.0 old new other a b'.1 in (one.1, one.2)
 
   pub two_stopped : (e f : Stopped) → Stops s t piece old new e → Stops r u piece before other f → e.taken ≡ f.taken
       → (t ≡ u) × (new ≡ other)
@@ -381,7 +397,7 @@ module _ (same : OneVersion) (total : IsTotalOrder precedence) (s r t u : LinesV
       let b' = on_first (λ (x : LinesValue) (l : Text). Stops x u piece l other f) b in
       let first = stopped_taking e.error s t (take e.taken piece) old new a.1 in
       let second = stopped_taking f.error s u (take f.taken piece) old other b'.1 in
-      let here = subst (λ n. Takes s (take n piece) second.0 u old other) (sym at) second.1 in
+      let here = subst (λ n. TakesAll s (take n piece) second.0 u old other) (sym at) second.1 in
       let one = one_taking same total s t u (take e.taken piece) first.0 second.0 old new other first.1 here in (one.1, one.2)
 
   pub one_line : (e f : Stopped) → Stops s t piece old new e → Stops r u piece before other f → (n m : ℕ) → e.error ≡ NoVersion n
@@ -401,12 +417,12 @@ module _ (same : OneVersion) (total : IsTotalOrder precedence) (s r t u : LinesV
       same_place (inr after) x y p q =
           sym (not_later same total s u t piece y.1 x.1 y.2 x.2 old other old new f.taken e.taken y.3 y.5 y.6 after p x.3 x.4 x.6)
 
-  pub no_bad_line : (f : Stopped) → TakesAll s t piece old new → Stops r u piece before other f → (n : ℕ) → ¬ (f.error ≡ NoVersion n)
+  pub no_bad_line : (f : Stopped) → Took s t piece old new → Stops r u piece before other f → (n : ℕ) → ¬ (f.error ≡ NoVersion n)
   no_bad_line f (js, a, valid) b n is =
       let b' = on_first (λ (x : LinesValue) (l : Text). Stops x u piece l other f) b in
       let second = subst (λ x. StopsAs x s (take f.taken piece) u old other) is b'.1 in
-      not_whole same total s u t piece second.1 js second.2 second.2 old other old new f.taken f.taken second.3 second.5 second.6 a
-      (valid second.0)
+      not_whole same total s u (record t { unended = a.unended }) piece second.1 js second.2 second.2 old other old new f.taken f.taken
+      second.3 second.5 second.6 a.all (valid second.0)
 
 -- what a call of `finish` gave
 abbrev pub Ends : LinesValue → LinesValue → Text → Text → Type 0

@@ -15,8 +15,9 @@ use Rattle.semver_parser.specs.Precedence.{precedence}
 use Rattle.semver_parser.specs.Texts.{Text, is_empty}
 use Rattle.release_filter.specs.Counting.{CountsValue, counted, counted_as}
 use Rattle.release_filter.specs.LineTexts.{AreCut, IsWholeLine, after_mark, lines_of, marked_off, onto_first}
-use Rattle.release_filter.specs.Pieces.{LinesValue, Takes}
-use Rattle.release_filter.specs.Steps.Taking.{TakesLine}
+use Rattle.release_filter.specs.Pieces.{LinesValue, Takes, TakesAll}
+use Rattle.release_filter.specs.Skipping.{IsLeft}
+use Rattle.release_filter.specs.Steps.Taking.{TakesLine, TakesRest}
 use Rattle.release_filter.specs.Verdicts.{AreJudged, IsVerdictOn, JudgedLine, Verdict}
 use Rattle.release_filter.specs.Wanted.{HeldValue, Holds, kept_of}
 use Rattle.release_filter.proofs.Holding.{holds_more, holds_none, kept_append, kept_one}
@@ -70,7 +71,7 @@ judged_as s end verdict = record { line = line_with s end; verdict = verdict }
 pub took_line : (s : LinesValue) (end left : Text) (verdict : Verdict) (g : HeldValue) (d : CountsValue) (old new : Text) → IsWholeLine end
     → NoEnd s.unended → IsVerdictOn s.filter s.prefixes (line_with s end) verdict
     → TakesLine s.held s.counts (line_with s end) verdict g d old new → left ≡ []
-    → Takes s end (judged_as s end verdict ∷ []) (record s { at_front = false; unended = left; held = g; counts = d }) old new
+    → TakesAll s end (judged_as s end verdict ∷ []) (record s { at_front = false; unended = left; held = g; counts = d }) old new
 took_line s end left verdict g d old new whole none is takes none_left =
     let line = s.unended ++ end in
     record {
@@ -89,7 +90,7 @@ took_line s end left verdict g d old new whole none is takes none_left =
 
 -- what ends no line was taken
 pub took_rest : (s : LinesValue) (rest left old : Text) → NoEnd s.unended → NoEnd rest → left ≡ s.unended ++ rest
-    → Takes s rest [] (record s { unended = left }) old old
+    → TakesAll s rest [] (record s { unended = left }) old old
 took_rest s rest left old none more is =
     record {
       lines = [];
@@ -105,22 +106,26 @@ took_rest s rest left old none more is =
       state = λ i. record s { at_front = sym (and-true s.at_front) i; unended = left };
     }
 
-pub took_nothing : (s : LinesValue) (old : Text) → NoEnd s.unended → Takes s [] [] s old old
+pub took_nothing : (s : LinesValue) (old : Text) → NoEnd s.unended → TakesAll s [] [] s old old
 took_nothing s old none = took_rest s [] s.unended old none (All-nil (λ b. b ≢ 10)) (sym (append-nil s.unended))
 
 -- a value with private fields is seen as this
 pub seen : (inside s t : LinesValue) (piece : Text) (judged : List JudgedLine) (old new : Text) → inside ≡ s
-    → Takes inside piece judged t old new → Takes s piece judged t old new
-seen inside s t piece judged old new is takes = subst (λ x. Takes x piece judged t old new) is takes
+    → TakesAll inside piece judged t old new → TakesAll s piece judged t old new
+seen inside s t piece judged old new is takes = subst (λ x. TakesAll x piece judged t old new) is takes
 
 -- ---- what is left at the end
 
-pub one_left : (x : ℕ) (xs : Text) → NoEnd (x ∷ xs) → lines_of (x ∷ xs) ≡ (x ∷ xs) ∷ []
+one_left : (x : ℕ) (xs : Text) → NoEnd (x ∷ xs) → lines_of (x ∷ xs) ≡ (x ∷ xs) ∷ []
 one_left x [] none = ap (λ b. cond b ((x ∷ []) ∷ []) ((x ∷ []) ∷ [])) (ne_eqb x 10 (All-head (λ y. y ≢ 10) x [] none))
 one_left x (y ∷ ys) none =
     ap (λ b. cond b ((x ∷ []) ∷ lines_of (y ∷ ys)) (onto_first x (lines_of (y ∷ ys)))) (ne_eqb x 10 (All-head (λ z. z ≢ 10) x (y ∷ ys)
     none))
     ∙ ap (onto_first x) (one_left y ys (All-tail (λ z. z ≢ 10) x (y ∷ ys) none))
+
+pub only_line : (l : Text) → (l ≡ [] → ⊥) → NoEnd l → lines_of l ≡ l ∷ []
+only_line [] some none = absurd (some refl)
+only_line (x ∷ xs) some none = one_left x xs none
 
 pub no_end_marked : (front : Bool) (line : Text) → NoEnd line → NoEnd (after_mark front line)
 no_end_marked false line none = none
@@ -187,8 +192,8 @@ counted_append c (j ∷ js) ks = counted_append (counted_as j.verdict c j.line) 
 
 module _ (total : IsTotalOrder precedence) where
   -- pieces that are taken one after another do what they do as one
-  pub took_both : (s t u : LinesValue) (p q : Text) (js ks : List JudgedLine) (old mid new : Text) → Takes s p js t old mid
-      → Takes t q ks u mid new → Takes s (p ++ q) (js ++ ks) u old new
+  pub took_both : (s t u : LinesValue) (p q : Text) (js ks : List JudgedLine) (old mid new : Text) → TakesAll s p js t old mid
+      → TakesAll t q ks u mid new → TakesAll s (p ++ q) (js ++ ks) u old new
   took_both s t u p q js ks old mid new a b =
       let filter = ap (λ (v : LinesValue). v.filter) a.state in
       let prefixes = ap (λ (v : LinesValue). v.prefixes) a.state in
@@ -224,21 +229,42 @@ module _ (total : IsTotalOrder precedence) where
 
   -- a line was taken after those before it
   pub took_next : (s t u : LinesValue) (piece line : Text) (js ks : List JudgedLine) (old mid new : Text) (taken : ℕ) → taken ≤ length piece
-      → StartsWith (left_of piece taken) line → Takes s (take taken piece) js t old mid → Takes t line ks u mid new
-      → (taken + length line ≤ length piece) × Takes s (take (taken + length line) piece) (js ++ ks) u old new
+      → StartsWith (left_of piece taken) line → TakesAll s (take taken piece) js t old mid → TakesAll t line ks u mid new
+      → (taken + length line ≤ length piece) × TakesAll s (take (taken + length line) piece) (js ++ ks) u old new
   took_next s t u piece line js ks old mid new taken within begins a b =
       let front = ap (take (length line)) (take_rest piece taken) in
       let is = take-add taken (length line) piece ∙ ap (λ l. take taken piece ++ l) (sym front ∙ begins) in (
         line_within piece line taken within begins,
-        subst (λ l. Takes s l (js ++ ks) u old new) (sym is) (took_both s t u (take taken piece) line js ks old mid new a b),
+        subst (λ l. TakesAll s l (js ++ ks) u old new) (sym is) (took_both s t u (take taken piece) line js ks old mid new a b),
       )
 
   -- and what is left of the piece
   pub took_all : (s t u : LinesValue) (piece : Text) (js : List JudgedLine) (old mid new : Text) (taken : ℕ)
-      → Takes s (take taken piece) js t old mid
-      → Takes t (left_of piece taken) [] u mid new → Takes s piece js u old new
+      → TakesAll s (take taken piece) js t old mid
+      → TakesAll t (left_of piece taken) [] u mid new → TakesAll s piece js u old new
   took_all s t u piece js old mid new taken a b =
       let is = ap (λ l. take taken piece ++ l) (take_rest piece taken) ∙ take-append-drop taken piece in
-      subst (λ l. Takes s l js u old new) is
-      (subst (λ l. Takes s (take taken piece ++ left_of piece taken) l u old new) (append-nil js)
+      subst (λ l. TakesAll s l js u old new) is
+      (subst (λ l. TakesAll s (take taken piece ++ left_of piece taken) l u old new) (append-nil js)
       (took_both s t u (take taken piece) (left_of piece taken) js [] old mid new a b))
+
+  -- a piece of which what ends no line was taken last
+  pub took_piece : (s m n t : LinesValue) (piece : Text) (js : List JudgedLine) (old mid new : Text) (taken : ℕ)
+      → TakesAll s (take taken piece) js m old mid → n ≡ m → NoEnd (left_of piece taken) → TakesRest n (left_of piece taken) t → new ≡ mid
+      → Takes s piece js t old new
+  took_piece s m n t piece js old mid new taken a same none rest kept =
+      let took = subst (λ x. TakesRest x (left_of piece taken) t) same rest in
+      let whole = m.unended ++ left_of piece taken in
+      let last = took_rest m (left_of piece taken) whole mid a.cut.no_end none refl in
+      let all = took_all s m (record m { unended = whole }) piece js old mid mid taken a last in
+      let dialect = ap (λ (v : LinesValue). v.filter.dialect) a.state in
+      let prefixes = ap (λ (v : LinesValue). v.prefixes) a.state in
+      let front = ap (λ (v : LinesValue). v.at_front) took.0 in
+      record {
+        unended = whole;
+        all = subst (λ l. TakesAll s piece js (record t { unended = whole }) old l) (sym kept)
+            (subst (λ x. TakesAll s piece js x old mid) (λ i. record (sym took.0 i) { unended = whole }) all);
+        left = subst (λ d. IsLeft d s.prefixes t.at_front whole t.unended) dialect
+            (subst (λ ps. IsLeft m.filter.dialect ps t.at_front whole t.unended) prefixes
+            (subst (λ f. IsLeft m.filter.dialect m.prefixes f whole t.unended) (sym front) took.1));
+      }

@@ -4,6 +4,7 @@ pub mod Judging
 pub mod Extremes
 pub mod LineTexts
 pub mod Verdicts
+pub mod Skipping
 pub mod Counting
 pub mod Wanted
 pub mod Pieces

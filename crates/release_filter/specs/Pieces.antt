@@ -1,17 +1,19 @@
 -- A text that comes in pieces: what a piece does, what the end of the text does, and what is left.
-use Rattle.std.specs.Prelude.{◌≡◌, ◌&&◌, Bool, true, false, List, [], ◌∷◌, ◌++◌, IsTrue}
+use Rattle.std.specs.Prelude.{◌≡◌, ◌⊎◌, ◌&&◌, Bool, true, false, List, [], ◌∷◌, ◌++◌, IsTrue}
+use Rattle.std.specs.List.{AllZip}
 use Rattle.semver_parser.specs.Texts.{Text, is_empty}
 use Rattle.release_filter.specs.Counting.{CountsValue, counted, one_more}
 use Rattle.release_filter.specs.Filters.{FilterValue}
 use Rattle.release_filter.specs.LineTexts.{AreCut, after_mark, lines_of, marked_off}
+use Rattle.release_filter.specs.Skipping.{IsLeft}
 use Rattle.release_filter.specs.Verdicts.{AreJudged, JudgedLine, has_invalid, invalid}
 use Rattle.release_filter.specs.Wanted.{Answers, HeldValue, Holds, emptied, kept_of}
 use Rattle.release_filter.specs.declared.lines.LinesError.{LinesError}
 use Rattle.release_filter.specs.declared.lines.LinesError.TheVariants.{OutOfMemory, NoVersion}
 
 -- what holds the lines of a text: the filter, the prefixes, whether a line without a version is an
--- error, whether no line has ended yet, the bytes of the line that hasn't, what is held for the end
--- of the text, and the counts of the lines
+-- error, whether no line has ended yet, the bytes of the line that hasn't as far as they are left,
+-- what is held for the end of the text, and the counts of the lines
 pub record LinesValue : Type 0 where
   pub filter : FilterValue
   pub prefixes : List Text
@@ -22,8 +24,8 @@ pub record LinesValue : Type 0 where
   pub counts : CountsValue
 
 -- a piece was taken. These are the lines that it ends, each judged; what is wanted of the kept ones
--- was appended, and the line that it does not end is left
-pub record Takes (s : LinesValue) (piece : Text) (judged : List JudgedLine) (t : LinesValue)
+-- was appended, and the line that it does not end is left whole
+pub record TakesAll (s : LinesValue) (piece : Text) (judged : List JudgedLine) (t : LinesValue)
     (old new : Text) : Type 0 where
   pub lines : List Text
   pub cut : AreCut (s.unended ++ piece) lines t.unended
@@ -37,6 +39,13 @@ pub record Takes (s : LinesValue) (piece : Text) (judged : List JudgedLine) (t :
     held = t.held;
     counts = counted s.counts judged;
   }
+
+-- a piece was taken, and of the line that it does not end is left what may be needed
+pub record Takes (s : LinesValue) (piece : Text) (judged : List JudgedLine) (t : LinesValue)
+    (old new : Text) : Type 0 where
+  pub unended : Text
+  pub all : TakesAll s piece judged (record t { unended = unended }) old new
+  pub left : IsLeft s.filter.dialect s.prefixes t.at_front unended t.unended
 
 -- all lines of a text were taken, and the rest of the answer was appended. Then no byte of a text
 -- was taken and nothing is held; the counts stay
@@ -56,6 +65,13 @@ pub record Completes (s : LinesValue) (text : Text) (judged : List JudgedLine) (
     counts = counted s.counts judged;
   }
 
+-- the lines are the same, but for the bytes of invalid ones
+abbrev pub IsAlike : JudgedLine → JudgedLine → Type 0
+IsAlike j k = (j ≡ k) ⊎ ((j.verdict ≡ invalid) × (k.verdict ≡ invalid))
+
+abbrev pub AreAlike : List JudgedLine → List JudgedLine → Type 0
+AreAlike js ks = AllZip IsAlike js ks
+
 -- the end of the text was taken, with the line that no line feed ends
 abbrev pub Finishes : LinesValue → List JudgedLine → LinesValue → Text → Text → Type 0
 Finishes s judged t old new = Completes s (after_mark s.at_front s.unended) judged t old new
@@ -67,11 +83,11 @@ begun s = record s { at_front = true; unended = []; held = emptied s.held }
 -- a piece was taken up to an error. The memory ran out; or the last line that was taken is the
 -- first one that has a text and no version, and this is its number
 abbrev pub StopsAs : LinesError → LinesValue → Text → LinesValue → Text → Text → Type 0
-StopsAs OutOfMemory s piece t old new = (judged : List JudgedLine) × Takes s piece judged t old new
+StopsAs OutOfMemory s piece t old new = (judged : List JudgedLine) × TakesAll s piece judged t old new
     × (IsTrue s.is_strict → has_invalid judged ≡ false)
 StopsAs (NoVersion number) s piece t old new =
     IsTrue s.is_strict × (judged : List JudgedLine) × (last : JudgedLine)
-    × Takes s piece (judged ++ last ∷ []) t old new × (has_invalid judged ≡ false)
+    × TakesAll s piece (judged ++ last ∷ []) t old new × (has_invalid judged ≡ false)
     × (last.verdict ≡ invalid) × (t.unended ≡ []) × (number ≡ t.counts.lines)
 
 -- the line that no line feed ends has a text and no version

@@ -4,7 +4,8 @@
 ghost use Rattle.std.specs.Prelude.{◌≡◌, ◌++◌, ℕ, List, IfErr, IfOk};
 ghost use Rattle.semver_parser.specs.Texts.{Text};
 ghost use Rattle.release_filter.specs.LineTexts.{without_mark};
-ghost use Rattle.release_filter.specs.Pieces.{Completes, Finishes, LinesValue, Takes, begun};
+ghost use Rattle.release_filter.specs.Pieces.{AreAlike, Completes, Finishes, LinesValue, Takes};
+ghost use Rattle.release_filter.specs.Pieces.{begun};
 ghost use Rattle.release_filter.specs.Verdicts.{JudgedLine};
 ghost use Rattle.release_filter.specs.declared.lines.LinesError.TheVariants.{NoVersion};
 
@@ -14,14 +15,17 @@ use std::alloc::Global;
 
 /// However a text is cut into pieces, what is appended is the same. It does nothing.
 pub fn pieces_do_not_matter()
-    // Pieces that are taken one after another do what they do as one piece.
+    // Pieces that are taken one after another do what they do as one piece. The lines are the same
+    // too, but for the bytes that are not left of a line that is skipped.
     ensures composed { (s t u : LinesValue) (piece next : Text) (judged more : List JudgedLine)
         (old mid new : Text) → Takes s piece judged t old mid → Takes t next more u mid new
-        → Takes s (piece ++ next) (judged ++ more) u old new }
+        → (lines : List JudgedLine) × AreAlike more lines
+        × Takes s (piece ++ next) (judged ++ lines) u old new }
     // And the end of the text does what the whole text does.
     ensures whole { (s t u : LinesValue) (text : Text) (judged more : List JudgedLine)
         (old mid new : Text) → Takes (begun s) text judged t old mid → Finishes t more u mid new
-        → Completes (begun s) (without_mark text) (judged ++ more) u old new }
+        → (lines : List JudgedLine) × AreAlike more lines
+        × Completes (begun s) (without_mark text) (judged ++ lines) u old new }
 {
     laws::precedence_is_total();
 }

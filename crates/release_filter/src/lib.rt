@@ -13,6 +13,7 @@ mod line_texts;
 mod lines;
 mod meeting;
 mod precedence;
+mod skipping;
 mod wanted;
 
 pub use counts::{Counts, InvalidLine};

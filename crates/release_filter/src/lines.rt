@@ -9,7 +9,8 @@ ghost use Rattle.semver_parser.specs.Versions.{PlainVersion};
 ghost use Rattle.release_filter.specs.Counting.{counts_value, no_counts};
 ghost use Rattle.release_filter.specs.LineTexts.{IsWholeLine, after_mark};
 ghost use Rattle.release_filter.specs.Pieces.{Finishes, RefusesEnd, StopsAs, Takes, begun};
-ghost use Rattle.release_filter.specs.Steps.Taking.{PassesAs, TakesLine, TakesWhole, held_value};
+ghost use Rattle.release_filter.specs.Steps.Taking.{PassesAs, TakesLine, TakesRest, TakesWhole};
+ghost use Rattle.release_filter.specs.Steps.Taking.{held_value};
 ghost use Rattle.release_filter.specs.Steps.Taking.{verdict_of};
 ghost use Rattle.release_filter.specs.Verdicts.{JudgedLine, has_invalid, is_invalid};
 
@@ -18,6 +19,7 @@ use crate::filter::Filter;
 use crate::judging::Judged;
 use crate::line_filter::LineFilter;
 use crate::line_texts::{after_mark, whole_line};
+use crate::skipping::SHOWN;
 use crate::wanted::{Held, Wanted, without_build};
 use semver_parser::laws;
 use std::alloc::{AllocError, Global};
@@ -55,6 +57,9 @@ pub struct Stopped {
 /// prefix after which it spells a version decides. Without a prefix it is as with the empty one.
 ///
 /// A byte order mark at the front of the text is dropped, also one that is cut between pieces.
+///
+/// Of a line that goes on into the next piece its bytes are held, and 4,096 bytes at most of one
+/// that begins as no line with a version does: the rest of it is skipped.
 #[derive(Drop)]
 pub struct Lines {
     chosen: LineFilter,
@@ -161,10 +166,10 @@ impl Lines {
                 Err(_) => return Err(out_of_memory(taken)),
             }
         }
-        if self.unended.extend_from_slice(&piece[taken..]).is_err() {
-            return Err(out_of_memory(taken));
+        match self.take_rest(&piece[taken..]) {
+            Ok(_) => Ok(()),
+            Err(_) => Err(out_of_memory(taken)),
         }
-        Ok(())
     }
 
     // Answer: law release_filter::laws::one_finish.
@@ -264,6 +269,19 @@ impl Lines {
         };
         let is_valid = take(alloc, line, &judged, &mut self.held, &mut self.counts, kept)?;
         Ok(Some((line, is_valid)))
+    }
+
+    /// Takes bytes that end no line. Of a line that is skipped the first bytes are left.
+    fn take_rest(&mut self, rest: &[u8]) -> Result<(), AllocError>
+        requires { All (λ byte. byte ≢ 10) rest.now }
+        ensures takes { IfOk result (λ _. TakesRest self.old rest.now self.new) }
+        ensures unchanged { IfErr result (λ _. self.new ≡ self.old) }
+    {
+        self.unended.extend_from_slice(rest)?;
+        if self.chosen.skips(self.at_front, self.unended.as_slice()) {
+            self.unended.truncate(SHOWN);
+        }
+        Ok(())
     }
 
     /// Ends the line that has not ended, and returns whether it isn't an invalid one.

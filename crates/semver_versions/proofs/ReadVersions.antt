@@ -167,12 +167,6 @@ module _ (d : Dialect) (text rest pre build : Text) (major minor patch : ℕ) (n
   has_outline fits before numbers_end at =
       (version_with major minor patch pre build, is_read fits, its_outline before numbers_end at)
 
--- numbers within npm's limit are within that of each
-pub fits : (d : Dialect) (major minor patch : ℕ) → NumbersFit Npm major minor patch → NumbersFit d major minor patch
-fits Crate major minor patch small = tt
-fits Cargo major minor patch small = tt
-fits Npm major minor patch small = small
-
 -- no parts, where nothing follows the numbers
 pub no_parts : (d : Dialect) (text : Text) → (length text == 0) ≡ true → AreParts d text [] []
 no_parts d [] e = record {

@@ -113,15 +113,19 @@ fn are_small(major: u64, minor: u64, patch: u64) -> bool
     major | minor | patch <= GREATEST
 }
 
-/// Whether the numbers of a version are within the limit, which npm alone has.
+/// Whether the numbers of a version are within the limit, which npm alone has. For speed, small
+/// numbers are seen first.
 #[inline(always)]
 fn fit(major: u64, minor: u64, patch: u64, dialect: Dialect) -> bool
     ensures yes { result ≡ true → NumbersFit dialect major minor patch }
     ensures no { result ≡ false → ¬ (NumbersFit dialect major minor patch) }
 {
+    if are_small(major, minor, patch) {
+        return true;
+    }
     match dialect {
         Dialect::Crate | Dialect::Cargo => true,
-        Dialect::Npm => are_small(major, minor, patch),
+        Dialect::Npm => false,
     }
 }
 
@@ -214,11 +218,11 @@ fn behind_numbers(
         → numbers_end + length rest.now ≡ before + length text
         → IsOutlinedAt dialect before text result }
 {
-    if rest.is_empty() && are_small(major, minor, patch) {
-        return Some(with_parts(major, minor, patch, numbers_end, &[], &[]));
-    }
     if !fit(major, minor, patch, dialect) {
         return None;
+    }
+    if rest.is_empty() {
+        return Some(with_parts(major, minor, patch, numbers_end, &[], &[]));
     }
     let (pre, build) = parts(rest, dialect)?;
     Some(with_parts(major, minor, patch, numbers_end, pre, build))

@@ -1,7 +1,7 @@
 -- Answers that are written one after the other, and what two switches leave in.
-use Rattle.std.proofs.Common.{◌≡◌, ℕ, ◌+◌, ◌<◌, ◌≤◌, ◌==◌, Bool, true, false, not, ◌&&◌, List, [], ◌∷◌, ◌++◌, map, take, set, length}
+use Rattle.std.proofs.Common.{◌≡◌, ℕ, ◌+◌, ◌<◌, ◌≤◌, ◌==◌, Bool, true, not, ◌&&◌, List, [], ◌∷◌, ◌++◌, map, take, set, length}
 use Rattle.std.proofs.Common.{get_or}
-use Rattle.std.proofs.Common.{refl, sym, ap, ap₂, ◌∙◌, subst, arith, Ordering, Less, Equal, Greater, is_lt, Some, None}
+use Rattle.std.proofs.Common.{refl, sym, ap, ap₂, ◌∙◌, subst, arith, Ordering, is_lt, Some, None}
 use Rattle.std.proofs.lemmas.List.{length-set, map-append, take_more, take_more_set}
 use Rattle.std.proofs.lemmas.Bool.Decides.{nat_tests}
 use Rattle.std.proofs.Math.Seq.{take-length}
@@ -56,22 +56,13 @@ module _ {X : Type 0} (f : X → Bool) (P : X → Type 0) (xs : List X) where
 -- ---- at most two switches
 
 from_on : (r : Ordering) → not (is_lt r) ≡ (is_ge r && true)
-from_on Less = refl
-from_on Equal = refl
-from_on Greater = refl
+from_on r = grind arith
 
 between_both : (r s : Ordering) → (not (is_lt r) && is_lt s) ≡ (is_ge r && not (is_ge s && true))
-between_both Less s = refl
-between_both Equal Less = refl
-between_both Equal Equal = refl
-between_both Equal Greater = refl
-between_both Greater Less = refl
-between_both Greater Equal = refl
-between_both Greater Greater = refl
+between_both r s = grind arith
 
 from_one : (b : Bool) → (b && true) ≡ b
-from_one true = refl
-from_one false = refl
+from_one b = grind arith
 
 abbrev pub set_of_releases : List PlainVersion → SetValue
 set_of_releases releases = record { releases = releases; pre_releases = [] }

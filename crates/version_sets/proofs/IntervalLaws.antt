@@ -1,6 +1,6 @@
 -- The ranges of intervals are met by the versions that the switches turn on, of a kind with a next version right above each.
-use Rattle.std.proofs.Common.{◌≡◌, Bool, true, false, not, ◌&&◌, ◌||◌, cond, List, [], ◌∷◌, refl, sym, ap, ap₂, ◌∙◌}
-use Rattle.std.proofs.Common.{Ordering, Less, Equal, Greater, is_eq, is_ge, is_gt, is_lt}
+use Rattle.std.proofs.Common.{arith, ◌≡◌, Bool, true, false, not, ◌&&◌, ◌||◌, cond, List, [], ◌∷◌, refl, sym, ap, ap₂, ◌∙◌}
+use Rattle.std.proofs.Common.{Ordering, Less, is_eq, is_ge, is_gt, is_lt}
 use Rattle.std.specs.Prelude.{Option, Some, None}
 use Rattle.std.specs.List.{AllByRecursion, list_any, list_all}
 use Rattle.semver_parser.specs.declared.Op.TheVariants.{Lt, Gte, Eq}
@@ -17,18 +17,13 @@ use Rattle.version_sets.proofs.SwitchLaws.{switched-below, below-first}
 use Rattle.version_sets.proofs.WalkLaws.{by_test}
 
 pub below_is : (o : Ordering) → is_lt o ≡ not (is_ge o)
-below_is Less = refl
-below_is Equal = refl
-below_is Greater = refl
+below_is o = grind arith
 
 is_below : (o : Ordering) → is_ge o ≡ false → o ≡ Less
-is_below Less e = refl
-is_below Equal e = cc
-is_below Greater e = cc
+is_below o e = grind arith
 
-or_false : (b : Bool) → (b || false) ≡ b
-or_false true = refl
-or_false false = refl
+pub or_false : (b : Bool) → (b || false) ≡ b
+or_false b = grind arith
 
 same_end : (x y : Option PlainVersion) → is_same_end x y ≡ true → x ≡ y
 same_end None None e = refl
@@ -38,10 +33,7 @@ same_end (Some v) (Some w) e = ap Some (precedence-same v w (equal_is (precedenc
 
 -- from x on and below y, or s, where s is after both
 turned : (x y s : Bool) → (x ≡ false → s ≡ false) → ((x && not y) || s) ≡ (x && not (y && not s))
-turned true true true h = refl
-turned true true false h = refl
-turned true false s h = refl
-turned false y s h = h refl
+turned x y s e = grind arith
 
 -- a kind: the next version is right above, and none is below the lowest
 pub record IsKind (P : PlainVersion → Type 0) (next : PlainVersion → Option PlainVersion) : Type 0 where

@@ -1,5 +1,5 @@
 -- What is right above a release and above a pre-release, and that none of a kind is below its lowest.
-use Rattle.std.proofs.Common.{arith, ◌≡◌, Bool, true, false, List, [], ◌∷◌, ◌++◌, refl, sym, ap, ◌∙◌}
+use Rattle.std.proofs.Common.{arith, ◌≡◌, Bool, true, false, List, [], ◌∷◌, refl, sym, ap, ◌∙◌}
 use Rattle.std.proofs.Common.{Equal, is_ge, is_gt}
 use Rattle.std.specs.Prelude.{Option, Some, None}
 use Rattle.std.proofs.lemmas.Bool.Decides.{nat_tests}
@@ -9,7 +9,7 @@ use Rattle.semver_parser.specs.Versions.{IdentifierValue, numeric, alphanumeric,
 use Rattle.version_sets.specs.VersionSets.{Fits, IsRelease, IsPreRelease}
 use Rattle.version_sets.specs.SetRanges.{next_release, next_pre_release, is_lowest, is_lowest_pre}
 use Rattle.version_sets.specs.Steps.Bounds.{numbers_cmp}
-use Rattle.version_sets.proofs.BoundLaws.{from, by_numbers, then_alike, zero_least, against, release_reaches, none_above, right_behind}
+use Rattle.version_sets.proofs.BoundLaws.{from, zero_least, against, release_reaches, none_above, right_above}
 use Rattle.version_sets.proofs.IntervalLaws.{IsKind}
 
 -- by the numbers alone
@@ -63,8 +63,6 @@ pre_release_lowest a v f e l =
 
 pub pre_releases_are_kind : IsKind IsPreRelease next_pre_release
 pre_releases_are_kind = record {
-  above = λ a v pa pv.
-      ap is_ge (by_numbers v (record a { pre = a.pre ++ numeric 0 ∷ [] }))
-      ∙ then_alike is_ge is_gt (numbers_cmp v a) _ _ refl refl (right_behind v.pre a.pre pv.1 pa.1) ∙ sym (ap is_gt (by_numbers v a));
+  above = λ a v pa pv. right_above a v pa.1 pv.1;
   lowest = λ a v pa pv l. pre_release_lowest a v pa.1 pv.1 l;
 }

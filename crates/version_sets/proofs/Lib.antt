@@ -5,6 +5,7 @@ mod SearchLaws
 mod EachAnswer
 mod Lists
 mod SetLaws
+mod SpanLaws
 mod BoundLaws
 mod OutlinedPlaces
 mod SameSets
@@ -17,3 +18,4 @@ mod PartTexts
 mod FlatTexts
 mod FlatLists
 mod FlatSets
+mod MetLaws

@@ -1,5 +1,6 @@
 -- Lists by their length and by their halves, and the result of one.
-use Rattle.std.proofs.Common.{◌≡◌, ◌==◌, ◌||◌, ◌&&◌, ℕ, Bool, List, [], ◌∷◌, map, length, refl, sym, ap, subst, arith, IfOk, IfErr, Result, Ok, Err}
+use Rattle.std.proofs.Common.{◌≡◌, ◌==◌, ◌||◌, ◌&&◌, ◌<◌, ℕ, Bool, true, false, get_or, List, [], ◌∷◌, map, length, refl, sym, ap, subst, arith}
+use Rattle.std.proofs.Common.{IfOk, IfErr, Result, Ok, Err}
 use Rattle.std.proofs.lemmas.Bool.Decides.{nat_tests}
 use Rattle.std.specs.List.{AllZip, list_all, list_any}
 use Rattle.semver_parser.specs.Texts.{is_empty}
@@ -37,3 +38,13 @@ zip_same f g each [] [] zip = refl
 zip_same f g each [] (y ∷ ys) zip = absurd zip
 zip_same f g each (x ∷ xs) [] zip = absurd zip
 zip_same f g each (x ∷ xs) (y ∷ ys) zip = λ i. each x y zip.0 i ∷ zip_same f g each xs ys zip.1 i
+
+-- a list of one
+pub any_of_one : {X : Type 0} (p : X → Bool) (xs : List X) (d : X) → 0 < length xs → length xs < 2 → p (get_or xs 0 d) ≡ list_any p xs
+any_of_one p [] d some one = absurd (omega arith)
+any_of_one p (x ∷ []) d some one = by (p x)
+  where
+    by : (b : Bool) → b ≡ (b || false)
+    by true = refl
+    by false = refl
+any_of_one p (x ∷ y ∷ xs) d some one = absurd (omega arith)

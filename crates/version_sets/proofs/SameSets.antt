@@ -1,6 +1,6 @@
 -- Sets with the same versions have the same switches.
-use Rattle.std.proofs.Common.{◌≡◌, ◌↔◌, Bool, true, false, not, ◌&&◌, refl, sym}
-use Rattle.std.proofs.Common.{ap, ap₂, ◌∙◌, subst, true≢false, Ordering, Less, Equal, Greater, is_eq}
+use Rattle.std.proofs.Common.{arith, ◌≡◌, ◌↔◌, Bool, true, not, ◌&&◌, sym}
+use Rattle.std.proofs.Common.{ap, ap₂, ◌∙◌, subst, true≢false, Ordering, Equal, is_eq}
 use lib.Pointwise.{pointwise_decides}
 use Rattle.std.specs.Cmp.{tied_itself}
 use Rattle.std.specs.Ordering.{eq_by_cmp}
@@ -15,18 +15,13 @@ use Rattle.version_sets.proofs.SwitchLaws.{one_list}
 use Rattle.version_sets.proofs.WalkLaws.{by_test}
 
 one_answer : (p q : Bool) → (p ≡ true → q ≡ true) → (q ≡ true → p ≡ true) → p ≡ q
-one_answer true q f g = sym (f refl)
-one_answer false true f g = g refl
-one_answer false false f g = refl
+one_answer p q e f = grind arith
 
 both_true : (p q : Bool) → (p && q) ≡ true → (p ≡ true) × (q ≡ true)
-both_true true q e = (refl, e)
-both_true false q e = absurd (true≢false (sym e))
+both_true p q e = grind arith
 
 pub equal_is : (r : Ordering) → is_eq r ≡ true → r ≡ Equal
-equal_is Less e = absurd (true≢false (sym e))
-equal_is Equal e = refl
-equal_is Greater e = absurd (true≢false (sym e))
+equal_is r e = grind arith
 
 -- versions tie exactly where they are the same
 exact : (v w : PlainVersion) → (eq_by_cmp precedence v w ≡ true → v ≡ w) × (v ≡ w → eq_by_cmp precedence v w ≡ true)

@@ -1,7 +1,7 @@
 -- A binary search among switches finds how many are at or below a place, and so whether it is in the set.
-use Rattle.std.proofs.Common.{◌≡◌, ℕ, zero, suc, ◌≤◌, ◌<◌, ◌%◌, Bool, true, false, not, nat_eq, List, [], ◌∷◌}
-use Rattle.std.proofs.Common.{map, length, get_or, refl, sym, ap, ◌∙◌, true≢false}
-use Rattle.std.proofs.Common.{Ordering, Less, Equal, Greater, is_ge, is_le, is_lt, is_gt, arith, ap₂}
+use Rattle.std.proofs.Common.{◌&&◌, ◌≡◌, ℕ, zero, suc, ◌≤◌, ◌<◌, ◌%◌, Bool, true, false, not, nat_eq, List, [], ◌∷◌}
+use Rattle.std.proofs.Common.{map, length, get_or, refl, sym, ap, ◌∙◌}
+use Rattle.std.proofs.Common.{Ordering, Less, is_ge, is_le, is_lt, is_gt, arith}
 use Rattle.std.proofs.lemmas.Bool.Decides.{nat_tests}
 use Rattle.std.specs.Cmp.{IsTotalOrder, upto}
 use Rattle.std.specs.List.Sorted.{IsPartitionedBy, IsPartitionPoint}
@@ -11,29 +11,19 @@ use Rattle.version_sets.specs.Steps.Walks.{differ}
 use Rattle.version_sets.proofs.SwitchLaws.{below-first, switched-below, switched-at}
 
 le-gt : (r : Ordering) → is_le r ≡ true → is_gt r ≡ false
-le-gt Less e = refl
-le-gt Equal e = refl
-le-gt Greater e = absurd (true≢false (sym e))
+le-gt r e = grind arith
 
 gt-le : (r : Ordering) → is_gt r ≡ false → is_le r ≡ true
-gt-le Less e = refl
-gt-le Equal e = refl
-gt-le Greater e = absurd (true≢false e)
+gt-le r e = grind arith
 
 ge_reverse : (r : Ordering) → is_le r ≡ true → is_ge (ordering_reverse r) ≡ true
-ge_reverse Less e = refl
-ge_reverse Equal e = refl
-ge_reverse Greater e = absurd (true≢false (sym e))
+ge_reverse r e = grind arith
 
 less_reverse : (r : Ordering) → is_le r ≡ false → ordering_reverse r ≡ Less
-less_reverse Less e = absurd (true≢false e)
-less_reverse Equal e = absurd (true≢false e)
-less_reverse Greater e = refl
+less_reverse r e = grind arith
 
 pub reversed_ge : (r : Ordering) → is_ge (ordering_reverse r) ≡ is_le r
-reversed_ge Less = refl
-reversed_ge Equal = refl
-reversed_ge Greater = refl
+reversed_ge r = grind arith
 
 odd_next : (n : ℕ) → nat_eq (suc n % 2) 1 ≡ not (nat_eq (n % 2) 1)
 odd_next n = grind (arith, nat_tests)
@@ -80,6 +70,10 @@ pub record IsTurned {T : Type 0} (cmp : T → T → Ordering) (v : T) (all left 
   pub increase : IsIncreasing cmp left
   pub turned : switched cmp all v ≡ differ known (switched cmp left v)
 
+turns : (known s below : Bool) (r : Ordering) → below ≡ is_lt r → (r ≡ Less → s ≡ false)
+    → differ known (is_ge r && not s) ≡ differ (differ known (not below)) s
+turns known s below r told after = grind arith
+
 module _ {T : Type 0} (cmp : T → T → Ordering) (o : IsTotalOrder cmp) (v : T) (all : List T) where
   pub turns_begin : IsIncreasing cmp all → IsTurned cmp v all all false
   turns_begin increase = record { increase = increase; turned = refl }
@@ -87,41 +81,9 @@ module _ {T : Type 0} (cmp : T → T → Ordering) (o : IsTotalOrder cmp) (v : T
   -- the next switch is above it, and so are those after, or it isn't
   pub turn_next : (b : T) (left : List T) (known below : Bool) → below ≡ is_lt (cmp v b) → IsTurned cmp v all (b ∷ left) known
       → IsTurned cmp v all left (differ known (not below))
-  turn_next b left known below told w = record {
-    increase = w.increase.1;
-    turned = w.turned ∙ at (cmp v b) refl;
-  }
-    where
-      lower : (known : Bool) → differ known false ≡ differ (differ known false) false
-      lower true = refl
-      lower false = refl
-
-      higher : (known x : Bool) → differ known (not x) ≡ differ (differ known true) x
-      higher true true = refl
-      higher true false = refl
-      higher false true = refl
-      higher false false = refl
-
-      above : cmp v b ≡ Less → differ known (switched cmp (b ∷ left) v) ≡ differ (differ known (not below)) (switched cmp left v)
-      above l =
-          ap (differ known) (switched-below cmp v (b ∷ left) l) ∙ lower known
-          ∙ ap₂ (λ x y. differ (differ known (not x)) y) (sym (told ∙ ap is_lt l))
-          (sym (switched-below cmp v left (below-first cmp o v b left l w.increase.0)))
-
-      reached : is_ge (cmp v b) ≡ true → is_lt (cmp v b) ≡ false
-          → differ known (switched cmp (b ∷ left) v) ≡ differ (differ known (not below)) (switched cmp left v)
-      reached g l =
-          ap (differ known) (switched-at cmp v b left g) ∙ higher known (switched cmp left v)
-          ∙ ap (λ x. differ (differ known (not x)) (switched cmp left v)) (sym (told ∙ l))
-
-      at : (r : Ordering) → cmp v b ≡ r → differ known (switched cmp (b ∷ left) v) ≡ differ (differ known (not below)) (switched cmp left v)
-      at Less e = above e
-      at Equal e = reached (ap is_ge e) (ap is_lt e)
-      at Greater e = reached (ap is_ge e) (ap is_lt e)
+  turn_next b left known below told w =
+      let after = λ (l : cmp v b ≡ Less). switched-below cmp v left (below-first cmp o v b left l w.increase.0) in
+      record { increase = w.increase.1; turned = w.turned ∙ turns known _ below (cmp v b) told after }
 
   pub turns_end : (known : Bool) → IsTurned cmp v all [] known → known ≡ switched cmp all v
-  turns_end known w = sym (w.turned ∙ at known)
-    where
-      at : (b : Bool) → differ b false ≡ b
-      at true = refl
-      at false = refl
+  turns_end known w = grind (arith, w.turned)

@@ -1,5 +1,5 @@
 -- Sets of versions by the laws of their switches: what is in a combination, and that one set has one normal form.
-use Rattle.std.proofs.Common.{◌≡◌, ◌↔◌, Bool, true, false, ◌||◌, cond, List, [], ◌∷◌, refl, sym, ap, ap₂, ◌∙◌}
+use Rattle.std.proofs.Common.{arith, ◌≡◌, ◌↔◌, Bool, true, false, ◌||◌, cond, List, [], ◌∷◌, refl, sym, ap, ap₂, ◌∙◌}
 use Rattle.std.proofs.lemmas.Bool.{and_parts}
 use Rattle.std.specs.List.{AllByRecursion, list_all}
 use Rattle.semver_parser.specs.PrintedRanges.{is_printable_version}
@@ -8,7 +8,6 @@ use Rattle.semver_parser.specs.Texts.{is_empty}
 use Rattle.semver_parser.specs.Versions.{PlainVersion}
 use Rattle.semver_parser.specs.Precedence.{precedence}
 use Rattle.version_sets.specs.declared.combination.Combination.{Combination}
-use Rattle.version_sets.specs.declared.combination.Combination.TheVariants.{Union, Intersection, Difference}
 use Rattle.version_sets.specs.Switches.{switched}
 use Rattle.version_sets.specs.VersionSets.{SetValue, has, IsRelease, IsPreRelease, AreSwitches, IsNormal}
 use Rattle.version_sets.specs.Steps.Walks.{held}
@@ -17,13 +16,10 @@ use Rattle.semver_parser.specs.PrecedenceLaws.{precedence_total}
 use Rattle.version_sets.proofs.WalkLaws.{walk-is, changes-rise, changes-each, changes-hold, some_held, held_some, by_test}
 
 keeps_nothing : (how : Combination) → keeps how false false ≡ false
-keeps_nothing Union = refl
-keeps_nothing Intersection = refl
-keeps_nothing Difference = refl
+keeps_nothing how = grind arith
 
 or_second : (p q : Bool) → q ≡ true → (p || q) ≡ true
-or_second true q e = refl
-or_second false q e = e
+or_second p q e = grind arith
 
 -- ---- one kind
 
@@ -119,10 +115,10 @@ module _ (how : Combination) (a b : SetValue) (s : IsNormal a) (t : IsNormal b) 
   tells_some r e = (λ h. some_is (sym e ∙ h), λ k. e ∙ is_some k.0 k.1.1)
 
 pub by_first : (r p q : Bool) → r ≡ p → r ≡ true → r ≡ (p || q)
-by_first r p q e h = h ∙ sym (ap (λ b. b || q) (sym e ∙ h))
+by_first r p q e f = grind arith
 
 pub by_second : (r s p q : Bool) → r ≡ p → r ≡ false → s ≡ q → s ≡ (p || q)
-by_second r s p q e h f = f ∙ sym (ap (λ b. b || q) (sym e ∙ h))
+by_second r s p q e f g = grind arith
 
 -- ---- printable identifiers
 

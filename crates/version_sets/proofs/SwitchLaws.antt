@@ -1,5 +1,5 @@
 -- Lists of switches: what is below the first is not in the set, and lists that switch alike are one.
-use Rattle.std.proofs.Common.{◌≡◌, Bool, true, false, not, ◌&&◌, List, [], ◌∷◌, refl, sym, ap, ap₂, ◌∙◌, subst, true≢false}
+use Rattle.std.proofs.Common.{arith, ◌≡◌, Bool, true, false, not, ◌&&◌, List, [], ◌∷◌, refl, sym, ap, ap₂, ◌∙◌, subst, true≢false}
 use Rattle.std.specs.List.{AllByRecursion}
 use Rattle.std.specs.Cmp.{IsTotalOrder, tied_itself}
 use Rattle.std.specs.FinMap.{IsAntisymmetric}
@@ -9,10 +9,7 @@ use Rattle.std.specs.declared.cmp.Ordering.TheVariants.{Less, Equal, Greater}
 use Rattle.version_sets.specs.Switches.{switched, IsBelowFirst, IsIncreasing}
 
 not_once : (a b : Bool) → not a ≡ not b → a ≡ b
-not_once true true e = refl
-not_once true false e = cc
-not_once false true e = cc
-not_once false false e = refl
+not_once a b e = grind arith
 
 -- the three answers, each with its equation
 pub by_order : (r : Ordering) {G : Type 0} → (r ≡ Less → G) → (r ≡ Equal → G) → (r ≡ Greater → G) → G

@@ -1,31 +1,18 @@
 -- What the walk over two lists of switches shows of them.
-use Rattle.std.proofs.Common.{◌≡◌, Bool, true, false, not, cond, ◌||◌, List, [], ◌∷◌, map}
+use Rattle.std.proofs.Common.{arith, ◌≡◌, Bool, true, false, not, cond, List, [], ◌∷◌, map}
 use Rattle.std.proofs.Common.{refl, sym, ap, ap₂, ◌∙◌, true≢false, Ordering, Less, Equal, Greater, is_ge}
 use Rattle.std.specs.List.{AllByRecursion, list_any}
 use Rattle.std.specs.Cmp.{IsTotalOrder, tied_itself, alike_right}
 use Rattle.std.specs.Ordering.{match_ordering}
 use Rattle.version_sets.specs.Switches.{switched, IsBelowFirst, IsIncreasing}
 use Rattle.version_sets.specs.Steps.Walks.{PieceValue, WalkWith, walk, walk_alone, walk_step, held, differ, changes}
-use Rattle.version_sets.proofs.SwitchLaws.{by_place, switched-below, switched-at, below-first, turned_below}
+use Rattle.version_sets.proofs.SwitchLaws.{switched-below, below-first, turned_below}
 
 differ-false : (x : Bool) → differ x false ≡ x
-differ-false true = refl
-differ-false false = refl
+differ-false x = grind arith
 
 differ-not : (x s : Bool) → differ x (not s) ≡ differ (not x) s
-differ-not true true = refl
-differ-not true false = refl
-differ-not false s = refl
-
-differ_true : (k j : Bool) → differ k j ≡ true → not k ≡ j
-differ_true true true e = absurd (true≢false (sym e))
-differ_true true false e = refl
-differ_true false j e = sym e
-
-differ_false : (k j : Bool) → differ k j ≡ false → k ≡ j
-differ_false true true e = refl
-differ_false true false e = absurd (true≢false e)
-differ_false false j e = sym e
+differ-not x s = grind arith
 
 by_cond : {X : Type 0} (Q : X → Type 0) (b : Bool) (x y : X) → (b ≡ true → Q x) → (b ≡ false → Q y) → Q (cond b x y)
 by_cond Q true x y f g = f refl
@@ -44,18 +31,10 @@ module _ {T : Type 0} (cmp : T → T → Ordering) (o : IsTotalOrder cmp) (P : T
   differ-below : (x : Bool) (v : T) (ys : List T) → IsBelowFirst cmp v ys → differ x (switched cmp ys v) ≡ x
   differ-below x v ys h = ap (differ x) (switched-below cmp v ys h) ∙ differ-false x
 
-  differ-at : (x : Bool) (v a : T) (xs : List T) → is_ge (cmp v a) ≡ true
-      → differ x (switched cmp (a ∷ xs) v) ≡ differ (not x) (switched cmp xs v)
-  differ-at x v a xs g = ap (differ x) (switched-at cmp v a xs g) ∙ differ-not x (switched cmp xs v)
-
   held-below : (f : Bool → Bool → Bool) (k : Bool) (ps : List (PieceValue T)) (v : T) → IsBelowFirst cmp v (froms ps)
       → held cmp f k ps v ≡ k
   held-below f k [] v h = refl
   held-below f k (p ∷ ps) v h = ap (λ r. cond (is_ge r) (held cmp f (f p.in_first p.in_second) ps v) k) h
-
-  held-at : (f : Bool → Bool → Bool) (k : Bool) (p : PieceValue T) (ps : List (PieceValue T)) (v : T) → is_ge (cmp v p.from) ≡ true
-      → held cmp f k (p ∷ ps) v ≡ held cmp f (f p.in_first p.in_second) ps v
-  held-at f k p ps v g = ap (λ b. cond b (held cmp f (f p.in_first p.in_second) ps v) k) g
 
   -- ---- the pieces of two lists
 
@@ -69,11 +48,9 @@ module _ {T : Type 0} (cmp : T → T → Ordering) (o : IsTotalOrder cmp) (P : T
   first_turns : (x y : Bool) (a : T) (xs ys : List T) (ps : List (PieceValue T)) → IsBelowFirst cmp a ys → IsWalk (not x) y xs ys ps
       → IsWalk x y (a ∷ xs) ys (record { from = a; in_first = not x; in_second = y } ∷ ps)
   first_turns x y a xs ys ps h w = record {
-    holds = λ f v. by_place (cmp v a)
-        (λ l. held-below f (f x y) (record { from = a; in_first = not x; in_second = y } ∷ ps) v l
-        ∙ sym (ap₂ f (differ-below x v (a ∷ xs) l) (differ-below y v ys (below-first cmp o v a ys l h))))
-        (λ g. held-at f (f x y) (record { from = a; in_first = not x; in_second = y }) ps v g
-        ∙ w.holds f v ∙ ap (λ s. f s (differ y (switched cmp ys v))) (sym (differ-at x v a xs g)));
+    holds = λ f v.
+        let after = λ (l : cmp v a ≡ Less). differ-below y v ys (below-first cmp o v a ys l h) in
+        grind (arith, w.holds f v, after, differ-false x, differ-not x (switched cmp xs v));
     starts = λ v s t. s;
     rises = λ s t. (w.starts a s.0 h, w.rises s.1 t);
     each = λ p q. (p.0, w.each p.1 q);
@@ -82,11 +59,9 @@ module _ {T : Type 0} (cmp : T → T → Ordering) (o : IsTotalOrder cmp) (P : T
   second_turns : (x y : Bool) (b : T) (xs ys : List T) (ps : List (PieceValue T)) → IsBelowFirst cmp b xs → IsWalk x (not y) xs ys ps
       → IsWalk x y xs (b ∷ ys) (record { from = b; in_first = x; in_second = not y } ∷ ps)
   second_turns x y b xs ys ps h w = record {
-    holds = λ f v. by_place (cmp v b)
-        (λ l. held-below f (f x y) (record { from = b; in_first = x; in_second = not y } ∷ ps) v l
-        ∙ sym (ap₂ f (differ-below x v xs (below-first cmp o v b xs l h)) (differ-below y v (b ∷ ys) l)))
-        (λ g. held-at f (f x y) (record { from = b; in_first = x; in_second = not y }) ps v g
-        ∙ w.holds f v ∙ ap (f (differ x (switched cmp xs v))) (sym (differ-at y v b ys g)));
+    holds = λ f v.
+        let after = λ (l : cmp v b ≡ Less). differ-below x v xs (below-first cmp o v b xs l h) in
+        grind (arith, w.holds f v, after, differ-false y, differ-not y (switched cmp ys v));
     starts = λ v s t. t;
     rises = λ s t. (w.starts b h t.0, w.rises s t.1);
     each = λ p q. (q.0, w.each p q.1);
@@ -95,11 +70,7 @@ module _ {T : Type 0} (cmp : T → T → Ordering) (o : IsTotalOrder cmp) (P : T
   both_turn : (x y : Bool) (a b : T) (xs ys : List T) (ps : List (PieceValue T)) → cmp a b ≡ Equal → IsWalk (not x) (not y) xs ys ps
       → IsWalk x y (a ∷ xs) (b ∷ ys) (record { from = a; in_first = not x; in_second = not y } ∷ ps)
   both_turn x y a b xs ys ps e w = record {
-    holds = λ f v. by_place (cmp v a)
-        (λ l. held-below f (f x y) (record { from = a; in_first = not x; in_second = not y } ∷ ps) v l
-        ∙ sym (ap₂ f (differ-below x v (a ∷ xs) l) (differ-below y v (b ∷ ys) (sym (alike_right o a b v e) ∙ l))))
-        (λ g. held-at f (f x y) (record { from = a; in_first = not x; in_second = not y }) ps v g
-        ∙ w.holds f v ∙ sym (ap₂ f (differ-at x v a xs g) (differ-at y v b ys (ap is_ge (sym (alike_right o a b v e)) ∙ g))));
+    holds = λ f v. grind (arith, w.holds f v, alike_right o a b v e);
     starts = λ v s t. s;
     rises = λ s t. (w.starts a s.0 (tied_below ys t.0), w.rises s.1 t.1);
     each = λ p q. (p.0, w.each p.1 q.1);
@@ -167,15 +138,9 @@ module _ {T : Type 0} (cmp : T → T → Ordering) (o : IsTotalOrder cmp) (P : T
     changes-hold k [] v s = differ-false k
     changes-hold k (p ∷ ps) v s =
         let j = f p.in_first p.in_second in
-        by_cond (λ qs. differ k (switched cmp qs v) ≡ held cmp f k (p ∷ ps) v) (differ k j) _ _
-        (λ e. by_place (cmp v p.from)
-        (λ l. differ-below k v (p.from ∷ changes f j ps) l ∙ sym (held-below f k (p ∷ ps) v l))
-        (λ g. differ-at k v p.from (changes f j ps) g ∙ ap (λ i. differ i (switched cmp (changes f j ps) v)) (differ_true k j e)
-        ∙ changes-hold j ps v s.1 ∙ sym (held-at f k p ps v g)))
-        (λ e. by_place (cmp v p.from)
-        (λ l. differ-below k v (changes f k ps) (changes-starts v k ps s.1 (below-first cmp o v p.from (froms ps) l s.0))
-        ∙ sym (held-below f k (p ∷ ps) v l))
-        (λ g. changes-hold k ps v s.1 ∙ ap (λ i. held cmp f i ps v) (differ_false k j e) ∙ sym (held-at f k p ps v g)))
+        let after = λ (l : cmp v p.from ≡ Less).
+        switched-below cmp v (changes f k ps) (changes-starts v k ps s.1 (below-first cmp o v p.from (froms ps) l s.0)) in
+        grind (arith, after, changes-hold j ps v s.1, changes-hold k ps v s.1)
 
     -- ---- whether some piece passes a test
 
@@ -189,19 +154,13 @@ module _ {T : Type 0} (cmp : T → T → Ordering) (o : IsTotalOrder cmp) (P : T
     some_held k (p ∷ ps) s q e =
         let j = f p.in_first p.in_second in
         by_test j
-        (λ t. (p.from, q.0, held-at f k p ps p.from (ap is_ge (tied_itself o p.from)) ∙ held-below f j ps p.from s.0 ∙ t))
-        (λ t. let later = some_held j ps s.1 q.1 (ap (λ b. b || some_passes ps) (sym t) ∙ e) in
-        by_place (cmp later.0 p.from)
-        (λ l. absurd (true≢false (sym later.2 ∙ held-below f j ps later.0 (below-first cmp o later.0 p.from (froms ps) l s.0) ∙ t)))
-        (λ g. (later.0, later.1, held-at f k p ps later.0 g ∙ later.2)))
+        (λ t. (p.from, q.0, grind (arith, tied_itself o p.from, held-below f j ps p.from s.0)))
+        (λ t.
+        let later = some_held j ps s.1 q.1 (grind arith) in
+        let below = λ (l : cmp later.0 p.from ≡ Less). held-below f j ps later.0 (below-first cmp o later.0 p.from (froms ps) l s.0) in
+        (later.0, later.1, grind (arith, later.2, below)))
 
     -- and where an element does, some piece does
     pub held_some : (ps : List (PieceValue T)) (v : T) → held cmp f false ps v ≡ true → some_passes ps ≡ true
     held_some [] v e = absurd (true≢false (sym e))
-    held_some (p ∷ ps) v e =
-        let j = f p.in_first p.in_second in
-        by_test j
-        (λ t. ap (λ b. b || some_passes ps) t)
-        (λ t. ap (λ b. b || some_passes ps) t ∙ by_place (cmp v p.from)
-        (λ l. absurd (true≢false (sym e ∙ held-below f false (p ∷ ps) v l)))
-        (λ g. held_some ps v (ap (λ i. held cmp f i ps v) (sym t) ∙ sym (held-at f false p ps v g) ∙ e)))
+    held_some (p ∷ ps) v e = grind (arith, held_some ps v)

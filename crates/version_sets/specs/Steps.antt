@@ -1,5 +1,7 @@
 pub mod Places
 pub mod Bounds
+pub mod Spans
+pub mod SpanViews
 pub mod RangeRules
 pub mod Walks
 pub mod Between

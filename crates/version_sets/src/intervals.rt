@@ -10,8 +10,7 @@ ghost use Rattle.version_sets.specs.SetRanges.{interval, intervals, is_lowest, i
 ghost use Rattle.version_sets.specs.SetRanges.{npm_range, bounds as plain_bounds};
 ghost use Rattle.version_sets.specs.SetRanges.{is_lowest_pre as lowest_pre};
 
-use crate::beginning::next_numbers;
-use crate::release::Release;
+use crate::release::{Release, next_numbers};
 use crate::switch::Switch;
 use semver_parser::version::{self, Version};
 use semver_parser::{Comparator, Compat, Identifier, Op, Range};

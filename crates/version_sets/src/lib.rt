@@ -2,8 +2,6 @@
 //! what two have in common or one alone, the least version, and whether two sets are the same.
 #![tactic(auto)]
 
-mod beginning;
-mod bounds;
 mod combination;
 mod combining;
 mod comparing;
@@ -17,11 +15,14 @@ mod flat_writing;
 mod intervals;
 pub mod laws;
 mod least;
+mod limits;
 mod of_comparators;
+mod pre_release_limits;
 mod reading;
 mod release;
 mod rules;
 mod set_ranges;
+mod spans;
 mod switch;
 mod switches;
 pub mod texts;

@@ -1,21 +1,29 @@
 //! Sets of the versions that meet comparators, by a rule for pre-releases.
 
-ghost use Rattle.std.specs.Prelude.{◌≡◌, ◌<◌, ◌&&◌, ◌||◌, length, IfOk, IfErr};
+ghost use Rattle.std.specs.Prelude.{◌≡◌, ◌<◌, ◌&&◌, ◌||◌, false, length, map, IfOk, IfErr};
 ghost use Rattle.std.specs.List.{list_all, list_any};
-ghost use Rattle.semver_parser.specs.Meeting.{meets_comparator};
+ghost use Rattle.semver_parser.specs.Meeting.{meets_comparator, meets_range};
+ghost use Rattle.semver_parser.specs.Precedence.{precedence};
 ghost use Rattle.semver_parser.specs.RangeViews.{comparator_of, range_of, set_of};
 ghost use Rattle.semver_parser.specs.StatedPreReleases.{has_pre_release_at};
-ghost use Rattle.semver_parser.specs.Texts.{is_empty};
 ghost use Rattle.semver_parser.specs.Versions.{PlainVersion, VersionValue};
 ghost use Rattle.version_sets.specs.PreReleaseRules.{meets_with};
-ghost use Rattle.version_sets.specs.VersionSets.{has, Fits};
+ghost use Rattle.version_sets.specs.Releases.{release_value};
+ghost use Rattle.version_sets.specs.Switches.{switched};
+ghost use Rattle.version_sets.specs.VersionSets.{has, Fits, IsRelease, IsPreRelease, AreSwitches};
+ghost use Rattle.version_sets.specs.Steps.Places.{version_place};
 ghost use Rattle.version_sets.specs.Steps.RangeRules.{meets_range_with};
+ghost use Rattle.version_sets.specs.Steps.Spans.{some_empty, in_some};
+ghost use Rattle.version_sets.specs.Steps.SpanViews.{limit_place, span_value, is_within};
 
-use crate::beginning::{all, next_numbers, of_numbers_from, releases};
-use crate::bounds::{above, at_or_above, numbers_of};
+use crate::limits::{numbers_of, release_above};
+use crate::pre_release_limits::PreReleaseLimit;
+use crate::release::{LOWEST, Release};
 use crate::rules::PreReleases;
+use crate::spans::{Bounds, Span, switches_of};
 use crate::version_set::VersionSet;
-use semver_parser::{Comparator, Op, Range, RangeSet};
+use semver_parser::version::Version;
+use semver_parser::{Comparator, Range, RangeSet};
 use std::alloc::{AllocError, Global};
 
 impl VersionSet {
@@ -38,137 +46,148 @@ impl VersionSet {
         // Memory runs out only where there is a range.
         ensures out_of_memory { IfErr result (λ _. 0 < length (set_of set.now).ranges) }
     {
-        of_ranges(alloc, &set.ranges, pre_releases)
+        if set.ranges.is_empty() {
+            return Ok(VersionSet::empty(alloc));
+        }
+        let releases = releases_of(alloc, &set.ranges)?;
+        let pre_releases = pre_releases_of(alloc, &set.ranges, pre_releases)?;
+        Ok(VersionSet::of_switches(releases, pre_releases))
     }
 }
 
-/// The versions that meet some of the ranges: of one half of them, or of the other.
-fn of_ranges(
+/// The switches of the releases that meet some of the ranges.
+fn releases_of(alloc: Global, ranges: &[Range]) -> Result<Vec<Release>, AllocError>
+    ensures switches { IfOk result (λ switches.
+        AreSwitches IsRelease (map release_value switches.items)) }
+    ensures meaning { IfOk result (λ switches. (v : PlainVersion) → IsRelease v
+        → switched precedence (map release_value switches.items) v
+        ≡ list_any (λ range. meets_range v (range_of range)) ranges.now) }
+{
+    // For speed: most texts are one range.
+    if let [range] = ranges {
+        return met_releases(&range.comparator_set).switches(alloc);
+    }
+    let mut spans = Vec::with_capacity(alloc, ranges.len())?;
+    for range in ranges {
+        met_releases(&range.comparator_set).push_to(&mut spans)?;
+    }
+    switches_of(alloc, &mut spans)
+}
+
+/// The switches of the pre-releases that meet some of the ranges by a rule.
+fn pre_releases_of(
     alloc: Global,
     ranges: &[Range],
-    pre_releases: PreReleases,
-) -> Result<VersionSet, AllocError>
-    ensures meaning { IfOk result (λ set. (v : PlainVersion) → Fits v → has set v
-        ≡ list_any (λ range. meets_range_with pre_releases v (range_of range)) ranges.now) }
-    ensures out_of_memory { IfErr result (λ _. 0 < length ranges.now) }
+    rule: PreReleases,
+) -> Result<Vec<Version>, AllocError>
+    ensures switches { IfOk result (λ switches.
+        AreSwitches IsPreRelease (map version_place switches.items)) }
+    ensures meaning { IfOk result (λ switches. (v : PlainVersion) → IsPreRelease v
+        → switched precedence (map version_place switches.items) v
+        ≡ list_any (λ range. meets_range_with rule v (range_of range)) ranges.now) }
 {
-    match ranges {
-        [] => Ok(VersionSet::empty(alloc)),
-        [range] => of_range(alloc, range, pre_releases),
-        _ => {
-            let (front, back) = ranges.split_at(ranges.len() / 2);
-            let front = of_ranges(alloc, front, pre_releases)?;
-            front.union(alloc, &of_ranges(alloc, back, pre_releases)?)
-        }
+    let mut spans = Vec::new(alloc);
+    for range in ranges {
+        push_pre_releases(range, rule, &mut spans)?;
+    }
+    switches_of(alloc, &mut spans)
+}
+
+/// Adds the spans of the pre-releases that meet a range by a rule.
+fn push_pre_releases<'a>(
+    range: &'a Range,
+    rule: PreReleases,
+    spans: &mut Vec<Span<PreReleaseLimit<'a>>>,
+) -> Result<(), AllocError>
+    ensures spans { some_empty precedence (map (span_value limit_place) spans.old.items) ≡ false
+        → some_empty precedence (map (span_value limit_place) spans.new.items) ≡ false }
+    ensures meaning { IfOk result (λ _. (v : PlainVersion) → IsPreRelease v
+        → in_some precedence (map (span_value limit_place) spans.new.items) v
+        ≡ (in_some precedence (map (span_value limit_place) spans.old.items) v
+        || meets_range_with rule v (range_of range.entry.now))) }
+{
+    match rule {
+        PreReleases::Excluded => Ok(()),
+        PreReleases::Stated => push_stated(&range.comparator_set, spans),
+        PreReleases::Included => met_pre_releases(&range.comparator_set).push_to(spans),
     }
 }
 
-/// The versions that meet a range.
-fn of_range(
-    alloc: Global,
-    range: &Range,
-    pre_releases: PreReleases,
-) -> Result<VersionSet, AllocError>
-    ensures { IfOk result (λ set. (v : PlainVersion) → Fits v
-        → has set v ≡ meets_range_with pre_releases v (range_of range.now)) }
+/// The releases that meet all comparators.
+fn met_releases(comparators: &[Comparator]) -> Bounds<Release>
+    ensures { (v : PlainVersion) → IsRelease v → is_within release_value result v
+        ≡ list_all (meets_comparator v) (map comparator_of comparators.now) }
 {
-    let meeting = of_comparators(alloc, &range.comparator_set)?;
-    match pre_releases {
-        PreReleases::Excluded => Ok(meeting.only_releases(alloc)),
-        PreReleases::Stated => {
-            meeting.intersection(alloc, &counting_beside(alloc, &range.comparator_set)?)
-        }
-        PreReleases::Included => Ok(meeting),
-    }
-}
-
-/// The versions that meet all comparators.
-fn of_comparators(alloc: Global, comparators: &[Comparator]) -> Result<VersionSet, AllocError>
-    ensures { IfOk result (λ set. (v : PlainVersion) → Fits v → has set v
-        ≡ list_all (λ comparator. meets_comparator v (comparator_of comparator))
-        comparators.now) }
-{
-    let Some(first) = comparators.first() else {
-        return all(alloc);
+    let mut met = Bounds {
+        from: Some(LOWEST),
+        to: None,
     };
-    let mut set = of_comparator(alloc, first)?;
-    for at in 1..comparators.len() {
-        set = narrowed(alloc, &set, &comparators[at])?;
+    for comparator in comparators {
+        let at = numbers_of(comparator);
+        met = met.narrowed(&comparator.op, Some(at), release_above(comparator));
     }
-    Ok(set)
+    met
 }
 
-/// The versions that meet a comparator.
-fn of_comparator(alloc: Global, comparator: &Comparator) -> Result<VersionSet, AllocError>
-    ensures { IfOk result (λ set. (v : PlainVersion) → Fits v
-        → has set v ≡ meets_comparator v (comparator_of comparator.now)) }
+/// The pre-releases that meet all comparators.
+fn met_pre_releases<'a>(comparators: &'a [Comparator]) -> Bounds<PreReleaseLimit<'a>>
+    ensures { (v : PlainVersion) → IsPreRelease v → is_within limit_place result v
+        ≡ list_all (meets_comparator v) (map comparator_of comparators.entry.now) }
 {
-    match comparator.op {
-        Op::Gte => at_or_above(alloc, comparator),
-        Op::Gt => above(alloc, comparator),
-        Op::Eq => at_or_above(alloc, comparator)?.difference(alloc, &above(alloc, comparator)?),
-        Op::Lt | Op::Lte => narrowed(alloc, &all(alloc)?, comparator),
+    let mut met = Bounds {
+        from: Some(PreReleaseLimit::lowest(LOWEST)),
+        to: None,
+    };
+    for comparator in comparators {
+        let at = PreReleaseLimit::at(comparator);
+        met = met.narrowed(&comparator.op, at, PreReleaseLimit::above(comparator));
     }
+    met
 }
 
-/// Those of the versions that meet a comparator.
-fn narrowed(
-    alloc: Global,
-    set: &VersionSet,
+/// Adds the spans of the pre-releases that meet all comparators and are at numbers that one of them
+/// has with a pre-release.
+fn push_stated<'a>(
+    comparators: &'a [Comparator],
+    spans: &mut Vec<Span<PreReleaseLimit<'a>>>,
+) -> Result<(), AllocError>
+    ensures spans { some_empty precedence (map (span_value limit_place) spans.old.items) ≡ false
+        → some_empty precedence (map (span_value limit_place) spans.new.items) ≡ false }
+    ensures meaning { IfOk result (λ _. (v : PlainVersion) → IsPreRelease v
+        → in_some precedence (map (span_value limit_place) spans.new.items) v
+        ≡ (in_some precedence (map (span_value limit_place) spans.old.items) v
+        || (list_all (meets_comparator v) (map comparator_of comparators.entry.now)
+        && list_any (has_pre_release_at v) (map comparator_of comparators.entry.now)))) }
+{
+    let met = met_pre_releases(comparators);
+    for comparator in comparators {
+        push_at(met, comparator, spans)?;
+    }
+    Ok(())
+}
+
+/// Adds the span of those of the pre-releases that are at the numbers of a comparator, if it has a
+/// pre-release.
+fn push_at<'a>(
+    met: Bounds<PreReleaseLimit<'a>>,
     comparator: &Comparator,
-) -> Result<VersionSet, AllocError>
-    ensures { IfOk result (λ narrowed. (v : PlainVersion) → Fits v → has narrowed v
-        ≡ (has set.now v && meets_comparator v (comparator_of comparator.now))) }
-{
-    match comparator.op {
-        Op::Lt => set.difference(alloc, &at_or_above(alloc, comparator)?),
-        Op::Lte => set.difference(alloc, &above(alloc, comparator)?),
-        Op::Gte => set.intersection(alloc, &at_or_above(alloc, comparator)?),
-        Op::Gt => set.intersection(alloc, &above(alloc, comparator)?),
-        Op::Eq => {
-            let from = set.intersection(alloc, &at_or_above(alloc, comparator)?)?;
-            from.difference(alloc, &above(alloc, comparator)?)
-        }
-    }
-}
-
-/// The versions that count beside comparators as stated: the releases, and what is at the numbers
-/// that a comparator has with a pre-release.
-fn counting_beside(alloc: Global, comparators: &[Comparator]) -> Result<VersionSet, AllocError>
-    ensures { IfOk result (λ set. (v : PlainVersion) → Fits v → has set v ≡ (is_empty v.pre
-        || list_any (λ comparator. has_pre_release_at v (comparator_of comparator))
-        comparators.now)) }
-{
-    releases(alloc)?.union(alloc, &stated_numbers(alloc, comparators)?)
-}
-
-/// The versions at the numbers that some comparator has with a pre-release: of one half of the
-/// comparators, or of the other.
-fn stated_numbers(alloc: Global, comparators: &[Comparator]) -> Result<VersionSet, AllocError>
-    ensures { IfOk result (λ set. (v : PlainVersion) → Fits v → has set v
-        ≡ list_any (λ comparator. has_pre_release_at v (comparator_of comparator))
-        comparators.now) }
-{
-    match comparators {
-        [] => Ok(VersionSet::empty(alloc)),
-        [comparator] => numbers_stated_by(alloc, comparator),
-        _ => {
-            let (front, back) = comparators.split_at(comparators.len() / 2);
-            let front = stated_numbers(alloc, front)?;
-            front.union(alloc, &stated_numbers(alloc, back)?)
-        }
-    }
-}
-
-/// The versions at the numbers of a comparator, if it has a pre-release.
-fn numbers_stated_by(alloc: Global, comparator: &Comparator) -> Result<VersionSet, AllocError>
-    ensures { IfOk result (λ set. (v : PlainVersion) → Fits v
-        → has set v ≡ has_pre_release_at v (comparator_of comparator.now)) }
+    spans: &mut Vec<Span<PreReleaseLimit<'a>>>,
+) -> Result<(), AllocError>
+    ensures spans { some_empty precedence (map (span_value limit_place) spans.old.items) ≡ false
+        → some_empty precedence (map (span_value limit_place) spans.new.items) ≡ false }
+    ensures meaning { IfOk result (λ _. (v : PlainVersion) → IsPreRelease v
+        → in_some precedence (map (span_value limit_place) spans.new.items) v
+        ≡ (in_some precedence (map (span_value limit_place) spans.old.items) v
+        || (is_within limit_place met.entry v
+        && has_pre_release_at v (comparator_of comparator.now)))) }
 {
     if comparator.pre.is_empty() {
-        return Ok(VersionSet::empty(alloc));
+        return Ok(());
     }
     let numbers = numbers_of(comparator);
-    let from = of_numbers_from(alloc, Some(numbers))?;
-    from.difference(alloc, &of_numbers_from(alloc, next_numbers(numbers))?)
+    let stated = Bounds {
+        from: Some(PreReleaseLimit::lowest(numbers)),
+        to: PreReleaseLimit::above_numbers(numbers),
+    };
+    met.and(stated).push_to(spans)
 }

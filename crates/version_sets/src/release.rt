@@ -1,10 +1,14 @@
 //! Releases: versions without a pre-release and without a build.
 
-ghost use Rattle.std.specs.Prelude.{◌≡◌, ◌+◌, ◌*◌, ◌<◌, []};
-ghost use Rattle.std.specs.Ordering.{is_lt};
+ghost use Rattle.std.specs.Prelude.{◌≡◌, ◌+◌, ◌*◌, ◌<◌, [], option_map};
+ghost use Rattle.std.specs.Ordering.{is_lt, is_gt};
 ghost use Rattle.semver_parser.specs.Precedence.{precedence};
 ghost use Rattle.semver_parser.specs.VersionViews.{version_value};
+ghost use Rattle.semver_parser.specs.Versions.{PlainVersion};
 ghost use Rattle.version_sets.specs.Releases.{release_value};
+ghost use Rattle.version_sets.specs.SetRanges.{next_release};
+ghost use Rattle.version_sets.specs.Steps.Bounds.{numbers_cmp, reaches};
+ghost use Rattle.version_sets.specs.VersionSets.{Fits};
 
 use semver_parser::version::Version;
 use std::alloc::Global;
@@ -66,4 +70,40 @@ impl Release {
     {
         u128::from(self.minor) * 0x1_0000_0000_0000_0000 + u128::from(self.patch)
     }
+}
+
+/// The lowest numbers.
+pub(crate) const LOWEST: Release = Release {
+    major: 0,
+    minor: 0,
+    patch: 0,
+};
+
+/// The numbers right after these. There are none after the last.
+pub(crate) fn next_numbers(numbers: Release) -> Option<Release>
+    ensures above { (v : PlainVersion) → Fits v
+        → reaches result v ≡ is_gt (numbers_cmp v (release_value numbers)) }
+    ensures next { option_map release_value result ≡ next_release (release_value numbers) }
+{
+    let (major, minor) = (numbers.major, numbers.minor);
+    if let Some(patch) = numbers.patch.checked_add(1) {
+        return Some(Release {
+            major,
+            minor,
+            patch,
+        });
+    }
+    if let Some(minor) = minor.checked_add(1) {
+        return Some(Release {
+            major,
+            minor,
+            patch: 0,
+        });
+    }
+    let major = major.checked_add(1)?;
+    Some(Release {
+        major,
+        minor: 0,
+        patch: 0,
+    })
 }

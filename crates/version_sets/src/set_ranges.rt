@@ -136,7 +136,7 @@ fn is_from_lowest(comparators: &[Comparator]) -> bool
 }
 
 /// Whether there is no pre-release, or the lowest, `0`.
-fn is_lowest(identifiers: &[Identifier]) -> bool
+pub(crate) fn is_lowest(identifiers: &[Identifier]) -> bool
     ensures { result ≡ is_lowest_pre (map identifier_of identifiers.now) }
 {
     match identifiers {

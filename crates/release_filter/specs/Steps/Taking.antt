@@ -8,7 +8,8 @@ use Rattle.semver_parser.specs.Texts.{Text, is_empty}
 use Rattle.semver_parser.specs.VersionViews.{version_value}
 use Rattle.semver_parser.specs.Versions.{PlainVersion}
 use Rattle.release_filter.specs.LineTexts.{line_text}
-use Rattle.release_filter.specs.Pieces.{LinesValue, Takes}
+use Rattle.release_filter.specs.Pieces.{LinesValue, TakesAll}
+use Rattle.release_filter.specs.Skipping.{IsLeft}
 use Rattle.release_filter.specs.Verdicts.{JudgedLine, Verdict, is_invalid, kept, dropped, invalid}
 use Rattle.release_filter.specs.Verdicts.{empty}
 use Rattle.release_filter.specs.Counting.{CountsValue, counted_as}
@@ -63,7 +64,12 @@ pub record TakesLine (h : HeldValue) (c : CountsValue) (line : Text) (verdict : 
   pub appended : new ≡ old ++ added
   pub counted : d ≡ counted_as verdict c line
 
+-- bytes that end no line were taken
+abbrev pub TakesRest : LinesValue → Text → LinesValue → Type 0
+TakesRest s rest t = (t ≡ record s { unended = t.unended })
+    × IsLeft s.filter.dialect s.prefixes s.at_front (s.unended ++ rest) t.unended
+
 -- the end of a line was taken, and this says whether the line is no invalid one
 abbrev pub TakesWhole : LinesValue → Text → LinesValue → Text → Text → Bool → Type 0
-TakesWhole s end t old new is_valid = (judged : JudgedLine) × Takes s end (judged ∷ []) t old new
+TakesWhole s end t old new is_valid = (judged : JudgedLine) × TakesAll s end (judged ∷ []) t old new
     × (t.unended ≡ []) × (is_valid ≡ not (is_invalid judged.verdict))

@@ -2,19 +2,19 @@ use Rattle.std.proofs.Common.{arith, [], sym, ◌∙◌}
 use Rattle.semver_texts.specs.Texts.{cut_at_dots}
 use Rattle.semver_versions.specs.Steps.Reading.{hyphens_of}
 use Rattle.semver_versions.proofs.KeptTexts.{are_parts}
-use Rattle.semver_versions.proofs.ReadVersions.{fits, has_outline, no_parts, parts_fit, there_are_parts, they_fit}
+use Rattle.semver_versions.proofs.ReadVersions.{has_outline, no_parts, parts_fit, there_are_parts, they_fit}
 use Rattle.semver_versions.proofs.reader.behind_numbers.Goals as goal
 
 pub returns-then-not-fit : goal.returns-then-not-fit
 returns-then-not-fit c = λ text before n at v w.
     c.fit.ensures.no c.if-not-fit.true (they_fit w c.args.rest.now c.args.major c.args.minor c.args.patch n)
 
-pub returns-then-are_small : goal.returns-then-are_small
-returns-then-are_small c = λ text before n at.
+pub returns-then-is_empty : goal.returns-then-is_empty
+returns-then-is_empty c = λ text before n at.
     rw c.with_parts.ensures
     (has_outline c.args.dialect text c.args.rest.now [] [] c.args.major c.args.minor c.args.patch n
     (no_parts c.args.dialect c.args.rest.now (sym c.is_empty.ensures ∙ c.if-is_empty.true))
-    (fits c.args.dialect _ _ _ (c.are_small.ensures.yes c.if-are_small.true)) before c.args.numbers_end at)
+    (c.fit.ensures.yes c.if-not-fit.false) before c.args.numbers_end at)
 
 pub returns-in_err-pre : goal.returns-in_err-pre
 returns-in_err-pre c = λ text before n at. rw c.from_residual.ensures

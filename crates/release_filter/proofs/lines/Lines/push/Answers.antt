@@ -1,12 +1,9 @@
-use Rattle.std.proofs.Common.{◌≡◌, ◌∙◌, ◌++◌, ◌∷◌, [], ap, arith, refl, subst, sym}
-use Rattle.semver_parser.specs.Texts.{Text}
-use Rattle.release_filter.specs.Counting.{counts_value}
-use Rattle.release_filter.specs.Pieces.{LinesValue, Takes}
-use Rattle.release_filter.specs.Steps.Taking.{held_value, texts}
+use Rattle.std.proofs.Common.{◌∙◌, ◌++◌, ◌∷◌, [], ap, arith, refl, subst, sym}
+use Rattle.release_filter.specs.Pieces.{LinesValue}
 use Rattle.release_filter.specs.Verdicts.{is_invalid}
 use Rattle.release_filter.proofs.Endings.{bad_verdict, one_more_valid, opposite, opposite_bad}
 use Rattle.release_filter.proofs.Passing.{not_both}
-use Rattle.release_filter.proofs.TakenPieces.{NoEnd, left_of, seen, took_all, took_next, took_nothing, took_rest}
+use Rattle.release_filter.proofs.TakenPieces.{NoEnd, took_next, took_nothing, took_piece}
 use Rattle.release_filter.proofs.lines.Lines.push.Goals as goal
 use Rattle.release_filter.proofs.lines.Lines.push.Goals.{else-self-via-then-self+else-not-is_valid, else-self-via-else-self}
 
@@ -58,29 +55,14 @@ returns-then-not-is_valid-clause-stops c =
       ),
     )
 
-pub returns-clause-takes : goal.returns-clause-takes
-returns-clause-takes c =
-    let s = c.self-2.inside in
-    let value : LinesValue = record {
-      filter = s.chosen.filter;
-      prefixes = texts s.chosen.prefixes.items;
-      is_strict = s.is_strict;
-      at_front = s.at_front;
-      unended = s.unended.items;
-      held = held_value s.held;
-      counts = counts_value s.counts;
-    } in
+pub returns-in-Ok-clause-takes : goal.returns-in-Ok-clause-takes
+returns-in-Ok-clause-takes c =
     let found = rw c.in-Ok-None.field-0-is at c.in-Ok-None.ensures.takes in
-    let so_far = c.lines.invariant in
-    let rest = left_of c.args.piece.now c.lines.taken in
-    let is : c.extend_from_slice.new.self.items ≡ c.self-2.inside.unended.items ++ rest =
-    rw c.if-is_err.ensures.negation at c.extend_from_slice.ensures.items in
-    let last = subst (λ (l : Text). Takes value rest [] (record value { unended = c.extend_from_slice.new.self.items }) l
-    c.take_first.new.kept.items)
-    found.2 (took_rest value rest c.extend_from_slice.new.self.items c.take_first.new.kept.items c.self-2.invariant found.0 is) in (
+    let so_far = c.lines.invariant in (
       so_far.1,
-      took_all c.precedence_is_total.ensures.total c.args.self.now c.lines.self _ c.args.piece.now so_far.1 _ c.lines.kept.items _
-          c.lines.taken
-          so_far.2 (seen _ _ _ _ _ _ _ (c.self-2.view_is ∙ found.1) last),
+      took_piece c.precedence_is_total.ensures.total c.args.self.now c.lines.self c.take_first.new.self c.take_rest.new.self
+          c.args.piece.now
+          so_far.1 c.args.kept.now.items c.lines.kept.items c.take_first.new.kept.items c.lines.taken so_far.2 found.1 found.0
+          c.in-Ok.ensures.takes found.2,
       so_far.3,
     )

@@ -1,16 +1,21 @@
-use Rattle.std.proofs.Common.{◌≡◌, ◌&&◌, Bool, true, false, List, [], ◌∷◌, map, refl, sym, ap, ◌∙◌}
+use Rattle.std.proofs.Common.{◌≡◌, ◌&&◌, ◌||◌, Bool, true, false, List, [], ◌∷◌, refl, sym, ap, ◌∙◌}
 use Rattle.std.specs.List.{list_any}
 use Rattle.semver_parser.specs.declared.Range.{Range}
 use Rattle.semver_parser.specs.Meeting.{meets_range}
 use Rattle.semver_parser.specs.RangeViews.{range_of, set_of}
-use Rattle.semver_parser.specs.RewritingTable.{PlainSet}
-use Rattle.semver_parser.specs.Versions.{VersionValue}
+use Rattle.semver_parser.specs.RewritingTable.{PlainRange, PlainSet}
+use Rattle.semver_parser.specs.StatedPreReleases.{has_pre_release_at}
+use Rattle.semver_parser.specs.Texts.{is_empty}
+use Rattle.semver_parser.specs.Versions.{PlainVersion, VersionValue}
 use Rattle.version_sets.specs.PreReleaseRules.{is_release, meets_with}
-use Rattle.version_sets.specs.VersionSets.{has, Fits}
+use Rattle.version_sets.specs.VersionSets.{has}
 use Rattle.version_sets.specs.Steps.RangeRules.{meets_range_with}
 use Rattle.version_sets.specs.declared.rules.PreReleases.{PreReleases}
 use Rattle.version_sets.specs.declared.rules.PreReleases.TheVariants.{Excluded, Stated, Included}
-use Rattle.version_sets.proofs.Lists.{answered_so, list_any-map}
+use Rattle.version_sets.proofs.BoundLaws.{and_true}
+use Rattle.version_sets.proofs.Lists.{list_any-map}
+use Rattle.version_sets.proofs.SetLaws.{has-release, has-pre_release}
+use Rattle.version_sets.proofs.WalkLaws.{by_test}
 use Rattle.version_sets.proofs.version_set.VersionSet.of_set.Goals as goal
 
 -- a test that doesn't look at the items
@@ -24,10 +29,22 @@ by_rule Excluded s v = any_beside (is_release v) (meets_range v.plain) s.ranges
 by_rule Stated s v = refl
 by_rule Included s v = refl
 
+-- releases meet a range by each rule
+released : (rule : PreReleases) (v : PlainVersion) (r : PlainRange) → is_empty v.pre ≡ true → meets_range v r ≡ meets_range_with rule v r
+released Excluded v r e = sym (ap (λ b. b && meets_range v r) e)
+released Stated v r e =
+    sym (ap (λ b. meets_range v r && (b || list_any (has_pre_release_at v) r.comparators)) e ∙ and_true (meets_range v r))
+released Included v r e = refl
+
 pub returns-clause-meaning : goal.returns-clause-meaning
-returns-clause-meaning c =
-    answered_so (λ s. (v : VersionValue) → Fits v.plain → has s v.plain ≡ meets_with c.args.pre_releases (set_of c.args.set.now) v)
-    c.of_ranges.result c.of_ranges.ensures.meaning
-    (λ s is v fits. is v.plain fits ∙ sym (list_any-map (meets_range_with c.args.pre_releases v.plain) range_of c.deref.result.now)
-    ∙ ap (λ (rs : List Range). list_any (meets_range_with c.args.pre_releases v.plain) (map range_of rs)) c.deref.ensures.value
-    ∙ by_rule c.args.pre_releases (set_of c.args.set.now) v)
+returns-clause-meaning c = λ v fits.
+    let rule = c.args.pre_releases in
+    let set = c.args.set.now in
+    let whole = sym (list_any-map (meets_range_with rule v.plain) range_of set.ranges.items) ∙ by_rule rule (set_of set) v in
+    ap (λ s. has s v.plain) c.of_switches.ensures
+    ∙ by_test (is_empty v.plain.pre)
+    (λ e. has-release _ v.plain e ∙ c.in_ok-releases.ensures.meaning v.plain (fits, e)
+    ∙ ap (λ (rs : List Range). list_any (λ range. meets_range v.plain (range_of range)) rs) c.deref.ensures.value
+    ∙ (λ i. list_any (λ range. released rule v.plain (range_of range) e i) set.ranges.items) ∙ whole)
+    (λ e. has-pre_release _ v.plain e ∙ c.in_ok-pre_releases.ensures.meaning v.plain (fits, e)
+    ∙ ap (λ (rs : List Range). list_any (λ range. meets_range_with rule v.plain (range_of range)) rs) c.deref-2.ensures.value ∙ whole)

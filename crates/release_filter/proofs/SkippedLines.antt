@@ -1,0 +1,174 @@
+-- Lines that are skipped: none has a version, and what is counted of one shows in its first bytes.
+use Rattle.std.proofs.Common.{◌≡◌, ◌≢◌, ◌∙◌, ◌++◌, ◌∷◌, ◌<◌, ◌≤◌, ◌+◌, ◌-◌, ◌&&◌, ◌==◌, [], List, ◌⊎◌, ℕ, Bool, true, false, refl, sym, subst, ap, ap₂, inl, inr}
+use Rattle.std.proofs.Common.{append_assoc, append-nil, arith, cond, drop, length, length-append, length-take, ne_eqb, take}
+use Rattle.std.specs.Io.BufRead.{ends_with_byte, strip_last}
+use Rattle.std.proofs.lemmas.Bool.{cases_lt}
+use Rattle.std.proofs.lemmas.List.{take_all, take-append-drop, take-append-le}
+use Rattle.std.proofs.lemmas.List.Elements.{All-head, All-tail}
+use Rattle.semver_parser.specs.Texts.{Text, is_empty}
+use Rattle.semver_parser.specs.Versions.{VersionValue}
+use Rattle.semver_parser.specs.ToolVersions.{SpellsIn}
+use Rattle.semver_parser.specs.declared.version.Dialect.{Dialect}
+use Rattle.release_filter.specs.Counting.{CountsValue, counted_as, first_of, one_more}
+use Rattle.release_filter.specs.Filters.{FilterValue}
+use Rattle.release_filter.specs.LineTexts.{after_mark, line_text}
+use Rattle.release_filter.specs.Skipping.{BeginsAfter, BeginsAfterOne, IsLeft, MayHaveVersion}
+use Rattle.release_filter.specs.Verdicts.{HasNoVersion, HasVersion, IsVerdictOn, Verdict, asked, dropped, empty, invalid, kept}
+use Rattle.semver_texts.proofs.Lists.{by_test}
+use Rattle.release_filter.proofs.NumberedLines.{strip_behind}
+use Rattle.release_filter.proofs.Passing.{not_both}
+use Rattle.release_filter.proofs.TakenPieces.{NoEnd, no_end_marked}
+
+-- ---- the text of a line, and a front of it
+
+strip_front : (byte : ℕ) (xs : Text) → (end : Text) × (xs ≡ strip_last byte xs ++ end)
+strip_front byte xs =
+    by_test (ends_with_byte byte xs) (λ y. (drop (length xs - 1) xs, rw y (sym (take-append-drop (length xs - 1) xs))))
+    (λ n. ([], rw n (sym (append-nil xs))))
+
+strip_none : (xs : Text) → NoEnd xs → strip_last 10 xs ≡ xs
+strip_none [] none = refl
+strip_none (x ∷ []) none = ap (λ b. cond b [] (x ∷ [])) (ne_eqb x 10 (All-head (λ y. y ≢ 10) x [] none))
+strip_none (x ∷ y ∷ ys) none =
+    strip_behind 10 (x ∷ []) (y ∷ ys) (omega arith) ∙ ap (λ t. x ∷ t) (strip_none (y ∷ ys) (All-tail (λ z. z ≢ 10) x (y ∷ ys) none))
+
+text_front : (front more : Text) → NoEnd front → (rest : Text) × (line_text (front ++ more) ≡ strip_last 13 front ++ rest)
+text_front front [] none = (
+  [],
+  ap line_text (append-nil front) ∙ ap (strip_last 13) (strip_none front none) ∙ sym (append-nil (strip_last 13 front)),
+)
+text_front front (x ∷ xs) none = by_rest (strip_last 10 (x ∷ xs)) (ap (strip_last 13) (strip_behind 10 front (x ∷ xs) (omega arith)))
+  where
+    by_rest : (rest : Text) → line_text (front ++ x ∷ xs) ≡ strip_last 13 (front ++ rest)
+        → (r : Text) × (line_text (front ++ x ∷ xs) ≡ strip_last 13 front ++ r)
+    by_rest [] e = ([], e ∙ ap (strip_last 13) (append-nil front) ∙ sym (append-nil (strip_last 13 front)))
+    by_rest (y ∷ ys) e =
+        let end = strip_front 13 front in (
+          end.0 ++ strip_last 13 (y ∷ ys),
+          e ∙ strip_behind 13 front (y ∷ ys) (omega arith) ∙ ap (λ l. l ++ strip_last 13 (y ∷ ys)) end.1
+              ∙ append_assoc (strip_last 13 front) end.0 (strip_last 13 (y ∷ ys)),
+        )
+
+-- ---- what begins a line with a version
+
+one_more_byte : (dialect : Dialect) (prefix front : Text) (p x : ℕ) → p ≡ x → BeginsAfter dialect prefix front
+    → BeginsAfter dialect (p ∷ prefix) (x ∷ front)
+one_more_byte dialect prefix front p x same (inl (text, is, begins)) = inl (text, ap₂ (λ b l. b ∷ l) (sym same) is, begins)
+one_more_byte dialect prefix front p x same (inr (next, more, is)) = inr (next, more, ap₂ (λ b l. b ∷ l) same is)
+
+spells_front : (dialect : Dialect) (prefix front rest text : Text) (v : VersionValue) → front ++ rest ≡ prefix ++ text
+    → SpellsIn dialect v text → BeginsAfter dialect prefix front
+spells_front dialect [] front rest text v e spells = inl (front, refl, (rest, (v, subst (SpellsIn dialect v) (sym e) spells)))
+spells_front dialect (p ∷ ps) [] rest text v e spells = inr (p, ps, refl)
+spells_front dialect (p ∷ ps) (x ∷ xs) rest text v e spells =
+    one_more_byte dialect ps xs p x (cc) (spells_front dialect ps xs rest text v (cc) spells)
+
+has_front : (dialect : Dialect) (prefixes : List Text) (line front rest : Text) (v : VersionValue) → line_text line ≡ front ++ rest
+    → HasVersion dialect prefixes line v → BeginsAfterOne dialect prefixes front
+has_front dialect [] line front rest v e has = absurd has
+has_front dialect (p ∷ ps) line front rest v e (inl (text, is, spells)) = inl (spells_front dialect p front rest text v (sym e ∙ is) spells)
+has_front dialect (p ∷ ps) line front rest v e (inr (none, has)) = inr (has_front dialect ps line front rest v e has)
+
+-- ---- a front after a mark
+
+pub marked_front : (at_front : Bool) (front more : Text) → 3 ≤ length front
+    → after_mark at_front (front ++ more) ≡ after_mark at_front front ++ more
+marked_front false front more some = refl
+marked_front true [] more some = absurd (omega (arith, some))
+marked_front true (a ∷ []) more some = absurd (omega (arith, some))
+marked_front true (a ∷ b ∷ []) more some = absurd (omega (arith, some))
+marked_front true (a ∷ b ∷ c ∷ rest) more some = by_mark ((a == 0xEF) && ((b == 0xBB) && (c == 0xBF)))
+  where
+    by_mark : (m : Bool) → cond m (rest ++ more) (a ∷ b ∷ c ∷ rest ++ more) ≡ cond m rest (a ∷ b ∷ c ∷ rest) ++ more
+    by_mark true = refl
+    by_mark false = refl
+
+pub marked_length : (at_front : Bool) (text : Text) → length text ≤ 3 + length (after_mark at_front text)
+marked_length false text = omega arith
+marked_length true [] = omega arith
+marked_length true (a ∷ []) = omega arith
+marked_length true (a ∷ b ∷ []) = omega arith
+marked_length true (a ∷ b ∷ c ∷ rest) = by_mark ((a == 0xEF) && ((b == 0xBB) && (c == 0xBF)))
+  where
+    by_mark : (m : Bool) → length (a ∷ b ∷ c ∷ rest) ≤ 3 + length (cond m rest (a ∷ b ∷ c ∷ rest))
+    by_mark true = omega arith
+    by_mark false = omega arith
+
+strip_length : (byte : ℕ) (xs : Text) → length xs ≤ 1 + length (strip_last byte xs)
+strip_length byte xs =
+    by_test (ends_with_byte byte xs) (λ y. rw y (omega (arith, length-take (length xs - 1) xs))) (λ n. rw n (omega arith))
+
+-- ---- lines that begin with this front, which are skipped
+
+module _ (filter : FilterValue) (prefixes : List Text) (at_front : Bool) (front : Text) (long : length front ≡ 4096) (none : NoEnd front)
+    (isnt : ¬ BeginsAfterOne filter.dialect (asked prefixes) (strip_last 13 (after_mark at_front front)))
+  where
+    abbrev line_with : Text → Text
+    line_with more = after_mark at_front (front ++ more)
+
+    abbrev seen : Text
+    seen = strip_last 13 (after_mark at_front front)
+
+    text_is : (more : Text) → (rest : Text) × (line_text (line_with more) ≡ seen ++ rest)
+    text_is more =
+        let text = text_front (after_mark at_front front) more (no_end_marked at_front front none) in
+        (text.0, ap line_text (marked_front at_front front more (omega (arith, long))) ∙ text.1)
+
+    enough : 81 ≤ length seen
+    enough = omega (arith, long, marked_length at_front front, strip_length 13 (after_mark at_front front))
+
+    has_none : (more : Text) → HasNoVersion filter.dialect prefixes (line_with more)
+    has_none more = λ v has. let text = text_is more in isnt (has_front filter.dialect (asked prefixes) (line_with more) seen text.0 v text.1 has)
+
+    has_text : (more : Text) → is_empty (line_text (line_with more)) ≡ false
+    has_text more =
+        let text = text_is more in
+        some (line_text (line_with more)) (omega (arith, enough, ap length text.1, length-append seen text.0))
+      where
+        some : (xs : Text) → 1 ≤ length xs → is_empty xs ≡ false
+        some [] less = absurd (omega (arith, less))
+        some (x ∷ xs) less = refl
+
+    -- such a line is invalid, and nothing else
+    pub is_skipped : (more : Text) → IsVerdictOn filter prefixes (line_with more) invalid
+    is_skipped more = (has_none more, has_text more)
+
+    pub must_be_skipped : (more : Text) (v : Verdict) → IsVerdictOn filter prefixes (line_with more) v → v ≡ invalid
+    must_be_skipped more (kept p) on = absurd (has_none more on.0 on.1)
+    must_be_skipped more dropped on = absurd (has_none more on.0 on.1)
+    must_be_skipped more invalid on = refl
+    must_be_skipped more empty on = absurd (not_both on.1 (has_text more))
+
+    shows : (more : Text) → take 81 (line_text (line_with more)) ≡ take 81 seen
+    shows more = let text = text_is more in ap (take 81) text.1 ∙ take-append-le 81 seen text.0 enough
+
+    -- and is counted as each other one
+    pub counted_alike : (more other : Text) (c : CountsValue)
+        → counted_as invalid c (line_with more) ≡ counted_as invalid c (line_with other)
+    counted_alike more other c =
+        ap (λ t. record c {
+          lines = one_more c.lines;
+          invalid = one_more c.invalid;
+          first_invalid = first_of c.first_invalid (record { number = one_more c.lines; front = t });
+        }) (shows more ∙ sym (shows other))
+
+-- ---- what is left of a line
+
+-- one text is left
+pub same_left : (dialect : Dialect) (prefixes : List Text) (at_front : Bool) (unended left other : Text)
+    → IsLeft dialect prefixes at_front unended left → IsLeft dialect prefixes at_front unended other → left ≡ other
+same_left dialect prefixes at_front unended left other (inl (is, _)) (inl (so, _)) = is ∙ sym so
+same_left dialect prefixes at_front unended left other (inr (is, _)) (inr (so, _)) = is ∙ sym so
+same_left dialect prefixes at_front unended left other (inl (is, inl short)) (inr (so, _)) = is ∙ sym (take_all 4096 unended short) ∙ sym so
+same_left dialect prefixes at_front unended left other (inr (is, _)) (inl (so, inl short)) = is ∙ take_all 4096 unended short ∙ sym so
+same_left dialect prefixes at_front unended left other (inl (_, inr may)) (inr (_, isnt)) = absurd (isnt may)
+same_left dialect prefixes at_front unended left other (inr (_, isnt)) (inl (_, inr may)) = absurd (isnt may)
+
+-- all is left of a line that is not skipped
+pub left_all : (dialect : Dialect) (prefixes : List Text) (at_front : Bool) (unended left : Text) → left ≡ unended
+    → (4096 < length unended → MayHaveVersion dialect prefixes at_front unended) → IsLeft dialect prefixes at_front unended left
+left_all dialect prefixes at_front unended left is may = by_length (cases_lt 4096 (length unended))
+  where
+    by_length : (4096 < length unended) ⊎ (length unended ≤ 4096) → IsLeft dialect prefixes at_front unended left
+    by_length (inl longer) = inl (is, inr (may longer))
+    by_length (inr short) = inl (is, inl short)

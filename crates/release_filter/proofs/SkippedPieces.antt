@@ -1,0 +1,330 @@
+-- What pieces do of which a line is skipped: what the whole text does.
+use Rattle.std.proofs.Common.{◌≡◌, ◌≢◌, ◌∙◌, ◌++◌, ◌∷◌, ◌<◌, ◌≤◌, ◌&&◌, [], List, ◌⊎◌, Bool, refl, sym, subst, ap, ap₂, inl, inr}
+use Rattle.std.proofs.Common.{append_assoc, append-nil, arith, drop, length, length-append, length-take, map, take}
+use Rattle.std.specs.Cmp.{IsTotalOrder}
+use Rattle.std.specs.List.{AllByRecursion, concat}
+use Rattle.std.specs.Io.BufRead.{strip_last}
+use Rattle.std.proofs.Math.Bool.{and-true}
+use Rattle.std.proofs.lemmas.Bool.{cases_lt}
+use Rattle.std.proofs.lemmas.List.{take_all, take-append-drop, take-append-le}
+use Rattle.std.proofs.lemmas.List.Elements.{All-append, All-drop, All-head, All-tail, All-take}
+use Rattle.semver_parser.specs.Precedence.{precedence}
+use Rattle.semver_parser.specs.Texts.{Text, is_empty}
+use Rattle.semver_parser.specs.declared.version.Dialect.{Dialect}
+use Rattle.release_filter.specs.Counting.{CountsValue, counted, counted_as}
+use Rattle.release_filter.specs.LineTexts.{IsWholeLine, after_mark, lines_of, marked_off, without_mark}
+use Rattle.release_filter.specs.Pieces.{AreAlike, Completes, Finishes, LinesValue, Takes, TakesAll, begun}
+use Rattle.release_filter.specs.Skipping.{BeginsAfterOne, IsLeft, MayHaveVersion}
+use Rattle.release_filter.specs.Verdicts.{AreJudged, IsVerdictOn, JudgedLine, Verdict, asked, invalid}
+use Rattle.release_filter.specs.Wanted.{Holds, kept_as, kept_of}
+use Rattle.release_filter.proofs.JudgedLines.{judged_one}
+use Rattle.release_filter.proofs.PieceLaws.{took_text, whole_tail}
+use Rattle.release_filter.proofs.SkippedLines.{counted_alike, is_skipped, marked_length, must_be_skipped}
+use Rattle.release_filter.proofs.TakenPieces.{NoEnd, no_end_marked, only_line, took_both, whole_after}
+
+alike : (js : List JudgedLine) → AreAlike js js
+alike [] = tt
+alike (j ∷ js) = (inl refl, alike js)
+
+-- ---- the line that a front begins
+
+-- a line that begins with bytes that end none goes on after them
+line_after : (front line q rest : Text) → NoEnd front → IsWholeLine line → front ++ q ≡ line ++ rest
+    → (end : Text) × (line ≡ front ++ end) × (q ≡ end ++ rest) × IsWholeLine end
+line_after [] line q rest none whole is = (line, refl, is, whole)
+line_after (x ∷ xs) [] q rest none whole is = absurd (omega (arith, whole.0))
+line_after (x ∷ xs) (b ∷ []) q rest none whole is =
+    let same : x ≡ b = cc in
+    absurd (All-head (λ y. y ≢ 10) x xs none (same ∙ whole.2 (omega arith)))
+line_after (x ∷ xs) (b ∷ c ∷ cs) q rest none whole is =
+    let later : xs ++ q ≡ (c ∷ cs) ++ rest = cc in
+    let same : b ≡ x = cc in
+    let found = line_after xs (c ∷ cs) q rest (All-tail (λ y. y ≢ 10) x xs none) (whole_tail b c cs whole) later in
+    (found.0, ap₂ (λ y ys. y ∷ ys) same found.1, found.2, found.3)
+
+no_more : (xs ys : Text) → length (xs ++ ys) ≤ length xs → xs ++ ys ≡ xs
+no_more xs [] short = append-nil xs
+no_more xs (y ∷ ys) short = absurd (omega (arith, short, length-append xs (y ∷ ys)))
+
+-- ---- a skipped line in the next piece
+
+module _ (t : LinesValue) (front dropped : Text) (long : length front ≡ 4096) (none : NoEnd front) (none_dropped : NoEnd dropped)
+    (isnt : ¬ BeginsAfterOne t.filter.dialect (asked t.prefixes) (strip_last 13 (after_mark t.at_front front)))
+  where
+    abbrev cut_off : LinesValue
+    cut_off = record t { unended = front }
+
+    abbrev whole_one : LinesValue
+    whole_one = record t { unended = front ++ dropped }
+
+    -- the bytes that were left of it and those that it has, with what follows
+    abbrev line_as : Text → JudgedLine
+    line_as end = record { line = after_mark t.at_front ((front ++ dropped) ++ end); verdict = invalid }
+
+    must_be : (end : Text) (v : Verdict) → IsVerdictOn t.filter t.prefixes (after_mark t.at_front (front ++ end)) v → v ≡ invalid
+    must_be = must_be_skipped t.filter t.prefixes t.at_front front long none isnt
+
+    is_one : (end : Text) → IsVerdictOn t.filter t.prefixes (after_mark t.at_front ((front ++ dropped) ++ end)) invalid
+    is_one end =
+        subst (λ l. IsVerdictOn t.filter t.prefixes (after_mark t.at_front l) invalid) (sym (append_assoc front dropped end))
+        (is_skipped t.filter t.prefixes t.at_front front long none isnt (dropped ++ end))
+
+    count_one : (end : Text) (c : CountsValue)
+        → counted_as invalid c (after_mark t.at_front (front ++ end)) ≡ counted_as invalid c (after_mark t.at_front ((front ++ dropped) ++ end))
+    count_one end c =
+        counted_alike t.filter t.prefixes t.at_front front long none isnt end (dropped ++ end) c
+        ∙ ap (λ l. counted_as invalid c (after_mark t.at_front l)) (sym (append_assoc front dropped end))
+
+    -- what such a line does
+    same_kept : (k : JudgedLine) (ks : List JudgedLine) (end : Text) → k.verdict ≡ invalid → kept_of (k ∷ ks) ≡ kept_of (line_as end ∷ ks)
+    same_kept k ks end is = ap (λ v. kept_as v k.line ++ kept_of ks) is
+
+    same_counts : (k : JudgedLine) (ks : List JudgedLine) (end : Text) → k.verdict ≡ invalid
+        → k.line ≡ after_mark t.at_front (front ++ end) → counted t.counts (k ∷ ks) ≡ counted t.counts (line_as end ∷ ks)
+    same_counts k ks end is so =
+        ap (λ c. counted c ks) (ap₂ (λ v l. counted_as v t.counts l) is so ∙ count_one end t.counts)
+
+    -- it does not end in the piece
+    took_on : (u : LinesValue) (q : Text) (ks : List JudgedLine) (old new : Text) (b : TakesAll cut_off q ks u old new) → b.lines ≡ []
+        → TakesAll whole_one q ks (record u { unended = (front ++ dropped) ++ q }) old new × (u.unended ≡ front ++ q)
+        × (u.at_front ≡ t.at_front)
+    took_on u q ks old new b nothing =
+        let rest : front ++ q ≡ u.unended = b.cut.whole ∙ ap (λ l. concat l ++ u.unended) nothing in
+        let more = subst NoEnd (ap (drop (length front)) (sym rest) ∙ dropped_front front q) (All-drop (λ x. x ≢ 10) (length front) u.unended
+        b.cut.no_end) in
+        let front_is = ap (λ l. t.at_front && is_empty l) nothing ∙ and-true t.at_front in (
+          record {
+            lines = [];
+            cut = record {
+              each = tt;
+              no_end = All-append (λ x. x ≢ 10) (front ++ dropped) q (All-append (λ x. x ≢ 10) front dropped none none_dropped) more;
+              whole = refl;
+            };
+            judges = subst (λ l. AreJudged t.filter t.prefixes (marked_off t.at_front l) ks) nothing b.judges;
+            added = b.added;
+            holds = b.holds;
+            appended = b.appended;
+            state = ap (λ (v : LinesValue). record v { unended = (front ++ dropped) ++ q }) b.state
+                ∙ (λ i. record t {
+                  at_front = ap (λ l. t.at_front && is_empty l) nothing i;
+                  unended = (front ++ dropped) ++ q;
+                  held = u.held;
+                  counts = counted t.counts ks;
+                });
+          },
+          sym rest,
+          ap (λ (v : LinesValue). v.at_front) b.state ∙ front_is,
+        )
+      where
+        dropped_front : (xs ys : Text) → drop (length xs) (xs ++ ys) ≡ ys
+        dropped_front [] ys = refl
+        dropped_front (x ∷ xs) ys = dropped_front xs ys
+
+    -- it does
+    took_end : (u : LinesValue) (q y : Text) (ys : List Text) (ks : List JudgedLine) (old new : Text) (b : TakesAll cut_off q ks u old new)
+        → b.lines ≡ y ∷ ys → (ls : List JudgedLine) × AreAlike ks ls × TakesAll whole_one q ls u old new
+    took_end u q y ys [] old new b some = absurd (let e = b.judges.all ∙ ap (marked_off t.at_front) some in cc)
+    took_end u q y ys (k ∷ ks) old new b some =
+        let each = subst (AllByRecursion IsWholeLine) some b.cut.each in
+        let whole = b.cut.whole ∙ ap (λ l. concat l ++ u.unended) some ∙ append_assoc y (concat ys) u.unended in
+        let end = line_after front y q (concat ys ++ u.unended) none each.0 whole in
+        let all = b.judges.all ∙ ap (marked_off t.at_front) some in
+        let line : k.line ≡ after_mark t.at_front (front ++ end.0) = ap (λ (l : List Text). first_of l k.line) all ∙ ap (after_mark t.at_front) end.1 in
+        let verdict = must_be end.0 k.verdict (subst (λ l. IsVerdictOn t.filter t.prefixes l k.verdict) line b.judges.each.0) in (
+          line_as end.0 ∷ ks,
+          (inr (verdict, refl), alike ks),
+          record {
+            lines = ((front ++ dropped) ++ end.0) ∷ ys;
+            cut = record {
+              each = (whole_after (front ++ dropped) end.0 (All-append (λ x. x ≢ 10) front dropped none none_dropped) end.3, each.1);
+              no_end = b.cut.no_end;
+              whole = ap (λ l. (front ++ dropped) ++ l) end.2 ∙ sym (append_assoc (front ++ dropped) end.0 (concat ys ++ u.unended))
+                  ∙ sym (append_assoc ((front ++ dropped) ++ end.0) (concat ys) u.unended);
+            };
+            judges = record {
+              all = ap (λ l. after_mark t.at_front ((front ++ dropped) ++ end.0) ∷ l) (ap (λ (l : List Text). later_of l) all);
+              each = (is_one end.0, b.judges.each.1);
+            };
+            added = b.added;
+            holds = subst (λ l. Holds t.held l u.held b.added) (same_kept k ks end.0 verdict) b.holds;
+            appended = b.appended;
+            state = b.state
+                ∙ (λ i. record t {
+                  at_front = ap (λ l. t.at_front && is_empty l) some i;
+                  unended = u.unended;
+                  held = u.held;
+                  counts = same_counts k ks end.0 verdict line i;
+                });
+          },
+        )
+      where
+        first_of : List Text → Text → Text
+        first_of [] other = other
+        first_of (l ∷ ls) other = l
+
+        later_of : List Text → List Text
+        later_of [] = []
+        later_of (l ∷ ls) = ls
+
+    -- at the end of the text
+    marked_lines : (bytes : Text) → NoEnd bytes → 4096 ≤ length bytes
+        → lines_of (after_mark t.at_front bytes) ≡ after_mark t.at_front bytes ∷ []
+    marked_lines bytes whole enough =
+        only_line (after_mark t.at_front bytes)
+        (λ e. absurd (omega (arith, ap length e, enough, marked_length t.at_front bytes))) (no_end_marked t.at_front bytes whole)
+
+    took_last : (u : LinesValue) (ks : List JudgedLine) (old new : Text) → Finishes cut_off ks u old new
+        → (ls : List JudgedLine) × AreAlike ks ls × Finishes whole_one ls u old new
+    took_last u ks old new b = by_lines ks b (b.judges.all ∙ marked_lines front none (omega (arith, long)))
+      where
+        by_lines : (ks : List JudgedLine) → Finishes cut_off ks u old new
+            → map (λ (j : JudgedLine). j.line) ks ≡ after_mark t.at_front front ∷ []
+            → (ls : List JudgedLine) × AreAlike ks ls × Finishes whole_one ls u old new
+        by_lines [] b all = absurd (cc)
+        by_lines (k ∷ j ∷ ks) b all = absurd (cc)
+        by_lines (k ∷ []) b all =
+            let here : k.line ≡ after_mark t.at_front front = cc in
+            let line = here ∙ ap (after_mark t.at_front) (sym (append-nil front)) in
+            let verdict = must_be [] k.verdict (subst (λ l. IsVerdictOn t.filter t.prefixes l k.verdict) line b.judges.each.0) in
+            let whole = ap (after_mark t.at_front) (append-nil (front ++ dropped)) in
+            let lines = marked_lines (front ++ dropped) (All-append (λ x. x ≢ 10) front dropped none none_dropped)
+            (omega (arith, long, length-append front dropped)) in (
+              line_as [] ∷ [],
+              (inr (verdict, refl), tt),
+              record {
+                judges =
+                    subst (λ l. AreJudged t.filter t.prefixes l (line_as [] ∷ [])) (ap (λ l. l ∷ []) whole ∙ sym lines)
+                    (judged_one t.filter t.prefixes (after_mark t.at_front ((front ++ dropped) ++ [])) invalid (is_one []));
+                held = b.held;
+                added = b.added;
+                rest = b.rest;
+                holds = subst (λ l. Holds t.held l b.held b.added) (same_kept k [] [] verdict) b.holds;
+                answers = b.answers;
+                appended = b.appended;
+                state = b.state ∙ ap (λ c. record (begun t) { counts = c }) (same_counts k [] [] verdict line);
+              },
+            )
+
+-- ---- one piece after another
+
+taken : (front more : Text) → length front ≡ 4096 → take 4096 (front ++ more) ≡ front
+taken front more long =
+    take-append-le 4096 front more (omega (arith, long)) ∙ take_all 4096 front (omega (arith, long))
+
+-- what is left of a front
+front_left : (dialect : Dialect) (prefixes : List Text) (at_front : Bool) (front more left : Text) → length front ≡ 4096
+    → ¬ BeginsAfterOne dialect (asked prefixes) (strip_last 13 (after_mark at_front front))
+    → IsLeft dialect prefixes at_front (front ++ more) left → left ≡ front
+front_left dialect prefixes at_front front more left long isnt (inl (is, inl short)) =
+    is ∙ no_more front more (omega (arith, long, short))
+front_left dialect prefixes at_front front more left long isnt (inl (is, inr may)) =
+    absurd (isnt (subst (λ l. BeginsAfterOne dialect (asked prefixes) (strip_last 13 (after_mark at_front l))) (taken front more long) may))
+front_left dialect prefixes at_front front more left long isnt (inr (is, _)) = is ∙ taken front more long
+
+module _ (t u : LinesValue) (whole q : Text) (ks : List JudgedLine) (mid new : Text) (none : NoEnd whole) where
+  abbrev Next : LinesValue → Type 0
+  Next t' = (ls : List JudgedLine) × AreAlike ks ls × Takes t' q ls u mid new
+
+  same_next : t.unended ≡ whole → Takes t q ks u mid new → Next (record t { unended = whole })
+  same_next is b = (ks, alike ks, subst (λ r. Takes (record t { unended = r }) q ks u mid new) is b)
+
+  module _ (front dropped : Text) (long : length front ≡ 4096) (none_front : NoEnd front) (none_dropped : NoEnd dropped)
+      (isnt : ¬ BeginsAfterOne t.filter.dialect (asked t.prefixes) (strip_last 13 (after_mark t.at_front front)))
+      (b : Takes (record t { unended = front }) q ks u mid new)
+    where
+      by_lines : (lines : List Text) → b.all.lines ≡ lines → Next (record t { unended = front ++ dropped })
+      by_lines [] nothing =
+          let on = took_on t front dropped long none_front none_dropped isnt (record u { unended = b.unended }) q ks mid new b.all nothing in
+          let there = subst (λ r. IsLeft t.filter.dialect t.prefixes u.at_front r u.unended) on.1 b.left in
+          let here = subst (λ f. IsLeft t.filter.dialect t.prefixes f (front ++ q) u.unended) on.2 there in
+          let left = front_left t.filter.dialect t.prefixes t.at_front front q u.unended long isnt here in
+          let first = ap (take 4096) (append_assoc front dropped q) ∙ taken front (dropped ++ q) long in (
+            ks,
+            alike ks,
+            record {
+              unended = (front ++ dropped) ++ q;
+              all = on.0;
+              left = inr (
+                left ∙ sym first,
+                subst (λ f. ¬ MayHaveVersion t.filter.dialect t.prefixes f ((front ++ dropped) ++ q)) (sym on.2)
+                    (subst (λ l. ¬ BeginsAfterOne t.filter.dialect (asked t.prefixes) (strip_last 13 (after_mark t.at_front l))) (sym first) isnt),
+              );
+            },
+          )
+      by_lines (y ∷ ys) some =
+          let end = took_end t front dropped long none_front none_dropped isnt (record u { unended = b.unended }) q y ys ks mid new b.all some in
+          (end.0, end.1, record { unended = b.unended; all = end.2; left = b.left })
+
+  next : IsLeft t.filter.dialect t.prefixes t.at_front whole t.unended → Takes t q ks u mid new → Next (record t { unended = whole })
+  next (inl (is, _)) b = same_next is b
+  next (inr (is, isnt)) b = by_length (cases_lt 4096 (length whole))
+    where
+      by_length : (4096 < length whole) ⊎ (length whole ≤ 4096) → Next (record t { unended = whole })
+      by_length (inr short) = same_next (is ∙ take_all 4096 whole short) b
+      by_length (inl longer) =
+          let cut = subst (λ r. Takes (record t { unended = r }) q ks u mid new) is b in
+          subst (λ r. Next (record t { unended = r })) (take-append-drop 4096 whole)
+          (by_lines (take 4096 whole) (drop 4096 whole) (omega (arith, length-take 4096 whole, longer)) (All-take (λ x. x ≢ 10) 4096 whole none)
+          (All-drop (λ x. x ≢ 10) 4096 whole none) isnt cut cut.all.lines refl)
+
+module _ (total : IsTotalOrder precedence) where
+  -- what is left suffices: pieces that are taken one after another do what they do as one
+  pub took_pieces : (s t u : LinesValue) (p q : Text) (js ks : List JudgedLine) (old mid new : Text) → Takes s p js t old mid
+      → Takes t q ks u mid new → (ls : List JudgedLine) × AreAlike ks ls × Takes s (p ++ q) (js ++ ls) u old new
+  took_pieces s t u p q js ks old mid new a b =
+      let dialect = ap (λ (v : LinesValue). v.filter.dialect) a.all.state in
+      let prefixes = ap (λ (v : LinesValue). v.prefixes) a.all.state in
+      let left = subst (λ d. IsLeft d t.prefixes t.at_front a.unended t.unended) (sym dialect)
+      (subst (λ ps. IsLeft s.filter.dialect ps t.at_front a.unended t.unended) (sym prefixes) a.left) in
+      let found = next t u a.unended q ks mid new a.all.cut.no_end left b in (
+        found.0,
+        found.1,
+        record {
+          unended = found.2.unended;
+          all = took_both total s (record t { unended = a.unended }) (record u { unended = found.2.unended }) p q js found.0 old mid new
+              a.all found.2.all;
+          left = subst (λ d. IsLeft d s.prefixes u.at_front found.2.unended u.unended) dialect
+              (subst (λ ps. IsLeft t.filter.dialect ps u.at_front found.2.unended u.unended) prefixes found.2.left);
+        },
+      )
+
+  -- and the end of the text does what the whole text does
+  pub took_whole : (s t u : LinesValue) (text : Text) (js ks : List JudgedLine) (old mid new : Text) → Takes (begun s) text js t old mid
+      → Finishes t ks u mid new
+      → (ls : List JudgedLine) × AreAlike ks ls × Completes (begun s) (without_mark text) (js ++ ls) u old new
+  took_whole s t u text js ks old mid new a b = ends (by_left left)
+    where
+      whole : LinesValue
+      whole = record t { unended = a.unended }
+
+      dialect : t.filter.dialect ≡ s.filter.dialect
+      dialect = ap (λ (v : LinesValue). v.filter.dialect) a.all.state
+
+      prefixes : t.prefixes ≡ s.prefixes
+      prefixes = ap (λ (v : LinesValue). v.prefixes) a.all.state
+
+      left : IsLeft t.filter.dialect t.prefixes t.at_front a.unended t.unended
+      left = subst (λ d. IsLeft d t.prefixes t.at_front a.unended t.unended) (sym dialect)
+          (subst (λ ps. IsLeft s.filter.dialect ps t.at_front a.unended t.unended) (sym prefixes) a.left)
+
+      Last : LinesValue → Type 0
+      Last t' = (ls : List JudgedLine) × AreAlike ks ls × Finishes t' ls u mid new
+
+      ends : Last whole → (ls : List JudgedLine) × AreAlike ks ls × Completes (begun s) (without_mark text) (js ++ ls) u old new
+      ends (ls, same, c) = (ls, same, took_text total s whole u text js ls old mid new a.all c)
+
+      same_last : t.unended ≡ a.unended → Last whole
+      same_last is = (ks, alike ks, subst (λ r. Finishes (record t { unended = r }) ks u mid new) is b)
+
+      by_left : IsLeft t.filter.dialect t.prefixes t.at_front a.unended t.unended → Last whole
+      by_left (inl (is, _)) = same_last is
+      by_left (inr (is, isnt)) = by_length (cases_lt 4096 (length a.unended))
+        where
+          by_length : (4096 < length a.unended) ⊎ (length a.unended ≤ 4096) → Last whole
+          by_length (inr short) = same_last (is ∙ take_all 4096 a.unended short)
+          by_length (inl longer) =
+              subst (λ r. Last (record t { unended = r })) (take-append-drop 4096 a.unended)
+              (took_last t (take 4096 a.unended) (drop 4096 a.unended) (omega (arith, length-take 4096 a.unended, longer))
+              (All-take (λ x. x ≢ 10) 4096 a.unended a.all.cut.no_end) (All-drop (λ x. x ≢ 10) 4096 a.unended a.all.cut.no_end) isnt u ks mid
+              new
+              (subst (λ r. Finishes (record t { unended = r }) ks u mid new) is b))

@@ -1,0 +1,25 @@
+use Rattle.std.proofs.Common.{◌∙◌, ◌&&◌, ◌||◌, ap, ap₂, sym, map}
+use Rattle.std.specs.List.{list_all}
+use Rattle.semver_parser.specs.Meeting.{meets_comparator}
+use Rattle.semver_parser.specs.Precedence.{precedence}
+use Rattle.semver_parser.specs.RangeViews.{comparator_of}
+use Rattle.semver_parser.specs.StatedPreReleases.{has_pre_release_at}
+use Rattle.version_sets.specs.Steps.Spans.{in_some}
+use Rattle.version_sets.specs.Steps.SpanViews.{limit_place, span_value}
+use Rattle.version_sets.proofs.MetLaws.{stated_more, added_more}
+use Rattle.version_sets.proofs.of_comparators.push_stated.Goals as goal
+
+pub loop-comparator-preserved : goal.loop-comparator-preserved
+loop-comparator-preserved c = (
+  λ e. c.in_ok-push_at.ensures.spans (c.loop-comparator.invariant.0 e),
+  λ v kind.
+      let at = has_pre_release_at v (comparator_of c.comparator-item.result) in
+      let before = in_some precedence (map (span_value limit_place) c.args.spans.now.items) v in
+      let met = list_all (meets_comparator v) (map comparator_of c.args.comparators.now) in
+      c.in_ok-push_at.ensures.meaning v kind
+      ∙ ap₂ (λ a m. a || (m && at)) (c.loop-comparator.invariant.1 v kind) (c.met_pre_releases-met.ensures v kind)
+      ∙ added_more before met _ at
+      ∙ ap (λ b. before || (met && b))
+      (sym (stated_more v c.args.comparators.now c.loop-comparator.comparator-index c.comparator-item.result
+      c.loop-comparator-test.true c.comparator-item.is)),
+)

@@ -1,0 +1,20 @@
+use Rattle.std.proofs.Common.{rules, map}
+use Rattle.std.proofs.lemmas.List.Sorted.{ranks_by}
+use Rattle.semver_parser.specs.PrecedenceLaws.{precedence_total}
+use Rattle.version_sets.specs.declared.spans.Span.{Span}
+use Rattle.version_sets.proofs.Lists.{answered_so}
+use Rattle.version_sets.proofs.SpanLaws.{begins_below, compares, are_of_sorted}
+use Rattle.version_sets.proofs.spans.switches_of.Goals as goal
+
+pub returns : goal.returns
+returns g c =
+    let place = g.L.Limit.place in
+    let sorted = c.sort_unstable_by.ensures.sorted (begins_below place)
+    (ranks_by precedence_total (λ (s : Span g.row.L.Denot). place s.from)) (compares place (λ a r q k. search rules)) in
+    let of = are_of_sorted place g.L.Limit.IsOfKind c.args.spans.now _ c.sort_unstable_by.ensures.permutation sorted c.requires in
+    record {
+      switches = answered_so _ c.joined.result c.joined.ensures
+          (λ switches is. (of (map g.L.Switch.Switch.place switches.items) is).are_switches);
+      meaning = answered_so _ c.joined.result c.joined.ensures
+          (λ switches is. (of (map g.L.Switch.Switch.place switches.items) is).turn);
+    }

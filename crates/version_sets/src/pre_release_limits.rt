@@ -1,0 +1,213 @@
+//! Where spans of pre-releases begin and end.
+
+ghost use Rattle.std.specs.Prelude.{◌≡◌, ◌||◌, [], map, option_map, IfOk};
+ghost use Rattle.std.specs.Cmp.Lexicographic.{slice_cmp};
+ghost use Rattle.std.specs.Ordering.{is_ge, is_gt};
+ghost use Rattle.semver_parser.specs.Precedence.{identifier_cmp, precedence};
+ghost use Rattle.semver_parser.specs.RangeViews.{comparator_of, identifier_of};
+ghost use Rattle.semver_parser.specs.Texts.{is_empty};
+ghost use Rattle.semver_parser.specs.VersionViews.{identifier_value};
+ghost use Rattle.semver_parser.specs.Versions.{PlainVersion};
+ghost use Rattle.version_sets.specs.VersionSets.{IsPreRelease};
+ghost use Rattle.version_sets.specs.Releases.{release_value};
+ghost use Rattle.version_sets.specs.Steps.Bounds.{lowest_place, numbers_cmp};
+ghost use Rattle.version_sets.specs.Steps.Spans.{reached};
+ghost use Rattle.version_sets.specs.Steps.SpanViews.{limit_place, with_zero};
+
+use crate::limits::{Limit, numbers_of};
+use crate::release::{Release, next_numbers};
+use crate::set_ranges::is_lowest;
+use semver_parser::version::{self, Version};
+use semver_parser::{Comparator, Identifier};
+use std::alloc::{AllocError, Global};
+use std::cmp::Ordering;
+
+/// Where pre-releases begin or end: at some numbers with these identifiers, and, if `with_zero`,
+/// with the number 0 after them. No identifiers are the lowest, the number 0 alone.
+#[derive(Clone, Copy)]
+pub(crate) struct PreReleaseLimit<'a> {
+    numbers: Release,
+    identifiers: &'a [Identifier],
+    with_zero: bool,
+}
+
+impl<'a> PreReleaseLimit<'a> {
+    /// Where the pre-releases of some numbers begin.
+    pub(crate) fn lowest(numbers: Release) -> PreReleaseLimit<'a>
+        ensures { limit_place result ≡ lowest_place numbers }
+    {
+        PreReleaseLimit {
+            numbers,
+            identifiers: &[],
+            with_zero: true,
+        }
+    }
+
+    /// Where the pre-releases at or above a comparator's version begin. None of the same numbers is
+    /// above a release.
+    pub(crate) fn at(comparator: &'a Comparator) -> Option<PreReleaseLimit<'a>>
+        ensures { (v : PlainVersion) → IsPreRelease v
+            → reached precedence (option_map limit_place result) v
+            ≡ is_ge (precedence v (comparator_of comparator.entry.now).version) }
+    {
+        let numbers = numbers_of(comparator);
+        if comparator.pre.is_empty() {
+            return PreReleaseLimit::above_numbers(numbers);
+        }
+        Some(PreReleaseLimit {
+            numbers,
+            identifiers: &comparator.pre,
+            with_zero: false,
+        })
+    }
+
+    /// Where the pre-releases above a comparator's version begin. Nothing is between a pre-release
+    /// and that with one more identifier, the number 0.
+    pub(crate) fn above(comparator: &'a Comparator) -> Option<PreReleaseLimit<'a>>
+        ensures { (v : PlainVersion) → IsPreRelease v
+            → reached precedence (option_map limit_place result) v
+            ≡ is_gt (precedence v (comparator_of comparator.entry.now).version) }
+    {
+        let numbers = numbers_of(comparator);
+        if comparator.pre.is_empty() {
+            return PreReleaseLimit::above_numbers(numbers);
+        }
+        Some(PreReleaseLimit {
+            numbers,
+            identifiers: &comparator.pre,
+            with_zero: true,
+        })
+    }
+
+    /// Where the pre-releases of greater numbers begin.
+    pub(crate) fn above_numbers(numbers: Release) -> Option<PreReleaseLimit<'a>>
+        ensures { (v : PlainVersion) → IsPreRelease v
+            → reached precedence (option_map limit_place result) v
+            ≡ is_gt (numbers_cmp v (release_value numbers)) }
+    {
+        Some(PreReleaseLimit::lowest(next_numbers(numbers)?))
+    }
+
+    /// Whether the number 0 is after the identifiers.
+    fn has_zero(&self) -> bool
+        ensures { result ≡ (self.now.with_zero
+            || is_empty (map identifier_of self.now.identifiers.now)) }
+    {
+        self.with_zero || self.identifiers.is_empty()
+    }
+}
+
+impl<'a> Limit for PreReleaseLimit<'a> {
+    type Switch = Version;
+
+    ghost place = { limit_place };
+
+    ghost IsOfKind = { IsPreRelease };
+
+    fn compare(&self, other: &PreReleaseLimit<'a>) -> Ordering {
+        let turns = self.numbers.compare(&other.numbers);
+        if !turns.is_eq() {
+            return turns;
+        }
+        compare_identifiers(
+            self.identifiers,
+            self.has_zero(),
+            other.identifiers,
+            other.has_zero(),
+        )
+    }
+
+    fn switch(&self, alloc: Global) -> Result<Version, AllocError> {
+        Ok(Version {
+            major: self.numbers.major,
+            minor: self.numbers.minor,
+            patch: self.numbers.patch,
+            pre: copied(alloc, self.identifiers, self.has_zero())?,
+            build: Vec::new(alloc),
+        })
+    }
+}
+
+/// Identifiers of a range, and the number 0 after them or not, as those of a version.
+fn copied(
+    alloc: Global,
+    identifiers: &[Identifier],
+    zero: bool,
+) -> Result<Vec<version::Identifier>, AllocError>
+    ensures { IfOk result (λ copies. map identifier_value copies.items
+        ≡ with_zero (map identifier_of identifiers.now) zero) }
+{
+    let size = identifiers.len().saturating_add(usize::from(zero));
+    let mut copies = Vec::with_capacity(alloc, size)?;
+    for identifier in identifiers {
+        copies.push(copy_of(identifier)?)?;
+    }
+    if zero {
+        copies.push(version::Identifier::Numeric(0))?;
+    }
+    Ok(copies)
+}
+
+/// How two lists of identifiers compare, each with the number 0 after it or not.
+fn compare_identifiers(
+    first: &[Identifier],
+    first_zero: bool,
+    second: &[Identifier],
+    second_zero: bool,
+) -> Ordering
+    ensures { result ≡ slice_cmp identifier_cmp
+        (with_zero (map identifier_of first.now) first_zero)
+        (with_zero (map identifier_of second.now) second_zero) }
+{
+    let (mut left, mut right) = (first, second);
+    while let ([one, left_others @ ..], [other, right_others @ ..]) = (left, right) {
+        let turns = compare_identifier(one, other);
+        if !turns.is_eq() {
+            return turns;
+        }
+        left = left_others;
+        right = right_others;
+    }
+    if left.is_empty() {
+        compare_zero(first_zero, right, second_zero)
+    } else {
+        compare_zero(second_zero, left, first_zero).reverse()
+    }
+}
+
+/// How no identifiers, with the number 0 after them or not, compare with others.
+fn compare_zero(zero: bool, others: &[Identifier], others_zero: bool) -> Ordering
+    ensures { result ≡ slice_cmp identifier_cmp (with_zero [] zero)
+        (with_zero (map identifier_of others.now) others_zero) }
+{
+    if others.is_empty() {
+        return zero.cmp(&others_zero);
+    }
+    if zero && !others_zero && is_lowest(others) {
+        Ordering::Equal
+    } else {
+        Ordering::Less
+    }
+}
+
+/// How two identifiers compare.
+fn compare_identifier(first: &Identifier, second: &Identifier) -> Ordering
+    ensures { result ≡ identifier_cmp (identifier_of first.now) (identifier_of second.now) }
+{
+    match (first, second) {
+        (Identifier::Numeric(first), Identifier::Numeric(second)) => first.cmp(second),
+        (Identifier::Numeric(_), Identifier::AlphaNumeric(_)) => Ordering::Less,
+        (Identifier::AlphaNumeric(_), Identifier::Numeric(_)) => Ordering::Greater,
+        (Identifier::AlphaNumeric(first), Identifier::AlphaNumeric(second)) => first.cmp(second),
+    }
+}
+
+/// An identifier of a range, as one of a version.
+fn copy_of(identifier: &Identifier) -> Result<version::Identifier, AllocError>
+    ensures { IfOk result (λ copy. identifier_value copy ≡ identifier_of identifier.now) }
+{
+    match identifier {
+        Identifier::Numeric(number) => Ok(version::Identifier::Numeric(*number)),
+        Identifier::AlphaNumeric(text) => Ok(version::Identifier::AlphaNumeric(text.clone()?)),
+    }
+}
