@@ -79,7 +79,8 @@ pub are_printable : (bytes : Text) (ss : List FlatSwitch) → AllByRecursion Has
     → list_all is_printable_version (map (switch_value bytes) ss) ≡ true
 are_printable bytes [] small texts = refl
 are_printable bytes (s ∷ ss) small texts =
-    let numbers_fit : list_all fits_u64 (numbers (switch_value bytes s)) ≡ true = fit s.major s.minor s.patch small.0.0 small.0.1 small.0.2 in
+    let numbers_fit : list_all fits_u64 (numbers (switch_value bytes s)) ≡ true
+    = fit s.major s.minor s.patch small.0.0 small.0.1 small.0.2 in
     rw (numbers_fit, are_kept (text_at bytes s) texts.0) (are_printable bytes ss small.1 texts.1)
   where
     fit : (a b c : ℕ) → a < 2 ^ 64 → b < 2 ^ 64 → c < 2 ^ 64 → list_all fits_u64 (a ∷ b ∷ c ∷ []) ≡ true
@@ -108,7 +109,8 @@ are_written bytes before at (v ∷ vs) prints is at_is =
     omega (arith, at_is, ap length is, length-append before (pre_text v ++ behind), length-append (pre_text v) behind) in
     let inside : nat_le (length (pre_text v)) (length bytes - at) ≡ true = grind (arith, nat_tests, within) in
     let text : is_text (text_at bytes (flat_switch at v)) ≡ true = ap is_text here ∙ is_a_text v.pre ids in
-    let others = are_written bytes (before ++ pre_text v) (at + length (pre_text v)) vs both.1 (is ∙ sym (append_assoc before (pre_text v) behind))
+    let others = are_written bytes (before ++ pre_text v) (at + length (pre_text v)) vs both.1
+    (is ∙ sym (append_assoc before (pre_text v) behind))
     (omega (arith, at_is, length-append before (pre_text v))) in
     record {
       placed = rw (eq-eqb at at refl, inside, text) others.placed;

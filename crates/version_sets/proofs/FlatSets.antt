@@ -1,6 +1,6 @@
 -- Flat data and sets in the normal form: the data of a set is read as that set, and no other data is read.
-use Rattle.std.proofs.Common.{◌≡◌, ℕ, zero, suc, ◌-◌, ◌^◌, ◌+◌, ◌<◌, Bool, true, false, List, [], ◌∷◌, ◌++◌, length, map, take, drop, get_or, length-append}
-use Rattle.std.proofs.Common.{refl, sym, ap, ◌∙◌, subst, arith, true≢false}
+use Rattle.std.proofs.Common.{◌≡◌, ℕ, zero, suc, ◌-◌, ◌^◌, ◌+◌, ◌<◌, Bool, true, false, List, [], ◌∷◌, ◌++◌, length, map, take, drop}
+use Rattle.std.proofs.Common.{get_or, length-append, refl, sym, ap, ◌∙◌, subst, arith, true≢false}
 use Rattle.std.specs.Prelude.{nat_lt}
 use Rattle.std.proofs.lemmas.Bool.{and_parts}
 use Rattle.std.proofs.lemmas.Bool.Decides.{nat_tests}
@@ -71,7 +71,8 @@ pre_kind bytes (s ∷ ss) small some = ((small.0, some.0), pre_kind bytes ss sma
 
 -- ---- data that is read
 
-module _ (rs ps : List FlatSwitch) (bytes : Text) (small_rs : AllByRecursion HasSmallNumbers rs) (small_ps : AllByRecursion HasSmallNumbers ps)
+module _ (rs ps : List FlatSwitch) (bytes : Text) (small_rs : AllByRecursion HasSmallNumbers rs)
+    (small_ps : AllByRecursion HasSmallNumbers ps)
     (flat : is_flat rs ps bytes ≡ true) where
   first : is_flat_list [] rs ≡ true
   first = (and_parts (is_flat_list [] rs) _ flat).0
@@ -151,7 +152,8 @@ texts_are at [] all prints = refl
 texts_are at (v ∷ vs) all prints =
     let both = and_parts (is_printable_version v) _ prints in
     let ids = (and_parts (list_all fits_u64 (numbers v)) _ both.0).1 in
-    let some : nat_lt 0 (length (pre_text v)) ≡ true = has (dotted_text v.pre) (λ none. not_empty v.pre (some_text v.pre ids none) all.0.1) in
+    let some : nat_lt 0 (length (pre_text v)) ≡ true
+    = has (dotted_text v.pre) (λ none. not_empty v.pre (some_text v.pre ids none) all.0.1) in
     rw some (texts_are (at + length (pre_text v)) vs all.1 both.1)
   where
     has : (t : Text) → (t ≡ [] → ⊥) → nat_lt 0 (length t) ≡ true

@@ -1,6 +1,6 @@
 -- Lists by their length and by their halves, and the result of one.
-use Rattle.std.proofs.Common.{◌≡◌, ◌==◌, ◌||◌, ◌&&◌, ◌<◌, ℕ, Bool, true, false, get_or, List, [], ◌∷◌, map, length, refl, sym, ap, subst, arith}
-use Rattle.std.proofs.Common.{IfOk, IfErr, Result, Ok, Err}
+use Rattle.std.proofs.Common.{◌≡◌, ◌==◌, ◌||◌, ◌&&◌, ◌<◌, ℕ, Bool, true, false, get_or, List, [], ◌∷◌, map, length, refl, sym}
+use Rattle.std.proofs.Common.{ap, subst, arith, IfOk, IfErr, Result, Ok, Err}
 use Rattle.std.proofs.lemmas.Bool.Decides.{nat_tests}
 use Rattle.std.specs.List.{AllZip, list_all, list_any}
 use Rattle.semver_parser.specs.Texts.{is_empty}
@@ -32,8 +32,8 @@ list_all-map p f [] = refl
 list_all-map p f (x ∷ xs) = ap (λ b. p (f x) && b) (list_all-map p f xs)
 
 -- what is made of two lists is the same where it is so place by place
-pub zip_same : {X Y Z : Type 0} {R : X → Y → Type 0} (f : X → Z) (g : Y → Z) → ((x : X) (y : Y) → R x y → f x ≡ g y) → (xs : List X) (ys : List Y)
-    → AllZip R xs ys → map f xs ≡ map g ys
+pub zip_same : {X Y Z : Type 0} {R : X → Y → Type 0} (f : X → Z) (g : Y → Z) → ((x : X) (y : Y) → R x y → f x ≡ g y)
+    → (xs : List X) (ys : List Y) → AllZip R xs ys → map f xs ≡ map g ys
 zip_same f g each [] [] zip = refl
 zip_same f g each [] (y ∷ ys) zip = absurd zip
 zip_same f g each (x ∷ xs) [] zip = absurd zip

@@ -8,8 +8,8 @@ use Rattle.version_sets.proofs.version_set.VersionSet.to_flat.Goals as goal
 pub returns-then-not-are_printable : goal.returns-then-not-are_printable
 returns-then-not-are_printable c =
     let told = rw c.deref.ensures.value at c.are_printable.ensures in record {
-      flat = not_printable c.self.inside.releases.items c.self.inside.pre_releases.items c.args.self.now c.self.view_is c.are_printable.result
-          told c.if-not-are_printable.true;
+      flat = not_printable c.self.inside.releases.items c.self.inside.pre_releases.items c.args.self.now c.self.view_is
+          c.are_printable.result told c.if-not-are_printable.true;
     }
 
 pub returns : goal.returns
