@@ -292,13 +292,13 @@ int32_t semver_parser_compare(const uint8_t *old_range, size_t old_range_length,
                               int32_t pre_releases, uint8_t *out, size_t room, size_t *length,
                               semver_parser_comparison *comparison);
 
-/* Makes a range into a set of versions as data, which can be copied and stored; equal sets have equal
- * data. `^1.2` by SEMVER_PARSER_RELEASES_ALONE gives 1, 2, 0, and 1, 2, 0, and 2, 0, 0. */
+/* Makes a range into a set of versions as data, which can be copied and stored; equal sets have
+ * equal data. `^1.2` by SEMVER_PARSER_RELEASES_ALONE gives 1, 2, 0, and 1, 2, 0, and 2, 0, 0. */
 int32_t semver_parser_set(const uint8_t *range, size_t range_length, int32_t reading,
                           int32_t pre_releases, semver_parser_switch *made, size_t made_room,
                           size_t *count, uint8_t *out, size_t room, size_t *length);
 
-/* Returns whether a set has a version. Any data may be passed here and below. */
+/* Returns whether a set has a version. Other data gives SEMVER_PARSER_NOT_A_SET, here and below. */
 int32_t semver_parser_set_has(semver_parser_flat_set set, const uint8_t *version,
                               size_t version_length, int32_t reading, bool *is_in);
 
