@@ -25,10 +25,11 @@ libraries.
 """
 
 from .faults import RangeError, Text, VersionError
-from .filtering import AnyVersion, Filter, greatest, meets
+from .filtering import Filter, greatest, meets
 from .reading import parse_range, parse_version
 from .sets import Comparison, compare_ranges, least
 from .values import (
+    AnyVersion,
     Comparator,
     Compat,
     Identifier,
@@ -40,6 +41,7 @@ from .values import (
     Version,
     precedence,
 )
+from .version_sets import VersionSet
 
 __version__ = "0.5.0"
 
@@ -59,6 +61,7 @@ __all__ = [
     "Text",
     "Version",
     "VersionError",
+    "VersionSet",
     "compare_ranges",
     "greatest",
     "least",

@@ -6,27 +6,28 @@ Both are read by one reading.
 """
 
 import ctypes
-from dataclasses import dataclass
-from typing import Iterable, List, Optional, TypeVar, Union
+from dataclasses import dataclass, field
+from typing import Iterable, List, Optional, TypeVar
 
 from .faults import Text, encoded, raise_fault
 from .library import LIBRARY, TextItem
 from .reading import numbers_of, parse_version, rule_of
-from .values import PrecedenceKey, PreReleases, Reading, Version, precedence
-
-AnyVersion = Union[str, bytes, Version]
-"""A version, as its text or as it was read."""
+from .values import (
+    AnyVersion,
+    PrecedenceKey,
+    PreReleases,
+    Reading,
+    Version,
+    precedence,
+    text_of,
+)
+from .version_sets import VersionSet
 
 _Given = TypeVar("_Given", bound=AnyVersion)
 
 # What is answered for a version, beside its fault.
 _DOES_NOT_MEET = 0
 _MEETS = 1
-
-
-def _text(version: AnyVersion) -> Text:
-    """The text of a version, which is printed where it isn't given."""
-    return str(version) if isinstance(version, Version) else version
 
 
 def _precedence(version: AnyVersion, reading: Reading) -> PrecedenceKey:
@@ -46,7 +47,7 @@ def meets(
     Raises `RangeError` where the range is none, and else `VersionError` where the version is none.
     """
     reading_number, rule_number = numbers_of(reading, pre_releases)
-    text = _text(version)
+    text = text_of(version)
     range_bytes, version_bytes = encoded(range), encoded(text)
     answered = ctypes.c_bool()
     answer = LIBRARY.semver_parser_meets(
@@ -70,21 +71,23 @@ class Filter:
     crate's.
 
     Raises `RangeError` where the range is none. `kept` and `greatest` read it once for all versions
-    that they are given. `version in chosen` is what `meets` answers.
+    that they are given, and `meets` doesn't read it anew. `version in chosen` is what `meets`
+    answers.
     """
 
     range: Text
     reading: Reading = Reading.CARGO
     pre_releases: Optional[PreReleases] = None
+    _set: VersionSet = field(init=False, repr=False, compare=False)
 
     def __post_init__(self) -> None:
         # So that two filters that mean the same are equal, however their rule was given.
         object.__setattr__(self, "pre_releases", rule_of(self.reading, self.pre_releases))
-        self._answers([])
+        object.__setattr__(self, "_set", VersionSet(self.range, self.reading, self.pre_releases))
 
     def meets(self, version: AnyVersion) -> bool:
         """Whether a version meets the range. Raises `VersionError` where the version is none."""
-        return meets(self.range, version, self.reading, self.pre_releases)
+        return version in self._set
 
     def __contains__(self, version: AnyVersion) -> bool:
         """What `meets` answers, so that it can be asked as `version in chosen`."""
@@ -144,7 +147,7 @@ class Filter:
 def _item_text(index: int, version: object) -> Text:
     """The text of one of many versions."""
     if isinstance(version, (str, bytes, Version)):
-        return _text(version)
+        return text_of(version)
     what = type(version).__name__
     raise TypeError(f"a version is a str, bytes or Version, and not {what}, at index {index}")
 

@@ -51,6 +51,29 @@ class ComparedRanges(ctypes.Structure):
     _fields_ = [("lost", Part), ("gained", Part), ("shared", Part)]
 
 
+class Switch(ctypes.Structure):
+    """A switch of a set as data, or the head before them."""
+
+    _fields_ = [
+        ("major", ctypes.c_uint64),
+        ("minor", ctypes.c_uint64),
+        ("patch", ctypes.c_uint64),
+        ("pre_offset", ctypes.c_size_t),
+        ("pre_length", ctypes.c_size_t),
+    ]
+
+
+class FlatSet(ctypes.Structure):
+    """A set as data, which has to be kept as long as it is used."""
+
+    _fields_ = [
+        ("switches", ctypes.POINTER(Switch)),
+        ("count", ctypes.c_size_t),
+        ("bytes", ctypes.c_char_p),
+        ("length", ctypes.c_size_t),
+    ]
+
+
 class TextItem(ctypes.Structure):
     """A text in an array of texts. Its bytes have to be kept as long as it is used."""
 
@@ -108,14 +131,22 @@ def _declare(library: ctypes.CDLL, path: str) -> None:
     size, flag, number = ctypes.c_size_t, ctypes.c_bool, ctypes.c_int32
     counted, compared = ctypes.POINTER(ctypes.c_size_t), ctypes.POINTER(ComparedRanges)
     rooms = [ctypes.POINTER(ReadComparator), size, counted, ctypes.c_char_p, size, counted]
+    out = [ctypes.c_char_p, size, counted]
+    made = [ctypes.POINTER(Switch), size, counted, *out]
     calls = {
         "parse_version": [*text, number, ctypes.POINTER(ReadVersion)],
         "explain_version": [*text, number, counted],
         "comparators": [*text, number, flag, *rooms],
         "meets": [*text, number, number, *text, ctypes.POINTER(flag)],
         "meets_each": [*text, number, number, ctypes.POINTER(TextItem), size, ctypes.c_char_p],
-        "least": [*text, number, number, ctypes.c_char_p, size, counted],
-        "compare": [*text, *text, number, number, ctypes.c_char_p, size, counted, compared],
+        "least": [*text, number, number, *out],
+        "compare": [*text, *text, number, number, *out, compared],
+        "set": [*text, number, number, *made],
+        "set_has": [FlatSet, *text, number, ctypes.POINTER(flag)],
+        "combine": [FlatSet, FlatSet, number, *made],
+        "compare_sets": [FlatSet, FlatSet, ctypes.POINTER(flag), ctypes.POINTER(flag)],
+        "set_least": [FlatSet, *out],
+        "print_set": [FlatSet, flag, *out],
         "fault_text": [number],
     }
     for name, takes in calls.items():

@@ -42,7 +42,7 @@ def least(
             length,
         )
     raise_fault(answer, range=range)
-    return _version_of(printed.raw[: length.value]) if length.value else None
+    return version_of(printed.raw[: length.value]) if length.value else None
 
 
 @dataclass(frozen=True)
@@ -116,10 +116,10 @@ def compare_ranges(
 def _at(texts: bytes, part: Part) -> Optional[Version]:
     """The version whose text lies there, if there is one."""
     text = texts[part.offset : part.offset + part.length]
-    return _version_of(text) if text else None
+    return version_of(text) if text else None
 
 
-def _version_of(printed: bytes) -> Version:
+def version_of(printed: bytes) -> Version:
     """The version that the library printed, which has no build. It is made of its parts: by the
     crate's readings a range can have identifiers that no version text of theirs has."""
     numbers, _, pre = printed.decode("ascii").partition("-")

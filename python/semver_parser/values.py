@@ -276,3 +276,12 @@ def precedence(version: Version) -> PrecedenceKey:
         (False, it, "") if isinstance(it, int) else (True, 0, it) for it in version.pre
     )
     return (version.major, version.minor, version.patch, not identifiers, identifiers)
+
+
+AnyVersion = Union[str, bytes, Version]
+"""A version, as its text or as it was read."""
+
+
+def text_of(version: AnyVersion) -> Text:
+    """The text of a version, which is printed where it isn't given."""
+    return str(version) if isinstance(version, Version) else version

@@ -173,6 +173,41 @@ static int32_t each_answers_copied(void) {
     return each_of(bytes_of("^1.2"), &no_text, 1, NULL);
 }
 
+static const semver_parser_switch head = {1, 0, 0, 0, 0};
+
+static int32_t set_range(void) {
+    semver_parser_switch made[4];
+    size_t count;
+    size_t length;
+    return semver_parser_set(NULL, 4, reading, SEMVER_PARSER_RELEASES_ALONE, made, 4, &count, NULL,
+                             0, &length);
+}
+
+static int32_t set_made(void) {
+    size_t count;
+    size_t length;
+    return semver_parser_set(bytes_of("^1.2"), 4, reading, SEMVER_PARSER_RELEASES_ALONE, NULL, 4,
+                             &count, NULL, 0, &length);
+}
+
+static int32_t has_switches(void) {
+    const semver_parser_flat_set set = {NULL, 1, NULL, 0};
+    bool is_in;
+    return semver_parser_set_has(set, bytes_of("1.2.3"), 5, reading, &is_in);
+}
+
+static int32_t has_version(void) {
+    const semver_parser_flat_set set = {&head, 1, NULL, 0};
+    bool is_in;
+    return semver_parser_set_has(set, NULL, 5, reading, &is_in);
+}
+
+static int32_t print_out(void) {
+    const semver_parser_flat_set set = {&head, 1, NULL, 0};
+    size_t length;
+    return semver_parser_print_set(set, false, NULL, 64, &length);
+}
+
 /* ---- in a child */
 
 enum { RETURNED = 0, FAULT_AT_NULL = 77, FAULT_ELSEWHERE = 78, SOMETHING_CHANGED = 79 };
@@ -258,6 +293,11 @@ static void nulls_with_a_length(void) {
     ends_at_null(each_text_copied, "one of many, which are copied");
     ends_at_null(each_answers, "the answers of many");
     ends_at_null(each_answers_copied, "the answers of many, which are copied");
+    ends_at_null(set_range, "the range of a set");
+    ends_at_null(set_made, "the switches of a set");
+    ends_at_null(has_switches, "the switches that are asked");
+    ends_at_null(has_version, "the version that is asked of a set");
+    ends_at_null(print_out, "the text of a set");
     free(sum_before);
 }
 

@@ -185,6 +185,75 @@ static void least_takes(const char *range, bool some, int32_t wanted, size_t byt
     check(!refused && (request > 1) == some, "another number of requests", range, request);
 }
 
+/* The calls of sets as data, each of the set of a range and of that of another. */
+enum { MAKE, COMBINE, COMPARE, LEAST, PRINT, HAS, SET_CALLS };
+
+static const char set_range[] = ">=1.2.3-rc.1 <2.0.0";
+
+/* What a call may write to. */
+typedef struct {
+    semver_parser_switch made[16];
+    uint8_t out[64];
+    size_t count;
+    size_t length;
+    bool first;
+    bool second;
+} written;
+
+static int32_t set_of(const char *range, written *to) {
+    return semver_parser_set((const uint8_t *)range, strlen(range), SEMVER_PARSER_CRATE_CARGO,
+                             SEMVER_PARSER_ALL_PRE_RELEASES, to->made, 16, &to->count, to->out,
+                             sizeof to->out, &to->length);
+}
+
+static int32_t ask_set(int call, semver_parser_flat_set set, semver_parser_flat_set other,
+                       written *to) {
+    switch (call) {
+    case MAKE: return set_of(set_range, to);
+    case COMBINE:
+        return semver_parser_combine(set, other, SEMVER_PARSER_UNION, to->made, 16, &to->count,
+                                     to->out, sizeof to->out, &to->length);
+    case COMPARE: return semver_parser_compare_sets(set, other, &to->first, &to->second);
+    case LEAST: return semver_parser_set_least(set, to->out, sizeof to->out, &to->length);
+    case PRINT: return semver_parser_print_set(set, true, to->out, sizeof to->out, &to->length);
+    default:
+        return semver_parser_set_has(set, (const uint8_t *)"1.2.3-rc.2", 10,
+                                     SEMVER_PARSER_CRATE_CARGO, &to->first);
+    }
+}
+
+/* Each takes requests, but for the question of a version. */
+static void sets_take(void) {
+    static written first;
+    static written second;
+    grant(1000);
+    bool are_made = set_of(set_range, &first) == SEMVER_PARSER_OK
+                    && set_of("=3.0.0-a || 4", &second) == SEMVER_PARSER_OK;
+    check(are_made, "no set is made", set_range, 1000);
+    semver_parser_flat_set set = {first.made, first.count, first.out, first.length};
+    semver_parser_flat_set other = {second.made, second.count, second.out, second.length};
+    for (int call = MAKE; call < SET_CALLS; call++) {
+        int request = 0;
+        do {
+            written to;
+            written before;
+            memset(&to, 0, sizeof to);
+            memset(&before, 0, sizeof before);
+            grant(request);
+            int32_t answered = ask_set(call, set, other, &to);
+            check(answered == (refused ? (int32_t)SEMVER_PARSER_RANGE_OUT_OF_MEMORY
+                                       : (int32_t)SEMVER_PARSER_OK),
+                "another answer of a set", set_range, request);
+            check(!refused || memcmp(&to, &before, sizeof to) == 0, "written without memory",
+                set_range, request);
+            check(taken == 0, "memory is kept", set_range, request);
+            request++;
+        } while (refused && request < 100);
+        check(!refused && (request > 1) == (call != HAS), "another number of requests", set_range,
+            call);
+    }
+}
+
 /* Two ranges whose comparison takes requests, or takes none. Wherever memory runs out one number
  * tells it, and only in place of an answer: the error of a text comes all the same. */
 static void comparison_takes(
@@ -350,6 +419,7 @@ int main(void) {
         takes_by_reading();
     }
     takes_nothing_by_no_reading();
+    sets_take();
     printf("refused memory: %s\n", failed == 0 ? "passed" : "failed");
     return failed == 0 ? 0 : 1;
 }

@@ -36,6 +36,45 @@ static int use_rewriting(void) {
     return answer == SEMVER_PARSER_NO_ROOM && count == 1 && length == 0 ? 0 : 1;
 }
 
+static int use_sets(void) {
+    semver_parser_switch made[8];
+    uint8_t out[64];
+    size_t count = 0;
+    size_t length = 0;
+    bool is_in = false;
+    bool within = false;
+    bool contains = false;
+    if (semver_parser_set(bytes_of("^1.2"), 4, SEMVER_PARSER_CARGO, SEMVER_PARSER_RELEASES_ALONE,
+                          made, 8, &count, out, sizeof out, &length)
+            != SEMVER_PARSER_OK
+        || count != 3 || made[2].major != 2 || made[2].pre_offset + made[2].pre_length != 0) {
+        return 1;
+    }
+    semver_parser_flat_set set = {made, count, out, length};
+    semver_parser_flat_set none = {NULL, 0, NULL, 0};
+    if (semver_parser_set_has(set, bytes_of("1.9.0"), 5, SEMVER_PARSER_NPM, &is_in)
+            != SEMVER_PARSER_OK
+        || !is_in
+        || semver_parser_compare_sets(set, set, &within, &contains) != SEMVER_PARSER_OK || !within
+        || !contains) {
+        return 1;
+    }
+    if (semver_parser_combine(set, set, SEMVER_PARSER_DIFFERENCE, NULL, 0, &count, NULL, 0, &length)
+            != SEMVER_PARSER_NO_ROOM
+        || count != 1
+        || semver_parser_combine(set, set, SEMVER_PARSER_UNION + SEMVER_PARSER_INTERSECTION + 2,
+                                 NULL, 0, &count, NULL, 0, &length)
+               != SEMVER_PARSER_NO_SUCH_OPERATION) {
+        return 1;
+    }
+    if (semver_parser_set_least(set, out, sizeof out, &length) != SEMVER_PARSER_OK || length != 5
+        || semver_parser_print_set(set, false, out, sizeof out, &length) != SEMVER_PARSER_OK
+        || length != 14) {
+        return 1;
+    }
+    return semver_parser_set_least(none, NULL, 0, &length) == SEMVER_PARSER_NOT_A_SET ? 0 : 1;
+}
+
 static int use_meeting(void) {
     semver_parser_text versions[2];
     uint8_t answers[2];
@@ -123,7 +162,7 @@ int main(void) {
     int failed = strcmp(semver_parser_library_version(), SEMVER_PARSER_VERSION) != 0 ||
                  answer != SEMVER_PARSER_NOT_A_VERSION;
     failed |= use_rewriting() | use_meeting() | use_least() | use_precedence() | use_compare();
-    failed |= use_explaining();
+    failed |= use_explaining() | use_sets();
     printf("uses: %s\n", failed ? "failed" : "passed");
     return failed;
 }

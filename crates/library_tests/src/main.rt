@@ -8,6 +8,7 @@
 
 mod bytes;
 mod example;
+mod flat;
 mod lines;
 mod made;
 mod orders;
@@ -42,6 +43,7 @@ fn write_values(rt: &HostRuntime) -> io::Result<()> {
     bytes::write_bytes(rt, rt.alloc())?;
     reading::write_reading(rt, rt.alloc())?;
     sets::write_sets(rt, rt.alloc())?;
+    flat::write_flat(rt, rt.alloc())?;
     orders::write_enums(rt, rt.alloc())?;
     orders::write_structs(rt, rt.alloc())?;
     precedence::write_precedence(rt, rt.alloc())?;

@@ -9,6 +9,7 @@
 /* What stands in place of null where a length is 0, so that nothing of it is read or written. */
 static uint8_t no_byte;
 static semver_parser_comparator no_comparator;
+static semver_parser_switch no_switch;
 static const semver_parser_text no_text = {&no_byte, 0};
 
 static const uint8_t *text_at(const uint8_t *text, size_t length) {
@@ -22,6 +23,20 @@ static uint8_t *room_at(uint8_t *out, size_t room) {
 static semver_parser_comparator *comparators_at(
     semver_parser_comparator *comparators, size_t room) {
     return comparators == NULL && room == 0 ? &no_comparator : comparators;
+}
+
+static semver_parser_switch *made_at(semver_parser_switch *made, size_t room) {
+    return made == NULL && room == 0 ? &no_switch : made;
+}
+
+static semver_parser_flat_set set_at(semver_parser_flat_set set) {
+    semver_parser_flat_set found = {
+        set.switches == NULL && set.count == 0 ? &no_switch : set.switches,
+        set.count,
+        text_at(set.bytes, set.length),
+        set.length,
+    };
+    return found;
 }
 
 static const semver_parser_text *texts_at(const semver_parser_text *texts, size_t count) {
@@ -84,6 +99,58 @@ int32_t semver_parser_compare(const uint8_t *old_range, size_t old_range_length,
                                         text_at(new_range, new_range_length), new_range_length,
                                         reading, pre_releases, room_at(out, room), room, length,
                                         comparison);
+}
+
+/* ---- sets */
+
+int32_t semver_parser_set(const uint8_t *range, size_t range_length, int32_t reading,
+                          int32_t pre_releases, semver_parser_switch *made, size_t made_room,
+                          size_t *count, uint8_t *out, size_t room, size_t *length) {
+    return semver_parser_proved_set(text_at(range, range_length), range_length, reading,
+                                    pre_releases, made_at(made, made_room), made_room, count,
+                                    room_at(out, room), room, length);
+}
+
+int32_t semver_parser_set_has(semver_parser_flat_set set, const uint8_t *version,
+                              size_t version_length, int32_t reading, bool *is_in) {
+    semver_parser_flat_set at = set_at(set);
+    return semver_parser_proved_set_has(at.switches, at.count, at.bytes, at.length,
+                                        text_at(version, version_length), version_length, reading,
+                                        is_in);
+}
+
+int32_t semver_parser_combine(semver_parser_flat_set set, semver_parser_flat_set other,
+                              int32_t operation, semver_parser_switch *made, size_t made_room,
+                              size_t *count, uint8_t *out, size_t room, size_t *length) {
+    semver_parser_flat_set first = set_at(set);
+    semver_parser_flat_set second = set_at(other);
+    return semver_parser_proved_combine(
+        first.switches, first.count, first.bytes, first.length, second.switches, second.count,
+        second.bytes, second.length, operation, made_at(made, made_room), made_room, count,
+        room_at(out, room), room, length);
+}
+
+int32_t semver_parser_compare_sets(semver_parser_flat_set set, semver_parser_flat_set other,
+                                   bool *within, bool *contains) {
+    semver_parser_flat_set first = set_at(set);
+    semver_parser_flat_set second = set_at(other);
+    return semver_parser_proved_compare_sets(
+        first.switches, first.count, first.bytes, first.length, second.switches, second.count,
+        second.bytes, second.length, within, contains);
+}
+
+int32_t semver_parser_set_least(semver_parser_flat_set set, uint8_t *out, size_t room,
+                                size_t *length) {
+    semver_parser_flat_set at = set_at(set);
+    return semver_parser_proved_set_least(at.switches, at.count, at.bytes, at.length,
+                                          room_at(out, room), room, length);
+}
+
+int32_t semver_parser_print_set(semver_parser_flat_set set, bool pre_releases, uint8_t *out,
+                                size_t room, size_t *length) {
+    semver_parser_flat_set at = set_at(set);
+    return semver_parser_proved_print_set(at.switches, at.count, at.bytes, at.length, pre_releases,
+                                          room_at(out, room), room, length);
 }
 
 /* ---- many versions */
@@ -175,6 +242,8 @@ const char *semver_parser_fault_text(int32_t answer) {
     case SEMVER_PARSER_VERSION_NUMBER_TOO_LARGE: return "a number of the version is too large";
     case SEMVER_PARSER_VERSION_TOO_LONG: return "the version is too long";
     case SEMVER_PARSER_VERSION_TEXT_AFTER: return "text follows the version";
+    case SEMVER_PARSER_NOT_A_SET: return "the data is no set of versions";
+    case SEMVER_PARSER_NO_SUCH_OPERATION: return "no operation on sets has this number";
     default: return "no call answers this number";
     }
 }

@@ -44,6 +44,36 @@ int32_t semver_parser_proved_compare(const uint8_t *old_range, size_t old_range_
                                      size_t room, size_t *length,
                                      semver_parser_comparison *comparison);
 
+int32_t semver_parser_proved_set(const uint8_t *range, size_t range_length, int32_t reading,
+                                 int32_t pre_releases, semver_parser_switch *made,
+                                 size_t made_room, size_t *count, uint8_t *out, size_t room,
+                                 size_t *length);
+
+int32_t semver_parser_proved_set_has(const semver_parser_switch *switches, size_t switch_count,
+                                     const uint8_t *bytes, size_t byte_count,
+                                     const uint8_t *version, size_t version_length,
+                                     int32_t reading, bool *is_in);
+
+int32_t semver_parser_proved_combine(
+    const semver_parser_switch *switches, size_t switch_count, const uint8_t *bytes,
+    size_t byte_count, const semver_parser_switch *other_switches, size_t other_switch_count,
+    const uint8_t *other_bytes, size_t other_byte_count, int32_t operation,
+    semver_parser_switch *made, size_t made_room, size_t *count, uint8_t *out, size_t room,
+    size_t *length);
+
+int32_t semver_parser_proved_compare_sets(
+    const semver_parser_switch *switches, size_t switch_count, const uint8_t *bytes,
+    size_t byte_count, const semver_parser_switch *other_switches, size_t other_switch_count,
+    const uint8_t *other_bytes, size_t other_byte_count, bool *within, bool *contains);
+
+int32_t semver_parser_proved_set_least(const semver_parser_switch *switches, size_t switch_count,
+                                       const uint8_t *bytes, size_t byte_count, uint8_t *out,
+                                       size_t room, size_t *length);
+
+int32_t semver_parser_proved_print_set(const semver_parser_switch *switches, size_t switch_count,
+                                       const uint8_t *bytes, size_t byte_count, bool pre_releases,
+                                       uint8_t *out, size_t room, size_t *length);
+
 #ifdef __cplusplus
 }
 #endif

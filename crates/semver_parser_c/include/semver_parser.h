@@ -1,9 +1,9 @@
-/* Versions and ranges of Cargo, npm and the Rust crate semver-parser: read, rewritten, compared and
- * judged. A C library for Linux on x86-64-v2.
+/* Versions and ranges of Cargo, npm and the Rust crate semver-parser: a C library for Linux on
+ * x86-64-v2.
  *
- * What these comments say of results and of what is written is proved (src/lib.rt; the names there
- * have `proved_` in them), but for c/calls.c and c/heap.c, which are trusted, and figures on memory.
- * docs/GRAMMAR.md of the source says which texts are read, and docs/MEANING.md what a range means.
+ * Results and what is written are proved (src/lib.rt), but for c/calls.c and c/heap.c, which are
+ * trusted, and figures on memory. docs/GRAMMAR.md of the source says which texts are read, and
+ * docs/MEANING.md what a range means.
  *
  * STRINGS AND BUFFERS. Strings are UTF-8, given as pointer and byte length; they need no
  * terminating zero, and none is written. Offsets and lengths count bytes. Buffers are given as
@@ -18,7 +18,7 @@
  * RESULTS. A function returns SEMVER_PARSER_OK (0) or the number of an error. After an error nothing
  * was written, but for what a function says of SEMVER_PARSER_NO_ROOM, `in_other` and `place`. Errors
  * come in this order, each exactly if it applies:
- * - SEMVER_PARSER_NO_SUCH_READING, then SEMVER_PARSER_NO_SUCH_RULE, whatever the texts are;
+ * - SEMVER_PARSER_NO_SUCH_READING, _NO_SUCH_RULE, _NO_SUCH_OPERATION, then _NOT_A_SET;
  * - of a range: SEMVER_PARSER_RANGE_NOT_UTF8, _NOT_A_RANGE, _NUMBER_TOO_LARGE;
  * - of a version: SEMVER_PARSER_VERSION_NOT_UTF8; then by Cargo's and npm's dialects
  *   SEMVER_PARSER_NOT_A_VERSION, and by the crate's SEMVER_PARSER_UNEXPECTED_END, _UNEXPECTED_TOKEN,
@@ -43,8 +43,7 @@
 #include <stddef.h>
 #include <stdint.h>
 
-/* The version of the library that this header belongs to. While the first number is 0, the second
- * one is raised if a call changes. */
+/* The library's version. While the first number is 0, the second is raised if a call changes. */
 #define SEMVER_PARSER_VERSION_MAJOR 0
 #define SEMVER_PARSER_VERSION_MINOR 5
 #define SEMVER_PARSER_VERSION_PATCH 0
@@ -60,41 +59,37 @@ enum {
 
     /* Errors of a version. Those by the crate's dialect are of its tokens. */
     SEMVER_PARSER_VERSION_NOT_UTF8 = 2,
-    /* The text ends too early: `1.2`. */
+    /* `1.2`. */
     SEMVER_PARSER_UNEXPECTED_END = 3,
-    /* The second hyphen of `1.2.3--1`. */
+    /* `1.2.3--1`. */
     SEMVER_PARSER_UNEXPECTED_TOKEN = 4,
-    /* A character that begins no token, as `/`. */
+    /* `/`. */
     SEMVER_PARSER_UNEXPECTED_CHAR = 5,
-    /* Text follows a version: `1.2.3 a`. */
+    /* `1.2.3 a`. */
     SEMVER_PARSER_MORE_INPUT = 6,
-    /* These two are never returned. */
+    /* Never returned. */
     SEMVER_PARSER_EMPTY_PREDICATE = 7,
     SEMVER_PARSER_EMPTY_RANGE = 8,
     SEMVER_PARSER_VERSION_OUT_OF_MEMORY = 9,
 
     /* Errors of a range. */
     SEMVER_PARSER_RANGE_NOT_UTF8 = 10,
-    /* The dialect's grammar has no such text. */
     SEMVER_PARSER_NOT_A_RANGE = 11,
-    /* A number, or a bound that is raised by one, is above 2^64 - 1, to npm above 2^53 - 1. */
+    /* A number or a raised bound is above 2^64 - 1, to npm above 2^53 - 1. */
     SEMVER_PARSER_NUMBER_TOO_LARGE = 12,
     SEMVER_PARSER_RANGE_OUT_OF_MEMORY = 13,
 
-    /* A buffer is too small. */
     SEMVER_PARSER_NO_ROOM = 14,
-    /* The dialect has no such rule for pre-releases. */
     SEMVER_PARSER_NO_SUCH_RULE = 15,
 
-    /* Errors of the new range, if two are compared, and out of memory at either. */
+    /* Errors of the new range, and out of memory at either. */
     SEMVER_PARSER_NEW_RANGE_NOT_UTF8 = 16,
     SEMVER_PARSER_NEW_NOT_A_RANGE = 17,
     SEMVER_PARSER_NEW_NUMBER_TOO_LARGE = 18,
     SEMVER_PARSER_NEW_RANGE_OUT_OF_MEMORY = 19,
 
-    /* No dialect has this number. */
     SEMVER_PARSER_NO_SUCH_READING = 20,
-    /* Cargo's or npm's dialect has no such version. */
+    /* By Cargo's or npm's dialect. */
     SEMVER_PARSER_NOT_A_VERSION = 21,
 
     /* Why a text is no version, of semver_parser_explain_version: empty or white space; */
@@ -112,7 +107,10 @@ enum {
     /* more than npm's 256 characters; */
     SEMVER_PARSER_VERSION_TOO_LONG = 28,
     /* `1.2.3 x`. */
-    SEMVER_PARSER_VERSION_TEXT_AFTER = 29
+    SEMVER_PARSER_VERSION_TEXT_AFTER = 29,
+
+    SEMVER_PARSER_NOT_A_SET = 30,
+    SEMVER_PARSER_NO_SUCH_OPERATION = 31
 };
 
 /* Dialects of ranges and versions (docs/MEANING.md, "Which dialect?"). */
@@ -128,7 +126,7 @@ enum {
     SEMVER_PARSER_CRATE_NPM = 3
 };
 
-/* Rules for pre-releases. The first and the third are of every dialect. */
+/* Rules for pre-releases. Every dialect has the first and the third. */
 enum {
     /* None satisfies a range. */
     SEMVER_PARSER_RELEASES_ALONE = 0,
@@ -148,6 +146,13 @@ enum {
     SEMVER_PARSER_GREATER = 2,
     SEMVER_PARSER_GREATER_EQUAL = 3,
     SEMVER_PARSER_EQUAL = 4
+};
+
+/* Operations on two sets. */
+enum {
+    SEMVER_PARSER_UNION = 0,
+    SEMVER_PARSER_INTERSECTION = 1,
+    SEMVER_PARSER_DIFFERENCE = 2
 };
 
 /* What semver_parser_meets_each writes for a version. */
@@ -172,8 +177,8 @@ typedef struct {
     semver_parser_part build;
 } semver_parser_version;
 
-/* A comparator: the number of its range, counted from 0, its operator, its numbers, and where the
- * buffer of pre-releases has the identifiers of its own. */
+/* A comparator: the number of its range, counted from 0, its operator, its numbers, and where `out`
+ * has its pre-release. */
 typedef struct {
     size_t range;
     int32_t op;
@@ -183,13 +188,30 @@ typedef struct {
     semver_parser_part pre;
 } semver_parser_comparator;
 
-/* Where the least version is that the old range means and the new one doesn't, the other way round,
- * and that both mean; 0 and 0 if there is none. */
+/* Where the least version is that is lost, gained and shared; 0 and 0 if there is none. */
 typedef struct {
     semver_parser_part lost;
     semver_parser_part gained;
     semver_parser_part shared;
 } semver_parser_comparison;
+
+/* A switch of a set (docs/MEANING.md), and where its bytes have the pre-release. Before them is a
+ * head: 1, and how many are of releases and of pre-releases. */
+typedef struct {
+    uint64_t major;
+    uint64_t minor;
+    uint64_t patch;
+    size_t pre_offset;
+    size_t pre_length;
+} semver_parser_switch;
+
+/* A set as data. */
+typedef struct {
+    const semver_parser_switch *switches;
+    size_t count;
+    const uint8_t *bytes;
+    size_t length;
+} semver_parser_flat_set;
 
 /* A string in an array. */
 typedef struct {
@@ -203,56 +225,53 @@ const char *semver_parser_library_version(void);
 /* Returns a sentence for a result, in English, zero-terminated. */
 const char *semver_parser_fault_text(int32_t answer);
 
-/* Reads a version. `1.2.3-rc.1+b5` gives 1, 2, 3, the pre-release at offset 6 with length 4, and the
- * build at offset 11 with length 2. SEMVER_PARSER_VERSION_OUT_OF_MEMORY never comes for a version. A
- * version allocates nothing; the error of another text may. */
+/* Reads a version. `1.2.3-rc.1+b5` gives 1, 2, 3, the pre-release at offset 6 with length 4, and
+ * the build at offset 11 with length 2. A version allocates nothing; the error of another text may.
+ */
 int32_t semver_parser_parse_version(const uint8_t *text, size_t text_length, int32_t reading,
                                     semver_parser_version *out);
 
 /* Returns SEMVER_PARSER_OK exactly for a version, and for any other text the reason, one of
  * SEMVER_PARSER_VERSION_EMPTY to _VERSION_TEXT_AFTER. Then `place` is the offset of the first
- * character that no version has there, or `text_length`. `1.2.03` gives _VERSION_LEADING_ZERO and 5.
- * The bytes need not be UTF-8. Does not allocate. */
+ * character that no version has there, or `text_length`: `1.2.03` gives _VERSION_LEADING_ZERO and
+ * 5. The bytes need not be UTF-8. Does not allocate. */
 int32_t semver_parser_explain_version(const uint8_t *text, size_t text_length, int32_t reading,
                                       size_t *place);
 
 /* Compares two versions by precedence (SemVer 2.0.0, section 11): `order` is -1, 0 or 1. Builds
- * don't count. After an error of a text `in_other` says whether it is that of `other`; the first
- * text is read first. Memory runs out for two versions only if `other` has a pre-release. */
+ * don't count. After an error `in_other` says whether it is that of `other`; the first text is read
+ * first. Only a pre-release of `other` allocates. */
 int32_t semver_parser_precedence(const uint8_t *version, size_t version_length,
                                  const uint8_t *other, size_t other_length, int32_t reading,
                                  int32_t *order, bool *in_other);
 
 /* Rewrites a range into comparators, and prints them: `^1.2 || 3.x` by SEMVER_PARSER_NPM gives
  * `>=1.2.0 <2.0.0-0 || >=3.0.0 <4.0.0-0`. By the crate's dialects raised bounds are so only if
- * `exact`, and otherwise `<2.0.0`. By Cargo's and npm's the comparators say which releases the range
- * means. Allocates up to 98 bytes for each byte of `1 1 1 ..`, for most texts far less. */
+ * `exact`, and otherwise `<2.0.0`. By Cargo's and npm's the comparators say which releases the
+ * range means. Allocates up to 98 bytes for each byte. */
 int32_t semver_parser_rewrite(const uint8_t *text, size_t text_length, int32_t reading, bool exact,
                               uint8_t *out, size_t room, size_t *length);
 
-/* Gives the same comparators as data, in the same order, and the identifiers of their pre-releases,
- * joined by dots, one after the other in `out`. `^1.2.3-rc.1 || <2.0.0-a` by SEMVER_PARSER_NPM gives
- * three and `rc.10a`: of range 0 `>=` 1, 2, 3 with a pre-release at 0 with length 4, and `<` 2, 0, 0
- * with one at 4 with length 1; of range 1 `<` 2, 0, 0 with one at 5 with length 1. `count` and
- * `length` are how many comparators and bytes there are. Allocates up to 241 bytes for each byte of
- * `1 1 1 ..`. */
+/* Gives the same comparators as data, and the identifiers of their pre-releases, joined by dots,
+ * one after the other in `out`. `^1.2.3-rc.1` by SEMVER_PARSER_NPM gives `rc.10`, `>=` 1, 2, 3 with
+ * a pre-release at 0 with length 4, and `<` 2, 0, 0 with one at 4 with length 1. Allocates up to
+ * 241 bytes for each byte. */
 int32_t semver_parser_comparators(const uint8_t *text, size_t text_length, int32_t reading,
                                   bool exact, semver_parser_comparator *comparators,
                                   size_t comparator_room, size_t *count, uint8_t *out, size_t room,
                                   size_t *length);
 
 /* Returns whether a range means a version, by a dialect and a rule for pre-releases: by the meaning
- * of the text, and not by its comparators. Builds don't count. SEMVER_PARSER_RANGE_OUT_OF_MEMORY
- * never comes, and _VERSION_OUT_OF_MEMORY only for a text that is no version. Allocates only there.
- */
+ * of the text, and not by its comparators. Builds don't count. Allocates only for a text that is no
+ * version. */
 int32_t semver_parser_meets(const uint8_t *range, size_t range_length, int32_t reading,
                             int32_t pre_releases, const uint8_t *version, size_t version_length,
                             bool *meets);
 
 /* Asks so of each of `count` versions, and reads the range once. Each byte of `answers` is
- * SEMVER_PARSER_MEETS, SEMVER_PARSER_DOES_NOT_MEET, or the error of that version;
- * _VERSION_OUT_OF_MEMORY of one leaves the others as they are. If an empty string is null, the array
- * is copied first. Allocates up to 74 bytes for each byte of the range, and its set. */
+ * SEMVER_PARSER_MEETS, SEMVER_PARSER_DOES_NOT_MEET, or the error of that version. If an empty
+ * string is null, the array is copied first. Allocates up to 74 bytes for each byte of the range,
+ * and its set. */
 int32_t semver_parser_meets_each(const uint8_t *range, size_t range_length, int32_t reading,
                                  int32_t pre_releases, const semver_parser_text *versions,
                                  size_t count, uint8_t *answers);
@@ -265,15 +284,41 @@ int32_t semver_parser_least(const uint8_t *range, size_t range_length, int32_t r
 
 /* Compares what two ranges mean, and prints three versions one after the other: the least that is
  * lost, gained and shared. By SEMVER_PARSER_RELEASES_ALONE `^1.2.0` and `>=1.4.0` give
- * `1.2.02.0.01.4.0`, lost at 0, gained at 5 and shared at 10. If nothing is lost, the new range
- * means all that the old one does. `comparison` is also written if the buffer is too small.
- *
- * The errors of the old range come first, whatever the new one is, then those of the new one, both
- * whatever memory there is. If memory runs out, it is SEMVER_PARSER_NEW_RANGE_OUT_OF_MEMORY. */
+ * `1.2.02.0.01.4.0`, lost at 0, gained at 5 and shared at 10. `comparison` is also written if the
+ * buffer is too small. The errors of the old range come first, then those of the new one, then
+ * SEMVER_PARSER_NEW_RANGE_OUT_OF_MEMORY, which is of both. */
 int32_t semver_parser_compare(const uint8_t *old_range, size_t old_range_length,
                               const uint8_t *new_range, size_t new_range_length, int32_t reading,
                               int32_t pre_releases, uint8_t *out, size_t room, size_t *length,
                               semver_parser_comparison *comparison);
+
+/* Makes a range into a set of versions as data, which can be copied and stored; equal sets have
+ * equal data. `^1.2` by SEMVER_PARSER_RELEASES_ALONE gives 1, 2, 0, and 1, 2, 0, and 2, 0, 0. */
+int32_t semver_parser_set(const uint8_t *range, size_t range_length, int32_t reading,
+                          int32_t pre_releases, semver_parser_switch *made, size_t made_room,
+                          size_t *count, uint8_t *out, size_t room, size_t *length);
+
+/* Returns whether a set has a version. Other data gives SEMVER_PARSER_NOT_A_SET, here and below. */
+int32_t semver_parser_set_has(semver_parser_flat_set set, const uint8_t *version,
+                              size_t version_length, int32_t reading, bool *is_in);
+
+/* Makes a set of two. */
+int32_t semver_parser_combine(semver_parser_flat_set set, semver_parser_flat_set other,
+                              int32_t operation, semver_parser_switch *made, size_t made_room,
+                              size_t *count, uint8_t *out, size_t room, size_t *length);
+
+/* Returns whether a set is within another, and whether it contains it. */
+int32_t semver_parser_compare_sets(semver_parser_flat_set set, semver_parser_flat_set other,
+                                   bool *within, bool *contains);
+
+/* Prints the least version of a set. `length` is 0 exactly if it has none. */
+int32_t semver_parser_set_least(semver_parser_flat_set set, uint8_t *out, size_t room,
+                                size_t *length);
+
+/* Prints the releases of a set, or its pre-releases, as a range of npm's: `>=1.2.0 <2.0.0`, `*` for
+ * all, `<0.0.0-0` for none. */
+int32_t semver_parser_print_set(semver_parser_flat_set set, bool pre_releases, uint8_t *out,
+                                size_t room, size_t *length);
 
 #ifdef __cplusplus
 }

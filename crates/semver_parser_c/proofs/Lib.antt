@@ -9,3 +9,4 @@ mod OnePutting
 mod OneRewriting
 mod OneLeast
 mod OneMeeting
+mod OneSet

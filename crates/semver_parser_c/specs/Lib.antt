@@ -7,6 +7,7 @@ pub mod Comparators
 pub mod Meetings
 pub mod Sets
 pub mod Compared
+pub mod FlatSets
 pub mod Orders
 pub mod OneAnswer
 pub mod Steps

@@ -118,6 +118,14 @@ version_too_long = pos 28
 abbrev pub version_text_after : ℤ
 version_text_after = pos 29
 
+-- the data is no set of versions in its normal form
+abbrev pub not_a_set : ℤ
+not_a_set = pos 30
+
+-- no operation on two sets has the number
+abbrev pub no_such_operation : ℤ
+no_such_operation = pos 31
+
 -- the readings of a range text: Cargo's own
 abbrev pub cargo : ℤ
 cargo = pos 0
@@ -169,6 +177,16 @@ greater_equal = pos 3
 -- `=`
 abbrev pub equal : ℤ
 equal = pos 4
+
+-- the operations on two sets
+abbrev pub union : ℤ
+union = pos 0
+
+abbrev pub intersection : ℤ
+intersection = pos 1
+
+abbrev pub difference : ℤ
+difference = pos 2
 
 -- what is written for a version that doesn't meet the range, where there are many
 abbrev pub does_not_meet : ℕ

@@ -9,15 +9,19 @@ ghost use Rattle.semver_parser_c.specs.Faults.{IsOneOf, version_faults};
 ghost use Rattle.semver_parser_c.specs.OneAnswer.{AreOne, text_errors};
 
 use crate::{
-    ComparedRanges, ReadVersion, RewrittenComparator, semver_parser_proved_comparators,
-    semver_parser_proved_compare, semver_parser_proved_explain_version, semver_parser_proved_least,
-    semver_parser_proved_meets, semver_parser_proved_meets_each,
+    ComparedRanges, ReadVersion, RewrittenComparator, semver_parser_proved_combine,
+    semver_parser_proved_comparators, semver_parser_proved_compare,
+    semver_parser_proved_compare_sets, semver_parser_proved_explain_version,
+    semver_parser_proved_least, semver_parser_proved_meets, semver_parser_proved_meets_each,
     semver_parser_proved_parse_version, semver_parser_proved_precedence,
-    semver_parser_proved_rewrite,
+    semver_parser_proved_print_set, semver_parser_proved_rewrite, semver_parser_proved_set,
+    semver_parser_proved_set_has, semver_parser_proved_set_least,
 };
 use semver_parser::laws::one_version_in;
 use std::alloc::Global;
 use version_fronts::laws::{one_longest_front, one_reason};
+use version_sets::FlatSwitch;
+use version_sets::laws::{one_flat, one_set as one_normal_set};
 
 /// A text is read as one version, or has one error, in place of which memory may run out.
 pub fn one_parsed_version(
@@ -288,4 +292,212 @@ pub fn one_precedence(
         other_in_other,
     );
     (first, second)
+}
+
+/// A range means one set, or has one error.
+pub fn one_set(
+    alloc: Global,
+    range: &[u8],
+    reading: i32,
+    pre_releases: i32,
+    made: &mut [FlatSwitch],
+    other_made: &mut [FlatSwitch],
+    count: &mut usize,
+    other_count: &mut usize,
+    out: &mut [u8],
+    other_out: &mut [u8],
+    length: &mut usize,
+    other_length: &mut usize,
+) -> (i32, i32)
+    requires made { made.old ≡ other_made.old }
+    requires count { count.old ≡ other_count.old }
+    requires room { out.old ≡ other_out.old }
+    requires length { length.old ≡ other_length.old }
+    ensures one { AreOne (number.ok ∷ number.no_room ∷ number.range_out_of_memory ∷ [])
+        result.0 result.1 ((made.new ≡ other_made.new) × (count.new ≡ other_count.new)
+        × (out.new ≡ other_out.new) × (length.new ≡ other_length.new)) }
+{
+    one_normal_set();
+    let number = semver_parser_proved_set(
+        alloc,
+        range,
+        reading,
+        pre_releases,
+        made,
+        count,
+        out,
+        length,
+    );
+    let other = semver_parser_proved_set(
+        alloc,
+        range,
+        reading,
+        pre_releases,
+        other_made,
+        other_count,
+        other_out,
+        other_length,
+    );
+    (number, other)
+}
+
+/// A version is in a set or isn't, or one of both has one error.
+pub fn one_membership(
+    alloc: Global,
+    switches: &[FlatSwitch],
+    bytes: &[u8],
+    version: &[u8],
+    reading: i32,
+    is_in: &mut bool,
+    other_is_in: &mut bool,
+) -> (i32, i32)
+    requires { is_in.old ≡ other_is_in.old }
+    ensures one { AreOne text_errors result.0 result.1 (is_in.new ≡ other_is_in.new) }
+{
+    let number = semver_parser_proved_set_has(alloc, switches, bytes, version, reading, is_in);
+    let other = semver_parser_proved_set_has(alloc, switches, bytes, version, reading, other_is_in);
+    (number, other)
+}
+
+/// An operation on two sets makes one set, or one of its inputs has one error.
+pub fn one_combination(
+    alloc: Global,
+    switches: &[FlatSwitch],
+    bytes: &[u8],
+    other_switches: &[FlatSwitch],
+    other_bytes: &[u8],
+    operation: i32,
+    made: &mut [FlatSwitch],
+    other_made: &mut [FlatSwitch],
+    count: &mut usize,
+    other_count: &mut usize,
+    out: &mut [u8],
+    other_out: &mut [u8],
+    length: &mut usize,
+    other_length: &mut usize,
+) -> (i32, i32)
+    requires made { made.old ≡ other_made.old }
+    requires count { count.old ≡ other_count.old }
+    requires room { out.old ≡ other_out.old }
+    requires length { length.old ≡ other_length.old }
+    ensures one { AreOne (number.ok ∷ number.no_room ∷ number.range_out_of_memory ∷ [])
+        result.0 result.1 ((made.new ≡ other_made.new) × (count.new ≡ other_count.new)
+        × (out.new ≡ other_out.new) × (length.new ≡ other_length.new)) }
+{
+    one_flat();
+    one_normal_set();
+    let number = semver_parser_proved_combine(
+        alloc,
+        switches,
+        bytes,
+        other_switches,
+        other_bytes,
+        operation,
+        made,
+        count,
+        out,
+        length,
+    );
+    let other = semver_parser_proved_combine(
+        alloc,
+        switches,
+        bytes,
+        other_switches,
+        other_bytes,
+        operation,
+        other_made,
+        other_count,
+        other_out,
+        other_length,
+    );
+    (number, other)
+}
+
+/// Two sets are compared in one way, or one of them has one error.
+pub fn one_inclusion(
+    alloc: Global,
+    switches: &[FlatSwitch],
+    bytes: &[u8],
+    other_switches: &[FlatSwitch],
+    other_bytes: &[u8],
+    within: &mut bool,
+    other_within: &mut bool,
+    contains: &mut bool,
+    other_contains: &mut bool,
+) -> (i32, i32)
+    requires within { within.old ≡ other_within.old }
+    requires contains { contains.old ≡ other_contains.old }
+    ensures one { AreOne (number.ok ∷ number.range_out_of_memory ∷ []) result.0 result.1
+        ((within.new ≡ other_within.new) × (contains.new ≡ other_contains.new)) }
+{
+    one_flat();
+    let number = semver_parser_proved_compare_sets(
+        alloc,
+        switches,
+        bytes,
+        other_switches,
+        other_bytes,
+        within,
+        contains,
+    );
+    let other = semver_parser_proved_compare_sets(
+        alloc,
+        switches,
+        bytes,
+        other_switches,
+        other_bytes,
+        other_within,
+        other_contains,
+    );
+    (number, other)
+}
+
+/// A set has one least version, or it has one error.
+pub fn one_least_of_set(
+    alloc: Global,
+    switches: &[FlatSwitch],
+    bytes: &[u8],
+    out: &mut [u8],
+    other_out: &mut [u8],
+    length: &mut usize,
+    other_length: &mut usize,
+) -> (i32, i32)
+    requires room { out.old ≡ other_out.old }
+    requires length { length.old ≡ other_length.old }
+    ensures one { AreOne (number.ok ∷ number.no_room ∷ number.range_out_of_memory ∷ [])
+        result.0 result.1 ((out.new ≡ other_out.new) × (length.new ≡ other_length.new)) }
+{
+    one_flat();
+    let number = semver_parser_proved_set_least(alloc, switches, bytes, out, length);
+    let other = semver_parser_proved_set_least(alloc, switches, bytes, other_out, other_length);
+    (number, other)
+}
+
+/// A set has one text, or it has one error.
+pub fn one_printed_set(
+    alloc: Global,
+    switches: &[FlatSwitch],
+    bytes: &[u8],
+    pre_releases: bool,
+    out: &mut [u8],
+    other_out: &mut [u8],
+    length: &mut usize,
+    other_length: &mut usize,
+) -> (i32, i32)
+    requires room { out.old ≡ other_out.old }
+    requires length { length.old ≡ other_length.old }
+    ensures one { AreOne (number.ok ∷ number.no_room ∷ number.range_out_of_memory ∷ [])
+        result.0 result.1 ((out.new ≡ other_out.new) × (length.new ≡ other_length.new)) }
+{
+    one_flat();
+    let number = semver_parser_proved_print_set(alloc, switches, bytes, pre_releases, out, length);
+    let other = semver_parser_proved_print_set(
+        alloc,
+        switches,
+        bytes,
+        pre_releases,
+        other_out,
+        other_length,
+    );
+    (number, other)
 }

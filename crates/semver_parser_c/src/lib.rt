@@ -11,18 +11,20 @@
 mod asking;
 mod comparators;
 mod compared;
+mod flat_sets;
 pub mod laws;
 mod meeting;
 mod numbers;
 mod range_text;
 mod readings;
 mod refusals;
+mod set_operations;
 mod sets;
 mod version_text;
 
 ghost use Rattle.std.specs.Prelude.{◌≡◌, ◌≢◌, ◌⊎◌, ◌↔◌, ◌<◌, ℕ, [], ◌∷◌, ◌++◌, IsTrue};
 ghost use Rattle.std.specs.Prelude.{IfSome, IsUtf8, Option, drop, length, slice_get};
-ghost use Rattle.std.specs.Prelude.{slice_index, take};
+ghost use Rattle.std.specs.Prelude.{slice_index, take, true};
 ghost use Rattle.semver_parser.specs.Versions.{VersionValue};
 ghost use Rattle.semver_parser.specs.declared.version.Version.{Version};
 ghost use Rattle.semver_parser.specs.ToolVersions.{IsVersionTextIn, SpellsIn};
@@ -33,7 +35,7 @@ ghost use Rattle.semver_parser.specs.PrintedRanges.{set_text};
 ghost use Rattle.tool_ranges.specs.declared.reading.Reading.{Reading};
 ghost use Rattle.tool_ranges.specs.declared.meaning.Meaning.{Meaning};
 ghost use Rattle.tool_ranges.specs.Readings.{SpellsAs, TreeOf, dialect_of, fits_as};
-ghost use Rattle.tool_ranges.specs.Meanings.{meant_as, reading_of};
+ghost use Rattle.tool_ranges.specs.Meanings.{MeansAs, meant_as, reading_of};
 ghost use Rattle.semver_parser_c.specs.Numbers as number;
 ghost use Rattle.semver_parser_c.specs.Readings.{IsDialect, IsNamed, IsReading, reading_number};
 ghost use Rattle.semver_parser_c.specs.Faults.{IsAccepted, IsOneOf, NewRangeIsRead, RangeIsRead};
@@ -51,15 +53,22 @@ ghost use Rattle.semver_parser_c.specs.Refusals.{reason_number, reason_numbers};
 ghost use Rattle.semver_parser_c.specs.Meetings.{IsAnswer};
 ghost use Rattle.semver_parser_c.specs.Sets.{IsMeant, text_of};
 ghost use Rattle.semver_parser_c.specs.Compared.{Compares, TellsWhich, joined_texts, places_of};
+ghost use Rattle.semver_parser_c.specs.FlatSets.{AreSets, IsMadeOf, IsNoSet, IsOperation};
+ghost use Rattle.semver_parser_c.specs.FlatSets.{IsWithin, PutsSet, kind_text, operation_number};
+ghost use Rattle.semver_parser_c.specs.declared.set_operations.Operation.{Operation};
 ghost use Rattle.version_fronts.specs.Fronts.{IsLongestFront};
 ghost use Rattle.version_fronts.specs.Reasons.{IsReason, byte_at};
 ghost use Rattle.version_fronts.specs.declared.reasons.Reason.{Reason};
 ghost use Rattle.version_sets.specs.Comparisons.{TellsLeast};
+ghost use Rattle.version_sets.specs.Flat.{IsFlat, IsPrintable};
+ghost use Rattle.version_sets.specs.VersionSets.{IsIn, IsNormal, SetValue};
+ghost use Rattle.version_sets.specs.VersionSets.{has as has_version};
 ghost use Rattle.version_sets.specs.declared.comparison.Comparison.{Comparison};
 
 use std::alloc::Global;
 use std::cmp::Ordering;
 use version_fronts::reasons::refused;
+use version_sets::{FlatSet, FlatSwitch};
 
 /// Where a part of a text lies: `length` bytes from `offset` on. Both are 0 where there is no such
 /// part.
@@ -677,5 +686,300 @@ fn order_number(ordering: Ordering) -> i32
         Ordering::Less => -1,
         Ordering::Equal => 0,
         Ordering::Greater => 1,
+    }
+}
+
+// Answer: law semver_parser_c::laws::one_set.
+/// Puts the set of the versions that a range means into the rooms, as flat data, by the reading and
+/// by the rule for pre-releases that numbers name: `OK` with its switches at the front of `made`,
+/// and the texts of its pre-releases at the front of `out`.
+///
+/// The first switch is a head: 1, how many switches of releases there are, and how many of
+/// pre-releases. `^1.2.0` of releases gives (1, 2, 0), (1, 2, 0) and (2, 0, 0), and no bytes.
+///
+/// `count` and `length` become how many switches and bytes there are, also where one of the rooms
+/// is too small (`NO_ROOM`); then both rooms are as they were, and so after any answer but `OK`.
+/// `count` and `length` are as they were after any other error.
+///
+/// # Errors
+///
+/// Those of `semver_parser_proved_least`. `RANGE_OUT_OF_MEMORY` also comes of a set with an
+/// identifier that can't be read back from its text; no range is known that gives one.
+#[unsafe(no_mangle)]
+pub extern "C" fn semver_parser_proved_set(
+    alloc: Global,
+    range: &[u8],
+    reading: i32,
+    pre_releases: i32,
+    made: &mut [FlatSwitch],
+    count: &mut usize,
+    out: &mut [u8],
+    length: &mut usize,
+) -> i32
+    ensures numbers { IsOneOf (number.ok ∷ number.no_room ∷ named_faults) result }
+    // What is put into the rooms is the set of the versions that the range means.
+    ensures set { (result ≡ number.ok) ⊎ (result ≡ number.no_room)
+        → (m : Meaning) → IsNamed m reading pre_releases
+        → (set : SetValue) × IsNormal set × IsPrintable set × MeansAs m range.now set
+        × PutsSet set (record { old = made.old; new = made.new; told = count.new })
+        (record { old = out.old; new = out.new; told = length.new }) result }
+    ensures read { (result ≡ number.ok) ⊎ (result ≡ number.no_room)
+        → RangeIsRead reading pre_releases range.now result }
+
+    // Errors of the reading, of the rule, and of the range, whatever the rooms.
+    ensures refusals { RefusesRange reading pre_releases range.now result }
+    ensures rooms_unchanged { result ≢ number.ok
+        → (made.new ≡ made.old) × (out.new ≡ out.old) }
+    ensures numbers_unchanged { IsOneOf named_faults result
+        → (count.new ≡ count.old) × (length.new ≡ length.old) }
+{
+    let set = match sets::read(alloc, range, reading, pre_releases) {
+        Ok((_, set)) => set,
+        Err(number) => return number,
+    };
+    set.is_normal();
+    match set.to_flat(alloc) {
+        Ok(Some(flat)) => flat_sets::put(&flat, made, count, out, length),
+        Ok(None) | Err(_) => numbers::RANGE_OUT_OF_MEMORY,
+    }
+}
+
+// Answer: law semver_parser_c::laws::one_membership.
+/// Whether a version is in a set, which is flat data of `semver_parser_proved_set` or
+/// `semver_parser_proved_combine`: `OK` with the answer in `is_in`. The version is read by the
+/// reading of a number. Its build doesn't count. For a version it takes no memory.
+///
+/// # Errors
+///
+/// `NO_SUCH_READING`, whatever the data. Then `NOT_A_SET`, whatever the version, and then the
+/// errors of `semver_parser_proved_parse_version`. After an error `is_in` is as it was.
+#[unsafe(no_mangle)]
+pub extern "C" fn semver_parser_proved_set_has(
+    alloc: Global,
+    switches: &[FlatSwitch],
+    bytes: &[u8],
+    version: &[u8],
+    reading: i32,
+    is_in: &mut bool,
+) -> i32
+    ensures numbers { IsOneOf (number.ok ∷ number.no_such_reading ∷ number.not_a_set
+        ∷ version_faults) result }
+    // The result is whether the set has the version that the text spells.
+    ensures has { (d : Dialect) → IsDialect d reading → result ≡ number.ok
+        → (set : SetValue) → IsFlat switches.now bytes.now set
+        → (v : VersionValue) → SpellsIn d v version.now → is_in.new ≡ has_version set v.plain }
+    ensures read { (d : Dialect) → IsDialect d reading → result ≡ number.ok
+        → IsUtf8 version.now × IsVersionTextIn d version.now
+        × ((set : SetValue) × IsFlat switches.now bytes.now set) }
+    ensures accepted { (d : Dialect) → IsDialect d reading → result ≢ number.not_a_set
+        → IsUtf8 version.now → IsVersionTextIn d version.now → result ≡ number.ok }
+
+    // Errors: the reading, the data, and the version.
+    ensures named { (result ≡ number.no_such_reading) ⊎ IsReading reading }
+    ensures no_such_reading { (result ≡ number.no_such_reading) ↔ ¬ (IsReading reading) }
+    ensures not_a_set { IsReading reading
+        → (result ≡ number.not_a_set) ↔ IsNoSet switches.now bytes.now }
+    ensures refused { (d : Dialect) → IsDialect d reading → result ≢ number.ok
+        → result ≢ number.not_a_set → RefusesVersion d version.now result }
+    ensures unchanged { result ≢ number.ok → is_in.new ≡ is_in.old }
+{
+    let Some(reading) = readings::reading_of(reading) else {
+        return numbers::NO_SUCH_READING;
+    };
+    let Some(set) = FlatSet::read(switches, bytes) else {
+        return numbers::NOT_A_SET;
+    };
+    semver_parser::laws::one_outlined_version();
+    version_sets::laws::one_flat();
+    match version_text::outline(alloc, version, reading.dialect()) {
+        Ok(outline) => {
+            *is_in = set.has_outline(&outline);
+            numbers::OK
+        }
+        Err(number) => number,
+    }
+}
+
+// Answer: law semver_parser_c::laws::one_combination.
+/// Puts what an operation keeps of two sets into the rooms, as `semver_parser_proved_set` puts a
+/// set: `UNION`, `INTERSECTION`, or `DIFFERENCE`, which is what the first has and the other hasn't.
+///
+/// # Errors
+///
+/// `NO_SUCH_OPERATION`, whatever the data. Then `NOT_A_SET`, if one of both is none,
+/// `RANGE_OUT_OF_MEMORY`, and `NO_ROOM`.
+#[unsafe(no_mangle)]
+pub extern "C" fn semver_parser_proved_combine(
+    alloc: Global,
+    switches: &[FlatSwitch],
+    bytes: &[u8],
+    other_switches: &[FlatSwitch],
+    other_bytes: &[u8],
+    operation: i32,
+    made: &mut [FlatSwitch],
+    count: &mut usize,
+    out: &mut [u8],
+    length: &mut usize,
+) -> i32
+    ensures numbers { IsOneOf (number.ok ∷ number.no_room ∷ number.no_such_operation
+        ∷ number.not_a_set ∷ number.range_out_of_memory ∷ []) result }
+    // What is put into the rooms is what the operation keeps of both sets.
+    ensures made { (result ≡ number.ok) ⊎ (result ≡ number.no_room)
+        → (a b set : SetValue) × (o : Operation) × (operation ≡ operation_number o)
+        × IsFlat switches.now bytes.now a × IsFlat other_switches.now other_bytes.now b
+        × IsMadeOf o a b set
+        × PutsSet set (record { old = made.old; new = made.new; told = count.new })
+        (record { old = out.old; new = out.new; told = length.new }) result }
+
+    // Errors: the operation, and the data.
+    ensures no_such_operation { (result ≡ number.no_such_operation)
+        ↔ ¬ (IsOperation operation) }
+    ensures not_a_set { result ≡ number.not_a_set
+        → IsNoSet switches.now bytes.now ⊎ IsNoSet other_switches.now other_bytes.now }
+    ensures both_sets { IsOneOf (number.ok ∷ number.no_room ∷ number.range_out_of_memory ∷ [])
+        result → AreSets switches.now bytes.now other_switches.now other_bytes.now }
+    ensures rooms_unchanged { result ≢ number.ok
+        → (made.new ≡ made.old) × (out.new ≡ out.old) }
+    ensures numbers_unchanged { IsOneOf (number.no_such_operation ∷ number.not_a_set
+        ∷ number.range_out_of_memory ∷ []) result
+        → (count.new ≡ count.old) × (length.new ≡ length.old) }
+{
+    let Some(operation) = set_operations::operation_of(operation) else {
+        return numbers::NO_SUCH_OPERATION;
+    };
+    let (first, second) = match flat_sets::read_both(
+        alloc,
+        switches,
+        bytes,
+        other_switches,
+        other_bytes,
+    ) {
+        Ok(sets) => sets,
+        Err(number) => return number,
+    };
+    let Ok(set) = set_operations::combine(alloc, operation, &first, &second) else {
+        return numbers::RANGE_OUT_OF_MEMORY;
+    };
+    match set.to_flat(alloc) {
+        Ok(Some(flat)) => flat_sets::put(&flat, made, count, out, length),
+        Ok(None) => unreachable!(),
+        Err(_) => numbers::RANGE_OUT_OF_MEMORY,
+    }
+}
+
+// Answer: law semver_parser_c::laws::one_inclusion.
+/// Whether each version of a set is in another, and the other way round: `OK` with the answers in
+/// `within` and `contains`. Two sets are equal exactly where both hold.
+///
+/// # Errors
+///
+/// `NOT_A_SET`, if one of both is none, and `RANGE_OUT_OF_MEMORY`. After an error both are as they
+/// were.
+#[unsafe(no_mangle)]
+pub extern "C" fn semver_parser_proved_compare_sets(
+    alloc: Global,
+    switches: &[FlatSwitch],
+    bytes: &[u8],
+    other_switches: &[FlatSwitch],
+    other_bytes: &[u8],
+    within: &mut bool,
+    contains: &mut bool,
+) -> i32
+    ensures numbers { IsOneOf (number.ok ∷ number.not_a_set ∷ number.range_out_of_memory ∷ [])
+        result }
+    ensures within { result ≡ number.ok → (a b : SetValue) × IsFlat switches.now bytes.now a
+        × IsFlat other_switches.now other_bytes.now b
+        × ((within.new ≡ true) ↔ IsWithin a b) × ((contains.new ≡ true) ↔ IsWithin b a) }
+    ensures not_a_set { result ≡ number.not_a_set
+        → IsNoSet switches.now bytes.now ⊎ IsNoSet other_switches.now other_bytes.now }
+    ensures both_sets { IsOneOf (number.ok ∷ number.range_out_of_memory ∷ []) result
+        → AreSets switches.now bytes.now other_switches.now other_bytes.now }
+    ensures unchanged { result ≢ number.ok
+        → (within.new ≡ within.old) × (contains.new ≡ contains.old) }
+{
+    let (first, second) = match flat_sets::read_both(
+        alloc,
+        switches,
+        bytes,
+        other_switches,
+        other_bytes,
+    ) {
+        Ok(sets) => sets,
+        Err(number) => return number,
+    };
+    *within = first.is_within(&second);
+    *contains = second.is_within(&first);
+    numbers::OK
+}
+
+// Answer: law semver_parser_c::laws::one_least_of_set.
+/// Prints the least version of a set, as `semver_parser_proved_least` prints that of a range.
+///
+/// # Errors
+///
+/// `NOT_A_SET`, `RANGE_OUT_OF_MEMORY` and `NO_ROOM`. `out` is as it was after any answer but `OK`,
+/// and `length` after the first two.
+#[unsafe(no_mangle)]
+pub extern "C" fn semver_parser_proved_set_least(
+    alloc: Global,
+    switches: &[FlatSwitch],
+    bytes: &[u8],
+    out: &mut [u8],
+    length: &mut usize,
+) -> i32
+    ensures numbers { IsOneOf (number.ok ∷ number.no_room ∷ number.not_a_set
+        ∷ number.range_out_of_memory ∷ []) result }
+    ensures least { (result ≡ number.ok) ⊎ (result ≡ number.no_room)
+        → (set : SetValue) × IsFlat switches.now bytes.now set
+        × (least : Option Version) × TellsLeast (λ v. IsIn v set) least
+        × Puts (text_of least) out.old out.new length.new result }
+    ensures not_a_set { (result ≡ number.not_a_set) ↔ IsNoSet switches.now bytes.now }
+    ensures room_unchanged { result ≢ number.ok → out.new ≡ out.old }
+    ensures length_unchanged { IsOneOf (number.not_a_set ∷ number.range_out_of_memory ∷ [])
+        result → length.new ≡ length.old }
+{
+    let set = match flat_sets::read(alloc, switches, bytes) {
+        Ok(set) => set,
+        Err(number) => return number,
+    };
+    match sets::print_least(alloc, &set) {
+        Ok(printed) => range_text::put(printed.as_bytes(), out, length),
+        Err(_) => numbers::RANGE_OUT_OF_MEMORY,
+    }
+}
+
+// Answer: law semver_parser_c::laws::one_printed_set.
+/// Prints the releases of a set as a range text of npm mode, or its pre-releases where
+/// `pre_releases` holds: `>=1.2.0 <2.0.0`. All are `*`, and none is `<0.0.0-0`.
+///
+/// # Errors
+///
+/// Those of `semver_parser_proved_set_least`.
+#[unsafe(no_mangle)]
+pub extern "C" fn semver_parser_proved_print_set(
+    alloc: Global,
+    switches: &[FlatSwitch],
+    bytes: &[u8],
+    pre_releases: bool,
+    out: &mut [u8],
+    length: &mut usize,
+) -> i32
+    ensures numbers { IsOneOf (number.ok ∷ number.no_room ∷ number.not_a_set
+        ∷ number.range_out_of_memory ∷ []) result }
+    ensures printed { (result ≡ number.ok) ⊎ (result ≡ number.no_room)
+        → (set : SetValue) × IsFlat switches.now bytes.now set
+        × Puts (kind_text pre_releases set) out.old out.new length.new result }
+    ensures not_a_set { (result ≡ number.not_a_set) ↔ IsNoSet switches.now bytes.now }
+    ensures room_unchanged { result ≢ number.ok → out.new ≡ out.old }
+    ensures length_unchanged { IsOneOf (number.not_a_set ∷ number.range_out_of_memory ∷ [])
+        result → length.new ≡ length.old }
+{
+    let set = match flat_sets::read(alloc, switches, bytes) {
+        Ok(set) => set,
+        Err(number) => return number,
+    };
+    match flat_sets::print(alloc, &set, pre_releases) {
+        Ok(printed) => range_text::put(printed.as_bytes(), out, length),
+        Err(_) => numbers::RANGE_OUT_OF_MEMORY,
     }
 }

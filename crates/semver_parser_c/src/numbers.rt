@@ -62,6 +62,11 @@ pub const VERSION_TOO_LONG: i32 = 28;
 /// Text follows the version.
 pub const VERSION_TEXT_AFTER: i32 = 29;
 
+/// The data is no set of versions in its normal form.
+pub const NOT_A_SET: i32 = 30;
+/// No operation on two sets has the number.
+pub const NO_SUCH_OPERATION: i32 = 31;
+
 /// Cargo's own reading of a range text.
 pub const CARGO: i32 = 0;
 /// npm's own reading.
@@ -90,6 +95,13 @@ pub const GREATER: i32 = 2;
 pub const GREATER_EQUAL: i32 = 3;
 /// The operator `=`.
 pub const EQUAL: i32 = 4;
+
+/// What is in one set or the other.
+pub const UNION: i32 = 0;
+/// What is in both sets.
+pub const INTERSECTION: i32 = 1;
+/// What is in the first set and not in the other.
+pub const DIFFERENCE: i32 = 2;
 
 /// What is written for a version that doesn't meet the range, where there are many.
 pub const DOES_NOT_MEET: u8 = 0;

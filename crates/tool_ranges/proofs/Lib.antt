@@ -14,7 +14,6 @@ mod NpmMeanings
 mod NpmSets
 mod NpmLaws
 mod AllMeanings
-mod AskedParts
 mod AskedTerms
 mod AskedCrate
 mod AskedEvents

@@ -14,4 +14,8 @@ mod IntervalLaws
 mod KindLaws
 mod ReadBack
 mod SetRangeLaws
+mod PartTexts
+mod FlatTexts
+mod FlatLists
+mod FlatSets
 mod MetLaws

@@ -1,5 +1,9 @@
 -- Sets of versions by the laws of their switches: what is in a combination, and that one set has one normal form.
-use Rattle.std.proofs.Common.{arith, ◌≡◌, ◌↔◌, Bool, true, false, ◌||◌, cond, List, sym, ap, ap₂, ◌∙◌}
+use Rattle.std.proofs.Common.{arith, ◌≡◌, ◌↔◌, Bool, true, false, ◌||◌, cond, List, [], ◌∷◌, refl, sym, ap, ap₂, ◌∙◌}
+use Rattle.std.proofs.lemmas.Bool.{and_parts}
+use Rattle.std.specs.List.{AllByRecursion, list_all}
+use Rattle.semver_parser.specs.PrintedRanges.{is_printable_version}
+use Rattle.version_sets.specs.Flat.{IsPrintable}
 use Rattle.semver_parser.specs.Texts.{is_empty}
 use Rattle.semver_parser.specs.Versions.{PlainVersion}
 use Rattle.semver_parser.specs.Precedence.{precedence}
@@ -115,3 +119,26 @@ by_first r p q e f = grind arith
 
 pub by_second : (r s p q : Bool) → r ≡ p → r ≡ false → s ≡ q → s ≡ (p || q)
 by_second r s p q e f g = grind arith
+
+-- ---- printable identifiers
+
+abbrev Prints : PlainVersion → Type 0
+Prints v = is_printable_version v ≡ true
+
+each_prints : (vs : List PlainVersion) → list_all is_printable_version vs ≡ true → AllByRecursion Prints vs
+each_prints [] e = tt
+each_prints (v ∷ vs) e = let both = and_parts (is_printable_version v) _ e in (both.0, each_prints vs both.1)
+
+all_print : (vs : List PlainVersion) → AllByRecursion Prints vs → list_all is_printable_version vs ≡ true
+all_print [] each = refl
+all_print (v ∷ vs) each = rw each.0 (all_print vs each.1)
+
+pub combined-prints : (how : Combination) (a b : SetValue) → IsNormal a → IsNormal b → IsPrintable a → IsPrintable b
+    → IsPrintable (combined_sets how a b)
+combined-prints how a b s t p q =
+    let first : AreSwitches Prints a.pre_releases =
+    record { increase = s.pre_releases.increase; are_of_kind = each_prints a.pre_releases p } in
+    let second : AreSwitches Prints b.pre_releases =
+    record { increase = t.pre_releases.increase; are_of_kind = each_prints b.pre_releases q } in
+    all_print (combined how (pieces a.pre_releases b.pre_releases))
+    (combined-are Prints how a.pre_releases b.pre_releases first second).are_of_kind

@@ -4,4 +4,5 @@ pub mod VersionSets
 pub mod Comparisons
 pub mod PreReleaseRules
 pub mod SetRanges
+pub mod Flat
 pub mod Steps

@@ -8,3 +8,5 @@ pub mod Between
 pub mod WalkViews
 pub mod Combined
 pub mod SameSwitches
+pub mod FlatViews
+pub mod FlatForms

@@ -2,6 +2,7 @@
 
 ghost use Rattle.std.specs.Prelude.{◌≡◌, ◌⊎◌, ◌&&◌, ◌||◌, not, IfOk, IfErr};
 ghost use Rattle.semver_parser.specs.Versions.{PlainVersion};
+ghost use Rattle.version_sets.specs.Flat.{IsPrintable};
 ghost use Rattle.version_sets.specs.VersionSets.{has, IsIn};
 ghost use Rattle.version_sets.specs.Steps.Combined.{keeps, KeepsSome};
 
@@ -20,6 +21,9 @@ impl VersionSet {
     pub fn union(&self, alloc: Global, other: &VersionSet) -> Result<VersionSet, AllocError>
         ensures has { IfOk result (λ set. (v : PlainVersion)
             → has set v ≡ (has self.now v || has other.now v)) }
+        // Identifiers that can be read back from their texts are kept so.
+        ensures printable { IsPrintable self.now → IsPrintable other.now
+            → IfOk result IsPrintable }
         // Memory runs out only where the answer has a version.
         ensures out_of_memory { IfErr result (λ _. (v : PlainVersion)
             × (IsIn v self.now ⊎ IsIn v other.now)) }
@@ -37,6 +41,9 @@ impl VersionSet {
     pub fn intersection(&self, alloc: Global, other: &VersionSet) -> Result<VersionSet, AllocError>
         ensures has { IfOk result (λ set. (v : PlainVersion)
             → has set v ≡ (has self.now v && has other.now v)) }
+        // Identifiers that can be read back from their texts are kept so.
+        ensures printable { IsPrintable self.now → IsPrintable other.now
+            → IfOk result IsPrintable }
         // Memory runs out only where the answer has a version.
         ensures out_of_memory { IfErr result (λ _. (v : PlainVersion)
             × IsIn v self.now × IsIn v other.now) }
@@ -55,6 +62,9 @@ impl VersionSet {
     pub fn difference(&self, alloc: Global, other: &VersionSet) -> Result<VersionSet, AllocError>
         ensures has { IfOk result (λ set. (v : PlainVersion)
             → has set v ≡ (has self.now v && not (has other.now v))) }
+        // Identifiers that can be read back from their texts are kept so.
+        ensures printable { IsPrintable self.now → IsPrintable other.now
+            → IfOk result IsPrintable }
         // Memory runs out only where the answer has a version.
         ensures out_of_memory { IfErr result (λ _. (v : PlainVersion)
             × IsIn v self.now × (¬ IsIn v other.now)) }
@@ -71,6 +81,8 @@ impl VersionSet {
     ) -> Result<VersionSet, AllocError>
         ensures has { IfOk result (λ set. (v : PlainVersion)
             → has set v ≡ keeps how (has self.now v) (has other.now v)) }
+        ensures printable { IsPrintable self.now → IsPrintable other.now
+            → IfOk result IsPrintable }
         ensures out_of_memory { IfErr result (λ _. KeepsSome how self.now other.now) }
     {
         let releases = how.of(alloc, &self.releases, &other.releases)?;

@@ -1,9 +1,10 @@
 use Rattle.std.proofs.Common.{rules, ◌≡◌, true, ap, ap₂, subst, sym, ◌∙◌}
+use Rattle.version_sets.specs.Flat.{IsPrintable}
 use Rattle.version_sets.specs.VersionSets.{SetValue, has, IsNormal}
 use Rattle.version_sets.specs.Steps.Places.{set_of}
 use Rattle.version_sets.specs.Steps.Combined.{keeps, pieces, keeps_some, combined_sets, KeepsSome}
 use Rattle.version_sets.proofs.Lists.{on_err}
-use Rattle.version_sets.proofs.SetLaws.{combined-normal, has-combined, some_release, some_pre_release}
+use Rattle.version_sets.proofs.SetLaws.{combined-normal, combined-prints, has-combined, some_release, some_pre_release}
 use Rattle.version_sets.proofs.version_set.VersionSet.combined.Goals as goal
 
 pub returns-in_err-releases-clause-out_of_memory : goal.returns-in_err-releases-clause-out_of_memory
@@ -39,3 +40,12 @@ returns-clause-has c = λ v.
     let made : c.of_switches.result ≡ combined_sets c.args.how a b = search rules in
     ap (λ s. has s v) made ∙ has-combined c.args.how a b c.self.invariant c.other.invariant v
     ∙ ap₂ (λ s t. keeps c.args.how (has s v) (has t v)) c.self.view_is c.other.view_is
+
+pub returns-clause-printable : goal.returns-clause-printable
+returns-clause-printable c = λ p q.
+    let a = set_of c.self.inside.releases.items c.self.inside.pre_releases.items in
+    let b = set_of c.other.inside.releases.items c.other.inside.pre_releases.items in
+    let made : c.of_switches.result ≡ combined_sets c.args.how a b = search rules in
+    subst IsPrintable (sym made)
+    (combined-prints c.args.how a b c.self.invariant c.other.invariant (subst IsPrintable (sym c.self.view_is) p)
+    (subst IsPrintable (sym c.other.view_is) q))

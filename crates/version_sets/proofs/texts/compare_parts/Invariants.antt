@@ -5,9 +5,9 @@ use Rattle.std.specs.List.{slice_split}
 use Rattle.semver_texts.specs.Precedence.{identifier_cmp}
 use Rattle.semver_texts.specs.Texts.{is_dot}
 use Rattle.semver_texts.proofs.DottedParts.{parts_behind, size_behind}
-use Rattle.semver_ranges.specs.Partials.{kept}
+use Rattle.semver_parser.specs.Partials.{kept}
 use Rattle.semver_parser.specs.Outlines.{identifier_of}
-use Rattle.tool_ranges.proofs.asked.compare_parts.Given as goal
+use Rattle.version_sets.proofs.texts.compare_parts.Given as goal
 
 abbrev pub invariant-loop-rest : goal.invariant-loop-rest
 invariant-loop-rest l =

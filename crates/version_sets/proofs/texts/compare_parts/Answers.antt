@@ -1,6 +1,6 @@
 use Rattle.std.proofs.Common.{sym, ◌∙◌}
-use Rattle.tool_ranges.proofs.AskedParts.{longer, shorter}
-use Rattle.tool_ranges.proofs.asked.compare_parts.Goals as goal
+use Rattle.version_sets.proofs.PartTexts.{longer, shorter}
+use Rattle.version_sets.proofs.texts.compare_parts.Goals as goal
 
 pub returns-in_default-others : goal.returns-in_default-others
 returns-in_default-others c = sym (rw (c.in-Some.is, c.in_default-others.is) at c.loop-rest.invariant ∙ longer c.in-Some.bytes.now)

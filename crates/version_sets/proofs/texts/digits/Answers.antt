@@ -1,13 +1,12 @@
-use Rattle.std.proofs.Common.{◌≡◌, ◌+◌, get_or, true, false, sym, ap, ◌∙◌, arith, refl, take, subst, add-one}
+use Rattle.std.proofs.Common.{◌≡◌, get_or, true, false, sym, ap, ◌∙◌, arith, refl, take, subst, add-one}
 use Rattle.std.proofs.Math.Seq.{take-length}
 use Rattle.std.proofs.Math.Bool.{and-false}
-use Rattle.std.proofs.lemmas.Bool.Decides.{nat_tests}
 use Rattle.std.specs.Char.{is_ascii_digit}
 use Rattle.std.specs.Str.{all_ascii_digits}
 use Rattle.std.specs.Str.Parse.{digits_value}
 use Rattle.semver_texts.proofs.Numbers.{value_more}
-use Rattle.tool_ranges.proofs.AskedParts.{digit_at, digits_more, digits_large, fitting}
-use Rattle.tool_ranges.proofs.asked.digits.Goals as goal
+use Rattle.version_sets.proofs.PartTexts.{digit_at, digits_more, digits_large, fitting}
+use Rattle.version_sets.proofs.texts.digits.Goals as goal
 
 pub returns-then-not-is_ascii_digit : goal.returns-then-not-is_ascii_digit
 returns-then-not-is_ascii_digit c =

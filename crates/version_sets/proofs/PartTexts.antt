@@ -1,6 +1,6 @@
--- The identifiers of the version that is asked of, beside those that a range states.
-use Rattle.std.proofs.Common.{◌≡◌, ℕ, suc, zero, ◌+◌, ◌-◌, ◌*◌, ◌^◌, ◌<◌, ◌≤◌, Bool, true, false, ◌&&◌, List, [], ◌∷◌, length, take, get_or}
-use Rattle.std.proofs.Common.{refl, sym, ap, ◌∙◌, subst, arith}
+-- The identifiers of two pre-releases that are still texts, beside each other.
+use Rattle.std.proofs.Common.{◌≡◌, ℕ, suc, zero, ◌+◌, ◌-◌, ◌*◌, ◌^◌, ◌<◌, ◌≤◌, true, false, ◌&&◌, List, [], ◌∷◌, length, take, get_or}
+use Rattle.std.proofs.Common.{refl, subst, arith}
 use Rattle.std.specs.Char.{is_ascii_digit}
 use Rattle.std.specs.Str.{all_ascii_digits}
 use Rattle.std.specs.Str.Parse.{digits_value}
@@ -16,7 +16,7 @@ use Rattle.std.specs.declared.cmp.Ordering.TheVariants.{Less, Greater}
 use Rattle.semver_texts.specs.Precedence.{identifier_cmp}
 use Rattle.semver_texts.specs.Texts.{Text, is_dot}
 use Rattle.semver_texts.proofs.PartRuns.{pieces}
-use Rattle.semver_ranges.specs.Partials.{fits_u64, kept}
+use Rattle.semver_parser.specs.Partials.{fits_u64, kept}
 use Rattle.semver_parser.specs.Outlines.{identifier_of}
 
 -- ---- digits

@@ -1,0 +1,125 @@
+//! Sets as flat data: what one is, and which data is read.
+use semver_parser::{Compat, version};
+use std::alloc::Global;
+use std::io::{self, ErrorKind};
+use version_sets::{FlatSet, FlatSwitch, PreReleases, VersionSet};
+
+/// Three numbers, an offset and a length.
+type Row = (u64, u64, u64, usize, usize);
+
+/// Switches, bytes, and whether they are a set.
+const DATA: [(&[Row], &str, bool); 24] = [
+    (&[(1, 0, 0, 0, 0)], "", true),
+    (&[(1, 1, 0, 0, 0), (0, 0, 0, 0, 0)], "", true),
+    (&[(1, 0, 1, 0, 0), (0, 0, 0, 0, 1)], "0", true),
+    (
+        &[(1, 0, 2, 0, 0), (1, 0, 0, 0, 4), (1, 0, 0, 4, 5)],
+        "rc.2rc.10",
+        true,
+    ),
+    // The head.
+    (&[], "", false),
+    (&[(0, 0, 0, 0, 0)], "", false),
+    (&[(2, 0, 0, 0, 0)], "", false),
+    (&[(1, 0, 0, 1, 0)], "", false),
+    (&[(1, 0, 0, 0, 1)], "a", false),
+    (&[(1, 0, 0, 0, 0), (0, 0, 0, 0, 0)], "", false),
+    (&[(1, 0, 1, 0, 0)], "", false),
+    (&[(1, u64::MAX, 1, 0, 0), (0, 0, 0, 0, 0)], "", false),
+    // The order.
+    (
+        &[(1, 2, 0, 0, 0), (1, 0, 0, 0, 0), (1, 0, 0, 0, 0)],
+        "",
+        false,
+    ),
+    (
+        &[(1, 2, 0, 0, 0), (1, 0, 1, 0, 0), (1, 0, 0, 0, 0)],
+        "",
+        false,
+    ),
+    (
+        &[(1, 0, 2, 0, 0), (1, 0, 0, 0, 5), (1, 0, 0, 5, 4)],
+        "rc.10rc.2",
+        false,
+    ),
+    // The places of the texts.
+    (&[(1, 1, 0, 0, 0), (1, 0, 0, 0, 1)], "a", false),
+    (&[(1, 0, 1, 0, 0), (1, 0, 0, 0, 0)], "", false),
+    (&[(1, 0, 1, 0, 0), (1, 0, 0, 1, 1)], "aa", false),
+    (&[(1, 0, 1, 0, 0), (1, 0, 0, 0, 1)], "aa", false),
+    (&[(1, 0, 1, 0, 0), (1, 0, 0, 0, usize::MAX)], "a", false),
+    (
+        &[(1, 0, 1, 0, 0), (1, 0, 0, usize::MAX, usize::MAX)],
+        "a",
+        false,
+    ),
+    // The texts.
+    (&[(1, 0, 1, 0, 0), (1, 0, 0, 0, 4)], "a..b", false),
+    (&[(1, 0, 1, 0, 0), (1, 0, 0, 0, 4)], "a.01", false),
+    (&[(1, 0, 1, 0, 0), (1, 0, 0, 0, 2)], "é", false),
+];
+
+/// Writes the flat data of a set, whether two versions are in it, and the places of the data that
+/// is wrongly read or refused.
+pub fn write_flat(rt: &impl Print, alloc: Global) -> io::Result<()> {
+    write_set(rt, alloc)?;
+    for (place, (rows, bytes, wanted)) in DATA.iter().enumerate() {
+        let switches = switches_of(alloc, rows)?;
+        if FlatSet::read(&switches, bytes.as_bytes()).is_some() != *wanted {
+            println!(rt; "flat sets: wrong at {place}")?;
+        }
+    }
+    println!(rt; "flat sets: {} of data", DATA.len())
+}
+
+/// Writes the flat data of a set, and whether two versions are in it.
+fn write_set(rt: &impl Print, alloc: Global) -> io::Result<()> {
+    let text = ">=1.2.0-rc.1 <2.0.0 || =3.0.0-a";
+    let set = VersionSet::of_text(alloc, text, Compat::Cargo, PreReleases::Included);
+    let Ok(set) = set else {
+        return Err(io::Error::from(ErrorKind::InvalidInput));
+    };
+    let Some(data) = set.to_flat(alloc)? else {
+        return Err(io::Error::from(ErrorKind::InvalidData));
+    };
+    for switch in data.switches.iter() {
+        let FlatSwitch {
+            major,
+            minor,
+            patch,
+            pre_offset,
+            pre_length,
+        } = *switch;
+        println!(rt; "{major}, {minor}, {patch}, {pre_offset}, {pre_length}")?;
+    }
+    println!(rt; "{}", data.bytes)?;
+    let Some(flat) = FlatSet::read(&data.switches, data.bytes.as_bytes()) else {
+        return Err(io::Error::from(ErrorKind::InvalidData));
+    };
+    println!(rt; "1.2.0-rc.2: {}", has(&flat, "1.2.0-rc.2"))?;
+    println!(rt; "3.0.0-a.0: {}", has(&flat, "3.0.0-a.0"))?;
+    println!(rt; "the same set: {}", flat.to_set(alloc)? == set)
+}
+
+/// Whether the text is a version that is in a set.
+fn has(set: &FlatSet<'_>, text: &str) -> bool {
+    match version::outline(text) {
+        Some(outline) => set.has_outline(&outline),
+        None => false,
+    }
+}
+
+/// Switches of these fields.
+fn switches_of(alloc: Global, rows: &[Row]) -> io::Result<Vec<FlatSwitch>> {
+    let mut switches = Vec::new(alloc);
+    for (major, minor, patch, pre_offset, pre_length) in rows.iter() {
+        switches.push(FlatSwitch {
+            major: *major,
+            minor: *minor,
+            patch: *patch,
+            pre_offset: *pre_offset,
+            pre_length: *pre_length,
+        })?;
+    }
+    Ok(switches)
+}

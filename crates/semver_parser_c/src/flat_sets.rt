@@ -1,0 +1,97 @@
+//! Sets of a caller, which are flat data, and where such data is put.
+
+ghost use Rattle.std.specs.Prelude.{◌≡◌, ◌⊎◌, ◌∷◌, [], IfOk, IfErr, string_bytes};
+ghost use Rattle.version_sets.specs.Flat.{IsFlat, IsPrintable};
+ghost use Rattle.version_sets.specs.VersionSets.{SetValue};
+ghost use Rattle.semver_parser_c.specs.Numbers as number;
+ghost use Rattle.semver_parser_c.specs.Faults.{IsOneOf};
+ghost use Rattle.semver_parser_c.specs.FlatSets.{AreSets, IsNoSet, PutsSet, kind_text};
+
+use crate::numbers;
+use std::alloc::{AllocError, Global};
+use version_sets::{FlatData, FlatSet, FlatSwitch, VersionSet};
+
+/// The set of flat data, or the number of why there is none.
+pub fn read(alloc: Global, switches: &[FlatSwitch], bytes: &[u8]) -> Result<VersionSet, i32>
+    ensures flat { IfOk result (IsFlat switches.now bytes.now) }
+    ensures numbers { IfErr result (IsOneOf
+        (number.not_a_set ∷ number.range_out_of_memory ∷ [])) }
+    ensures no_set { IfErr result (λ n. n ≡ number.not_a_set → IsNoSet switches.now bytes.now) }
+    ensures memory { IfErr result (λ n. n ≡ number.range_out_of_memory
+        → (set : SetValue) × IsFlat switches.now bytes.now set) }
+{
+    let Some(flat) = FlatSet::read(switches, bytes) else {
+        return Err(numbers::NOT_A_SET);
+    };
+    match flat.to_set(alloc) {
+        Ok(set) => Ok(set),
+        Err(_) => Err(numbers::RANGE_OUT_OF_MEMORY),
+    }
+}
+
+/// The sets of two of flat data, or the number of why one is none.
+pub fn read_both(
+    alloc: Global,
+    switches: &[FlatSwitch],
+    bytes: &[u8],
+    other_switches: &[FlatSwitch],
+    other_bytes: &[u8],
+) -> Result<(VersionSet, VersionSet), i32>
+    ensures flat { IfOk result (λ sets. IsFlat switches.now bytes.now sets.0
+        × IsFlat other_switches.now other_bytes.now sets.1) }
+    ensures numbers { IfErr result (IsOneOf
+        (number.not_a_set ∷ number.range_out_of_memory ∷ [])) }
+    ensures no_set { IfErr result (λ n. n ≡ number.not_a_set
+        → IsNoSet switches.now bytes.now ⊎ IsNoSet other_switches.now other_bytes.now) }
+    ensures memory { IfErr result (λ n. n ≡ number.range_out_of_memory
+        → AreSets switches.now bytes.now other_switches.now other_bytes.now) }
+{
+    let Some(first) = FlatSet::read(switches, bytes) else {
+        return Err(numbers::NOT_A_SET);
+    };
+    let Some(second) = FlatSet::read(other_switches, other_bytes) else {
+        return Err(numbers::NOT_A_SET);
+    };
+    match (first.to_set(alloc), second.to_set(alloc)) {
+        (Ok(first), Ok(second)) => Ok((first, second)),
+        _ => Err(numbers::RANGE_OUT_OF_MEMORY),
+    }
+}
+
+/// The text of the pre-releases of a set, or of its releases.
+pub fn print(alloc: Global, set: &VersionSet, pre_releases: bool) -> Result<String, AllocError>
+    ensures { IfOk result (λ text. string_bytes text ≡ kind_text pre_releases set.now) }
+{
+    let ranges = if pre_releases {
+        set.pre_release_ranges(alloc)?
+    } else {
+        set.release_ranges(alloc)?
+    };
+    ranges.to_string(alloc)
+}
+
+/// Tells how many switches and bytes a set has, and puts both at the front of their rooms if both
+/// fit.
+pub fn put(
+    flat: &FlatData,
+    made: &mut [FlatSwitch],
+    count: &mut usize,
+    out: &mut [u8],
+    length: &mut usize,
+) -> i32
+    ensures { (set : SetValue)
+        → IsFlat flat.now.switches.items (string_bytes flat.now.bytes) set → PutsSet set
+        (record { old = made.old; new = made.new; told = count.new })
+        (record { old = out.old; new = out.new; told = length.new }) result }
+{
+    let switches = flat.switches.len();
+    let bytes = flat.bytes.as_bytes();
+    *count = switches;
+    *length = bytes.len();
+    if switches > made.len() || bytes.len() > out.len() {
+        return numbers::NO_ROOM;
+    }
+    made[..switches].copy_from_slice(&flat.switches);
+    out[..bytes.len()].copy_from_slice(bytes);
+    numbers::OK
+}

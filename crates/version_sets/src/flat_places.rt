@@ -1,0 +1,89 @@
+//! A version whose pre-release is still a text, and how it compares with flat switches.
+
+ghost use Rattle.std.specs.Prelude.{◌≡◌, map};
+ghost use Rattle.semver_parser.specs.Outlines.{version_of};
+ghost use Rattle.semver_parser.specs.Precedence.{precedence};
+ghost use Rattle.version_sets.specs.Switches.{switched};
+ghost use Rattle.version_sets.specs.Steps.FlatViews.{asked_value, place_value};
+ghost use Rattle.version_sets.specs.Steps.FlatViews.{switch_value, text_at};
+
+use crate::flat::FlatSwitch;
+use crate::texts::compare_pre_releases;
+use semver_parser::version::Outline;
+use std::cmp::Ordering;
+
+/// The numbers of a version, and the identifiers of its pre-release joined by dots.
+#[derive(Clone, Copy)]
+pub(crate) struct Place<'t> {
+    major: u64,
+    minor: u64,
+    patch: u64,
+    pre: &'t [u8],
+}
+
+impl<'t> Place<'t> {
+    /// The place of the version of an outline.
+    pub(crate) fn of_outline(outline: &Outline<'t>) -> Place<'t>
+        ensures { place_value result ≡ (version_of outline.now).plain }
+    {
+        Place {
+            major: outline.major(),
+            minor: outline.minor(),
+            patch: outline.patch(),
+            pre: outline.pre().as_bytes(),
+        }
+    }
+
+    /// The place of a switch.
+    pub(crate) fn of_switch(switch: &FlatSwitch, bytes: &'t [u8]) -> Place<'t>
+        ensures { place_value result ≡ asked_value bytes.now switch.now }
+    {
+        Place {
+            major: switch.major,
+            minor: switch.minor,
+            patch: switch.patch,
+            pre: text_at(bytes, switch),
+        }
+    }
+
+    /// How it compares with a switch by precedence.
+    pub(crate) fn compare(&self, switch: &FlatSwitch, bytes: &[u8]) -> Ordering
+        ensures { result ≡ precedence (place_value self.now) (switch_value bytes.now switch.now) }
+    {
+        let by_numbers = self
+            .major
+            .cmp(&switch.major)
+            .then(self.minor.cmp(&switch.minor))
+            .then(self.patch.cmp(&switch.patch));
+        if by_numbers.is_ne() {
+            return by_numbers;
+        }
+        compare_pre_releases(self.pre, text_at(bytes, switch))
+    }
+}
+
+/// The text of a switch's pre-release, as far as there are bytes.
+pub(crate) fn text_at<'t>(bytes: &'t [u8], switch: &FlatSwitch) -> &'t [u8]
+    ensures { result.now ≡ text_at bytes.now switch.now }
+{
+    let behind = &bytes[switch.pre_offset.min(bytes.len())..];
+    &behind[..switch.pre_length.min(behind.len())]
+}
+
+/// Whether an odd number of increasing switches are at or below a place: those up to the first that
+/// is above it are counted.
+pub(crate) fn is_among(place: &Place<'_>, switches: &[FlatSwitch], bytes: &[u8]) -> bool
+    ensures { result ≡ switched precedence (map (switch_value bytes.now) switches.now)
+        (place_value place.now) }
+{
+    let mut is_in = false;
+    let mut rest = switches;
+    while let [first, others @ ..] = rest {
+        if place.compare(first, bytes).is_lt() {
+            return is_in;
+        }
+        is_in = !is_in;
+        rest = others;
+    }
+    is_in
+}

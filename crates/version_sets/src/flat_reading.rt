@@ -1,0 +1,189 @@
+//! Flat data as a set, if it is one in the normal form. Nothing here allocates.
+
+ghost use Rattle.std.specs.Prelude.{◌≡◌, ◌≤◌, ◌∷◌, true, length, map, MatchOption};
+ghost use Rattle.std.specs.List.{AllByRecursion, list_all, slice_split};
+ghost use Rattle.semver_parser.specs.Texts.{cut_at_dots, is_dot, is_part, is_part_byte};
+ghost use Rattle.version_sets.specs.Flat.{IsFlat, flat_switches};
+ghost use Rattle.version_sets.specs.VersionSets.{SetValue};
+ghost use Rattle.version_sets.specs.Steps.FlatViews.{HasSmallNumbers, are_increasing, are_placed};
+ghost use Rattle.version_sets.specs.Steps.FlatViews.{have_texts, headed, is_below_first};
+ghost use Rattle.version_sets.specs.Steps.FlatViews.{is_flat, is_flat_list, is_placed, is_text};
+
+use crate::flat::{FlatSet, FlatSwitch};
+use crate::flat_places::{Place, text_at};
+use crate::texts::compare_pre_releases;
+use semver_texts::bytes::is_part_byte;
+use semver_texts::dotted::split_at_dot;
+
+/// The number of the format of flat data, which its head has as the first number.
+pub(crate) const FORMAT: u64 = 1;
+
+impl<'a> FlatSet<'a> {
+    // Answer: law answer_laws::sets::one_flat_read.
+    /// The set of flat data, as `VersionSet::to_flat` makes it; `None` for any other data. It takes
+    /// time in the number of switches and bytes, and no memory.
+    ///
+    /// The first switch is a head: the number of the format, 1, how many switches of releases there
+    /// are, and how many of pre-releases. After it come these, each kind in ascending order. The
+    /// bytes are the texts of the pre-releases, one after the other.
+    ///
+    /// The releases from 1.2.0 on and below 2.0.0 are the switches (1, 2, 0), (1, 2, 0) and
+    /// (2, 0, 0), each with 0 and 0 for the text, and no bytes.
+    pub fn read(switches: &'a [FlatSwitch], bytes: &'a [u8]) -> Option<FlatSet<'a>>
+        // The data is that of the set, or that of no set.
+        ensures flat { MatchOption result
+            ((set : SetValue) → ¬ (IsFlat switches.now bytes.now set))
+            (IsFlat switches.now bytes.now) }
+    {
+        let (releases, pre_releases) = kinds(switches)?;
+        if !is_flat(releases, pre_releases, bytes) {
+            return None;
+        }
+        Some(FlatSet {
+            releases,
+            pre_releases,
+            bytes,
+        })
+    }
+}
+
+/// The switches of both kinds, if the head says how many these are.
+fn kinds(switches: &[FlatSwitch]) -> Option<(&[FlatSwitch], &[FlatSwitch])>
+    ensures { MatchOption result ((set : SetValue) → ¬ (switches.now ≡ flat_switches set))
+        (λ kinds. switches.now ≡ headed kinds.0.now kinds.1.now) }
+{
+    let [head, switches @ ..] = switches else {
+        return None;
+    };
+    if head.major != FORMAT || head.pre_offset != 0 || head.pre_length != 0 {
+        return None;
+    }
+    if head.minor > switches.len() as u64 {
+        return None;
+    }
+    let (releases, pre_releases) = switches.split_at(head.minor as usize);
+    if head.patch != pre_releases.len() as u64 {
+        return None;
+    }
+    Some((releases, pre_releases))
+}
+
+/// Whether these are the switches of a set.
+fn is_flat(releases: &[FlatSwitch], pre_releases: &[FlatSwitch], bytes: &[u8]) -> bool
+    ensures flat { result ≡ is_flat releases.now pre_releases.now bytes.now }
+    ensures small { result ≡ true → AllByRecursion HasSmallNumbers releases.now
+        × AllByRecursion HasSmallNumbers pre_releases.now }
+{
+    is_flat_list(releases, &[]) && is_flat_list(pre_releases, bytes) && have_texts(pre_releases)
+}
+
+/// Whether these are switches of one kind, and their texts are the bytes.
+fn is_flat_list(switches: &[FlatSwitch], bytes: &[u8]) -> bool
+    ensures flat { result ≡ is_flat_list bytes.now switches.now }
+    ensures small { result ≡ true → AllByRecursion HasSmallNumbers switches.now }
+{
+    are_placed(switches, bytes) && are_increasing(switches, bytes)
+}
+
+/// Whether the texts of switches follow one another up to the end of the bytes.
+fn are_placed(switches: &[FlatSwitch], bytes: &[u8]) -> bool
+    ensures placed { result ≡ are_placed 0 bytes.now switches.now }
+    ensures small { result ≡ true → AllByRecursion HasSmallNumbers switches.now }
+{
+    let mut at = 0;
+    let mut rest = switches;
+    while let [first, others @ ..] = rest {
+        if !is_placed(first, at, bytes) {
+            return false;
+        }
+        at += first.pre_length;
+        rest = others;
+    }
+    at == bytes.len()
+}
+
+/// Whether the text of a switch is after so many bytes, and within the bytes.
+fn is_placed(switch: &FlatSwitch, at: usize, bytes: &[u8]) -> bool
+    requires { at ≤ length bytes.now }
+    ensures placed { result ≡ is_placed at bytes.now switch.now }
+    ensures small { HasSmallNumbers switch.now }
+{
+    let own = *switch;
+    own.pre_offset == at && own.pre_length <= bytes.len() - at && is_text(text_at(bytes, switch))
+}
+
+/// Whether a text is that of identifiers, and none is a number with a zero before it: only such a
+/// number is kept as another identifier in a range.
+fn is_text(text: &[u8]) -> bool
+    ensures { result ≡ is_text text.now }
+{
+    are_parts(text) && compare_pre_releases(text, text).is_eq()
+}
+
+/// Whether each text between the dots is one or more letters, digits and hyphens; so it is if there
+/// is nothing.
+fn are_parts(text: &[u8]) -> bool
+    ensures { result ≡ list_all is_part (cut_at_dots text.now) }
+{
+    text.is_empty() || are_split_parts(text)
+}
+
+/// Whether each text between the dots is one or more letters, digits and hyphens.
+fn are_split_parts(text: &[u8]) -> bool
+    ensures { result ≡ list_all is_part (slice_split is_dot text.now) }
+{
+    let mut rest = Some(text);
+    while let Some(bytes) = rest {
+        let (part, behind) = split_at_dot(bytes);
+        if !is_part(part) {
+            return false;
+        }
+        rest = behind;
+    }
+    true
+}
+
+/// Whether a text is one or more letters, digits and hyphens.
+pub(crate) fn is_part(text: &[u8]) -> bool
+    ensures { result ≡ is_part text.now }
+{
+    !text.is_empty() && are_part_bytes(text)
+}
+
+/// Whether each byte is a letter, a digit or a hyphen.
+fn are_part_bytes(text: &[u8]) -> bool
+    ensures { result ≡ list_all is_part_byte text.now }
+{
+    text.iter().all(|byte| is_part_byte(*byte))
+}
+
+/// Whether each switch is below the next.
+fn are_increasing(switches: &[FlatSwitch], bytes: &[u8]) -> bool
+    ensures { result ≡ are_increasing bytes.now switches.now }
+{
+    let mut rest = switches;
+    while let [first, others @ ..] = rest {
+        if !is_below_first(first, others, bytes) {
+            return false;
+        }
+        rest = others;
+    }
+    true
+}
+
+/// Whether a switch is below the first of some others, if there is one.
+fn is_below_first(switch: &FlatSwitch, others: &[FlatSwitch], bytes: &[u8]) -> bool
+    ensures { result ≡ is_below_first bytes.now switch.now others.now }
+{
+    match others {
+        [] => true,
+        [next, ..] => Place::of_switch(switch, bytes).compare(next, bytes).is_lt(),
+    }
+}
+
+/// Whether each switch has a text.
+fn have_texts(switches: &[FlatSwitch]) -> bool
+    ensures { result ≡ have_texts switches.now }
+{
+    switches.iter().all(|switch| switch.pre_length > 0)
+}

@@ -1,0 +1,109 @@
+//! Flat data made a set that can be combined, compared and printed.
+
+ghost use Rattle.std.specs.Prelude.{◌≡◌, [], IfOk, map, true};
+ghost use Rattle.std.specs.List.{AllByRecursion};
+ghost use Rattle.semver_parser.specs.Partials.{kept};
+ghost use Rattle.semver_parser.specs.Texts.{cut_at_dots};
+ghost use Rattle.semver_parser.specs.VersionViews.{identifier_value};
+ghost use Rattle.version_sets.specs.Releases.{release_value};
+ghost use Rattle.version_sets.specs.Steps.FlatViews.{is_text, switch_value, text_at};
+ghost use Rattle.version_sets.specs.Steps.Places.{version_place};
+
+use crate::flat::{FlatSet, FlatSwitch};
+use crate::flat_places;
+use crate::release::Release;
+use crate::texts::digits;
+use crate::version_set::VersionSet;
+use semver_parser::version::{Identifier, Version};
+use semver_texts::dotted::of_parts;
+use std::alloc::{AllocError, Global};
+
+impl<'a> FlatSet<'a> {
+    // Answer: equation.
+    /// The same set, which can be combined, compared and printed. `Err` is out of memory.
+    pub fn to_set(&self, alloc: Global) -> Result<VersionSet, AllocError>
+        ensures set { IfOk result (λ set. set ≡ self.now) }
+    {
+        let releases = releases_of(alloc, self.releases)?;
+        let pre_releases = pre_releases_of(alloc, self.pre_releases, self.bytes)?;
+        Ok(VersionSet::of_switches(releases, pre_releases))
+    }
+}
+
+/// The releases of switches.
+fn releases_of(alloc: Global, switches: &[FlatSwitch]) -> Result<Vec<Release>, AllocError>
+    ensures { IfOk result (λ releases.
+        map release_value releases.items ≡ map (switch_value []) switches.now) }
+{
+    let mut releases = Vec::new(alloc);
+    let mut rest = switches;
+    while let [first, others @ ..] = rest {
+        releases.push(release_of(first))?;
+        rest = others;
+    }
+    Ok(releases)
+}
+
+/// The release of a switch.
+fn release_of(switch: &FlatSwitch) -> Release
+    ensures { release_value result ≡ switch_value [] switch.now }
+{
+    Release {
+        major: switch.major,
+        minor: switch.minor,
+        patch: switch.patch,
+    }
+}
+
+/// The pre-releases of switches.
+fn pre_releases_of(
+    alloc: Global,
+    switches: &[FlatSwitch],
+    bytes: &[u8],
+) -> Result<Vec<Version>, AllocError>
+    requires { AllByRecursion (λ s. is_text (text_at bytes.now s) ≡ true) switches.now }
+    ensures { IfOk result (λ versions.
+        map version_place versions.items ≡ map (switch_value bytes.now) switches.now) }
+{
+    let mut versions = Vec::new(alloc);
+    let mut rest = switches;
+    while let [first, others @ ..] = rest {
+        versions.push(version_of(alloc, first, bytes)?)?;
+        rest = others;
+    }
+    Ok(versions)
+}
+
+/// The version of a switch.
+fn version_of(alloc: Global, switch: &FlatSwitch, bytes: &[u8]) -> Result<Version, AllocError>
+    requires { is_text (text_at bytes.now switch.now) ≡ true }
+    ensures { IfOk result (λ version.
+        version_place version ≡ switch_value bytes.now switch.now) }
+{
+    Ok(Version {
+        major: switch.major,
+        minor: switch.minor,
+        patch: switch.patch,
+        pre: identifiers(alloc, flat_places::text_at(bytes, switch))?,
+        build: Vec::new(alloc),
+    })
+}
+
+/// The identifiers of a text.
+fn identifiers(alloc: Global, text: &[u8]) -> Result<Vec<Identifier>, AllocError>
+    requires { is_text text.now ≡ true }
+    ensures { IfOk result (λ ids.
+        map identifier_value ids.items ≡ map kept (cut_at_dots text.now)) }
+{
+    of_parts(alloc, text, |part| identifier(alloc, part))
+}
+
+/// The identifier that a part is kept as.
+fn identifier(alloc: Global, part: &str) -> Result<Identifier, AllocError>
+    ensures { IfOk result (λ id. identifier_value id ≡ kept part.now) }
+{
+    match digits(part.as_bytes()) {
+        Some(number) => Ok(Identifier::Numeric(number)),
+        None => Ok(Identifier::AlphaNumeric(String::from_str(alloc, part)?)),
+    }
+}

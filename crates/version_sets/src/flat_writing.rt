@@ -1,0 +1,182 @@
+//! Sets written as flat data.
+
+ghost use Rattle.std.specs.Prelude.{◌≡◌, ◌++◌, ◌∷◌, [], Some, IfOk, OnOk, MatchOption, length, map};
+ghost use Rattle.std.specs.Prelude.{string_bytes};
+ghost use Rattle.std.specs.List.{flat_map, list_all};
+ghost use Rattle.semver_parser.specs.Outlines.{dotted_text};
+ghost use Rattle.semver_parser.specs.PrintedRanges.{is_kept as kept, is_printable_version};
+ghost use Rattle.semver_parser.specs.VersionViews.{identifier_value};
+ghost use Rattle.version_sets.specs.Flat.{IsFlat, IsPrintable, flat_from, flat_switch, pre_text};
+ghost use Rattle.version_sets.specs.Releases.{release_value};
+ghost use Rattle.version_sets.specs.Steps.Places.{version_place};
+
+use crate::flat::FlatSwitch;
+use crate::flat_reading::{FORMAT, is_part};
+use crate::release::Release;
+use crate::texts::digits;
+use crate::version_set::VersionSet;
+use semver_parser::version::{Identifier, Version};
+use semver_texts::printing::write_joined;
+use std::alloc::{AllocError, Global};
+use std::fmt;
+
+/// A set as flat data.
+#[derive(Debug, Drop)]
+pub struct FlatData {
+    /// The head, the switches of the releases, and those of the pre-releases.
+    pub switches: Vec<FlatSwitch>,
+    /// The texts of the pre-releases, one after the other.
+    pub bytes: String,
+}
+
+impl VersionSet {
+    // Answer: equation.
+    /// The set as flat data, which `FlatSet::read` reads. `Err` is out of memory.
+    ///
+    /// It is `None` if an identifier can't be read back from its text: a text that isn't letters,
+    /// digits and hyphens, or that is digits up to 2^64 - 1, as comparators made by hand may have.
+    pub fn to_flat(&self, alloc: Global) -> Result<Option<FlatData>, AllocError>
+        ensures flat { IfOk result (λ flat. MatchOption flat (¬ (IsPrintable self.now))
+            (λ made. IsFlat made.switches.items (string_bytes made.bytes) self.now)) }
+    {
+        if !are_printable(&self.pre_releases) {
+            return Ok(None);
+        }
+        let mut switches = Vec::new(alloc);
+        let mut bytes = String::new(alloc);
+        switches.push(FlatSwitch {
+            major: FORMAT,
+            minor: self.releases.len() as u64,
+            patch: self.pre_releases.len() as u64,
+            pre_offset: 0,
+            pre_length: 0,
+        })?;
+        append_releases(&mut switches, &self.releases)?;
+        append_pre_releases(&mut switches, &mut bytes, &self.pre_releases)?;
+        Ok(Some(FlatData { switches, bytes }))
+    }
+}
+
+/// Appends the switches of releases.
+fn append_releases(switches: &mut Vec<FlatSwitch>, releases: &[Release]) -> Result<(), AllocError>
+    ensures { OnOk result (switches.new.items
+        ≡ switches.old.items ++ flat_from 0 (map release_value releases.now)) }
+{
+    for release in releases {
+        switches.push(FlatSwitch {
+            major: release.major,
+            minor: release.minor,
+            patch: release.patch,
+            pre_offset: 0,
+            pre_length: 0,
+        })?;
+    }
+    Ok(())
+}
+
+/// Appends the switches of pre-releases, and their texts.
+fn append_pre_releases(
+    switches: &mut Vec<FlatSwitch>,
+    bytes: &mut String,
+    versions: &[Version],
+) -> Result<(), AllocError>
+    ensures switches { OnOk result (switches.new.items ≡ switches.old.items
+        ++ flat_from (length (string_bytes bytes.old)) (map version_place versions.now)) }
+    ensures texts { OnOk result (string_bytes bytes.new ≡ string_bytes bytes.old
+        ++ flat_map pre_text (map version_place versions.now)) }
+{
+    for version in versions {
+        append(switches, bytes, version)?;
+    }
+    Ok(())
+}
+
+/// Appends the switch of a pre-release, and its text.
+fn append(
+    switches: &mut Vec<FlatSwitch>,
+    bytes: &mut String,
+    version: &Version,
+) -> Result<(), AllocError>
+    ensures switches { OnOk result (switches.new.items ≡ switches.old.items
+        ++ flat_switch (length (string_bytes bytes.old)) (version_place version.now) ∷ []) }
+    ensures texts { OnOk result (string_bytes bytes.new
+        ≡ string_bytes bytes.old ++ pre_text (version_place version.now)) }
+{
+    let pre_offset = bytes.as_bytes().len();
+    let pre_release = Dotted(&version.pre);
+    write!(bytes, "{pre_release}")?;
+    let pre_length = bytes.as_bytes().len() - pre_offset;
+    switches.push(FlatSwitch {
+        major: version.major,
+        minor: version.minor,
+        patch: version.patch,
+        pre_offset,
+        pre_length,
+    })?;
+    Ok(())
+}
+
+/// Identifiers, printed with dots between them.
+#[derive(Clone, Copy)]
+struct Dotted<'a>(&'a [Identifier]);
+
+impl fmt::Display for Dotted<'_> {
+    ghost output = { λ dotted. Some (dotted_text (map identifier_value dotted.0.now)) };
+
+    fn fmt<W: fmt::Write>(&self, f: &mut fmt::Formatter<W>) -> fmt::Result {
+        write_joined(f, ".", self.0)
+    }
+}
+
+/// Whether each identifier of versions can be read back from its text.
+fn are_printable(versions: &[Version]) -> bool
+    ensures { result ≡ list_all is_printable_version (map version_place versions.now) }
+{
+    let mut rest = versions;
+    while let [first, others @ ..] = rest {
+        if !is_printable(first) {
+            return false;
+        }
+        rest = others;
+    }
+    true
+}
+
+/// Whether each identifier of a version's pre-release can be read back from its text. Its numbers
+/// fit, as those of each `Version`.
+fn is_printable(version: &Version) -> bool
+    ensures { result ≡ is_printable_version (version_place version.now) }
+{
+    let _numbers = Release::of(version);
+    are_kept(&version.pre)
+}
+
+/// Whether each identifier can be read back from its text.
+fn are_kept(identifiers: &[Identifier]) -> bool
+    ensures { result ≡ list_all kept (map identifier_value identifiers.now) }
+{
+    let mut rest = identifiers;
+    while let [first, others @ ..] = rest {
+        if !is_kept(first) {
+            return false;
+        }
+        rest = others;
+    }
+    true
+}
+
+/// Whether an identifier can be read back from its text.
+fn is_kept(identifier: &Identifier) -> bool
+    ensures { result ≡ kept (identifier_value identifier.now) }
+{
+    match identifier {
+        Identifier::Numeric(number) => {
+            let _number = *number;
+            true
+        }
+        Identifier::AlphaNumeric(text) => {
+            let bytes = text.as_bytes();
+            is_part(bytes) && digits(bytes).is_none()
+        }
+    }
+}
