@@ -110,7 +110,7 @@ at_and_not_above o = grind arith
 same_number : (m n : ℕ) → is_eq (nat_cmp m n) ≡ nat_eq m n
 same_number m n = grind (arith, nat_tests)
 
-same_numbers : (v w : PlainVersion) → is_eq (numbers_cmp v w) ≡ pointwise nat_eq (numbers v) (numbers w)
+pub same_numbers : (v w : PlainVersion) → is_eq (numbers_cmp v w) ≡ pointwise nat_eq (numbers v) (numbers w)
 same_numbers v w =
     is_eq_then (nat_cmp v.major w.major) _
     ∙ ap₂ (λ a b. a && b) (same_number v.major w.major)
