@@ -19,7 +19,8 @@ use Rattle.semver_parser.specs.PrecedenceLaws.{precedence_total}
 use Rattle.semver_parser.specs.Versions.{PlainVersion}
 use Rattle.version_sets.specs.VersionSets.{AreSwitches}
 use Rattle.version_sets.specs.Steps.Spans.{SpanValue, reached, is_between, is_in, IsSpan, later, earlier, is_below, span_switches}
-use Rattle.version_sets.specs.Steps.Spans.{narrowed_from, narrowed_to, met, joined, all_joined, all_ascend, some_empty, in_some, IsAscending}
+use Rattle.version_sets.specs.Steps.Spans.{narrowed_from, narrowed_to}
+use Rattle.version_sets.specs.Steps.Spans.{met, joined, all_joined, all_ascend, some_empty, in_some, IsAscending}
 use Rattle.version_sets.specs.Steps.SpanViews.{span_value}
 use Rattle.version_sets.specs.Switches.{switched, IsBelowFirst, IsIncreasing}
 use Rattle.version_sets.specs.declared.spans.Span.{Span}

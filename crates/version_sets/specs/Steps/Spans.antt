@@ -40,8 +40,8 @@ module _ {T : Type 0} (cmp : T → T → Ordering) where
   earlier (Some a) None = Some a
   earlier (Some a) (Some b) = if is_lt (cmp b a) then Some b else Some a
 
-  -- where bounds begin and end once a comparator narrows them: `at` is where what is at or above its
-  -- version begins, and `above` where what is above it does
+  -- where bounds begin and end once a comparator narrows them: `at` is where what is at or above
+  -- its version begins, and `above` where what is above it does
   abbrev pub narrowed_from : Op → Option T → Option T → Option T → Option T
   narrowed_from Lt from at above = from
   narrowed_from Lte from at above = from
