@@ -26,9 +26,7 @@ by_numbers v w = regroup (nat_cmp v.major w.major) (nat_cmp v.minor w.minor) (na
 -- a test of the pre-releases that answers as another does, after any numbers
 pub then_alike : (f g : Ordering → Bool) (o r s : Ordering) → f Less ≡ g Less → f Greater ≡ g Greater → f r ≡ g s
     → f (ordering_then o r) ≡ g (ordering_then o s)
-then_alike f g Less r s l m e = l
-then_alike f g Equal r s l m e = e
-then_alike f g Greater r s l m e = m
+then_alike f g o r s e h k = grind arith
 
 -- the number 0 is the least list of identifiers
 pub zero_least : (x : IdentifierValue) (xs : List IdentifierValue) → is_ge (slice_cmp identifier_cmp (x ∷ xs) (numeric 0 ∷ [])) ≡ true
@@ -51,9 +49,7 @@ nothing_between (x ∷ xs) (w ∷ ws) = then_alike is_ge is_gt (identifier_cmp x
 -- the same, where the other test sees the numbers alone
 numbers_decide : (f g : Ordering → Bool) (o r : Ordering)
     → f Less ≡ g Less → f Greater ≡ g Greater → f Equal ≡ g r → f o ≡ g (ordering_then o r)
-numbers_decide f g Less r l m e = l
-numbers_decide f g Equal r l m e = e
-numbers_decide f g Greater r l m e = m
+numbers_decide f g o r e h k = grind arith
 
 -- the tests of precedence by what they answer where the numbers are equal
 pub against : (f g : Ordering → Bool) (v w : PlainVersion) → f Less ≡ g Less → f Greater ≡ g Greater → f Equal ≡ g (pre_cmp v.pre w.pre)
@@ -61,14 +57,10 @@ pub against : (f g : Ordering → Bool) (v w : PlainVersion) → f Less ≡ g Le
 against f g v w l m e = numbers_decide f g (numbers_cmp v w) _ l m e ∙ sym (ap g (by_numbers v w))
 
 pub release_reaches : (xs ws : List IdentifierValue) → is_empty xs ≡ true → is_ge Equal ≡ is_ge (pre_cmp xs ws)
-release_reaches [] [] e = refl
-release_reaches [] (w ∷ ws) e = refl
-release_reaches (x ∷ xs) ws e = absurd (search rules)
+release_reaches xs ws e = grind arith
 
 pub none_above : (xs ws : List IdentifierValue) → is_empty ws ≡ true → is_gt Equal ≡ is_gt (pre_cmp xs ws)
-none_above [] [] f = refl
-none_above (x ∷ xs) [] f = refl
-none_above xs (w ∷ ws) f = absurd (search rules)
+none_above xs ws e = grind arith
 
 from_lowest : (xs : List IdentifierValue) → is_empty xs ≡ false → is_ge Equal ≡ is_ge (pre_cmp xs (numeric 0 ∷ []))
 from_lowest [] e = absurd (search rules)
@@ -110,7 +102,7 @@ at_and_not_above o = grind arith
 same_number : (m n : ℕ) → is_eq (nat_cmp m n) ≡ nat_eq m n
 same_number m n = grind (arith, nat_tests)
 
-same_numbers : (v w : PlainVersion) → is_eq (numbers_cmp v w) ≡ pointwise nat_eq (numbers v) (numbers w)
+pub same_numbers : (v w : PlainVersion) → is_eq (numbers_cmp v w) ≡ pointwise nat_eq (numbers v) (numbers w)
 same_numbers v w =
     is_eq_then (nat_cmp v.major w.major) _
     ∙ ap₂ (λ a b. a && b) (same_number v.major w.major)

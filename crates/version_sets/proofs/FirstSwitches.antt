@@ -1,155 +1,164 @@
 -- The first switch of a kind is in the set, and none of its kind that is in the set is below it.
-use Rattle.std.proofs.Common.{◌≡◌, ◌≢◌, ◌↔◌, Bool, true, false, ◌&&◌, List, [], ◌∷◌, refl}
+use Rattle.std.proofs.Common.{arith, ◌≡◌, ◌≢◌, ◌↔◌, ◌⊎◌, Bool, true, false, ◌&&◌, cond, List, [], ◌∷◌, refl, inl, inr, Ordering, is_lt}
 use Rattle.std.proofs.Common.{sym, ap, ◌∙◌, subst, true≢false, Less, Option, Some, None, map, Bor}
 use Rattle.std.specs.Option.{option_copied}
-use Rattle.std.specs.Prelude.{MatchOption, IfSome, slice_get}
+use Rattle.std.specs.Prelude.{MatchOption, IfSome, slice_get, option_map}
+use Rattle.semver_parser.specs.VersionViews.{version_value}
+use Rattle.semver_parser.specs.declared.version.Version.{Version}
+use Rattle.version_sets.specs.Comparisons.{TellsLeast}
+use Rattle.version_sets.specs.Steps.Combined.{keeps, combined_sets, IsKept}
+use Rattle.version_sets.specs.Steps.Lower.{lower, unbuilt}
+use Rattle.version_sets.specs.declared.combination.Combination.{Combination}
+use Rattle.version_sets.specs.declared.combination.Combination.TheVariants.{Union, Intersection, Difference}
 use Rattle.semver_parser.specs.Texts.{is_empty}
-use Rattle.semver_parser.specs.Versions.{PlainVersion}
+use Rattle.semver_parser.specs.Versions.{PlainVersion, VersionValue}
 use Rattle.semver_parser.specs.Precedence.{precedence}
 use Rattle.version_sets.specs.Switches.{switched}
-use Rattle.version_sets.specs.VersionSets.{SetValue, Fits, IsIn, IsRelease, IsPreRelease, AreSwitches, IsNormal, IsLeast, HasNone}
+use Rattle.version_sets.specs.VersionSets.{SetValue, has, Fits, IsIn, IsRelease, IsPreRelease, AreSwitches, IsNormal, IsLeast, HasNone}
 use Rattle.semver_parser.specs.PrecedenceLaws.{precedence_total}
-use Rattle.version_sets.proofs.SetLaws.{has-release, has-pre_release}
+use Rattle.version_sets.proofs.SetLaws.{has-release, has-pre_release, has-combined}
 use Rattle.version_sets.proofs.SwitchLaws.{switched-first, switched-below, by_order, turned_below}
 use Rattle.version_sets.proofs.WalkLaws.{by_test}
 
+-- the least of some versions in a set, or that there is none
+abbrev pub TellsPlain : (PlainVersion → Type 0) → SetValue → Option PlainVersion → Type 0
+TellsPlain P set o = MatchOption o (HasNone P set) (IsLeast P set)
+
+-- the first switch of a kind is the least of its kind
+first_tells : (set : SetValue) (P : PlainVersion → Type 0) (xs : List PlainVersion) → AreSwitches P xs
+    → ((v : PlainVersion) → P v → Fits v × (has set v ≡ switched precedence xs v)) → TellsPlain P set (slice_get xs 0)
+first_tells set P [] s is = λ v k h. true≢false (sym h.1 ∙ (is v k).1)
+first_tells set P (b ∷ ys) s is =
+    let k = s.are_of_kind.0 in
+    record {
+      is_of_kind = k;
+      is_in = ((is b k).0, (is b k).1 ∙ switched-first precedence precedence_total b ys s.increase.0);
+      lowest = λ w k h l. true≢false (sym h.1 ∙ (is w k).1 ∙ switched-below precedence w (b ∷ ys) l);
+    }
+
 module _ (set : SetValue) (s : IsNormal set) where
-  pub release_in : (b : PlainVersion) (ys : List PlainVersion) → set.releases ≡ b ∷ ys → IsIn b set × (is_empty b.pre ≡ true)
-  release_in b ys e =
-      let t = subst (AreSwitches IsRelease) e s.releases in
-      let kind = t.are_of_kind.0 in (
-        (
-          kind.0,
-          has-release set b kind.1 ∙ ap (λ l. switched precedence l b) e
-              ∙ switched-first precedence precedence_total b ys t.increase.0,
-        ),
-        kind.1,
-      )
+  pub first_release : TellsPlain IsRelease set (slice_get set.releases 0)
+  first_release = first_tells set IsRelease set.releases s.releases (λ v k. (k.0, has-release set v k.1))
 
-  pub pre_release_in : (b : PlainVersion) (ys : List PlainVersion) → set.pre_releases ≡ b ∷ ys → IsIn b set × (is_empty b.pre ≡ false)
-  pre_release_in b ys e =
-      let t = subst (AreSwitches IsPreRelease) e s.pre_releases in
-      let kind = t.are_of_kind.0 in (
-        (
-          kind.0,
-          has-pre_release set b kind.1 ∙ ap (λ l. switched precedence l b) e
-              ∙ switched-first precedence precedence_total b ys t.increase.0,
-        ),
-        kind.1,
-      )
+  pub first_pre_release : TellsPlain IsPreRelease set (slice_get set.pre_releases 0)
+  first_pre_release = first_tells set IsPreRelease set.pre_releases s.pre_releases (λ v k. (k.0, has-pre_release set v k.1))
 
-module _ (set : SetValue) (w : PlainVersion) (h : IsIn w set) where
-  pub no_release : set.releases ≡ [] → is_empty w.pre ≡ false
-  no_release e =
-      by_test (is_empty w.pre) (λ t. absurd (true≢false (sym h.1 ∙ has-release set w t ∙ ap (λ l. switched precedence l w) e))) (λ f. f)
-
-  pub no_pre_release : set.pre_releases ≡ [] → is_empty w.pre ≡ true
-  no_pre_release e =
-      by_test (is_empty w.pre) (λ t. t) (λ f. absurd (true≢false (sym h.1 ∙ has-pre_release set w f ∙ ap (λ l. switched precedence l w) e)))
-
-  pub release_not_below : (b : PlainVersion) (ys : List PlainVersion) → set.releases ≡ b ∷ ys
-      → is_empty w.pre ≡ true → precedence w b ≢ Less
-  release_not_below b ys e t l =
-      true≢false (sym h.1 ∙ has-release set w t ∙ ap (λ l. switched precedence l w) e ∙ switched-below precedence w (b ∷ ys) l)
-
-  pub pre_release_not_below : (b : PlainVersion) (ys : List PlainVersion) → set.pre_releases ≡ b ∷ ys
-      → is_empty w.pre ≡ false → precedence w b ≢ Less
-  pre_release_not_below b ys e t l =
-      true≢false (sym h.1 ∙ has-pre_release set w t ∙ ap (λ l. switched precedence l w) e ∙ switched-below precedence w (b ∷ ys) l)
-
--- a set is empty exactly where it has no switches
-empty_lists : (set : SetValue) (xs ys : List PlainVersion) → set.releases ≡ xs → set.pre_releases ≡ ys → IsNormal set
-    → (is_empty xs && is_empty ys ≡ true) ↔ ((v : PlainVersion) → ¬ IsIn v set)
-empty_lists set [] [] e f s =
-    (λ _ v h. true≢false (sym (no_pre_release set v h f) ∙ no_release set v h e), λ _. refl)
-empty_lists set (b ∷ xs) ys e f s = (λ h. absurd (true≢false (sym h)), λ none. absurd (none b (release_in set s b xs e).0))
-empty_lists set [] (b ∷ ys) e f s = (λ h. absurd (true≢false (sym h)), λ none. absurd (none b (pre_release_in set s b ys f).0))
-
-pub tells_empty : (set : SetValue) → IsNormal set → (r : Bool) → r ≡ (is_empty set.releases && is_empty set.pre_releases)
-    → (r ≡ true) ↔ ((v : PlainVersion) → ¬ IsIn v set)
-tells_empty set s r e =
-    let is = empty_lists set set.releases set.pre_releases refl refl s in
-    (λ h. is.0 (sym e ∙ h), λ none. e ∙ is.1 none)
-
--- ---- the least of a kind
-
--- an answer that is the least of a kind in the set, if there is one
-abbrev pub Tells : {X : Type 0} → (X → PlainVersion) → (PlainVersion → Type 0) → SetValue → Option X → Type 0
-Tells f P set o = MatchOption o (HasNone P set) (λ x. IsLeast P set (f x))
-
-module _ (set : SetValue) (s : IsNormal set) {X : Type 0} (f : X → PlainVersion) where
-  pub first_release : (xs : List X) → set.releases ≡ map f xs → Tells f IsRelease set (slice_get xs 0)
-  first_release [] e = λ v k h. true≢false (sym k.1 ∙ no_release set v h e)
-  first_release (x ∷ xs) e =
-      let found = release_in set s (f x) (map f xs) e in
-      record {
-        is_of_kind = (found.0.0, found.1);
-        is_in = found.0;
-        lowest = λ w k h. release_not_below set w h (f x) (map f xs) e k.1;
-      }
-
-  pub first_pre_release : (xs : List X) → set.pre_releases ≡ map f xs → Tells f IsPreRelease set (slice_get xs 0)
-  first_pre_release [] e = λ v k h. true≢false (sym (no_pre_release set v h e) ∙ k.1)
-  first_pre_release (x ∷ xs) e =
-      let found = pre_release_in set s (f x) (map f xs) e in
-      record {
-        is_of_kind = (found.0.0, found.1);
-        is_in = found.0;
-        lowest = λ w k h. pre_release_not_below set w h (f x) (map f xs) e k.1;
-      }
-
-module _ {X : Type 0} (f : X → PlainVersion) (P : PlainVersion → Type 0) (set : SetValue) where
-  pub told_some : (o : Option X) → Tells f P set o → IfSome o (λ x. IsLeast P set (f x))
-  told_some None t = tt
-  told_some (Some x) t = t
-
-  pub told_none : (o : Option X) → Tells f P set o → (o ≡ None) ↔ HasNone P set
-  told_none None t = (λ _. t, λ _. refl)
-  told_none (Some x) t = (λ e. cc, λ none. absurd (none (f x) t.is_of_kind t.is_in))
-
-  -- the same of an answer by reference
-  pub told_behind : (o : Option (Bor X)) → Tells f P set (option_copied o) → Tells (λ x. f x.now) P set o
-  told_behind None t = t
-  told_behind (Some x) t = t
+  pub pre_release_is : (p : PlainVersion) → slice_get set.pre_releases 0 ≡ Some p → IsPreRelease p
+  pre_release_is p e = let told = subst (TellsPlain IsPreRelease set) e first_pre_release in told.is_of_kind
 
 -- ---- the least of both kinds
 
-module _ (set : SetValue) (w : PlainVersion) where
+module _ (set : SetValue) where
   -- what is in the set is of one kind or the other
-  by_kind : {G : Type 0} → IsIn w set → (IsRelease w → G) → (IsPreRelease w → G) → G
-  by_kind h f g = by_test (is_empty w.pre) (λ t. f (h.0, t)) (λ t. g (h.0, t))
+  by_kind : (w : PlainVersion) {G : Type 0} → IsIn w set → (IsRelease w → G) → (IsPreRelease w → G) → G
+  by_kind w h f g = by_test (is_empty w.pre) (λ t. f (h.0, t)) (λ t. g (h.0, t))
 
-module _ (set : SetValue) (b : PlainVersion) where
-  -- where no pre-release is in the set, the least release is the least version
-  pub least_alone : IsLeast IsRelease set b → HasNone IsPreRelease set → IsLeast Fits set b
-  least_alone l none = record {
-    is_of_kind = l.is_in.0;
-    is_in = l.is_in;
-    lowest = λ w fits h. by_kind set w h (λ k. l.lowest w k h) (λ k. absurd (none w k h));
-  }
+  neither : HasNone IsRelease set → HasNone IsPreRelease set → HasNone Fits set
+  neither r p = λ v fits h. by_kind v h (λ k. r v k h) (λ k. p v k h)
 
-  -- so it is where some release is below the least pre-release
-  pub least_below : (p : PlainVersion) → IsLeast IsRelease set b → IsLeast IsPreRelease set p → precedence b p ≡ Less → IsLeast Fits set b
-  least_below p l m e = record {
-    is_of_kind = l.is_in.0;
-    is_in = l.is_in;
-    lowest = λ w fits h. by_kind set w h (λ k. l.lowest w k h) (λ k below. m.lowest w k h (precedence_total.trans w b p below e));
-  }
+  -- it is in the set, and none of either kind is below it
+  least_of : (b : PlainVersion) → IsIn b set → ((w : PlainVersion) → IsRelease w → IsIn w set → precedence w b ≢ Less)
+      → ((w : PlainVersion) → IsPreRelease w → IsIn w set → precedence w b ≢ Less) → IsLeast Fits set b
+  least_of b h f g = record { is_of_kind = h.0; is_in = h; lowest = λ w fits i. by_kind w i (λ k. f w k i) (λ k. g w k i) }
 
-  -- else the least pre-release is
-  pub least_leading : IsLeast IsPreRelease set b
-      → ((w : PlainVersion) → IsRelease w → IsIn w set → precedence w b ≢ Less) → IsLeast Fits set b
-  least_leading l none = record {
-    is_of_kind = l.is_in.0;
-    is_in = l.is_in;
-    lowest = λ w fits h. by_kind set w h (λ k. none w k h) (λ k. l.lowest w k h);
-  }
-
-  -- what is not above something below p, is below p
-  pub below_then : (v p : PlainVersion) → precedence v b ≢ Less → precedence v p ≡ Less → precedence b p ≡ Less
-  below_then v p n e =
+  -- what is not below b, and is below p, has b below p
+  below_then : (b v p : PlainVersion) → precedence v b ≢ Less → precedence v p ≡ Less → precedence b p ≡ Less
+  below_then b v p n e =
       by_order (precedence v b) (λ l. absurd (n l)) (λ t. sym (precedence_total.congr v b p t) ∙ e)
       (λ g. precedence_total.trans b v p (turned_below precedence precedence_total v b g) e)
 
-pub neither : (set : SetValue) → HasNone IsRelease set → HasNone IsPreRelease set → HasNone Fits set
-neither set r p = λ v fits h. by_kind set v h (λ k. r v k h) (λ k. p v k h)
+  -- the lower one of the least of each kind is the least of both
+  lower_is : (r p : Option PlainVersion) → TellsPlain IsRelease set r → TellsPlain IsPreRelease set p → TellsPlain Fits set (lower r p)
+  lower_is None None f g = neither f g
+  lower_is (Some b) None l g = least_of b l.is_in l.lowest (λ w k h. absurd (g w k h))
+  lower_is None (Some p) f m = least_of p m.is_in (λ w k h e. f w k h) m.lowest
+  lower_is (Some b) (Some p) l m = at (is_lt (precedence b p)) refl
+    where
+      less : (o : Ordering) → is_lt o ≡ true → o ≡ Less
+      less o e = grind arith
+
+      at : (t : Bool) → is_lt (precedence b p) ≡ t → TellsPlain Fits set (cond t (Some b) (Some p))
+      at true e = least_of b l.is_in l.lowest (λ w k h below. m.lowest w k h (precedence_total.trans w b p below (less _ e)))
+      at false e =
+          least_of p m.is_in (λ w k h below. true≢false (sym (ap is_lt (below_then b w p (l.lowest w k h) below)) ∙ e)) m.lowest
+
+  pub first_is : IsNormal set → TellsPlain Fits set (lower (slice_get set.releases 0) (slice_get set.pre_releases 0))
+  first_is s = lower_is _ _ (first_release set s) (first_pre_release set s)
+
+  -- a set is empty exactly where it has no switches
+  empty_lists : (xs ys : List PlainVersion) → TellsPlain IsRelease set (slice_get xs 0) → TellsPlain IsPreRelease set (slice_get ys 0)
+      → (is_empty xs && is_empty ys ≡ true) ↔ ((v : PlainVersion) → ¬ IsIn v set)
+  empty_lists [] [] f g = (λ _ v h. neither f g v h.0 h, λ _. refl)
+  empty_lists (b ∷ xs) ys f g = (λ h. absurd (true≢false (sym h)), λ none. absurd (none b f.is_in))
+  empty_lists [] (b ∷ ys) f g = (λ h. absurd (true≢false (sym h)), λ none. absurd (none b g.is_in))
+
+  pub tells_empty : IsNormal set → (r : Bool) → r ≡ (is_empty set.releases && is_empty set.pre_releases)
+      → (r ≡ true) ↔ ((v : PlainVersion) → ¬ IsIn v set)
+  tells_empty s r e =
+      let is = empty_lists set.releases set.pre_releases (first_release set s) (first_pre_release set s) in
+      (λ h. is.0 (sym e ∙ h), λ none. e ∙ is.1 none)
+
+-- ---- what is told by a version
+
+module _ {X : Type 0} (f : X → PlainVersion) (P : PlainVersion → Type 0) (set : SetValue) where
+  pub told_some : (o : Option X) → TellsPlain P set (option_map f o) → IfSome o (λ x. IsLeast P set (f x))
+  told_some None t = tt
+  told_some (Some x) t = t
+
+  pub told_none : (o : Option X) → TellsPlain P set (option_map f o) → (o ≡ None) ↔ HasNone P set
+  told_none None t = (λ _. t, λ _. refl)
+  told_none (Some x) t = (λ e. cc, λ none. absurd (none (f x) t.is_of_kind t.is_in))
+
+pub first_map : {X : Type 0} (f : X → PlainVersion) (xs : List X) → option_map f (slice_get xs 0) ≡ slice_get (map f xs) 0
+first_map f [] = refl
+first_map f (x ∷ xs) = refl
+
+-- the first item by reference
+pub first_copied : {X : Type 0} (f : X → PlainVersion) (o : Option (Bor X)) (xs ys : List X) → option_copied o ≡ slice_get xs 0 → xs ≡ ys
+    → option_map (λ x. f x.now) o ≡ slice_get (map f ys) 0
+first_copied {X = X} f o xs ys e is = behind o ∙ ap (option_map f) e ∙ ap (λ l. option_map f (slice_get l 0)) is ∙ first_map f ys
+  where
+    behind : (o : Option (Bor X)) → option_map (λ x. f x.now) o ≡ option_map f (option_copied o)
+    behind None = refl
+    behind (Some x) = refl
+
+-- what is told of it as a version without a build
+pub record IsTold (set : SetValue) (least : Option Version) : Type 0 where
+  pub is_least : IfSome least (λ v. IsLeast Fits set (version_value v).plain)
+  pub no_build : IfSome least (λ v. (version_value v).build ≡ [])
+  pub none : (least ≡ None) ↔ HasNone Fits set
+
+pub is_told : (set : SetValue) (o : Option PlainVersion) → TellsPlain Fits set o → (least : Option Version)
+    → option_map version_value least ≡ option_map unbuilt o → IsTold set least
+is_told set None told None e = record { is_least = tt; no_build = tt; none = (λ _. told, λ _. refl) }
+is_told set None told (Some v) e = absurd (cc)
+is_told set (Some w) told None e = absurd (cc)
+is_told set (Some w) told (Some v) e =
+    let same : version_value v ≡ unbuilt w = cc in
+    record {
+      is_least = subst (λ (u : VersionValue). IsLeast Fits set u.plain) (sym same) told;
+      no_build = ap (λ (u : VersionValue). u.build) same;
+      none = (λ n. cc, λ none. absurd (none w told.is_in.0 told.is_in));
+    }
+
+module _ (how : Combination) (a b : SetValue) (s : IsNormal a) (t : IsNormal b) where
+  -- what is told of a combination
+  pub kept_least : (least : Option Version) → IsTold (combined_sets how a b) least → TellsLeast (IsKept how a b) least
+  kept_least None told = λ v kept. told.none.0 refl v kept.0 (kept.0, has-combined how a b s t v ∙ kept.1)
+  kept_least (Some version) told =
+      let v = (version_value version).plain in record {
+        is_one = (told.is_least.is_in.0, sym (has-combined how a b s t v) ∙ told.is_least.is_in.1);
+        no_build = told.no_build;
+        lowest = λ w kept. told.is_least.lowest w kept.0 (kept.0, has-combined how a b s t w ∙ kept.1);
+      }
+
+  -- it is in one set or the other
+  pub kept_in : (v : PlainVersion) → IsLeast Fits (combined_sets how a b) v → IsIn v a ⊎ IsIn v b
+  kept_in v l = at how (has a v) (has b v) refl refl (sym (has-combined how a b s t v) ∙ l.is_in.1)
+    where
+      at : (how : Combination) (x y : Bool) → has a v ≡ x → has b v ≡ y → keeps how x y ≡ true → IsIn v a ⊎ IsIn v b
+      at how true y e f k = inl (l.is_in.0, e)
+      at Union false true e f k = inr (l.is_in.0, f)
+      at Union false false e f k = absurd (true≢false (sym k))
+      at Intersection false y e f k = absurd (true≢false (sym k))
+      at Difference false y e f k = absurd (true≢false (sym k))

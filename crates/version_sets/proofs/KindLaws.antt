@@ -42,7 +42,7 @@ releases_are_kind = record {
   lowest = λ a v pa pv l. release_lowest a v pv.1 l;
 }
 
-lowest_pre : (xs ws : List IdentifierValue) → is_empty xs ≡ false → is_empty ws ≡ false → is_lowest_pre ws ≡ true
+pub lowest_pre : (xs ws : List IdentifierValue) → is_empty xs ≡ false → is_empty ws ≡ false → is_lowest_pre ws ≡ true
     → is_ge Equal ≡ is_ge (pre_cmp xs ws)
 lowest_pre [] ws e f l = cc
 lowest_pre (x ∷ xs) [] e f l = cc

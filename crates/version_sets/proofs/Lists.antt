@@ -18,6 +18,10 @@ pub answered_so : {T E : Type 0} {P : T → Type 0} (Q : T → Type 0) (r : Resu
 answered_so Q (Ok x) p f = f x p
 answered_so Q (Err e) _ f = tt
 
+pub failed_so : {T E : Type 0} {P : E → Type 0} (Q : E → Type 0) (r : Result T E) → IfErr r P → ((x : E) → P x → Q x) → IfErr r Q
+failed_so Q (Ok x) _ f = tt
+failed_so Q (Err e) p f = f e p
+
 -- what is so, is so where an error is returned
 pub on_err : {X E : Type 0} {P : Type 0} (r : Result X E) → P → IfErr r (λ _. P)
 on_err (Ok x) p = tt

@@ -1,9 +1,11 @@
 -- Bounds narrowed by a comparator hold those of the versions that meet it, too.
-use Rattle.std.proofs.Common.{arith, ◌≡◌, Bool, false, not, ◌&&◌, ◌||◌, ap, ap₂, ◌∙◌, Ordering, is_ge, is_gt, is_lt, is_le, is_eq}
+use Rattle.std.proofs.Common.{arith, ◌≡◌, Bool, true, false, [], ◌∷◌, not, ◌&&◌, ◌||◌, refl, ap, ap₂, ◌∙◌}
+use Rattle.std.proofs.Common.{Ordering, Equal, is_ge, is_lt, is_eq}
 use Rattle.std.proofs.Common.{List, ℕ, ◌+◌, ◌<◌, length, get_or, map, take, sym}
 use Rattle.std.proofs.lemmas.List.Folds.{list_all-map, list_all_more, list_any_more}
 use Rattle.std.specs.List.{list_all, list_any}
-use Rattle.std.specs.Prelude.{Option}
+use Rattle.std.specs.Cmp.Lexicographic.{pointwise}
+use Rattle.std.specs.Prelude.{nat_eq}
 use Rattle.semver_parser.specs.RangeViews.{comparator_of}
 use Rattle.semver_parser.specs.StatedPreReleases.{has_pre_release_at}
 use Rattle.semver_parser.specs.declared.Comparator.{Comparator}
@@ -12,39 +14,14 @@ use Rattle.semver_parser.specs.declared.Op.{Op}
 use Rattle.semver_parser.specs.declared.Op.TheVariants.{Lt, Lte, Gt, Gte, Eq}
 use Rattle.semver_parser.specs.Meeting.{op_holds, meets_comparator}
 use Rattle.semver_parser.specs.Precedence.{precedence}
-use Rattle.semver_parser.specs.PrecedenceLaws.{precedence_total}
-use Rattle.semver_parser.specs.Versions.{PlainVersion}
-use Rattle.version_sets.specs.Steps.Spans.{reached, is_between, later, earlier}
-use Rattle.version_sets.specs.Steps.SpanViews.{narrowed_from, narrowed_to}
-use Rattle.version_sets.proofs.SpanLaws.{reached-later, reached-earlier}
-
-lt : (f t a : Bool) (r : Ordering) → a ≡ is_ge r → (f && not (t || a)) ≡ ((f && not t) && is_lt r)
-lt f t a r e = grind arith
-
-le : (f t b : Bool) (r : Ordering) → b ≡ is_gt r → (f && not (t || b)) ≡ ((f && not t) && is_le r)
-le f t b r e = grind arith
-
-on : (f t b h : Bool) → b ≡ h → ((f && b) && not t) ≡ ((f && not t) && h)
-on f t b h e = grind arith
-
-eq : (f t a b : Bool) (r : Ordering) → a ≡ is_ge r → b ≡ is_gt r → ((f && a) && not (t || b)) ≡ ((f && not t) && is_eq r)
-eq f t a b r d e = grind arith
-
-module _ (from to at above : Option PlainVersion) (v w : PlainVersion) (ge : reached precedence at v ≡ is_ge (precedence v w))
-    (gt : reached precedence above v ≡ is_gt (precedence v w)) where
-  fewer : (b : Option PlainVersion) → reached precedence (later precedence from b) v ≡ (reached precedence from v && reached precedence b v)
-  fewer b = reached-later precedence precedence_total from b v
-
-  more : (b : Option PlainVersion) → reached precedence (earlier precedence to b) v ≡ (reached precedence to v || reached precedence b v)
-  more b = reached-earlier precedence precedence_total to b v
-
-  pub narrowed_met : (op : Op) → is_between precedence (narrowed_from op from at above) (narrowed_to op to at above) v
-      ≡ (is_between precedence from to v && op_holds op (precedence v w))
-  narrowed_met Lt = ap (λ t. reached precedence from v && not t) (more at) ∙ lt _ _ _ _ ge
-  narrowed_met Lte = ap (λ t. reached precedence from v && not t) (more above) ∙ le _ _ _ _ gt
-  narrowed_met Gt = ap (λ f. f && not (reached precedence to v)) (fewer above) ∙ on (reached precedence from v) _ _ _ gt
-  narrowed_met Gte = ap (λ f. f && not (reached precedence to v)) (fewer at) ∙ on (reached precedence from v) _ _ _ ge
-  narrowed_met Eq = ap₂ (λ f t. f && not t) (fewer at) (more above) ∙ eq _ _ _ _ _ ge gt
+use Rattle.semver_parser.specs.RewritingTable.{PlainComparator, comparator}
+use Rattle.semver_parser.specs.Texts.{is_empty}
+use Rattle.semver_parser.specs.Versions.{PlainVersion, numbers}
+use Rattle.version_sets.specs.SetRanges.{is_lowest_pre}
+use Rattle.version_sets.specs.Steps.Bounds.{numbers_cmp}
+use Rattle.version_sets.specs.Steps.RangeRules.{states_pre_release}
+use Rattle.version_sets.proofs.BoundLaws.{against, same_numbers}
+use Rattle.version_sets.proofs.KindLaws.{lowest_pre}
 
 -- one more comparator
 pub met_more : (v : PlainVersion) (cs : List Comparator) (i : ℕ) (d : Comparator) → i < length cs → d ≡ get_or cs i d
@@ -68,5 +45,48 @@ stated_more v cs i d l is =
 pub added_more : (a m s h : Bool) → ((a || (m && s)) || (m && h)) ≡ (a || (m && (s || h)))
 added_more a m s h = grind arith
 
-pub added_none : (a m h : Bool) → h ≡ false → a ≡ (a || (m && h))
-added_none a m h e = grind arith
+pub added_none : (a x : Bool) → x ≡ false → a ≡ (a || x)
+added_none a x e = grind arith
+
+pub none_beside : (m h : Bool) → h ≡ false → (m && h) ≡ false
+none_beside m h e = grind arith
+
+-- ---- where no comparator lets a pre-release count
+
+equal_reach : (r : Ordering) (q : Bool) → is_eq r ≡ q → q ≡ true → is_ge Equal ≡ is_ge r
+equal_reach r q e t = grind arith
+
+-- a pre-release isn't below the lowest of its numbers
+not_below : (v w : PlainVersion) → is_empty v.pre ≡ false → is_empty w.pre ≡ false → is_lowest_pre w.pre ≡ true
+    → pointwise nat_eq (numbers v) (numbers w) ≡ true → is_ge (precedence v w) ≡ true
+not_below v w e f low same =
+    sym (against is_ge is_ge v w refl refl (lowest_pre v.pre w.pre e f low)) ∙ sym (equal_reach (numbers_cmp v w) _ (same_numbers v w) same)
+
+less : (none low same : Bool) (r : Ordering) → (not none && not low) ≡ false
+    → (none ≡ false → low ≡ true → same ≡ true → is_ge r ≡ true) → (is_lt r && (not none && same)) ≡ false
+less none low same r e f = grind arith
+
+others : (none same m : Bool) → (not none && true) ≡ false → (m && (not none && same)) ≡ false
+others none same m e = grind arith
+
+one_stated : (v w : PlainVersion) (op : Op) → is_empty v.pre ≡ false → states_pre_release (comparator op w) ≡ false
+    → (op_holds op (precedence v w) && has_pre_release_at v (comparator op w)) ≡ false
+one_stated v w Lt e none = less (is_empty w.pre) (is_lowest_pre w.pre) _ (precedence v w) none (not_below v w e)
+one_stated v w Lte e none = others (is_empty w.pre) _ _ none
+one_stated v w Gt e none = others (is_empty w.pre) _ _ none
+one_stated v w Gte e none = others (is_empty w.pre) _ _ none
+one_stated v w Eq e none = others (is_empty w.pre) _ _ none
+
+pub none_stated : (v : PlainVersion) (cs : List PlainComparator) → is_empty v.pre ≡ false → list_any states_pre_release cs ≡ false
+    → (list_all (meets_comparator v) cs && list_any (has_pre_release_at v) cs) ≡ false
+none_stated v [] e none = refl
+none_stated v (c ∷ cs) e none =
+    let both = neither _ _ none in
+    nor (meets_comparator v c) (has_pre_release_at v c) _ (list_any (has_pre_release_at v) cs)
+    (one_stated v c.version c.op e both.0) (none_stated v cs e both.1)
+  where
+    neither : (p q : Bool) → (p || q) ≡ false → (p ≡ false) × (q ≡ false)
+    neither p q n = grind arith
+
+    nor : (m h ms hs : Bool) → (m && h) ≡ false → (ms && hs) ≡ false → ((m && ms) && (h || hs)) ≡ false
+    nor m h ms hs p q = grind arith

@@ -1,12 +1,13 @@
 -- The ranges of a set are met by its versions, its text reads back, and there is one only where a version of the kind is in the set.
-use Rattle.std.proofs.Common.{arith, ◌≡◌, ◌<◌, not, List, [], ◌∷◌, map, length, IsTrue, sym, ◌∙◌}
+use Rattle.std.proofs.Common.{arith, ◌≡◌, ◌<◌, not, List, [], ◌∷◌, map, length, IsTrue, sym, ◌∙◌, subst}
 use Rattle.std.specs.List.{list_all}
 use Rattle.semver_parser.specs.Versions.{PlainVersion}
 use Rattle.semver_parser.specs.Meeting.{meets_set}
 use Rattle.semver_parser.specs.PrintedRanges.{is_printable_version}
 use Rattle.version_sets.specs.VersionSets.{SetValue, has, IsIn, IsRelease, IsPreRelease, IsNormal}
 use Rattle.version_sets.specs.SetRanges.{next_release, next_pre_release, release_ranges, pre_release_ranges, is_whole, ranges_text, ReadsBack}
-use Rattle.version_sets.proofs.FirstSwitches.{release_in, pre_release_in}
+use Rattle.std.specs.Prelude.{slice_get}
+use Rattle.version_sets.proofs.FirstSwitches.{TellsPlain, first_release, first_pre_release}
 use Rattle.version_sets.proofs.IntervalLaws.{intervals_meet}
 use Rattle.version_sets.proofs.KindLaws.{releases_are_kind, pre_releases_are_kind}
 use Rattle.version_sets.proofs.ReadBack.{PrintedReadBack, releases_print, reads, whole_reads}
@@ -40,10 +41,11 @@ module _ (set : SetValue) (n : IsNormal set) where
       → (v : PlainVersion) × IsRelease v × IsIn v set
   has_release f [] e some = absurd (omega arith)
   has_release f (x ∷ xs) e some =
-      let is = release_in set n (f x) (map f xs) e in (f x, (is.0.0, is.1), is.0)
+      let least = subst (λ l. TellsPlain IsRelease set (slice_get l 0)) e (first_release set n) in (f x, least.is_of_kind, least.is_in)
 
   pub has_pre_release : {X : Type 0} (f : X → PlainVersion) (xs : List X) → set.pre_releases ≡ map f xs → 0 < length xs
       → (v : PlainVersion) × IsPreRelease v × IsIn v set
   has_pre_release f [] e some = absurd (omega arith)
   has_pre_release f (x ∷ xs) e some =
-      let is = pre_release_in set n (f x) (map f xs) e in (f x, (is.0.0, is.1), is.0)
+      let least = subst (λ l. TellsPlain IsPreRelease set (slice_get l 0)) e (first_pre_release set n) in
+      (f x, least.is_of_kind, least.is_in)

@@ -1,5 +1,5 @@
 -- Lists of switches: what is below the first is not in the set, and lists that switch alike are one.
-use Rattle.std.proofs.Common.{arith, ◌≡◌, Bool, true, false, not, ◌&&◌, List, [], ◌∷◌, refl, sym, ap, ap₂, ◌∙◌, subst, true≢false}
+use Rattle.std.proofs.Common.{arith, ◌≡◌, Bool, true, false, not, List, [], ◌∷◌, refl, sym, ap, ap₂, ◌∙◌, subst, true≢false}
 use Rattle.std.specs.List.{AllByRecursion}
 use Rattle.std.specs.Cmp.{IsTotalOrder, tied_itself}
 use Rattle.std.specs.FinMap.{IsAntisymmetric}
@@ -26,12 +26,11 @@ by_place Greater f g = g refl
 module _ {T : Type 0} (cmp : T → T → Ordering) where
   -- what is below the first switch is not in the set
   pub switched-below : (v : T) (ys : List T) → IsBelowFirst cmp v ys → switched cmp ys v ≡ false
-  switched-below v [] h = refl
-  switched-below v (b ∷ ys) h = ap (λ r. is_ge r && not (switched cmp ys v)) h
+  switched-below v ys e = grind arith
 
   -- at and above the first switch, the others turn
   pub switched-at : (v b : T) (ys : List T) → is_ge (cmp v b) ≡ true → switched cmp (b ∷ ys) v ≡ not (switched cmp ys v)
-  switched-at v b ys h = ap (λ r. r && not (switched cmp ys v)) h
+  switched-at v b ys e = grind arith
 
   module _ (o : IsTotalOrder cmp) where
     pub turned_below : (x y : T) → cmp x y ≡ Greater → cmp y x ≡ Less

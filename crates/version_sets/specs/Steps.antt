@@ -1,4 +1,5 @@
 pub mod Places
+pub mod Lower
 pub mod Bounds
 pub mod Spans
 pub mod SpanViews

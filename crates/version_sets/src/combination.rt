@@ -1,6 +1,6 @@
 //! How two lists of switches are combined.
 
-ghost use Rattle.std.specs.Prelude.{◌≡◌, true, false, map, IfOk, IfErr};
+ghost use Rattle.std.specs.Prelude.{◌≡◌, true, false, map, option_map, slice_get, IfOk, IfErr};
 ghost use Rattle.version_sets.specs.Steps.Combined.{keeps, pieces, keeps_some, combined};
 
 use crate::switch::Switch;
@@ -36,6 +36,20 @@ impl Combination {
             (pieces (map T.place first.now) (map T.place second.now)) }
     {
         Walk::over(first, second).any(|piece| self.keeps(piece.in_first, piece.in_second))
+    }
+
+    /// The first switch of the combination, where the first piece begins that is in it. It does not
+    /// allocate.
+    pub(crate) fn first<'a, T: Switch>(self, first: &'a [T], second: &'a [T]) -> Option<&'a T>
+        ensures { option_map (λ x. T.place x.now) result ≡ slice_get (combined self
+            (pieces (map T.place first.entry.now) (map T.place second.entry.now))) 0 }
+    {
+        for piece in Walk::over(first, second) {
+            if self.keeps(piece.in_first, piece.in_second) {
+                return Some(piece.from);
+            }
+        }
+        None
     }
 
     /// The switches of the combination, which are those where being in it changes. `Err` is out of

@@ -7,6 +7,7 @@ ghost use Rattle.version_sets.specs.Comparisons.{TellsLeast, IsInFirstAlone, IsI
 ghost use Rattle.version_sets.specs.Steps.Combined.{IsKept};
 
 use crate::combination::Combination;
+use crate::least::least_of;
 use crate::version_set::VersionSet;
 use semver_parser::version::Version;
 use std::alloc::{AllocError, Global};
@@ -32,8 +33,8 @@ impl VersionSet {
     /// and 1.4.0 is shared. Both sets have the same versions exactly where nothing is lost or
     /// gained.
     ///
-    /// Memory is asked for what is in one set or in both, and for a pre-release that is answered,
-    /// and not at all where both sets are empty. `Err` is out of memory.
+    /// It allocates only for the identifiers of a pre-release that is answered. `Err` is out of
+    /// memory.
     pub fn compare(&self, alloc: Global, new: &VersionSet) -> Result<Comparison, AllocError>
         ensures lost { IfOk result (λ answer.
             TellsLeast (IsInFirstAlone self.now new.now) answer.lost) }
@@ -63,6 +64,8 @@ impl VersionSet {
         ensures out_of_memory { IfErr result (λ _. (v : PlainVersion)
             × (IsIn v self.now ⊎ IsIn v other.now)) }
     {
-        self.combined(alloc, how, other)?.least(alloc)
+        let release = how.first(&self.releases, &other.releases);
+        let pre_release = how.first(&self.pre_releases, &other.pre_releases);
+        least_of(alloc, release, pre_release)
     }
 }

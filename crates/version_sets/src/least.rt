@@ -1,13 +1,13 @@
 //! The least version of a set.
 
-ghost use Rattle.std.specs.Prelude.{◌≡◌, ◌↔◌, true, None, [], IfOk, IfErr, IfSome};
-ghost use Rattle.std.specs.declared.cmp.Ordering.TheVariants.{Less};
+ghost use Rattle.std.specs.Prelude.{◌≡◌, ◌↔◌, None, Some, [], IfOk, IfErr, IfSome, option_map};
 ghost use Rattle.semver_parser.specs.Versions.{PlainVersion};
-ghost use Rattle.semver_parser.specs.Precedence.{precedence};
 ghost use Rattle.semver_parser.specs.VersionViews.{version_value};
 ghost use Rattle.version_sets.specs.Releases.{release_value};
 ghost use Rattle.version_sets.specs.VersionSets.{Fits, IsIn, IsRelease, IsPreRelease};
 ghost use Rattle.version_sets.specs.VersionSets.{IsLeast, HasNone};
+ghost use Rattle.version_sets.specs.Steps.Lower.{is_below, lower, unbuilt};
+ghost use Rattle.version_sets.specs.Steps.Places.{version_place};
 
 use crate::release::Release;
 use crate::switch::without_build;
@@ -31,10 +31,7 @@ impl VersionSet {
         ensures out_of_memory { IfErr result (λ _. (v : PlainVersion)
             × IsLeast Fits self.now v × IsPreRelease v) }
     {
-        match self.leading_pre_release() {
-            Some(pre_release) => Ok(Some(without_build(pre_release, alloc)?)),
-            None => Ok(self.least_release().map(|release| release.version(alloc))),
-        }
+        least_of(alloc, self.releases.first(), self.pre_releases.first())
     }
 
     // Answer: law answer_laws::sets::one_least_release.
@@ -47,41 +44,51 @@ impl VersionSet {
     {
         self.releases.first().copied()
     }
+}
 
-    /// The least pre-release in the set by precedence; `None` exactly where it has no pre-release.
-    fn least_pre_release(&self) -> Option<&Version>
-        ensures least { IfSome result (λ version.
-            IsLeast IsPreRelease self.now (version_value version.now).plain) }
-        ensures none { (result ≡ None) ↔ HasNone IsPreRelease self.now }
-    {
-        self.pre_releases.first()
+/// The lower one of a release and a pre-release, or the one that there is, without a build. `Err`
+/// is out of memory, which is asked for only for a pre-release.
+pub(crate) fn least_of(
+    alloc: Global,
+    release: Option<&Release>,
+    pre_release: Option<&Version>,
+) -> Result<Option<Version>, AllocError>
+    ensures least { IfOk result (λ least. option_map version_value least
+        ≡ option_map unbuilt (lower (option_map (λ r. release_value r.now) release.entry)
+        (option_map (λ p. version_place p.now) pre_release.entry))) }
+    ensures out_of_memory { IfErr result (λ _. (p : PlainVersion)
+        × (option_map (λ p. version_place p.now) pre_release.entry ≡ Some p)
+        × (lower (option_map (λ r. release_value r.now) release.entry)
+        (option_map (λ p. version_place p.now) pre_release.entry) ≡ Some p)) }
+{
+    let Some(pre_release) = pre_release else {
+        return Ok(as_version(alloc, release));
+    };
+    if is_below(release, pre_release) {
+        return Ok(as_version(alloc, release));
     }
+    Ok(Some(without_build(pre_release, alloc)?))
+}
 
-    /// The least pre-release, where no release in the set is below it.
-    fn leading_pre_release(&self) -> Option<&Version>
-        ensures least { IfSome result (λ version.
-            IsLeast Fits self.now (version_value version.now).plain
-            × IsPreRelease (version_value version.now).plain) }
-        // Where there is none, the least release is the least version.
-        ensures release { result ≡ None → (v : PlainVersion)
-            → IsLeast IsRelease self.now v → IsLeast Fits self.now v }
-        ensures none { result ≡ None → HasNone IsRelease self.now → HasNone Fits self.now }
-    {
-        let pre_release = self.least_pre_release()?;
-        if self.has_release_below(pre_release) {
-            return None;
-        }
-        Some(pre_release)
+/// The release as a version, if there is one.
+fn as_version(alloc: Global, release: Option<&Release>) -> Option<Version>
+    ensures { option_map version_value result
+        ≡ option_map unbuilt (option_map (λ r. release_value r.now) release.entry) }
+{
+    match release {
+        Some(release) => Some(release.version(alloc)),
+        None => None,
     }
+}
 
-    /// Whether a release in the set is below a version.
-    fn has_release_below(&self, version: &Version) -> bool
-        ensures { (result ≡ true) ↔ ((v : PlainVersion) × IsRelease v × IsIn v self.now
-            × (precedence v (version_value version.now).plain ≡ Less)) }
-    {
-        match self.least_release() {
-            Some(release) => release.cmp(&Release::of(version)).is_lt(),
-            None => false,
-        }
+/// Whether there is a release, and it is below a version by precedence: its numbers are, since no
+/// version of the same numbers is above it.
+fn is_below(release: Option<&Release>, version: &Version) -> bool
+    ensures { result ≡ is_below (option_map (λ r. release_value r.now) release.entry)
+        (version_place version.now) }
+{
+    match release {
+        Some(release) => release.cmp(&Release::of(version)).is_lt(),
+        None => false,
     }
 }

@@ -12,7 +12,7 @@ ghost use Rattle.version_sets.specs.Releases.{release_value};
 ghost use Rattle.version_sets.specs.Switches.{switched};
 ghost use Rattle.version_sets.specs.VersionSets.{has, Fits, IsRelease, IsPreRelease, AreSwitches};
 ghost use Rattle.version_sets.specs.Steps.Places.{version_place};
-ghost use Rattle.version_sets.specs.Steps.RangeRules.{meets_range_with};
+ghost use Rattle.version_sets.specs.Steps.RangeRules.{meets_range_with, states_pre_release};
 ghost use Rattle.version_sets.specs.Steps.Spans.{some_empty, in_some};
 ghost use Rattle.version_sets.specs.Steps.SpanViews.{limit_place, span_value, is_within};
 
@@ -20,10 +20,11 @@ use crate::limits::{numbers_of, release_above};
 use crate::pre_release_limits::PreReleaseLimit;
 use crate::release::{LOWEST, Release};
 use crate::rules::PreReleases;
+use crate::set_ranges::is_lowest;
 use crate::spans::{Bounds, Span, switches_of};
 use crate::version_set::VersionSet;
 use semver_parser::version::Version;
-use semver_parser::{Comparator, Range, RangeSet};
+use semver_parser::{Comparator, Op, Range, RangeSet};
 use std::alloc::{AllocError, Global};
 
 impl VersionSet {
@@ -159,11 +160,33 @@ fn push_stated<'a>(
         || (list_all (meets_comparator v) (map comparator_of comparators.entry.now)
         && list_any (has_pre_release_at v) (map comparator_of comparators.entry.now)))) }
 {
+    // For speed: that of most texts is none.
+    if !some_states_pre_release(comparators) {
+        return Ok(());
+    }
     let met = met_pre_releases(comparators);
     for comparator in comparators {
         push_at(met, comparator, spans)?;
     }
     Ok(())
+}
+
+/// Whether some comparator states a pre-release.
+fn some_states_pre_release(comparators: &[Comparator]) -> bool
+    ensures { result ≡ list_any (λ comparator. states_pre_release (comparator_of comparator))
+        comparators.now }
+{
+    comparators
+        .iter()
+        .any(|comparator| states_pre_release(comparator))
+}
+
+/// Whether a comparator has a pre-release, but for `<1.2.3-0`, below which none of 1.2.3 is.
+fn states_pre_release(comparator: &Comparator) -> bool
+    ensures { result ≡ states_pre_release (comparator_of comparator.now) }
+{
+    let is_below_all = matches!(&comparator.op, Op::Lt) && is_lowest(&comparator.pre);
+    !comparator.pre.is_empty() && !is_below_all
 }
 
 /// Adds the span of those of the pre-releases that are at the numbers of a comparator, if it has a

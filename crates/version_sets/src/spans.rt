@@ -10,7 +10,7 @@ ghost use Rattle.version_sets.specs.VersionSets.{AreSwitches};
 ghost use Rattle.version_sets.specs.Steps.Spans.{is_in, IsSpan, later, earlier};
 ghost use Rattle.version_sets.specs.Steps.Spans.{is_below, span_switches, all_joined, some_empty};
 ghost use Rattle.version_sets.specs.Steps.Spans.{in_some};
-ghost use Rattle.version_sets.specs.Steps.SpanViews.{narrowed_from, narrowed_to};
+ghost use Rattle.version_sets.specs.Steps.Spans.{narrowed_from, narrowed_to};
 ghost use Rattle.version_sets.specs.Steps.SpanViews.{span_value, is_within};
 
 use crate::limits::Limit;
@@ -70,9 +70,9 @@ impl<L: Limit> Bounds<L> {
     /// Those of the versions that meet a comparator: `at` is where what is at or above its version
     /// begins, and `above` where what is above it does.
     pub(crate) fn narrowed(self, op: &Op, at: Option<L>, above: Option<L>) -> Bounds<L>
-        ensures from { option_map L.place result.from ≡ narrowed_from op.now
+        ensures from { option_map L.place result.from ≡ narrowed_from precedence op.now
             (option_map L.place self.from) (option_map L.place at) (option_map L.place above) }
-        ensures to { option_map L.place result.to ≡ narrowed_to op.now
+        ensures to { option_map L.place result.to ≡ narrowed_to precedence op.now
             (option_map L.place self.to) (option_map L.place at) (option_map L.place above) }
     {
         let (from, to) = (self.from, self.to);

@@ -5,7 +5,9 @@ use Rattle.semver_parser.specs.RangeViews.{comparator_of}
 use Rattle.version_sets.specs.Steps.Spans.{is_between}
 use Rattle.version_sets.proofs.BoundLaws.{and_true, against, release_reaches}
 use Rattle.version_sets.proofs.KindLaws.{release_lowest}
-use Rattle.version_sets.proofs.MetLaws.{narrowed_met, met_more}
+use Rattle.version_sets.proofs.MetLaws.{met_more}
+use Rattle.version_sets.proofs.SpanLaws.{narrowed_met}
+use Rattle.semver_parser.specs.PrecedenceLaws.{precedence_total}
 use Rattle.version_sets.proofs.of_comparators.met_releases.Goals as goal
 
 pub loop-comparator-init : goal.loop-comparator-init
@@ -18,7 +20,7 @@ loop-comparator-preserved c = λ v kind.
     ∙ sym (against is_ge is_ge v _ refl refl (release_reaches v.pre _ kind.1))
     ∙ against is_ge is_ge v of.version refl refl (release_reaches v.pre of.version.pre kind.1) in
     ap₂ (λ from to. is_between precedence from to v) c.narrowed-met.ensures.from c.narrowed-met.ensures.to
-    ∙ narrowed_met _ _ _ _ v of.version at (c.release_above.ensures v kind) of.op
+    ∙ narrowed_met precedence precedence_total of.op _ _ _ _ v (precedence v of.version) at (c.release_above.ensures v kind)
     ∙ ap (λ b. b && op_holds of.op (precedence v of.version)) (c.loop-comparator.invariant v kind)
     ∙ sym (met_more v c.args.comparators.now c.loop-comparator.comparator-index c.comparator-item.result
     c.loop-comparator-test.true c.comparator-item.is)

@@ -8,14 +8,15 @@ use Rattle.version_sets.specs.Steps.Spans.{in_some}
 use Rattle.version_sets.specs.Steps.SpanViews.{limit_place, span_value, is_within}
 use Rattle.version_sets.proofs.BoundLaws.{stated_numbers}
 use Rattle.version_sets.proofs.Lists.{none_left, answered_so}
-use Rattle.version_sets.proofs.MetLaws.{added_none}
+use Rattle.version_sets.proofs.MetLaws.{added_none, none_beside}
 use Rattle.version_sets.proofs.of_comparators.push_at.Goals as goal
 
 pub returns-then-is_empty-clause-meaning : goal.returns-then-is_empty-clause-meaning
 returns-then-is_empty-clause-meaning c = λ v kind.
     let of = comparator_of c.args.comparator.now in
     let none = sym (none_left identifier_of c.args.comparator.now.pre.items _ _ c.is_empty.ensures (search rules)) ∙ c.if-is_empty.true in
-    added_none _ (is_within limit_place c.args.met v) _ (ap (λ b. not b && pointwise nat_eq (numbers v) (numbers of.version)) none)
+    added_none _ _ (none_beside (is_within limit_place c.args.met v) _
+    (ap (λ b. not b && pointwise nat_eq (numbers v) (numbers of.version)) none))
 
 pub returns-clause-meaning : goal.returns-clause-meaning
 returns-clause-meaning c =

@@ -6,7 +6,9 @@ use Rattle.semver_parser.specs.RangeViews.{comparator_of}
 use Rattle.semver_parser.specs.StatedPreReleases.{has_pre_release_at}
 use Rattle.version_sets.specs.Steps.Spans.{in_some}
 use Rattle.version_sets.specs.Steps.SpanViews.{limit_place, span_value}
-use Rattle.version_sets.proofs.MetLaws.{stated_more, added_more}
+use Rattle.version_sets.specs.Steps.RangeRules.{states_pre_release}
+use Rattle.version_sets.proofs.Lists.{list_any-map}
+use Rattle.version_sets.proofs.MetLaws.{stated_more, added_more, added_none, none_stated}
 use Rattle.version_sets.proofs.of_comparators.push_stated.Goals as goal
 
 pub loop-comparator-preserved : goal.loop-comparator-preserved
@@ -23,3 +25,9 @@ loop-comparator-preserved c = (
       (sym (stated_more v c.args.comparators.now c.loop-comparator.comparator-index c.comparator-item.result
       c.loop-comparator-test.true c.comparator-item.is)),
 )
+
+pub returns-then-not-some_states_pre_release-clause-meaning : goal.returns-then-not-some_states_pre_release-clause-meaning
+returns-then-not-some_states_pre_release-clause-meaning c = λ v kind.
+    added_none _ _ (none_stated v (map comparator_of c.args.comparators.now) kind.1
+    (list_any-map states_pre_release comparator_of c.args.comparators.now ∙ sym c.some_states_pre_release.ensures
+    ∙ c.if-not-some_states_pre_release.true))

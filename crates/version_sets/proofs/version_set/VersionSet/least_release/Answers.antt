@@ -1,18 +1,19 @@
-use Rattle.std.proofs.Common.{rules, ◌≡◌, refl, sym, subst}
-use Rattle.std.specs.Prelude.{slice_get}
+use Rattle.std.proofs.Common.{rules, ◌≡◌, ap, sym, subst, ◌∙◌}
+use Rattle.std.specs.Prelude.{slice_get, option_map}
 use Rattle.version_sets.specs.Releases.{release_value}
 use Rattle.version_sets.specs.VersionSets.{IsRelease}
 use Rattle.version_sets.specs.Steps.Places.{set_of}
-use Rattle.version_sets.proofs.FirstSwitches.{Tells, first_release, told_some, told_none}
+use Rattle.version_sets.proofs.FirstSwitches.{TellsPlain, first_release, first_map, told_some, told_none}
 use Rattle.version_sets.proofs.version_set.VersionSet.least_release.Goals as goal
 
-told : (c : goal.After-copied) → Tells release_value IsRelease c.args.self.now c.copied.result
+told : (c : goal.After-copied) → TellsPlain IsRelease c.args.self.now (option_map release_value c.copied.result)
 told c =
     let xs = c.self.inside.releases.items in
     let is : c.copied.result ≡ slice_get xs 0 = search rules in
-    subst (λ s. Tells release_value IsRelease s c.copied.result) c.self.view_is
-    (subst (Tells release_value IsRelease (set_of xs c.self.inside.pre_releases.items)) (sym is)
-    (first_release (set_of xs c.self.inside.pre_releases.items) c.self.invariant release_value xs refl))
+    subst (λ s. TellsPlain IsRelease s (option_map release_value c.copied.result)) c.self.view_is
+    (subst (TellsPlain IsRelease (set_of xs c.self.inside.pre_releases.items))
+    (sym (ap (option_map release_value) is ∙ first_map release_value xs))
+    (first_release (set_of xs c.self.inside.pre_releases.items) c.self.invariant))
 
 pub returns-clause-least : goal.returns-clause-least
 returns-clause-least c = told_some release_value IsRelease c.args.self.now c.copied.result (told c)

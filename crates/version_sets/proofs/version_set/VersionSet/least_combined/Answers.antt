@@ -1,0 +1,52 @@
+use Rattle.std.proofs.Common.{◌⊎◌, ap₂, sym, subst, ◌∙◌, Option, List, map}
+use Rattle.std.specs.Prelude.{option_map, slice_get}
+use Rattle.semver_parser.specs.Versions.{PlainVersion}
+use Rattle.version_sets.specs.Comparisons.{TellsLeast}
+use Rattle.version_sets.specs.Releases.{release_value}
+use Rattle.version_sets.specs.VersionSets.{SetValue, Fits, IsIn}
+use Rattle.version_sets.specs.Steps.Combined.{combined, combined_sets, pieces, IsKept}
+use Rattle.version_sets.specs.Steps.Lower.{lower}
+use Rattle.version_sets.specs.Steps.Places.{version_place, set_of}
+use Rattle.version_sets.proofs.FirstSwitches.{TellsPlain, first_is, is_told, kept_least, kept_in}
+use Rattle.version_sets.proofs.Lists.{answered_so, failed_so}
+use Rattle.version_sets.proofs.SetLaws.{combined-normal}
+use Rattle.version_sets.proofs.version_set.VersionSet.least_combined.Goals as goal
+
+abbrev first : goal.After-least_of → SetValue
+first c = set_of c.self.inside.releases.items c.self.inside.pre_releases.items
+
+abbrev second : goal.After-least_of → SetValue
+second c = set_of c.other.inside.releases.items c.other.inside.pre_releases.items
+
+abbrev answer : goal.After-least_of → Option PlainVersion
+answer c =
+    lower (option_map (λ r. release_value r.now) c.first-release.result) (option_map (λ p. version_place p.now) c.first-pre_release.result)
+
+told : (c : goal.After-least_of) → TellsPlain Fits (combined_sets c.args.how (first c) (second c)) (answer c)
+told c =
+    let set = combined_sets c.args.how (first c) (second c) in
+    let switches = λ (xs ys : List PlainVersion). combined c.args.how (pieces xs ys) in
+    subst (TellsPlain Fits set)
+    (sym (ap₂ lower
+    (c.first-release.ensures ∙ ap₂ (λ xs ys. slice_get (switches (map release_value xs) (map release_value ys)) 0)
+    c.deref.ensures.value c.deref-2.ensures.value)
+    (c.first-pre_release.ensures ∙ ap₂ (λ xs ys. slice_get (switches (map version_place xs) (map version_place ys)) 0)
+    c.deref-3.ensures.value c.deref-4.ensures.value)))
+    (first_is set (combined-normal c.args.how (first c) (second c) c.self.invariant c.other.invariant))
+
+pub returns-clause-least : goal.returns-clause-least
+returns-clause-least c =
+    answered_so _ c.least_of.result c.least_of.ensures.least (λ least is.
+    subst (λ s. TellsLeast (IsKept c.args.how s c.args.other.now) least) c.self.view_is
+    (subst (λ s. TellsLeast (IsKept c.args.how (first c) s) least) c.other.view_is
+    (kept_least c.args.how (first c) (second c) c.self.invariant c.other.invariant least (is_told _ (answer c) (told c) least is))))
+
+pub returns-clause-out_of_memory : goal.returns-clause-out_of_memory
+returns-clause-out_of_memory c =
+    failed_so _ c.least_of.result c.least_of.ensures.out_of_memory (λ _ (p, _, is). (
+      p,
+      subst (λ s. IsIn p s ⊎ IsIn p c.args.other.now) c.self.view_is
+          (subst (λ s. IsIn p (first c) ⊎ IsIn p s) c.other.view_is
+          (kept_in c.args.how (first c) (second c) c.self.invariant c.other.invariant p
+          (subst (TellsPlain Fits (combined_sets c.args.how (first c) (second c))) is (told c)))),
+    ))
