@@ -263,7 +263,7 @@ int32_t semver_parser_comparators(const uint8_t *text, size_t text_length, int32
 
 /* Returns whether a range means a version, by a dialect and a rule for pre-releases: by the meaning
  * of the text, and not by its comparators. Builds don't count. Allocates only for a text that is no
- * version. */
+ * version: SEMVER_PARSER_RANGE_OUT_OF_MEMORY never comes. */
 int32_t semver_parser_meets(const uint8_t *range, size_t range_length, int32_t reading,
                             int32_t pre_releases, const uint8_t *version, size_t version_length,
                             bool *meets);
