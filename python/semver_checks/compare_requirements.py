@@ -21,9 +21,9 @@ usage: compare-requirements [--json] OLD NEW
        compare-requirements [--json] --git REV [REV] FILE
 
 Prints what changed between two package.json or two Cargo.toml files: each
-requirement that was added, removed or changed, and of a changed one the least
-version that it loses, the least that it gains, and whether both share one.
-Ranges are read as npm or Cargo reads them.
+requirement that was added, removed or changed, and of a changed one the
+versions that it loses, gains and shares, as compare-ranges prints them. Ranges
+are read as npm or Cargo reads them.
 
     --git        compare FILE as it is in a revision with FILE as it is in the
                  other revision, or in the folder
@@ -38,6 +38,9 @@ KINDS_OF_NPM = ("dependencies", "devDependencies", "optionalDependencies", "peer
 
 SAME = "the same versions"
 
+NOTHING = "<0.0.0-0"
+"""How a set without versions is printed."""
+
 Key = Tuple[str, str]
 """The table of a requirement, and its key there."""
 
@@ -50,8 +53,8 @@ class Manifest(NamedTuple):
 
 
 class Change(NamedTuple):
-    """A requirement that is not what it was, and what that does: the least versions that are lost,
-    gained and shared. `note` says why there is none of these."""
+    """A requirement that is not what it was, and what that does: the releases that are lost, gained
+    and shared, and the pre-releases, each as a range. `note` says why there are none of these."""
 
     name: str
     table: str
@@ -59,8 +62,15 @@ class Change(NamedTuple):
     new: Optional[str]
     note: str
     lost: Optional[str] = None
+    lost_pre_releases: Optional[str] = None
     gained: Optional[str] = None
+    gained_pre_releases: Optional[str] = None
     shared: Optional[str] = None
+    shared_pre_releases: Optional[str] = None
+
+
+WHOLE = Change._fields[5:]
+"""What has the versions of a change, in the order in which they are printed."""
 
 
 # ---- the manifests
@@ -135,12 +145,13 @@ def change(key: Key, old: str, new: str, reading: Reading) -> Change:
         none = is_no_range if is_npm else INHERITED.__eq__
         kind = "not a range" if none(old) or none(new) else "not read"
         return Change(name, table, old, new, kind)
-    least = [
-        None if version is None else str(version)
-        for version in (compared.lost, compared.gained, compared.shared)
+    ranges = [
+        None if text == NOTHING else text
+        for versions in (compared.lost, compared.gained, compared.shared)
+        for text in (versions.releases, versions.pre_releases)
     ]
-    note = SAME if compared.means_same else "" if least[2] else "nothing shared"
-    return Change(name, table, old, new, note, *least)
+    note = SAME if compared.means_same else "" if compared.overlaps else "nothing shared"
+    return Change(name, table, old, new, note, *ranges)
 
 
 # ---- what is printed
@@ -153,9 +164,10 @@ def lines_of(it: Change) -> Iterator[str]:
         return
     note = f": {it.note}" if it.note else ""
     yield f"{it.name} ({it.table}): {it.old} -> {it.new}{note}"
-    for word, version in (("lost", it.lost), ("gained", it.gained), ("shared", it.shared)):
-        if version is not None and it.note != SAME:
-            yield f"  {word}: {version}"
+    for field in WHOLE:
+        versions = getattr(it, field)
+        if versions is not None and it.note != SAME:
+            yield f"  {field.replace('_pre_', ' pre-')}: {versions}"
 
 
 def revisions(options: Options) -> List[str]:

@@ -24,10 +24,11 @@ SEMVER_PARSER_LIBRARY has; or else beside these modules, and then where the syst
 libraries.
 """
 
+from .comparing import Comparison, compare_ranges
 from .faults import RangeError, Text, VersionError
 from .filtering import Filter, greatest, meets
 from .reading import parse_range, parse_version
-from .sets import Comparison, compare_ranges, least
+from .sets import least
 from .values import (
     AnyVersion,
     Comparator,

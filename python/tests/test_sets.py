@@ -5,12 +5,12 @@ import unittest
 from typing import Optional, Tuple
 
 from semver_parser import (
-    Comparison,
     Compat,
     PreReleases,
     RangeError,
     Reading,
     Version,
+    VersionSet,
     compare_ranges,
     least,
 )
@@ -147,7 +147,8 @@ class ComparedTest(unittest.TestCase):
         for one, other, told in ((old, new, wanted), (new, old, (gained, lost, shared))):
             with self.subTest(old=one, new=other, reading=reading, rule=rule):
                 answered = compare_ranges(one, other, reading, rule)
-                them = (answered.lost, answered.gained, answered.shared)
+                sets = (answered.lost, answered.gained, answered.shared)
+                them = [it.least for it in sets]
                 self.assertEqual(tuple(it and str(it) for it in them), told)
                 self.assertIs(answered.overlaps, shared is not None)
                 self.assertIs(answered.is_within, told[0] is None)
@@ -170,21 +171,24 @@ class ComparedTest(unittest.TestCase):
             self.compares(old, new, reading, its, taken)
 
     def test_defaults(self) -> None:
-        version = Version(1, 2, 3)
-        self.assertEqual(compare_ranges("1.2.3", b"^1.2.3"), Comparison(None, None, version))
+        cargo = compare_ranges("1.2.3", b"^1.2.3")
+        self.assertEqual((bool(cargo.lost), bool(cargo.gained)), (False, False))
+        self.assertEqual(cargo.shared, VersionSet("1.2.3"))
         npm = compare_ranges("1.2.3", "^1.2.3", Reading.NPM)
-        self.assertEqual(npm, Comparison(None, Version(1, 2, 4), version))
-        self.assertEqual(compare_ranges("1.2", "^1.2").gained, None)
-        self.assertEqual(compare_ranges("<2.0.0", "<2.0.0-0").lost, None)
+        self.assertEqual(str(npm.gained), ">=1.2.4 <2.0.0")
+        self.assertEqual((bool(npm.lost), str(npm.shared)), (False, "=1.2.3"))
+        self.assertFalse(compare_ranges("1.2", "^1.2").gained)
+        self.assertFalse(compare_ranges("<2.0.0", "<2.0.0-0").lost)
 
     def test_sizes(self) -> None:
         for length in (50, 170, 200, 100_000):
             texts = ["1.2.3-" + letter * length for letter in "ab"]
             compared = compare_ranges(f"={texts[0]}", f"={texts[1]}")
-            self.assertEqual([str(compared.lost), str(compared.gained)], texts)
+            self.assertEqual([str(compared.lost.least), str(compared.gained.least)], texts)
         many = [f"={number}.0.0" for number in range(2000)]
         compared = compare_ranges("||".join(many), "||".join(many[1998::-1]), Reading.NPM)
-        self.assertEqual(compared, Comparison(Version(1999, 0, 0), None, Version(0, 0, 0)))
+        self.assertEqual((str(compared.lost), bool(compared.gained)), ("=1999.0.0", False))
+        self.assertEqual(str(compared.shared), " || ".join(many[:1999]))
 
     def test_faults(self) -> None:
         raised_bound = f"<={MOST}"
