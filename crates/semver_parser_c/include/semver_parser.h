@@ -45,9 +45,9 @@
 
 /* The library's version. While the first number is 0, the second is raised if a call changes. */
 #define SEMVER_PARSER_VERSION_MAJOR 0
-#define SEMVER_PARSER_VERSION_MINOR 5
+#define SEMVER_PARSER_VERSION_MINOR 6
 #define SEMVER_PARSER_VERSION_PATCH 0
-#define SEMVER_PARSER_VERSION "0.5.0"
+#define SEMVER_PARSER_VERSION "0.6.0"
 
 #ifdef __cplusplus
 extern "C" {
