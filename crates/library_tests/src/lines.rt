@@ -120,7 +120,7 @@ pub fn write_long_lines(rt: &impl Print, alloc: Global) -> io::Result<()> {
         for length in 4094..4100usize {
             let mut line = Vec::new(alloc);
             line.extend_from_slice(front.as_bytes())?;
-            while line.len() < length {
+            for _ in line.len()..length {
                 line.push(*byte)?;
             }
             for place in [0, 1, 4095, 4096, 4097, length] {
@@ -294,8 +294,9 @@ fn takes_long(alloc: Global, line: &[u8], place: usize, is_kept: bool) -> Result
     let text = line
         .strip_prefix(b"\xEF\xBB\xBF".as_slice())
         .unwrap_or(line);
+    let shown = text.get(..81).unwrap_or_default();
     let is_counted = match &lines.counts().first_invalid {
-        Some(first) => !is_kept && first.number == 1 && first.front.as_slice() == &text[..81],
+        Some(first) => !is_kept && first.number == 1 && first.front.as_slice() == shown,
         None => is_kept,
     };
     Ok(has_ended && is_counted && kept == wanted)
