@@ -26,8 +26,8 @@ PRINTED = [
     ("=1.2.3-a || =2.0.0", CRATE, ALL, "=2.0.0", "=1.2.3-a"),
 ]
 
-# Two ranges of the crate, releases alone, and what is in one or the other, in both, and in the
-# first alone.
+# Two ranges of the crate, by releases only, and what is in one or the other, in both, and only in
+# the first.
 COMBINED = [
     (">=1.0.0 <1.5.0", ">=1.2.0 <2.0.0", ">=1.0.0 <2.0.0", ">=1.2.0 <1.5.0", ">=1.0.0 <1.2.0"),
     ("=1.2.3", "3.x", "=1.2.3 || >=3.0.0 <4.0.0", "<0.0.0-0", "=1.2.3"),

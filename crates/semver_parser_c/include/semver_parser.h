@@ -240,7 +240,7 @@ int32_t semver_parser_explain_version(const uint8_t *text, size_t text_length, i
 
 /* Compares two versions by precedence (SemVer 2.0.0, section 11): `order` is -1, 0 or 1. Builds
  * don't count. After an error `in_other` says whether it is that of `other`; the first text is read
- * first. Only a pre-release of `other` allocates. */
+ * first. For two versions only a pre-release of `other` allocates. */
 int32_t semver_parser_precedence(const uint8_t *version, size_t version_length,
                                  const uint8_t *other, size_t other_length, int32_t reading,
                                  int32_t *order, bool *in_other);
