@@ -8,6 +8,7 @@ pub mod EventSteps
 pub mod EventSums
 pub mod ExactLaws
 pub mod FoundEvents
+pub mod FrontPartials
 pub mod Fronts
 pub mod KeptParts
 pub mod LongWords
