@@ -1,6 +1,7 @@
 //! Laws on texts, numbers and parts.
 
-ghost use Rattle.std.specs.Prelude.{◌≡◌, option_map};
+ghost use Rattle.std.specs.Prelude.{◌≡◌, true, option_map, slice_index};
+ghost use Rattle.std.specs.Char.{is_ascii_digit};
 ghost use Rattle.answer_laws.specs.SeenTexts.{seen_numbers, seen_text};
 
 use semver_texts::{decimals, dotted};
@@ -22,6 +23,22 @@ pub fn one_numbers(
     ensures one { option_map seen_numbers result.0 ≡ option_map seen_numbers result.1 }
 {
     (decimals::numbers(bytes), decimals::numbers(bytes))
+}
+
+/// A text that begins with a digit begins with three numbers and one rest, or with none.
+pub fn one_numbers_at_digit(
+    bytes: &[u8],
+) -> (
+    Option<(u64, u64, u64, &[u8])>,
+    Option<(u64, u64, u64, &[u8])>,
+)
+    requires { is_ascii_digit (slice_index bytes.now 0) ≡ true }
+    ensures one { option_map seen_numbers result.0 ≡ option_map seen_numbers result.1 }
+{
+    (
+        decimals::numbers_at_digit(bytes),
+        decimals::numbers_at_digit(bytes),
+    )
 }
 
 /// A text has one part before its first dot, and one rest after it.

@@ -237,6 +237,10 @@ NoneBehindDot text = (n : ℕ) (behind more : List ℕ) → text ≡ 46 ∷ behi
 abbrev pub NotThree : List ℕ → Type 0
 NotThree text = (major minor patch : ℕ) (rest : List ℕ) → ¬ (BeginsWithNumbers text major minor patch rest)
 
+pub no_first : (text : List ℕ) → is_ascii_digit (slice_index text 0) ≡ false → NotThree text
+no_first text other major minor patch more w =
+    let a = three_apart text major minor patch more w in no_digit text other major (46 ∷ a.second) a.first_is
+
 pub no_second : (text rest : List ℕ) (n : ℕ) → BeginsWithNumber text n rest → NoneBehindDot rest → NotThree text
 no_second text rest n first none major minor patch more w =
     let a = three_apart text major minor patch more w in

@@ -57,17 +57,16 @@ pub fn begins_with_digit(bytes: &[u8]) -> bool
     }
 }
 
-/// The number at the front, and what follows it, which doesn't begin with a digit.
+/// The number at the front of bytes that begin with a digit, and what follows it, which doesn't
+/// begin with one.
 ///
 /// One digit alone is read first, for speed: so a loop runs for longer numbers only.
 #[inline(always)]
-fn number(bytes: &[u8]) -> Option<(u64, &[u8])>
+fn number_at_digit(bytes: &[u8]) -> Option<(u64, &[u8])>
+    requires { is_ascii_digit (slice_index bytes.now 0) ≡ true }
     ensures { MatchOption result ((n : ℕ) (rest : Text) → ¬ (BeginsWithNumber bytes.now n rest))
         (λ r. BeginsWithNumber bytes.now r.0 r.1.now) }
 {
-    if !begins_with_digit(bytes) {
-        return None;
-    }
     let first = bytes[0];
     let rest = &bytes[1..];
     if !begins_with_digit(rest) {
@@ -78,6 +77,18 @@ fn number(bytes: &[u8]) -> Option<(u64, &[u8])>
     }
     let (number, len) = digits(bytes)?;
     Some((number, &bytes[len..]))
+}
+
+/// The number at the front, and what follows it, which doesn't begin with a digit.
+#[inline(always)]
+fn number(bytes: &[u8]) -> Option<(u64, &[u8])>
+    ensures { MatchOption result ((n : ℕ) (rest : Text) → ¬ (BeginsWithNumber bytes.now n rest))
+        (λ r. BeginsWithNumber bytes.now r.0 r.1.now) }
+{
+    if !begins_with_digit(bytes) {
+        return None;
+    }
+    number_at_digit(bytes)
 }
 
 // Answer: law answer_laws::texts::one_whole_number.
@@ -105,6 +116,21 @@ fn dot_number(bytes: &[u8]) -> Option<(u64, &[u8])>
     }
 }
 
+// Answer: law answer_laws::texts::one_numbers_at_digit.
+/// What [`numbers`] returns of bytes that begin with a digit. For speed, it isn't tested again.
+#[inline(always)]
+pub fn numbers_at_digit(bytes: &[u8]) -> Option<(u64, u64, u64, &[u8])>
+    requires { is_ascii_digit (slice_index bytes.now 0) ≡ true }
+    ensures { MatchOption result ((major minor patch : ℕ) (rest : Text) →
+        ¬ (BeginsWithNumbers bytes.now major minor patch rest))
+        (λ r. BeginsWithNumbers bytes.now r.0 r.1 r.2 r.3.now) }
+{
+    let (major, rest) = number_at_digit(bytes)?;
+    let (minor, rest) = dot_number(rest)?;
+    let (patch, rest) = dot_number(rest)?;
+    Some((major, minor, patch, rest))
+}
+
 // Answer: law answer_laws::texts::one_numbers.
 /// The three numbers at the front, joined by dots, and what follows them, which doesn't begin with
 /// a digit: 1, 2, 3 and `-rc` of `1.2.3-rc`. A number is at most 2^64 - 1.
@@ -114,8 +140,8 @@ pub fn numbers(bytes: &[u8]) -> Option<(u64, u64, u64, &[u8])>
         ¬ (BeginsWithNumbers bytes.now major minor patch rest))
         (λ r. BeginsWithNumbers bytes.now r.0 r.1 r.2 r.3.now) }
 {
-    let (major, rest) = number(bytes)?;
-    let (minor, rest) = dot_number(rest)?;
-    let (patch, rest) = dot_number(rest)?;
-    Some((major, minor, patch, rest))
+    if !begins_with_digit(bytes) {
+        return None;
+    }
+    numbers_at_digit(bytes)
 }

@@ -1,5 +1,5 @@
 -- A whole text that spells a version in a dialect is read as it, and as no other.
-use Rattle.std.proofs.Common.{codes, ◌≡◌, inl, inr, ⊎_elim, ℕ, ◌+◌, ◌<◌, ◌≤◌, ◌^◌, cond, Bool, true, List, [], ◌∷◌, ◌++◌, length}
+use Rattle.std.proofs.Common.{codes, ◌≡◌, inl, inr, ⊎_elim, ℕ, ◌+◌, ◌<◌, ◌≤◌, ◌^◌, cond, Bool, true, false, List, [], ◌∷◌, ◌++◌, length}
 use Rattle.std.proofs.Common.{refl, ◌∙◌, arith, ap, sym, subst, append_assoc, append-nil, length-append, decimal, map, one-add}
 use Rattle.std.specs.Prelude.{◌==◌, not, Option, Some, None, slice_index}
 use Rattle.std.specs.Char.{is_ascii_digit}
@@ -51,6 +51,12 @@ digit_begins {text} {major} {minor} {patch} {rest} n =
     subst Digit (sym (n.split ∙ simp append_assoc))
     (digit_first (decimal major) (46 ∷ (decimal minor ++ (46 ∷ (decimal patch ++ rest)))) (decimal_nonempty major n.major_fits)
     (decimal_digits major n.major_fits))
+
+-- so without a digit at the front there are none
+pub no_numbers : {text : Text} {major minor patch : ℕ} {rest : Text} → is_ascii_digit (slice_index text 0) ≡ false
+    → ¬ (BeginsWithNumbers text major minor patch rest)
+no_numbers none n =
+    let d = digit_begins n in let e = d.digit in let no = rw d.whole at none in cc
 
 digit_dotted : (b : ℕ) → is_ascii_digit b ≡ true → is_dotted_byte b ≡ true
 digit_dotted b h = grind (arith, nat_tests)

@@ -7,7 +7,8 @@
 //! speed they are read without a look at the dialect. What needs one is called, not inlined.
 
 ghost use Rattle.std.specs.Prelude.{◌≡◌, ◌≤◌, ◌<◌, ◌+◌, ◌++◌, ◌^◌, ℕ, true, false, length};
-ghost use Rattle.std.specs.Prelude.{MatchOption};
+ghost use Rattle.std.specs.Prelude.{MatchOption, slice_index};
+ghost use Rattle.std.specs.Char.{is_ascii_digit};
 ghost use Rattle.semver_texts.specs.Texts.{Text, BeginsWithNumbers, cut_at_dots};
 ghost use Rattle.semver_texts.specs.ToolVersions.{characters};
 ghost use Rattle.semver_texts.specs.declared.dialect.Dialect.TheVariants.{Npm};
@@ -16,7 +17,7 @@ ghost use Rattle.semver_versions.specs.Steps.Reading.{IsOutlinedBy, IsShort, Num
 ghost use Rattle.semver_versions.specs.Steps.Reading.{around_size, hyphens_of};
 
 use crate::outlines::{Outline, with_parts};
-use semver_texts::decimals::{begins_with_digit, numbers};
+use semver_texts::decimals::{begins_with_digit, numbers_at_digit};
 use semver_texts::dialect::Dialect;
 use semver_texts::dotted::{Hyphens, behind_mark, have_no_leading_zeros, marked_part};
 
@@ -83,16 +84,24 @@ fn behind_front(bytes: &[u8], dialect: Dialect) -> &[u8]
     }
 }
 
-/// What follows all that is taken before the numbers. For speed, a digit at the front is seen
-/// first: nothing is before it.
+/// What follows all that is taken before the numbers, if it begins with a digit. For speed, a digit
+/// at the front is seen first: nothing is before it.
 #[inline(always)]
-fn at_numbers(bytes: &[u8], dialect: Dialect) -> &[u8]
-    ensures { IsBefore dialect bytes.now result.now }
+fn at_digit(bytes: &[u8], dialect: Dialect) -> Option<&[u8]>
+    ensures { MatchOption result ((rest : Text) × IsBefore dialect bytes.now rest
+        × (is_ascii_digit (slice_index rest 0) ≡ false))
+        (λ rest. IsBefore dialect bytes.now rest.now
+        × (is_ascii_digit (slice_index rest.now 0) ≡ true)) }
 {
     if begins_with_digit(bytes) {
-        return bytes;
+        return Some(bytes);
     }
-    behind_front(bytes, dialect)
+    let rest = behind_front(bytes, dialect);
+    if begins_with_digit(rest) {
+        Some(rest)
+    } else {
+        None
+    }
 }
 
 /// Whether the bytes may be after a version.
@@ -202,8 +211,30 @@ fn parts_with(bytes: &[u8], hyphens: Hyphens, dialect: Dialect) -> Option<(&[u8]
     }
 }
 
+/// The outline of the version whose numbers are known and within the limit, how many bytes there
+/// are up to their end, and what follows them, if the text spells one.
+#[inline(always)]
+fn with_rest(
+    major: u64,
+    minor: u64,
+    patch: u64,
+    numbers_end: usize,
+    rest: &[u8],
+    dialect: Dialect,
+) -> Option<Outline<'_>>
+    requires within { numbers_end + length rest.now < 2 ^ 64 }
+    requires fit { NumbersFit dialect major minor patch }
+    ensures { (text : Text) (before : ℕ) → BeginsWithNumbers text major minor patch rest.now
+        → numbers_end + length rest.now ≡ before + length text
+        → IsOutlinedAt dialect before text result }
+{
+    let (pre, build) = parts(rest, dialect)?;
+    Some(with_parts(major, minor, patch, numbers_end, pre, build))
+}
+
 /// The outline of the version whose numbers are known, how many bytes there are up to their end,
-/// and what follows them, if the text spells one. For speed, numbers alone are seen first.
+/// and what follows them, if the text spells one. For speed, numbers alone are seen first, and what
+/// follows them is read by a function of its own: so nothing is made ready for it here.
 #[inline(always)]
 fn behind_numbers(
     major: u64,
@@ -224,8 +255,7 @@ fn behind_numbers(
     if rest.is_empty() {
         return Some(with_parts(major, minor, patch, numbers_end, &[], &[]));
     }
-    let (pre, build) = parts(rest, dialect)?;
-    Some(with_parts(major, minor, patch, numbers_end, pre, build))
+    with_rest(major, minor, patch, numbers_end, rest, dialect)
 }
 
 /// The outline of the version that the bytes spell, if they spell one.
@@ -236,7 +266,8 @@ pub(crate) fn outline(input: &[u8], dialect: Dialect) -> Option<Outline<'_>>
     if !is_short(0, input, dialect) {
         return None;
     }
-    let (major, minor, patch, rest) = numbers(at_numbers(input, dialect))?;
+    let at = at_digit(input, dialect)?;
+    let (major, minor, patch, rest) = numbers_at_digit(at)?;
     behind_numbers(major, minor, patch, input.len() - rest.len(), rest, dialect)
 }
 
