@@ -1,22 +1,22 @@
 -- Fronts of words: what npm asks of a word, that no part of it is too long and none has a leading zero, stays so.
 use Rattle.std.proofs.Common.{◌≡◌, ℕ, ◌+◌, ◌≤◌, Bool, true, false, ◌⊎◌, inl, inr, ⊎_elim, List, [], ◌∷◌, ◌++◌, codes, length, refl, sym, ap, ◌∙◌}
-use Rattle.std.proofs.Common.{arith, append-nil, append_assoc, length-append, subst}
+use Rattle.std.proofs.Common.{arith, append-nil, length-append}
 use Rattle.std.specs.Prelude.{◌&&◌, ◌||◌, ◌==◌, not, nat_le, if◌then◌else◌}
 use Rattle.std.specs.Char.{is_ascii_digit}
-use Rattle.std.specs.List.{list_all, join_with_byte, prefix_len}
+use Rattle.std.specs.List.{list_all, join_with_byte}
 use Rattle.std.specs.Str.{all_ascii_digits}
 use Rattle.std.proofs.lemmas.Bool.{and_parts, and_from, eqb-true}
 use Rattle.std.proofs.lemmas.Bool.Decides.{nat_tests}
 use Rattle.std.proofs.lemmas.List.Sums.{prefix_len-le-length}
-use Rattle.semver_texts.specs.Texts.{Text, has_no_leading_zero, is_empty, is_part, is_part_byte, marked}
+use Rattle.semver_texts.specs.Texts.{Text, has_no_leading_zero, is_empty, marked}
 use Rattle.semver_texts.proofs.Lists.{by_test}
 use Rattle.semver_ranges.specs.NpmLengths.{is_short_number, is_short_pre, is_short_build, is_short_version, leading_digits}
-use Rattle.semver_ranges.specs.RangeTree.{PartialTree, one, two, three, SpellsPartial, is_component, is_wildcard, components, pre_parts}
+use Rattle.semver_ranges.specs.RangeTree.{PartialTree, one, two, three, is_wildcard, components}
 use Rattle.semver_ranges.specs.RangeTree.{Role, behind_form, behind_hyphen, Form, bare, equal, less, at_most, greater, at_least, tilde, caret}
-use Rattle.semver_ranges.specs.RangeTree.{is_taken_whole, numbers_and_pre, qualifier, has_short_version, is_word_of_npm}
-use Rattle.semver_ranges.specs.RangeTree.{build_parts, has_no_leading_zeros, has_short_parts, states_three}
-use Rattle.semver_ranges.proofs.FrontPartials.{Rest, nothing, wildcard, letter, bar, number, rest_text, IsFrontOfComponent, IsFrontOfPart}
-use Rattle.semver_ranges.proofs.FrontPartials.{AreFrontOfParts, IsFrontOfEnd, IsFrontOf, GoesOn, partial_goes_on, cut_component}
+use Rattle.semver_ranges.specs.RangeTree.{is_taken_whole, qualifier, has_short_version, is_word_of_npm}
+use Rattle.semver_ranges.specs.RangeTree.{has_no_leading_zeros, has_short_parts}
+use Rattle.semver_ranges.proofs.FrontPartials.{IsFrontOfComponent, IsFrontOfPart}
+use Rattle.semver_ranges.proofs.FrontPartials.{AreFrontOfParts, IsFrontOfEnd, IsFrontOf}
 
 -- ---- a part
 
