@@ -3,6 +3,7 @@ mod FoundComparators
 mod RequirementSteps
 mod RequirementLaws
 mod RequirementPrinted
+pub mod CargoFronts
 mod ReadMeanings
 mod ReadRows
 mod PreReleaseMeanings
