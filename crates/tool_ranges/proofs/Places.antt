@@ -1,11 +1,11 @@
 -- The place of a range text's error: whether a text is a range text, where its fronts go on, and the longest that does.
 use Rattle.std.proofs.Common.{◌≡◌, ℕ, ◌<◌, ◌≤◌, Bool, true, false, Ok, Err, Result, ◌⊎◌, inl, inr, ⊎_elim, [], ◌∷◌, ◌++◌, codes, refl, sym}
-use Rattle.std.proofs.Common.{◌-◌, ap, ◌∙◌, subst, arith, length, take, drop, append-nil, append_assoc}
+use Rattle.std.proofs.Common.{◌-◌, append-nil, ap, ◌∙◌, subst, arith, length, take, drop, append_assoc}
 use Rattle.std.specs.Prelude.{◌↔◌, IsTrue, IfOk, not}
 use Rattle.std.specs.List.{list_all, slice_range}
 use Rattle.std.specs.Str.{IsUtf8, IsCharBoundary, chars}
 use Rattle.std.proofs.Math.Seq.{take-length}
-use Rattle.std.proofs.lemmas.Bool.{and_parts, and_from, cases_lt}
+use Rattle.std.proofs.lemmas.Bool.{and_parts, and_from, cases_lt, cases_order}
 use Rattle.std.proofs.lemmas.List.{take-append-drop, take-take}
 use Rattle.std.proofs.lemmas.Str.{chars-append, IsCharBoundary-end, IsCharBoundary-start, IsUtf8-take}
 use Rattle.semver_texts.specs.Texts.{Text}
@@ -15,7 +15,7 @@ use Rattle.semver_ranges.specs.RangeTree.{SpellsIn, bare, empty, one}
 use Rattle.semver_ranges.specs.declared.range_set.RangeError.{RangeError}
 use Rattle.semver_ranges.specs.declared.range_set.RangeError.TheVariants.{NotARange, NumberTooLarge, OutOfMemory}
 use Rattle.semver_ranges.proofs.FrontPartials.{Rest, nothing, wildcard, letter, bar, number, rest_text}
-use Rattle.semver_ranges.proofs.FrontRanges.{SetGoesOn, set_goes_on}
+use Rattle.semver_ranges.proofs.FrontRanges.{set_goes_on}
 use Rattle.tool_ranges.specs.declared.reading.Reading.{Reading}
 use Rattle.tool_ranges.specs.declared.reading.Reading.TheVariants.{Cargo, Npm, Crate}
 use Rattle.tool_ranges.specs.Fronts.{BeginsAs, IsPlace}
@@ -163,7 +163,16 @@ nothing_begins Cargo = (codes "1", (record { form = bare; partial = one (codes "
 nothing_begins Npm = ([], (empty ∷ [], record { spelled = empty_range dialect.Npm; characters = rest_stands nothing }))
 nothing_begins (Crate mode) = ([], (empty ∷ [], empty_range dialect.Crate))
 
+pub text_begins : (reading : Reading) (t : Text) → IsTextAs reading t → BeginsAs reading t
+text_begins reading t w = ([], subst (IsTextAs reading) (sym (append-nil t)) w)
+
 -- ---- the place
+
+pub one_place : (reading : Reading) (t : Text) (m n : ℕ) → IsPlace (BeginsAs reading) t m → IsPlace (BeginsAs reading) t n → m ≡ n
+one_place reading t m n a b =
+    ⊎_elim (λ e. e)
+    (λ other. ⊎_elim (λ less. absurd (a.no_longer n less b.boundary b.front)) (λ more. absurd (b.no_longer m more a.boundary a.front)) other)
+    (cases_order m n)
 
 front_range : (t : Text) (n : ℕ) → slice_range t 0 n ≡ take n t
 front_range t n = grind arith

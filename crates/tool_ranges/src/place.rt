@@ -1,6 +1,6 @@
 //! The place of a range text's error: the end of the longest front that some range text begins
-//! with. It is found by asking the dialect itself what a front could be gone on with, so there is no
-//! second grammar.
+//! with. It is found by asking the dialect itself what a front could be gone on with, so there is
+//! no second grammar.
 
 ghost use Rattle.std.specs.Prelude.{◌≡◌, ◌<◌, ◌≤◌, ◌↔◌, ◌++◌, ℕ, IfOk, IsTrue, length};
 ghost use Rattle.std.specs.Str.{IsCharBoundary};

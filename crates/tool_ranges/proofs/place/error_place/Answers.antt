@@ -1,5 +1,5 @@
-use Rattle.std.proofs.Common.{inl, inr, refl}
-use Rattle.tool_ranges.proofs.Places.{IsNext, Moves, whole_place, first_searched, still_searched, nearer, found_place}
+use Rattle.std.proofs.Common.{inl, inr}
+use Rattle.tool_ranges.proofs.Places.{Moves, whole_place, first_searched, still_searched, nearer, found_place}
 use Rattle.tool_ranges.proofs.place.error_place.Goals as goal
 use Rattle.tool_ranges.proofs.place.error_place.Goals.{then-branch-2, else-branch-2}
 
