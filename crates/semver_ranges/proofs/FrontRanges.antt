@@ -230,7 +230,8 @@ module _ (d : Dialect) where
                 more = k.more;
                 spelled = (f, gap, k.inner, simple, blanks, k.spelled, sym (append_assoc f gap k.inner));
                 are_blanks = k.are_blanks;
-                text = rw (w.2, g.2, append_assoc, append_assoc, append_assoc, append_assoc) (ap (λ t. f ++ (gap ++ t)) k.text);
+                text = ap (λ t. t ++ rest_text k.more) (w.2 ∙ ap (λ t. f ++ t) (g.2))
+                    ∙ simp append_assoc (ap (λ t. f ++ (gap ++ t)) k.text);
               })
         ]
       ]

@@ -202,7 +202,7 @@ numbers_text a b c = a ++ (46 ∷ (b ++ (46 ∷ c)))
 abbrev pub word_length : ℕ → PartialTree → ℕ
 word_length v p = v + length (join_with_byte 46 (components p) ++ qualifier p)
 
--- whether it is taken over whole hangs on the pre-release alone
+-- whether it is taken over whole depends on the pre-release alone
 same_form : (form : Form) (a b c : Text) (pre build : List Text) (a' b' c' : Text) (pre' build' : List Text)
     → is_taken_whole (behind_form form) (three a' b' c' pre' build') ≡ is_taken_whole (behind_form form) (three a b c pre build)
 same_form bare a b c pre build a' b' c' pre' build' = refl

@@ -24,7 +24,7 @@ record KeepsCargo (p' p : PartialTree) : Type 0 where
   states : states_nothing p' ≡ states_nothing p
   is_one : is_one p ≡ true → is_one p' ≡ true
 
--- whether a partial states nothing hangs on its first component
+-- whether a partial states nothing depends on its first component
 none_stated : (a : Text) (cs : List Text)
     → is_empty (map (digits_value 10) (take_while (λ c. not (is_wildcard c)) (a ∷ cs))) ≡ is_wildcard a
 none_stated a cs = by_test (is_wildcard a) (λ y. rw y refl) (λ n. rw (n, one-add) refl)
