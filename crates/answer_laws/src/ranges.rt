@@ -1,10 +1,13 @@
-//! The calls that read a range text into comparators.
+//! The calls that read a range text into comparators, and the place of its error.
 
+ghost use Rattle.std.specs.Prelude.{alloc_error};
 ghost use Rattle.semver_parser.specs.RangeViews.{set_of};
-ghost use Rattle.answer_laws.specs.OneAnswer.{AreOne};
+ghost use Rattle.answer_laws.specs.OneAnswer.{AreOne, itself};
 
 use semver_parser::{Compat, RangeError, RangeSet};
-use std::alloc::Global;
+use std::alloc::{AllocError, Global};
+use tool_ranges::laws::one_place;
+use tool_ranges::place::error_place;
 use tool_ranges::reading::{self, Reading};
 use tool_ranges::{cargo, npm};
 
@@ -65,5 +68,20 @@ pub fn one_rewrite(alloc: Global, reading: Reading, range: &str) -> Answers
     (
         reading::rewrite(alloc, reading, range),
         reading::rewrite(alloc, reading, range),
+    )
+}
+
+/// `place::error_place` has one answer.
+pub fn one_error_place(
+    alloc: Global,
+    reading: Reading,
+    text: &str,
+) -> (Result<usize, AllocError>, Result<usize, AllocError>)
+    ensures one { AreOne alloc_error itself result.0 result.1 }
+{
+    one_place();
+    (
+        error_place(alloc, reading, text),
+        error_place(alloc, reading, text),
     )
 }

@@ -6,7 +6,6 @@ mod ending;
 mod error;
 mod hints;
 mod options;
-mod place;
 mod program;
 mod refused;
 mod shown;

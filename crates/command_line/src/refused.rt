@@ -2,11 +2,11 @@
 //! caret under it, and a hint if another dialect takes it or a known rule is broken.
 
 use crate::hints::hint;
-use crate::place::fault_place;
 use crate::shown::Shown;
 use semver_parser::RangeError;
 use std::alloc::{AllocError, Global};
 use std::fmt::Write as _;
+use tool_ranges::place::error_place;
 use tool_ranges::reading::Reading;
 
 /// The text of an error: the error and the range text, and of one that is no range two lines more,
@@ -31,7 +31,7 @@ pub fn refused_text(
         write!(written, "{error}: {shown}")?;
         return Ok(written);
     }
-    let place = fault_place(alloc, reading, text)?;
+    let place = error_place(alloc, reading, text)?;
     let shown = Shown::round(text, place);
     write!(written, "{error}: {shown}")?;
     shown.write_pointed(&mut written)?;

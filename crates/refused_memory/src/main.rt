@@ -112,7 +112,7 @@ fn of_versions(alloc: Global) -> [(&'static str, Ending); 15] {
 }
 
 /// How each call on ranges and above them ends.
-fn of_ranges(alloc: Global) -> [(&'static str, Ending); 28] {
+fn of_ranges(alloc: Global) -> [(&'static str, Ending); 29] {
     [
         (
             "one_simple",
@@ -180,6 +180,7 @@ fn of_ranges(alloc: Global) -> [(&'static str, Ending); 28] {
         ("refused_cargo_reads", sets::of_refused_requirements(alloc)),
         ("npm_range", ranges::npm_range(alloc)),
         ("refused_npm_ranges", ranges::refused_npm_ranges(alloc)),
+        ("place_of_an_error", ranges::place_of_an_error(alloc)),
         ("npm_read", sets::of_npm_ranges(alloc)),
         ("refused_npm_reads", sets::of_refused_npm_ranges(alloc)),
         ("within_bounds", sets::within_bounds(alloc)),

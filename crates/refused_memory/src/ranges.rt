@@ -5,6 +5,8 @@ use super::fixed::Fixed;
 use semver_parser::{Compat, RangeError, RangeSet};
 use std::alloc::Global;
 use std::fmt::Write as _;
+use tool_ranges::place::error_place;
+use tool_ranges::reading::Reading;
 use tool_ranges::{cargo, npm};
 
 const TEXT: &str = "^1.2.3-beta.4 || 2.x";
@@ -79,6 +81,14 @@ pub fn refused_npm_ranges(alloc: Global) -> Ending {
             && matches!(grammar_first, Err(RangeError::NotARange))
             && matches!(bound, Err(RangeError::NumberTooLarge)),
     )
+}
+
+/// The place of an error is found with one buffer.
+pub fn place_of_an_error(alloc: Global) -> Ending {
+    match error_place(alloc, Reading::Cargo, "1.2 || 3") {
+        Ok(place) => Ending::full_if(place == 4),
+        Err(_) => Ending::Refused,
+    }
 }
 
 /// The same in Cargo mode.

@@ -266,7 +266,7 @@ two_on p a b front m rest r e text less shape w = made p (two a w.component) w.m
   (
     and_from _ _ e (and_from _ _ w.is_component refl),
     tt,
-    rw (text, append_assoc, append-nil) (ap (λ t. a ++ (46 ∷ t)) w.text),
+    rw text (append_assoc a _ _ ∙ ap (λ t. a ++ (46 ∷ t)) w.text ∙ sym (append-nil _)),
   ),
   omega (arith, w.short),
   shape w.component w.shape,
@@ -289,7 +289,7 @@ module _ (a b c : Text) (pre build : List Text) where
         (
           and_from _ _ n.0 (and_from _ _ n.1 (and_from _ _ e refl)),
           (p, q),
-          rw (text, append_assoc, append_assoc, append_assoc, append_assoc) (ap (λ t. a ++ (46 ∷ (b ++ (46 ∷ t)))) goes),
+          rw text (simp append_assoc (ap (λ t. a ++ (46 ∷ (b ++ (46 ∷ t)))) goes)),
         ),
         less,
         (refl, refl, shape),
@@ -305,7 +305,7 @@ module _ (a b c : Text) (pre build : List Text) where
       → length r ≤ length rest → PartsGoOn pre m r → GoesOn whole front rest
   pre_on front m rest r n e text less w =
       three_on c (w.first ∷ w.others) [] w.more front (c ++ (45 ∷ m)) rest n e w.are_parts refl text
-      (rw (append_assoc, append-nil) (ap (λ t. c ++ (45 ∷ t)) w.text)) (omega (arith, w.short)) (inr (inl (refl, w.shape, refl)))
+      (append_assoc c _ _ ∙ ap (λ t. c ++ (45 ∷ t)) (w.text ∙ sym (append-nil _))) (omega (arith, w.short)) (inr (inl (refl, w.shape, refl)))
 
   build_on : (front m rest : Text) → numbers_are → is_component c ≡ true → list_all is_part pre ≡ true
       → front ≡ a ++ (46 ∷ (b ++ (46 ∷ (c ++ (marked (codes "-") pre ++ (43 ∷ m)))))) → PartsGoOn build m rest → GoesOn whole front rest

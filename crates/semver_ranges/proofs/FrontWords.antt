@@ -1,22 +1,24 @@
 -- Fronts of words: what npm asks of a word, that no part of it is too long and none has a leading zero, stays so.
-use Rattle.std.proofs.Common.{◌≡◌, ℕ, ◌+◌, ◌≤◌, Bool, true, false, ◌⊎◌, inl, inr, ⊎_elim, List, [], ◌∷◌, ◌++◌, codes, length, refl, sym, ap, ◌∙◌}
-use Rattle.std.proofs.Common.{arith, append-nil, append_assoc, length-append, subst}
+use Rattle.std.proofs.Common.{◌≡◌, ℕ, ◌+◌, ◌≤◌, Bool, true, false, ◌⊎◌, inl, inr, ⊎_elim, List, [], ◌∷◌, ◌++◌, codes, length}
+use Rattle.std.proofs.Common.{refl, sym, ap, ◌∙◌}
+use Rattle.std.proofs.Common.{arith, append-nil, length-append}
 use Rattle.std.specs.Prelude.{◌&&◌, ◌||◌, ◌==◌, not, nat_le, if◌then◌else◌}
 use Rattle.std.specs.Char.{is_ascii_digit}
-use Rattle.std.specs.List.{list_all, join_with_byte, prefix_len}
+use Rattle.std.specs.List.{list_all, join_with_byte}
 use Rattle.std.specs.Str.{all_ascii_digits}
 use Rattle.std.proofs.lemmas.Bool.{and_parts, and_from, eqb-true}
 use Rattle.std.proofs.lemmas.Bool.Decides.{nat_tests}
 use Rattle.std.proofs.lemmas.List.Sums.{prefix_len-le-length}
-use Rattle.semver_texts.specs.Texts.{Text, has_no_leading_zero, is_empty, is_part, is_part_byte, marked}
+use Rattle.semver_texts.specs.Texts.{Text, has_no_leading_zero, is_empty, marked}
 use Rattle.semver_texts.proofs.Lists.{by_test}
 use Rattle.semver_ranges.specs.NpmLengths.{is_short_number, is_short_pre, is_short_build, is_short_version, leading_digits}
-use Rattle.semver_ranges.specs.RangeTree.{PartialTree, one, two, three, SpellsPartial, is_component, is_wildcard, components, pre_parts}
-use Rattle.semver_ranges.specs.RangeTree.{Role, behind_form, behind_hyphen, Form, bare, equal, less, at_most, greater, at_least, tilde, caret}
-use Rattle.semver_ranges.specs.RangeTree.{is_taken_whole, numbers_and_pre, qualifier, has_short_version, is_word_of_npm}
-use Rattle.semver_ranges.specs.RangeTree.{build_parts, has_no_leading_zeros, has_short_parts, states_three}
-use Rattle.semver_ranges.proofs.FrontPartials.{Rest, nothing, wildcard, letter, bar, number, rest_text, IsFrontOfComponent, IsFrontOfPart}
-use Rattle.semver_ranges.proofs.FrontPartials.{AreFrontOfParts, IsFrontOfEnd, IsFrontOf, GoesOn, partial_goes_on, cut_component}
+use Rattle.semver_ranges.specs.RangeTree.{PartialTree, one, two, three, is_wildcard, components}
+use Rattle.semver_ranges.specs.RangeTree.{Role, behind_form, behind_hyphen, Form, bare, equal, less, at_most, greater, at_least}
+use Rattle.semver_ranges.specs.RangeTree.{tilde, caret}
+use Rattle.semver_ranges.specs.RangeTree.{is_taken_whole, qualifier, has_short_version, is_word_of_npm}
+use Rattle.semver_ranges.specs.RangeTree.{has_no_leading_zeros, has_short_parts}
+use Rattle.semver_ranges.proofs.FrontPartials.{IsFrontOfComponent, IsFrontOfPart}
+use Rattle.semver_ranges.proofs.FrontPartials.{AreFrontOfParts, IsFrontOfEnd, IsFrontOf}
 
 -- ---- a part
 
@@ -43,7 +45,8 @@ leading_on (b ∷ x) y e = by_test (is_ascii_digit b)
 leading_stops : (x y : Text) → (leading_digits x == length x) ≡ false → leading_digits (x ++ y) ≡ leading_digits x
 leading_stops [] y e = cc
 leading_stops (b ∷ x) y e = by_test (is_ascii_digit b)
-    (λ d. let e' : (leading_digits x == length x) ≡ false = grind (arith, nat_tests, rw d at e) in rw d (omega (arith, leading_stops x y e')))
+    (λ d. let e' : (leading_digits x == length x) ≡ false = grind (arith, nat_tests, rw d at e) in
+    rw d (omega (arith, leading_stops x y e')))
     (λ d. rw d refl)
 
 -- the test by numbers: the digits at the front, and the length
@@ -61,7 +64,8 @@ letter_short d n d' n' a (inl e) b c g h = grind (arith, nat_tests)
 letter_short d n d' n' a (inr e) b c g h = grind (arith, nat_tests)
 
 -- the digits of a front, and of what it begins
-leading_front : (x y : Text) → (leading_digits x ≡ length x) ⊎ (((leading_digits x == length x) ≡ false) × (leading_digits (x ++ y) ≡ leading_digits x))
+leading_front : (x y : Text) → (leading_digits x ≡ length x)
+    ⊎ (((leading_digits x == length x) ≡ false) × (leading_digits (x ++ y) ≡ leading_digits x))
 leading_front x y = by_test (leading_digits x == length x)
     (λ e. inl (eqb-true _ _ e))
     (λ e. inr (e, leading_stops x y e))
@@ -118,7 +122,8 @@ some_parts (x' ∷ xs') [] w = absurd w
 some_parts (x' ∷ []) (x ∷ xs) w = (refl, refl)
 some_parts (x' ∷ y' ∷ ys') (x ∷ xs) w = (refl, refl)
 
-pub marked_stays : (mark : ℕ) (xs' xs : List Text) → AreFrontOfParts xs' xs → length (marked (mark ∷ []) xs') ≤ length (marked (mark ∷ []) xs)
+pub marked_stays : (mark : ℕ) (xs' xs : List Text) → AreFrontOfParts xs' xs
+    → length (marked (mark ∷ []) xs') ≤ length (marked (mark ∷ []) xs)
 marked_stays mark [] xs w = absurd w
 marked_stays mark (x' ∷ xs') [] w = absurd w
 marked_stays mark (x' ∷ xs') (x ∷ xs) w = let less = joined_stays (x' ∷ xs') (x ∷ xs) w in omega arith
@@ -197,7 +202,7 @@ numbers_text a b c = a ++ (46 ∷ (b ++ (46 ∷ c)))
 abbrev pub word_length : ℕ → PartialTree → ℕ
 word_length v p = v + length (join_with_byte 46 (components p) ++ qualifier p)
 
--- whether it is taken over whole hangs on the pre-release alone
+-- whether it is taken over whole depends on the pre-release alone
 same_form : (form : Form) (a b c : Text) (pre build : List Text) (a' b' c' : Text) (pre' build' : List Text)
     → is_taken_whole (behind_form form) (three a' b' c' pre' build') ≡ is_taken_whole (behind_form form) (three a b c pre build)
 same_form bare a b c pre build a' b' c' pre' build' = refl
@@ -278,7 +283,8 @@ end_stays role a b c' pre' build' c pre build v n n' (inr (inl w)) small fewer i
     let some = some_parts pre' pre w.1 in
     let marks = marked_stays 45 pre' pre w.1 in
     rw (w.0) (same_end role a b c c pre build pre' build' n n' (some.0 ∙ sym some.1) fewer
-    (rw (length-append (numbers_text a b c) (marked (codes "-") pre'), length-append (numbers_text a b c) (marked (codes "-") pre)) (omega arith))
+    (rw (length-append (numbers_text a b c) (marked (codes "-") pre'), length-append (numbers_text a b c) (marked (codes "-") pre))
+    (omega arith))
     (three_stated role a b c pre build n h (stated a b c c' (ap is_wildcard w.0) k)))
 end_stays role a b c' pre' build' c pre build v n n' (inr (inr w)) small fewer is h k =
     rw (w.0, w.1) (same_end role a b c c pre build pre build' n n' refl fewer (omega arith)

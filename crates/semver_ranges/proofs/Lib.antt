@@ -9,6 +9,7 @@ pub mod EventSums
 pub mod ExactLaws
 pub mod FoundEvents
 pub mod FrontPartials
+pub mod FrontRanges
 pub mod FrontWords
 pub mod Fronts
 pub mod KeptParts

@@ -22,3 +22,4 @@ mod AskedMeanings
 mod AskedRanges
 mod AskedRequirements
 pub mod ReadingLaws
+mod Places

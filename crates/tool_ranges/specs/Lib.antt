@@ -10,4 +10,5 @@ pub mod NpmTexts
 pub mod AllPreReleases
 pub mod Steps
 pub mod Readings
+pub mod Fronts
 pub mod Meanings

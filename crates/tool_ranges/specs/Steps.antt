@@ -3,4 +3,5 @@ pub mod CargoReading
 pub mod CargoPreReleases
 pub mod NpmReading
 pub mod Cells
+pub mod Places
 pub mod LowerBounds

@@ -7,6 +7,7 @@ pub mod cargo;
 pub mod laws;
 pub mod meaning;
 pub mod npm;
+pub mod place;
 pub mod reading;
 mod rows;
 mod tally;

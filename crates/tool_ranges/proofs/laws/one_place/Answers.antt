@@ -1,0 +1,5 @@
+use Rattle.tool_ranges.proofs.Places.{one_place}
+use Rattle.tool_ranges.proofs.laws.one_place.Goals as goal
+
+pub returns : goal.returns
+returns c = record { same_place = one_place }
