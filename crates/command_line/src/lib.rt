@@ -2,12 +2,11 @@
 //! dialect and which pre-releases count, and what a program writes of itself and of errors.
 #![tactic(auto)]
 
-mod ending;
 mod error;
-mod hints;
 mod options;
 mod program;
 mod refused;
+mod sentences;
 mod shown;
 
 pub use error::ArgumentError;

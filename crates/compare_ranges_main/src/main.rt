@@ -62,7 +62,7 @@ these two. The status is 0 if both ranges mean the same versions, 1 if they
 differ, 0 for one range, and 2 after an error.";
 
 /// The version of this program, as the file VERSION has it.
-const VERSION: &str = "compare-ranges 0.6.0";
+const VERSION: &str = "compare-ranges 0.6.1";
 
 /// Why a run ended by an error.
 #[derive(Drop)]

@@ -13,6 +13,7 @@ mod fronts;
 mod lexing;
 mod modes;
 mod parsing;
+mod places;
 mod ranges;
 mod reporting;
 mod sets;
@@ -23,12 +24,13 @@ mod versions;
 use checksum::Checksum;
 use filtering::write_greatest as greatest;
 use release_filter::PreReleases;
-use semver_parser::version;
 use semver_parser::version::Dialect;
+use semver_parser::{Compat, version};
 use std::alloc::Global;
 use std::io;
 use std::io::{BufRead, BufReader, BufWriter, Write};
 use tool_ranges::meaning::Meaning;
+use tool_ranges::reading::Reading;
 
 fn main(rt: HostRuntime) -> io::Result<()> {
     let input = BufReader::new(rt.alloc(), rt.reader())?;
@@ -97,6 +99,14 @@ fn answer<W: Write>(
         "greatest-release" => greatest(alloc, text, PreReleases::Excluded, steps, out),
         "greatest-stated" => greatest(alloc, text, PreReleases::Stated, steps, out),
         "greatest-of-all" => greatest(alloc, text, PreReleases::Included, steps, out),
+        "refused-range-as-cargo" => places::write_refused(alloc, text, Reading::Cargo, out),
+        "refused-range-as-npm" => places::write_refused(alloc, text, Reading::Npm, out),
+        "refused-range-as-crate-cargo" => {
+            places::write_refused(alloc, text, Reading::Crate(Compat::Cargo), out)
+        }
+        "refused-range-as-crate-npm" => {
+            places::write_refused(alloc, text, Reading::Crate(Compat::Npm), out)
+        }
         "rewritten-as-cargo" => tools::write_rewritten(alloc, Meaning::Cargo, text, out),
         "rewritten-as-npm" => tools::write_rewritten(alloc, Meaning::Npm, text, out),
         "meant-as-cargo" => tools::write_meant(alloc, Meaning::Cargo, text, steps, out),

@@ -1,31 +1,31 @@
 -- Fronts of partials: a front of a partial's text, gone on with nothing, a wildcard or a letter, is another partial's text.
-use Rattle.std.proofs.Common.{◌≡◌, ℕ, ◌≤◌, true, false, ◌⊎◌, inl, inr, List, [], ◌∷◌, ◌++◌, codes, length, refl, sym, ap, ◌∙◌}
+use Rattle.std.proofs.Common.{◌≡◌, ℕ, ◌+◌, ◌*◌, ◌≤◌, true, false, ◌⊎◌, inl, inr, List, [], ◌∷◌, ◌++◌, codes, length, refl, sym, ap, ◌∙◌}
 use Rattle.std.proofs.Common.{arith, append-nil, append_assoc, length-append, subst}
 use Rattle.std.specs.List.{list_all, join_with_byte}
+use Rattle.std.specs.Char.{digit_value}
 use Rattle.std.specs.Str.{all_ascii_digits}
+use Rattle.std.specs.Str.Parse.{digits_value, digits_value_after}
 use Rattle.std.proofs.lemmas.Bool.{and_parts, and_from}
 use Rattle.std.proofs.lemmas.Bool.Decides.{nat_tests}
 use Rattle.semver_texts.specs.Texts.{Text, has_no_leading_zero, is_empty, is_part, is_part_byte, marked}
 use Rattle.semver_texts.proofs.Lists.{by_test}
-use Rattle.semver_ranges.specs.RangeTree.{PartialTree, one, two, three, SpellsPartial, is_component, is_wildcard}
+use Rattle.semver_ranges.specs.RangeTree.{PartialTree, one, two, three, SpellsPartial, components, is_component, is_wildcard}
 
 -- ---- the shapes
 
--- what a front is gone on with: nothing, a wildcard, a letter, a bar, or a space and a number
+-- what a front is gone on with: nothing, a wildcard or a letter
 pub data Rest : Type 0 where
-  nothing wildcard letter bar number : Rest
+  nothing wildcard letter : Rest
 
 abbrev pub rest_text : Rest → Text
 rest_text nothing = []
 rest_text wildcard = codes "*"
 rest_text letter = codes "a"
-rest_text bar = codes "|"
-rest_text number = codes " 1"
 
--- of a component: a wildcard for nothing, or a front that isn't empty
+-- of a component: a wildcard for nothing, or one that isn't longer and has no greater number, a wildcard for a wildcard
 abbrev pub IsFrontOfComponent : Text → Text → Type 0
-IsFrontOfComponent c' c = (c' ≡ codes "*") ⊎ ((rest : Text) × (c ≡ c' ++ rest)
-    × (is_component c' ≡ true) × (is_wildcard c' ≡ is_wildcard c))
+IsFrontOfComponent c' c = (c' ≡ codes "*") ⊎ ((length c' ≤ length c) × (is_component c' ≡ true) × (is_wildcard c' ≡ is_wildcard c)
+    × (digits_value 10 c' ≤ digits_value 10 c))
 
 -- of a part: the part, a front without a leading zero, or a front and a letter for something
 abbrev pub IsFrontOfPart : Text → Text → Type 0
@@ -86,6 +86,32 @@ cut_at (a ∷ x) y (b ∷ front) rest e =
     ]
 
 -- ---- components
+
+-- a front of digits writes no greater number; a smaller one, where it is shorter and has no leading zero
+value_after : (n : ℕ) (x y : Text) → digits_value_after 10 n (x ++ y) ≡ digits_value_after 10 (digits_value_after 10 n x) y
+value_after n [] y = refl
+value_after n (b ∷ x) y = value_after (n * 10 + digit_value b) x y
+
+value_grows : (n : ℕ) (x : Text) → n ≤ digits_value_after 10 n x
+value_grows n [] = omega arith
+value_grows n (b ∷ x) = let more = value_grows (n * 10 + digit_value b) x in omega arith
+
+pub value_front : (x y : Text) → digits_value 10 x ≤ digits_value 10 (x ++ y)
+value_front x y = subst (λ k. digits_value 10 x ≤ k) (sym (value_after 0 x y)) (value_grows (digits_value 10 x) y)
+
+pub value_less : (b : ℕ) (x : Text) (d : ℕ) (y : Text) → is_component (b ∷ x ++ (d ∷ y)) ≡ true
+    → digits_value 10 (b ∷ x) + 1 ≤ digits_value 10 (b ∷ x ++ (d ∷ y))
+value_less b x d y e =
+    let some : 1 ≤ digit_value b = first_digit b x d y e in
+    let v : ℕ = digits_value 10 (b ∷ x) in
+    let whole : digits_value 10 (b ∷ x ++ (d ∷ y)) ≡ digits_value_after 10 (v * 10 + digit_value d) y = value_after 0 (b ∷ x) (d ∷ y) in
+    let begun : 0 * 10 + digit_value b ≤ v = value_grows (0 * 10 + digit_value b) x in
+    let more = value_grows (v * 10 + digit_value d) y in
+    subst (λ k. v + 1 ≤ k) (sym whole) (omega (arith, some, begun, more))
+  where
+    first_digit : (b : ℕ) (x : Text) (d : ℕ) (y : Text) → is_component (b ∷ x ++ (d ∷ y)) ≡ true → 1 ≤ digit_value b
+    first_digit b [] d y e = grind (arith, nat_tests)
+    first_digit b (c ∷ x) d y e = grind (arith, nat_tests)
 
 digits_front : (x y : Text) → all_ascii_digits (x ++ y) ≡ true → all_ascii_digits x ≡ true
 digits_front [] y e = refl
@@ -257,7 +283,7 @@ next_on c (b ∷ front) rest e text =
       text = append-nil (b ∷ front);
       short = omega arith;
       is_component = w.0;
-      shape = inr (rest, text, w.0, w.1 ∙ ap is_wildcard (sym text));
+      shape = inr (rw (text, length-append) (omega arith), w.0, w.1 ∙ ap is_wildcard (sym text), rw text (value_front (b ∷ front) rest));
     }
 
 two_on : (p : PartialTree) (a b front m rest r : Text) → is_component a ≡ true → front ≡ a ++ (46 ∷ m) → length r ≤ length rest
@@ -273,6 +299,9 @@ two_on p a b front m rest r e text less shape w = made p (two a w.component) w.m
 )
 
 -- three components, and what is after them
+abbrev pub AreAfter : List Text → List Text → List Text → List Text → Type 0
+AreAfter pre' build' pre build = (AreFrontOfParts pre' pre × (build' ≡ [])) ⊎ ((pre' ≡ pre) × AreFrontOfParts build' build)
+
 module _ (a b c : Text) (pre build : List Text) where
   abbrev whole : PartialTree
   whole = three a b c pre build
@@ -280,44 +309,60 @@ module _ (a b c : Text) (pre build : List Text) where
   abbrev numbers_are : Type 0
   numbers_are = (is_component a ≡ true) × (is_component b ≡ true)
 
-  three_on : (c' : Text) (pre' build' : List Text) (more : Rest) (front m rest : Text) → numbers_are → is_component c' ≡ true
+  -- a front that ends after them goes on with the same ones
+  pub record EndGoesOn (front rest : Text) : Type 0 where
+    pub pre' : List Text
+    pub build' : List Text
+    pub more : Rest
+    pub spelled : SpellsPartial (three a b c pre' build') (front ++ rest_text more)
+    pub short : length (rest_text more) ≤ length rest
+    pub shape : AreAfter pre' build' pre build
+
+  three_spelled : (c' : Text) (pre' build' : List Text) (more front m : Text) → numbers_are → is_component c' ≡ true
       → list_all is_part pre' ≡ true → list_all is_part build' ≡ true → front ≡ a ++ (46 ∷ (b ++ (46 ∷ m)))
-      → m ++ rest_text more ≡ c' ++ (marked (codes "-") pre' ++ marked (codes "+") build')
-      → length (rest_text more) ≤ length rest → IsFrontOfEnd c' pre' build' c pre build → GoesOn whole front rest
-  three_on c' pre' build' more front m rest n e p q text goes less shape =
-      made whole (three a b c' pre' build') more front rest (
-        (
-          and_from _ _ n.0 (and_from _ _ n.1 (and_from _ _ e refl)),
-          (p, q),
-          rw text (simp append_assoc (ap (λ t. a ++ (46 ∷ (b ++ (46 ∷ t)))) goes)),
-        ),
-        less,
-        (refl, refl, shape),
-      )
+      → m ++ more ≡ c' ++ (marked (codes "-") pre' ++ marked (codes "+") build') → SpellsPartial (three a b c' pre' build') (front ++ more)
+  three_spelled c' pre' build' more front m n e p q text goes = (
+    and_from _ _ n.0 (and_from _ _ n.1 (and_from _ _ e refl)),
+    (p, q),
+    rw text (simp append_assoc (ap (λ t. a ++ (46 ∷ (b ++ (46 ∷ t)))) goes)),
+  )
 
   third_on : (front m rest r : Text) → numbers_are → front ≡ a ++ (46 ∷ (b ++ (46 ∷ m))) → length r ≤ length rest
       → ComponentGoesOn c m r → GoesOn whole front rest
-  third_on front m rest r n text less w =
-      three_on w.component [] [] w.more front m rest n w.is_component refl refl text (w.text ∙ sym (append-nil _))
-      (omega (arith, w.short)) (inl (w.shape, refl, refl))
+  third_on front m rest r n text less w = made whole (three a b w.component [] []) w.more front rest (
+    three_spelled w.component [] [] (rest_text w.more) front m n w.is_component refl refl text (w.text ∙ sym (append-nil _)),
+    omega (arith, w.short),
+    (refl, refl, inl (w.shape, refl, refl)),
+  )
 
   pre_on : (front m rest r : Text) → numbers_are → is_component c ≡ true → front ≡ a ++ (46 ∷ (b ++ (46 ∷ (c ++ (45 ∷ m)))))
-      → length r ≤ length rest → PartsGoOn pre m r → GoesOn whole front rest
-  pre_on front m rest r n e text less w =
-      three_on c (w.first ∷ w.others) [] w.more front (c ++ (45 ∷ m)) rest n e w.are_parts refl text
-      (append_assoc c _ _ ∙ ap (λ t. c ++ (45 ∷ t)) (w.text ∙ sym (append-nil _))) (omega (arith, w.short)) (inr (inl (refl, w.shape, refl)))
+      → length r ≤ length rest → PartsGoOn pre m r → EndGoesOn front rest
+  pre_on front m rest r n e text less w = record {
+    pre' = w.first ∷ w.others;
+    build' = [];
+    more = w.more;
+    spelled = three_spelled c (w.first ∷ w.others) [] (rest_text w.more) front (c ++ (45 ∷ m)) n e w.are_parts refl text
+        (append_assoc c _ _ ∙ ap (λ t. c ++ (45 ∷ t)) (w.text ∙ sym (append-nil _)));
+    short = omega (arith, w.short);
+    shape = inl (w.shape, refl);
+  }
 
   build_on : (front m rest : Text) → numbers_are → is_component c ≡ true → list_all is_part pre ≡ true
-      → front ≡ a ++ (46 ∷ (b ++ (46 ∷ (c ++ (marked (codes "-") pre ++ (43 ∷ m)))))) → PartsGoOn build m rest → GoesOn whole front rest
-  build_on front m rest n e p text w =
-      three_on c pre (w.first ∷ w.others) w.more front (c ++ (marked (codes "-") pre ++ (43 ∷ m))) rest n e p w.are_parts text
-      (rw (append_assoc, append_assoc) (ap (λ t. c ++ (marked (codes "-") pre ++ (43 ∷ t))) w.text)) w.short
-      (inr (inr (refl, refl, w.shape)))
+      → front ≡ a ++ (46 ∷ (b ++ (46 ∷ (c ++ (marked (codes "-") pre ++ (43 ∷ m)))))) → PartsGoOn build m rest → EndGoesOn front rest
+  build_on front m rest n e p text w = record {
+    pre' = pre;
+    build' = w.first ∷ w.others;
+    more = w.more;
+    spelled = three_spelled c pre (w.first ∷ w.others) (rest_text w.more) front (c ++ (marked (codes "-") pre ++ (43 ∷ m))) n e p
+        w.are_parts text (rw (append_assoc, append_assoc) (ap (λ t. c ++ (marked (codes "-") pre ++ (43 ∷ t))) w.text));
+    short = w.short;
+    shape = inr (refl, w.shape);
+  }
 
 after_build : (a b c : Text) (pre build : List Text) (front m rest : Text) (d : ℕ) → numbers_are a b c pre build → is_component c ≡ true
     → list_all is_part pre ≡ true → list_all is_part build ≡ true
     → front ≡ a ++ (46 ∷ (b ++ (46 ∷ (c ++ (marked (codes "-") pre ++ (d ∷ m)))))) → marked (codes "+") build ≡ d ∷ (m ++ rest)
-    → GoesOn (three a b c pre build) front rest
+    → EndGoesOn a b c pre build front rest
 after_build a b c pre [] front m rest d n e p q text cut = cc
 after_build a b c pre (y ∷ ys) front m rest d n e p q text cut =
     let mark : d ≡ 43 = cc in
@@ -326,7 +371,7 @@ after_build a b c pre (y ∷ ys) front m rest d n e p q text cut =
 
 after_three : (a b c : Text) (pre build : List Text) (front m rest : Text) (d : ℕ) → numbers_are a b c pre build → is_component c ≡ true
     → list_all is_part pre ≡ true → list_all is_part build ≡ true → front ≡ a ++ (46 ∷ (b ++ (46 ∷ (c ++ (d ∷ m)))))
-    → marked (codes "-") pre ++ marked (codes "+") build ≡ d ∷ (m ++ rest) → GoesOn (three a b c pre build) front rest
+    → marked (codes "-") pre ++ marked (codes "+") build ≡ d ∷ (m ++ rest) → EndGoesOn a b c pre build front rest
 after_three a b c [] build front m rest d n e p q text cut = after_build a b c [] build front m rest d n e p q text cut
 after_three a b c (x ∷ xs) build front m rest d n e p q text cut =
     let mark : d ≡ 45 = cc in
@@ -339,42 +384,106 @@ after_three a b c (x ∷ xs) build front m rest d n e p q text cut =
           (text' ∙ ap (λ t. a ++ (46 ∷ (b ++ (46 ∷ (c ++ (45 ∷ t)))))) w.2) w.3
     ]
 
-after_two : (a b c : Text) (pre build : List Text) (front m rest q : Text) → numbers_are a b c pre build → is_component c ≡ true
+-- ---- where a front ends: within the first component, the second or the third, or after them
+
+pub record InFirst (a front : Text) : Type 0 where
+  pub back : Text
+  pub text : a ≡ front ++ back
+
+pub record InSecond (a b after front rest : Text) : Type 0 where
+  pub begun : Text
+  pub back : Text
+  pub front_is : front ≡ a ++ (46 ∷ begun)
+  pub text : b ≡ begun ++ back
+  pub rest_is : rest ≡ back ++ after
+
+pub record InThird (a b c after front rest : Text) : Type 0 where
+  pub begun : Text
+  pub back : Text
+  pub front_is : front ≡ a ++ (46 ∷ (b ++ (46 ∷ begun)))
+  pub text : c ≡ begun ++ back
+  pub rest_is : rest ≡ back ++ after
+
+abbrev pub after_numbers : List Text → List Text → Text
+after_numbers pre build = marked (codes "-") pre ++ marked (codes "+") build
+
+abbrev pub EndsIn : PartialTree → Text → Text → Type 0
+EndsIn (one a) front rest = InFirst a front
+EndsIn (two a b) front rest = InFirst a front ⊎ InSecond a b [] front rest
+EndsIn (three a b c pre build) front rest = InFirst a front ⊎ InSecond a b (46 ∷ (c ++ after_numbers pre build)) front rest
+    ⊎ InThird a b c (after_numbers pre build) front rest ⊎ EndGoesOn a b c pre build front rest
+
+ends_after_two : (a b c : Text) (pre build : List Text) (front m rest : Text) → numbers_are a b c pre build → is_component c ≡ true
     → list_all is_part pre ≡ true → list_all is_part build ≡ true → front ≡ a ++ (46 ∷ (b ++ (46 ∷ m)))
-    → q ≡ marked (codes "-") pre ++ marked (codes "+") build → m ++ rest ≡ c ++ q → GoesOn (three a b c pre build) front rest
-after_two a b c pre build front m rest q n e p p' text is cut = elim (cut_at c q m rest cut) [
-  | inl w ↦ third_on a b c pre build front m rest w.0 n text
-      (omega (arith, length-append {A = ℕ}, ap length w.2)) (next_on c m w.0 e w.1)
-  | inr w ↦ after_three a b c pre build front w.1 rest w.0 n e p p' (text ∙ ap (λ t. a ++ (46 ∷ (b ++ (46 ∷ t)))) w.2) (sym is ∙ w.3)
+    → m ++ rest ≡ c ++ after_numbers pre build
+    → InThird a b c (after_numbers pre build) front rest ⊎ EndGoesOn a b c pre build front rest
+ends_after_two a b c pre build front m rest n e p p' text cut = elim (cut_at c (after_numbers pre build) m rest cut) [
+  | inl w ↦ inl (record { begun = m; back = w.0; front_is = text; text = w.1; rest_is = w.2 })
+  | inr w ↦ inr (after_three a b c pre build front w.1 rest w.0 n e p p' (text ∙ ap (λ t. a ++ (46 ∷ (b ++ (46 ∷ t)))) w.2) w.3)
 ]
 
-after_one : (a b c : Text) (pre build : List Text) (front m rest q : Text) → numbers_are a b c pre build → is_component c ≡ true
+ends_after_one : (a b c : Text) (pre build : List Text) (front m rest : Text) → numbers_are a b c pre build → is_component c ≡ true
     → list_all is_part pre ≡ true → list_all is_part build ≡ true → front ≡ a ++ (46 ∷ m)
-    → q ≡ marked (codes "-") pre ++ marked (codes "+") build → m ++ rest ≡ b ++ (46 ∷ (c ++ q)) → GoesOn (three a b c pre build) front rest
-after_one a b c pre build front m rest q n e p p' text is cut = elim (cut_at b (46 ∷ (c ++ q)) m rest cut) [
-  | inl w ↦ two_on (three a b c pre build) a b front m rest w.0 n.0 text (omega (arith, length-append {A = ℕ}, ap length w.2))
-      (λ b' shape. (refl, shape)) (next_on b m w.0 n.1 w.1)
-  | inr w ↦ after_two a b c pre build front w.1 rest q n e p p'
-      (text ∙ ap (λ t. a ++ (46 ∷ t)) (let f = w.2 in let g = w.3 in cc)) is (let g = w.3 in cc)
+    → m ++ rest ≡ b ++ (46 ∷ (c ++ after_numbers pre build))
+    → InSecond a b (46 ∷ (c ++ after_numbers pre build)) front rest
+    ⊎ InThird a b c (after_numbers pre build) front rest ⊎ EndGoesOn a b c pre build front rest
+ends_after_one a b c pre build front m rest n e p p' text cut =
+    elim (cut_at b (46 ∷ (c ++ after_numbers pre build)) m rest cut) [
+      | inl w ↦ inl (record { begun = m; back = w.0; front_is = text; text = w.1; rest_is = w.2 })
+      | inr w ↦ inr (ends_after_two a b c pre build front w.1 rest n e p p'
+          (text ∙ ap (λ t. a ++ (46 ∷ t)) (let f = w.2 in let g = w.3 in cc)) (let g = w.3 in cc))
+    ]
+
+pub ends_in : (p : PartialTree) (front rest : Text) → SpellsPartial p (front ++ rest) → EndsIn p front rest
+ends_in (one a) front rest (e, parts, text) = record { back = rest; text = sym (text ∙ append-nil a) }
+ends_in (two a b) front rest (e, parts, text) = elim (cut_at a (46 ∷ b) front rest (text ∙ append-nil _)) [
+  | inl w ↦ inl (record { back = w.0; text = w.1 })
+  | inr w ↦ inr (record {
+    begun = w.1;
+    back = rest;
+    front_is = (let f = w.2 in let g = w.3 in cc);
+    text = (let g = w.3 in cc);
+    rest_is = sym (append-nil rest);
+  })
 ]
+ends_in (three a b c pre build) front rest (e, parts, text) =
+    let both = and_parts (is_component a) _ e in
+    let others = and_parts (is_component b) _ both.1 in
+    elim (cut_at a (46 ∷ (b ++ (46 ∷ (c ++ after_numbers pre build)))) front rest (text ∙ simp append_assoc)) [
+      | inl w ↦ inl (record { back = w.0; text = w.1 })
+      | inr w ↦ inr (ends_after_one a b c pre build front w.1 rest (both.0, others.0) (and_parts _ _ others.1).0 parts.0 parts.1
+          (let f = w.2 in let g = w.3 in cc) (let g = w.3 in cc))
+    ]
+
+back_shorter : (r y rest : Text) → rest ≡ r ++ y → length r ≤ length rest
+back_shorter r y rest e = omega (arith, length-append {A = ℕ}, ap length e)
+
+goes_from : (p : PartialTree) (front rest : Text) → is_empty front ≡ false → list_all is_component (components p) ≡ true
+    → EndsIn p front rest → GoesOn p front rest
+goes_from (one a) front rest some e w = first_on (one a) a front rest w.back some (and_parts _ _ e).0 w.text (λ w. w)
+goes_from (two a b) front rest some e (inl w) = first_on (two a b) a front rest w.back some (and_parts (is_component a) _ e).0 w.text (λ w. w)
+goes_from (two a b) front rest some e (inr w) =
+    let both = and_parts (is_component a) _ e in
+    two_on (two a b) a b front w.begun rest w.back both.0 w.front_is (back_shorter w.back [] rest w.rest_is)
+    (λ b' shape. (refl, shape)) (next_on b w.begun w.back (and_parts _ _ both.1).0 w.text)
+goes_from (three a b c pre build) front rest some e (inl w) =
+    first_on (three a b c pre build) a front rest w.back some (and_parts (is_component a) _ e).0 w.text (λ w. w)
+goes_from (three a b c pre build) front rest some e (inr (inl w)) =
+    let both = and_parts (is_component a) _ e in
+    two_on (three a b c pre build) a b front w.begun rest w.back both.0 w.front_is (back_shorter w.back _ rest w.rest_is)
+    (λ b' shape. (refl, shape)) (next_on b w.begun w.back (and_parts (is_component b) _ both.1).0 w.text)
+goes_from (three a b c pre build) front rest some e (inr (inr (inl w))) =
+    let both = and_parts (is_component a) _ e in
+    let others = and_parts (is_component b) _ both.1 in
+    third_on a b c pre build front w.begun rest w.back (both.0, others.0) w.front_is (back_shorter w.back _ rest w.rest_is)
+    (next_on c w.begun w.back (and_parts _ _ others.1).0 w.text)
+goes_from (three a b c pre build) front rest some e (inr (inr (inr w))) =
+    made (three a b c pre build) (three a b c w.pre' w.build') w.more front rest (w.spelled, w.short, (refl, refl, after_shape w.shape))
+  where
+    after_shape : {pre' build' : List Text} → AreAfter pre' build' pre build → IsFrontOfEnd c pre' build' c pre build
+    after_shape (inl w) = inr (inl (refl, w.0, w.1))
+    after_shape (inr w) = inr (inr (refl, w.0, w.1))
 
 pub partial_goes_on : (p : PartialTree) (front rest : Text) → is_empty front ≡ false → SpellsPartial p (front ++ rest)
     → GoesOn p front rest
-partial_goes_on (one a) front rest some (e, parts, text) =
-    first_on (one a) a front rest rest some (and_parts _ _ e).0 (sym (text ∙ append-nil a)) (λ w. w)
-partial_goes_on (two a b) front rest some (e, parts, text) =
-    let both = and_parts (is_component a) _ e in
-    elim (cut_at a (46 ∷ b) front rest (text ∙ append-nil _)) [
-      | inl w ↦ first_on (two a b) a front rest w.0 some both.0 w.1 (λ w. w)
-      | inr w ↦ two_on (two a b) a b front w.1 rest rest both.0 (let f = w.2 in let g = w.3 in cc) (omega arith)
-          (λ b' shape. (refl, shape)) (next_on b w.1 rest (and_parts _ _ both.1).0 (let g = w.3 in cc))
-    ]
-partial_goes_on (three a b c pre build) front rest some (e, parts, text) =
-    let both = and_parts (is_component a) _ e in
-    let others = and_parts (is_component b) _ both.1 in
-    let q : Text = marked (codes "-") pre ++ marked (codes "+") build in
-    elim (cut_at a (46 ∷ (b ++ (46 ∷ (c ++ q)))) front rest (text ∙ simp append_assoc)) [
-      | inl w ↦ first_on (three a b c pre build) a front rest w.0 some both.0 w.1 (λ w. w)
-      | inr w ↦ after_one a b c pre build front w.1 rest q (both.0, others.0) (and_parts _ _ others.1).0 parts.0 parts.1
-          (let f = w.2 in let g = w.3 in cc) refl (let g = w.3 in cc)
-    ]
+partial_goes_on p front rest some spelled = goes_from p front rest some spelled.0 (ends_in p front rest spelled)

@@ -10,86 +10,132 @@ use Rattle.semver_ranges.specs.RangeTree.{PartialTree, one, Simple, RangeTree, e
 use Rattle.semver_ranges.specs.RangeTree.{less, at_most, greater, at_least, tilde, caret, Role, behind_form, behind_hyphen, is_blank}
 use Rattle.semver_ranges.specs.RangeTree.{AreBlanks, AreSomeBlanks, SpellsPartial, SpellsWord, IsSignAndBlanks, SpellsForm, SpellsSimple}
 use Rattle.semver_ranges.specs.RangeTree.{SpellsSimples, SpellsRange, SpellsPadded, SpellsIn, is_word_of_npm}
-use Rattle.semver_ranges.proofs.FrontPartials.{Rest, nothing, wildcard, bar, number, rest_text, GoesOn, partial_goes_on}
+use Rattle.semver_ranges.proofs.FrontPartials.{Rest, nothing, wildcard, rest_text, IsFrontOf, partial_goes_on}
 use Rattle.semver_ranges.proofs.FrontPartials.{cut_at}
+use Rattle.semver_ranges.specs.Terms.{left_side, right_side}
 use Rattle.semver_ranges.proofs.FrontWords.{word_stays}
 
 -- ---- words
 
-pub record WordGoesOn (d : Dialect) (role : Role) (front : Text) : Type 0 where
+-- a word's partial goes on as another one that is right, and stays one that npm reads
+pub record PartialGoes (IsRest : Text → Type 0) (Right : PartialTree → Type 0) (role : Role) (p : PartialTree) (front rest : Text) : Type 0 where
   pub tree : PartialTree
-  pub more : Rest
-  pub spelled : SpellsWord d role tree (front ++ rest_text more)
+  pub more : Text
+  pub is_rest : IsRest more
+  pub spelled : SpellsPartial tree (front ++ more)
+  pub right : Right tree
+  pub npm : (v : ℕ) → v ≤ 1 → is_word_of_npm role p (v + length (front ++ rest)) ≡ true
+      → is_word_of_npm role tree (v + length (front ++ more)) ≡ true
 
-of_partial : (d : Dialect) (role : Role) (p : PartialTree) (front rest : Text) → GoesOn p front rest
-    → ((tree : PartialTree) (t : Text) → SpellsPartial tree t → SpellsWord d role tree t) → WordGoesOn d role front
-of_partial d role p front rest w word =
-    record { tree = w.tree; more = w.more; spelled = word w.tree (front ++ rest_text w.more) w.spelled }
+pub record WordGoesOn (IsRest : Text → Type 0) (Right : PartialTree → Type 0) (d : Dialect) (role : Role) (front : Text) : Type 0 where
+  pub tree : PartialTree
+  pub more : Text
+  pub is_rest : IsRest more
+  pub spelled : SpellsWord d role tree (front ++ more)
+  pub right : Right tree
 
--- npm's words, of which `v` bytes are before the partial
-npm_taken : (role : Role) (p : PartialTree) (front rest : Text) (v n : ℕ) (w : GoesOn p front rest) → v ≤ 1
-    → n ≡ v + length (front ++ rest) → is_word_of_npm role p n ≡ true
-    → is_word_of_npm role w.tree (v + length (front ++ rest_text w.more)) ≡ true
-npm_taken role p front rest v n w small is h =
-    let less : v + length (front ++ rest_text w.more) ≤ n = simp (is, length-append) (omega (arith, w.short)) in
-    word_stays role w.tree p v n (v + length (front ++ rest_text w.more)) w.shape small less (ap (λ t. v + length t) w.spelled.2) h
+module _ (IsRest : Text → Type 0) (Right : PartialTree → Type 0) (star : IsRest (codes "*")) (right_star : Right (one (codes "*")))
+    (role : Role) (p : PartialTree)
+    (goes : (front rest : Text) → is_empty front ≡ false → SpellsPartial p (front ++ rest) → PartialGoes IsRest Right role p front rest) where
+  of_partial : (d : Dialect) (front rest : Text) → PartialGoes IsRest Right role p front rest
+      → ((tree : PartialTree) (t : Text) → SpellsPartial tree t → SpellsWord d role tree t) → WordGoesOn IsRest Right d role front
+  of_partial d front rest w word = record {
+    tree = w.tree;
+    more = w.more;
+    is_rest = w.is_rest;
+    spelled = word w.tree (front ++ w.more) w.spelled;
+    right = w.right;
+  }
 
-with_v : (role : Role) (p : PartialTree) (m rest : Text) (n : ℕ) → SpellsPartial p (m ++ rest) → n ≡ 1 + length (m ++ rest)
-    → is_word_of_npm role p n ≡ true → WordGoesOn Npm role (118 ∷ m)
-with_v role p [] rest n spelled is h = record {
-  tree = one (codes "*");
-  more = wildcard;
-  spelled = (codes "v", codes "*", inr refl, (refl, tt, refl), refl, refl);
-}
-with_v role p (b ∷ m) rest n spelled is h =
-    let w = partial_goes_on p (b ∷ m) rest refl spelled in record {
-      tree = w.tree;
-      more = w.more;
-      spelled = (
-        codes "v",
-        (b ∷ m) ++ rest_text w.more,
-        inr refl,
-        w.spelled,
-        subst (λ k. is_word_of_npm role w.tree k ≡ true) (omega arith) (npm_taken role p (b ∷ m) rest 1 n w (omega arith) is h),
-        refl,
-      );
-    }
+  -- npm's words, of which a `v` may be before the partial
+  with_v : (m rest : Text) → SpellsPartial p (m ++ rest) → is_word_of_npm role p (1 + length (m ++ rest)) ≡ true
+      → WordGoesOn IsRest Right Npm role (118 ∷ m)
+  with_v [] rest spelled h = record {
+    tree = one (codes "*");
+    more = codes "*";
+    is_rest = star;
+    spelled = (codes "v", codes "*", inr refl, (refl, tt, refl), refl, refl);
+    right = right_star;
+  }
+  with_v (b ∷ m) rest spelled h =
+      let w = goes (b ∷ m) rest refl spelled in record {
+        tree = w.tree;
+        more = w.more;
+        is_rest = w.is_rest;
+        spelled = (
+          codes "v",
+          (b ∷ m) ++ w.more,
+          inr refl,
+          w.spelled,
+          subst (λ k. is_word_of_npm role w.tree k ≡ true) (omega arith) (w.npm 1 (omega arith) h),
+          refl,
+        );
+        right = w.right;
+      }
 
-npm_word : (role : Role) (p : PartialTree) (front rest mark back : Text) (n : ℕ) → is_empty front ≡ false
-    → (mark ≡ []) ⊎ (mark ≡ codes "v") → SpellsPartial p back → n ≡ length (front ++ rest) → is_word_of_npm role p n ≡ true
-    → front ++ rest ≡ mark ++ back → WordGoesOn Npm role front
-npm_word role p front rest mark back n some (inl e) spelled is h text =
-    let same : back ≡ front ++ rest = sym (text ∙ ap (λ m. m ++ back) e) in
-    let w = partial_goes_on p front rest some (subst (SpellsPartial p) same spelled) in record {
-      tree = w.tree;
-      more = w.more;
-      spelled = (
-        [],
-        front ++ rest_text w.more,
-        inl refl,
-        w.spelled,
-        subst (λ k. is_word_of_npm role w.tree k ≡ true) (omega arith)
-            (npm_taken role p front rest 0 n w (omega arith) (omega (arith, is)) h),
-        refl,
-      );
-    }
-npm_word role p [] rest mark back n some (inr e) spelled is h text = cc
-npm_word role p (b ∷ m) rest mark back n some (inr e) spelled is h text =
-    let whole : b ∷ (m ++ rest) ≡ 118 ∷ back = text ∙ ap (λ m. m ++ back) e in
-    let first : 118 ≡ b = cc in
-    let same : back ≡ m ++ rest = cc in
-    subst (λ x. WordGoesOn Npm role (x ∷ m)) first
-    (with_v role p m rest n (subst (SpellsPartial p) same spelled) (omega (arith, is)) h)
+  npm_word : (front rest mark back : Text) → is_empty front ≡ false → (mark ≡ []) ⊎ (mark ≡ codes "v") → SpellsPartial p back
+      → is_word_of_npm role p (length (front ++ rest)) ≡ true → front ++ rest ≡ mark ++ back → WordGoesOn IsRest Right Npm role front
+  npm_word front rest mark back some (inl e) spelled h text =
+      let same : back ≡ front ++ rest = sym (text ∙ ap (λ m. m ++ back) e) in
+      let w = goes front rest some (subst (SpellsPartial p) same spelled) in record {
+        tree = w.tree;
+        more = w.more;
+        is_rest = w.is_rest;
+        spelled = (
+          [],
+          front ++ w.more,
+          inl refl,
+          w.spelled,
+          subst (λ k. is_word_of_npm role w.tree k ≡ true) (omega arith)
+              (w.npm 0 (omega arith) (subst (λ k. is_word_of_npm role p k ≡ true) (omega arith) h)),
+          refl,
+        );
+        right = w.right;
+      }
+  npm_word [] rest mark back some (inr e) spelled h text = cc
+  npm_word (b ∷ m) rest mark back some (inr e) spelled h text =
+      let whole : b ∷ (m ++ rest) ≡ 118 ∷ back = text ∙ ap (λ m. m ++ back) e in
+      let first : 118 ≡ b = cc in
+      let same : back ≡ m ++ rest = cc in
+      subst (λ x. WordGoesOn IsRest Right Npm role (x ∷ m)) first
+      (with_v m rest (subst (SpellsPartial p) same spelled) (subst (λ k. is_word_of_npm role p k ≡ true) (omega arith) h))
 
-pub word_goes_on : (d : Dialect) (role : Role) (p : PartialTree) (front rest : Text) → is_empty front ≡ false
-    → SpellsWord d role p (front ++ rest) → WordGoesOn d role front
-word_goes_on Crate role p front rest some h = of_partial Crate role p front rest (partial_goes_on p front rest some h) (λ tree t w. w)
-word_goes_on Cargo role p front rest some h = of_partial Cargo role p front rest (partial_goes_on p front rest some h) (λ tree t w. w)
-word_goes_on Npm role p front rest some (mark, back, is_mark, spelled, taken, text) =
-    npm_word role p front rest mark back (length (front ++ rest)) some is_mark spelled refl taken text
+  pub word_by : (d : Dialect) (front rest : Text) → is_empty front ≡ false → SpellsWord d role p (front ++ rest)
+      → WordGoesOn IsRest Right d role front
+  word_by Crate front rest some h = of_partial Crate front rest (goes front rest some h) (λ tree t w. w)
+  word_by Cargo front rest some h = of_partial Cargo front rest (goes front rest some h) (λ tree t w. w)
+  word_by Npm front rest some (mark, back, is_mark, spelled, taken, text) = npm_word front rest mark back some is_mark spelled taken text
+
+-- a front of a word goes on as one of which no part is more than the word's
+abbrev pub IsPlainRest : Text → Type 0
+IsPlainRest t = (more : Rest) × (t ≡ rest_text more)
+
+pub npm_taken : (role : Role) (p tree : PartialTree) (front rest more : Text) → IsFrontOf tree p → length more ≤ length rest
+    → SpellsPartial tree (front ++ more) → (v : ℕ) → v ≤ 1 → is_word_of_npm role p (v + length (front ++ rest)) ≡ true
+    → is_word_of_npm role tree (v + length (front ++ more)) ≡ true
+npm_taken role p tree front rest more shape short spelled v small h =
+    word_stays role tree p v (v + length (front ++ rest)) (v + length (front ++ more)) shape small
+    (simp length-append (omega (arith, short))) (ap (λ t. v + length t) spelled.2) h
+
+module _ (Right : PartialTree → Type 0) (right_star : Right (one (codes "*"))) (role : Role) (p : PartialTree)
+    (keep : (tree : PartialTree) → IsFrontOf tree p → Right tree) where
+  plain_goes : (front rest : Text) → is_empty front ≡ false → SpellsPartial p (front ++ rest) → PartialGoes IsPlainRest Right role p front rest
+  plain_goes front rest some spelled =
+      let w = partial_goes_on p front rest some spelled in record {
+        tree = w.tree;
+        more = rest_text w.more;
+        is_rest = (w.more, refl);
+        spelled = w.spelled;
+        right = keep w.tree w.shape;
+        npm = npm_taken role p w.tree front rest (rest_text w.more) w.shape w.short w.spelled;
+      }
+
+  pub plain_word : (d : Dialect) (front rest : Text) → is_empty front ≡ false → SpellsWord d role p (front ++ rest)
+      → WordGoesOn IsPlainRest Right d role front
+  plain_word = word_by IsPlainRest Right (wildcard, refl) right_star role p plain_goes
 
 -- the word `1`
-number_word : (d : Dialect) (role : Role) → SpellsWord d role (one (codes "1")) (codes "1")
+pub number_word : (d : Dialect) (role : Role) → SpellsWord d role (one (codes "1")) (codes "1")
 number_word Crate role = (refl, tt, refl)
 number_word Cargo role = (refl, tt, refl)
 number_word Npm role = ([], codes "1", inl refl, (refl, tt, refl), refl, refl)
@@ -106,11 +152,11 @@ module _ (d : Dialect) where
   blanks_front [] y h = refl
   blanks_front (b ∷ x) y h = let both = and_parts (is_blank d b) _ h in and_from _ _ both.0 (blanks_front x y both.1)
 
-  one_space : (x : Text) → AreBlanks d x → AreBlanks d (x ++ codes " ")
+  pub one_space : (x : Text) → AreBlanks d x → AreBlanks d (x ++ codes " ")
   one_space [] h = and_from _ _ (space_is_blank d) refl
   one_space (b ∷ x) h = let both = and_parts (is_blank d b) _ h in and_from _ _ both.0 (one_space x both.1)
 
-  some_space : (x : Text) → is_empty (x ++ codes " ") ≡ false
+  pub some_space : (x : Text) → is_empty (x ++ codes " ") ≡ false
   some_space [] = refl
   some_space (b ∷ x) = refl
 
@@ -152,32 +198,84 @@ module _ (d : Dialect) where
     | inr w ↦ (at_least, w)
   ]
 
+-- ---- what has to be known of the fronts of words, and of the rests with which they go on
+
+module _ (d : Dialect) (IsRest : Text → Type 0) (Right : Simple → Type 0) where
+  abbrev pub AreRight : List Simple → Type 0
+  AreRight [] = Unit {0}
+  AreRight (s ∷ ss) = Right s × AreRight ss
+
+  -- the simples of a range are right, and the sides of a hyphen range
+  abbrev pub IsRightRange : RangeTree → Type 0
+  IsRightRange empty = Unit {0}
+  IsRightRange (hyphen left right) = Right (left_side left) × Right (right_side right)
+  IsRightRange (simples first others) = Right first × AreRight others
+
+  abbrev pub IsRightSet : SetTree → Type 0
+  IsRightSet [] = Unit {0}
+  IsRightSet (range ∷ others) = IsRightRange range × IsRightSet others
+
+  -- a range and blanks after it
+  pub record RangeGoesOn (front : Text) : Type 0 where
+    pub tree : RangeTree
+    pub inner : Text
+    pub after : Text
+    pub more : Text
+    pub is_rest : IsRest more
+    pub spelled : SpellsRange d tree inner
+    pub are_blanks : AreBlanks d after
+    pub text : front ++ more ≡ inner ++ after
+    pub right : IsRightRange tree
+
+  pub record AreRests : Type 1 where
+    pub nothing : IsRest []
+    pub bar : IsRest (codes "|")
+    pub number : IsRest (codes " 1")
+    pub right_number : (form : Form) → Right (record { form = form; partial = one (codes "1") })
+    pub word : (form : Form) (p : PartialTree) (front rest : Text) → is_empty front ≡ false
+        → SpellsWord d (behind_form form) p (front ++ rest) → Right (record { form = form; partial = p })
+        → WordGoesOn IsRest (λ tree. Right (record { form = form; partial = tree })) d (behind_form form) front
+    pub right_word : (p : PartialTree) (front rest : Text) → is_empty front ≡ false → SpellsWord d behind_hyphen p (front ++ rest)
+        → Right (right_side p) → WordGoesOn IsRest (λ tree. Right (right_side tree)) d behind_hyphen front
+    pub left_word : (p : PartialTree) (front rest : Text) → is_empty front ≡ false → SpellsWord d (behind_form bare) p (front ++ rest)
+        → Right (left_side p) → RangeGoesOn front
+    pub left_alone : (p : PartialTree) (front blanks : Text) → SpellsWord d (behind_form bare) p front → AreBlanks d blanks
+        → Right (left_side p) → RangeGoesOn (front ++ blanks)
+
+module _ (d : Dialect) (IsRest : Text → Type 0) (Right : Simple → Type 0) (rests : AreRests d IsRest Right) where
   -- ---- simples
 
   record SimpleGoesOn (front : Text) : Type 0 where
     tree : Simple
-    more : Rest
-    spelled : SpellsSimple d tree (front ++ rest_text more)
+    more : Text
+    is_rest : IsRest more
+    spelled : SpellsSimple d tree (front ++ more)
+    right : Right tree
 
-  simple_goes_on : (s : Simple) (front rest : Text) → is_empty front ≡ false → SpellsSimple d s (front ++ rest) → SimpleGoesOn front
-  simple_goes_on s front rest some (before, back, form, word, text) = elim (cut_at before back front rest text) [
-    | inl w ↦ (let f = form_goes_on s.form front w.0 some (subst (SpellsForm d s.form) (w.1) form) in record {
+  simple_goes_on : (s : Simple) (front rest : Text) → is_empty front ≡ false → SpellsSimple d s (front ++ rest) → Right s
+      → SimpleGoesOn front
+  simple_goes_on s front rest some (before, back, form, word, text) right = elim (cut_at before back front rest text) [
+    | inl w ↦ (let f = form_goes_on d s.form front w.0 some (subst (SpellsForm d s.form) (w.1) form) in record {
       tree = record { form = f.0; partial = one (codes "1") };
-      more = number;
+      more = codes " 1";
+      is_rest = rests.number;
       spelled = (front ++ codes " ", codes "1", f.1, number_word d (behind_form f.0), sym (append_assoc front _ _));
+      right = rests.right_number f.0;
     })
     | inr w ↦ (
-        let k = word_goes_on d (behind_form s.form) s.partial (w.0 ∷ w.1) rest refl
-        (subst (SpellsWord d (behind_form s.form) s.partial) (w.3) word) in record {
+        let k = rests.word s.form s.partial (w.0 ∷ w.1) rest refl
+        (subst (SpellsWord d (behind_form s.form) s.partial) (w.3) word) right in record {
           tree = record { form = s.form; partial = k.tree };
           more = k.more;
+          is_rest = k.is_rest;
           spelled = (
             before,
-            (w.0 ∷ w.1) ++ rest_text k.more,
+            (w.0 ∷ w.1) ++ k.more,
             form,
             k.spelled,
-            ap (λ t. t ++ rest_text k.more) (w.2) ∙ append_assoc before _ _,
+            ap (λ t. t ++ k.more) (w.2) ∙ append_assoc before _ _,
           );
+          right = k.right;
         })
   ]
 
@@ -187,101 +285,90 @@ module _ (d : Dialect) where
     others : List Simple
     inner : Text
     after : Text
-    more : Rest
+    more : Text
+    is_rest : IsRest more
     spelled : SpellsSimples d first others inner
     are_blanks : AreBlanks d after
-    text : front ++ rest_text more ≡ inner ++ after
+    text : front ++ more ≡ inner ++ after
+    right : Right first × AreRight d IsRest Right others
 
   one_simple : (front rest : Text) → SimpleGoesOn front → SimplesGoOn front
   one_simple front rest w = record {
     first = w.tree;
     others = [];
-    inner = front ++ rest_text w.more;
+    inner = front ++ w.more;
     after = [];
     more = w.more;
+    is_rest = w.is_rest;
     spelled = w.spelled;
     are_blanks = refl;
     text = sym (append-nil _);
+    right = (w.right, tt);
   }
 
   simples_go_on : (first : Simple) (others : List Simple) (front rest : Text) → is_empty front ≡ false
-      → SpellsSimples d first others (front ++ rest) → SimplesGoOn front
-  simples_go_on first [] front rest some h = one_simple front rest (simple_goes_on first front rest some h)
-  simples_go_on first (next ∷ others) front rest some (f, gap, back, simple, blanks, spelled, text) =
+      → SpellsSimples d first others (front ++ rest) → Right first × AreRight d IsRest Right others → SimplesGoOn front
+  simples_go_on first [] front rest some h right = one_simple front rest (simple_goes_on first front rest some h right.0)
+  simples_go_on first (next ∷ others) front rest some (f, gap, back, simple, blanks, spelled, text) right =
       elim (cut_at f (gap ++ back) front rest (text ∙ append_assoc f gap back)) [
-        | inl w ↦ one_simple front rest (simple_goes_on first front w.0 some (subst (SpellsSimple d first) (w.1) simple))
+        | inl w ↦ one_simple front rest
+            (simple_goes_on first front w.0 some (subst (SpellsSimple d first) (w.1) simple) right.0)
         | inr w ↦ elim (cut_at gap back (w.0 ∷ w.1) rest (sym (w.3))) [
           | inl g ↦ record {
             first = first;
             others = [];
             inner = f;
             after = w.0 ∷ w.1;
-            more = nothing;
+            more = [];
+            is_rest = rests.nothing;
             spelled = simple;
-            are_blanks = blanks_front (w.0 ∷ w.1) g.0 (subst (AreBlanks d) (g.1) (blanks.1));
+            are_blanks = blanks_front d (w.0 ∷ w.1) g.0 (subst (AreBlanks d) (g.1) (blanks.1));
             text = append-nil front ∙ w.2;
+            right = (right.0, tt);
           }
           | inr g ↦ (
-              let k = simples_go_on next others (g.0 ∷ g.1) rest refl (subst (SpellsSimples d next others) (g.3) spelled) in record {
+              let k = simples_go_on next others (g.0 ∷ g.1) rest refl (subst (SpellsSimples d next others) (g.3) spelled) right.1 in
+              record {
                 first = first;
                 others = k.first ∷ k.others;
                 inner = f ++ (gap ++ k.inner);
                 after = k.after;
                 more = k.more;
+                is_rest = k.is_rest;
                 spelled = (f, gap, k.inner, simple, blanks, k.spelled, sym (append_assoc f gap k.inner));
                 are_blanks = k.are_blanks;
-                text = ap (λ t. t ++ rest_text k.more) (w.2 ∙ ap (λ t. f ++ t) (g.2))
+                text = ap (λ t. t ++ k.more) (w.2 ∙ ap (λ t. f ++ t) (g.2))
                     ∙ simp append_assoc (ap (λ t. f ++ (gap ++ t)) k.text);
+                right = (right.0, k.right);
               })
         ]
       ]
 
   -- ---- ranges, and blanks after them
 
-  record RangeGoesOn (front : Text) : Type 0 where
-    tree : RangeTree
-    inner : Text
-    after : Text
-    more : Rest
-    spelled : SpellsRange d tree inner
-    are_blanks : AreBlanks d after
-    text : front ++ rest_text more ≡ inner ++ after
-
-  nothing_yet : RangeGoesOn []
-  nothing_yet = record { tree = empty; inner = []; after = []; more = nothing; spelled = refl; are_blanks = refl; text = refl }
-
-  -- the left word of a hyphen range is a simple
-  left_alone : (left : PartialTree) (front f : Text) (b : ℕ) (m : Text) → SpellsWord d (behind_form bare) left f → AreBlanks d (b ∷ m)
-      → front ≡ f ++ (b ∷ m) → RangeGoesOn front
-  left_alone left front f b m word blanks text = record {
-    tree = simples (record { form = bare; partial = left }) [];
-    inner = f;
-    after = b ∷ m;
-    more = nothing;
-    spelled = ([], f, refl, word, refl);
-    are_blanks = blanks;
-    text = append-nil front ∙ text;
-  }
-
-  left_cut : (front : Text) → WordGoesOn d (behind_form bare) front → RangeGoesOn front
-  left_cut front w = record {
-    tree = simples (record { form = bare; partial = w.tree }) [];
-    inner = front ++ rest_text w.more;
+  nothing_yet : RangeGoesOn d IsRest Right []
+  nothing_yet = record {
+    tree = empty;
+    inner = [];
     after = [];
-    more = w.more;
-    spelled = ([], front ++ rest_text w.more, refl, w.spelled, refl);
+    more = [];
+    is_rest = rests.nothing;
+    spelled = refl;
     are_blanks = refl;
-    text = sym (append-nil _);
+    text = refl;
+    right = tt;
   }
 
   -- what is before the right word
-  module _ (left : PartialTree) (f gap : Text) (word : SpellsWord d (behind_form bare) left f) (blanks : AreSomeBlanks d gap) where
-    before_right : (k : Text) → AreBlanks d k → RangeGoesOn (f ++ (gap ++ (45 ∷ k)))
+  module _ (left : PartialTree) (f gap : Text) (word : SpellsWord d (behind_form bare) left f) (blanks : AreSomeBlanks d gap)
+      (left_right : Right (left_side left)) where
+    before_right : (k : Text) → AreBlanks d k → RangeGoesOn d IsRest Right (f ++ (gap ++ (45 ∷ k)))
     before_right k are = record {
       tree = hyphen left (one (codes "1"));
       inner = f ++ (gap ++ (45 ∷ ((k ++ codes " ") ++ codes "1")));
       after = [];
-      more = number;
+      more = codes " 1";
+      is_rest = rests.number;
       spelled = (
         f,
         gap,
@@ -289,58 +376,67 @@ module _ (d : Dialect) where
         codes "1",
         word,
         blanks,
-        (ap not (some_space k), one_space k are),
+        (ap not (some_space d k), one_space d k are),
         number_word d behind_hyphen,
         simp append_assoc,
       );
       are_blanks = refl;
       text = simp (append_assoc, append-nil);
+      right = (left_right, rests.right_number at_most);
     }
 
-    within_right : (gap' m : Text) → AreSomeBlanks d gap' → WordGoesOn d behind_hyphen m → RangeGoesOn (f ++ (gap ++ (45 ∷ (gap' ++ m))))
+    within_right : (gap' m : Text) → AreSomeBlanks d gap' → WordGoesOn IsRest (λ tree. Right (right_side tree)) d behind_hyphen m
+        → RangeGoesOn d IsRest Right (f ++ (gap ++ (45 ∷ (gap' ++ m))))
     within_right gap' m blanks' w = record {
       tree = hyphen left w.tree;
-      inner = f ++ (gap ++ (45 ∷ (gap' ++ (m ++ rest_text w.more))));
+      inner = f ++ (gap ++ (45 ∷ (gap' ++ (m ++ w.more))));
       after = [];
       more = w.more;
-      spelled = (f, gap, gap', m ++ rest_text w.more, word, blanks, blanks', w.spelled, simp append_assoc);
+      is_rest = w.is_rest;
+      spelled = (f, gap, gap', m ++ w.more, word, blanks, blanks', w.spelled, simp append_assoc);
       are_blanks = refl;
       text = simp (append_assoc, append-nil);
+      right = (left_right, w.right);
     }
 
     after_hyphen : (right : PartialTree) (gap' back k rest : Text) → AreSomeBlanks d gap' → SpellsWord d behind_hyphen right back
-        → k ++ rest ≡ gap' ++ back → RangeGoesOn (f ++ (gap ++ (45 ∷ k)))
-    after_hyphen right gap' back k rest blanks' word' text = elim (cut_at gap' back k rest text) [
-      | inl w ↦ before_right k (blanks_front k w.0 (subst (AreBlanks d) (w.1) (blanks'.1)))
+        → Right (right_side right) → k ++ rest ≡ gap' ++ back → RangeGoesOn d IsRest Right (f ++ (gap ++ (45 ∷ k)))
+    after_hyphen right gap' back k rest blanks' word' is_right text = elim (cut_at gap' back k rest text) [
+      | inl w ↦ before_right k (blanks_front d k w.0 (subst (AreBlanks d) (w.1) (blanks'.1)))
       | inr w ↦ (
-          let goes = word_goes_on d behind_hyphen right (w.0 ∷ w.1) rest refl (subst (SpellsWord d behind_hyphen right) (w.3) word') in
-          subst (λ t. RangeGoesOn (f ++ (gap ++ (45 ∷ t)))) (sym (w.2)) (within_right gap' (w.0 ∷ w.1) blanks' goes))
+          let goes = rests.right_word right (w.0 ∷ w.1) rest refl (subst (SpellsWord d behind_hyphen right) (w.3) word') is_right in
+          subst (λ t. RangeGoesOn d IsRest Right (f ++ (gap ++ (45 ∷ t)))) (sym (w.2)) (within_right gap' (w.0 ∷ w.1) blanks' goes))
     ]
 
-  range_goes_on : (range : RangeTree) (front rest : Text) → SpellsRange d range (front ++ rest) → RangeGoesOn front
-  range_goes_on range [] rest h = nothing_yet
-  range_goes_on empty (b ∷ m) rest h = cc
-  range_goes_on (simples first others) (b ∷ m) rest h =
-      let w = simples_go_on first others (b ∷ m) rest refl h in record {
+  range_goes_on : (range : RangeTree) (front rest : Text) → SpellsRange d range (front ++ rest) → IsRightRange d IsRest Right range
+      → RangeGoesOn d IsRest Right front
+  range_goes_on range [] rest h right = nothing_yet
+  range_goes_on empty (b ∷ m) rest h right = cc
+  range_goes_on (simples first others) (b ∷ m) rest h right =
+      let w = simples_go_on first others (b ∷ m) rest refl h right in record {
         tree = simples w.first w.others;
         inner = w.inner;
         after = w.after;
         more = w.more;
+        is_rest = w.is_rest;
         spelled = w.spelled;
         are_blanks = w.are_blanks;
         text = w.text;
+        right = w.right;
       }
-  range_goes_on (hyphen left right) (b ∷ m) rest (f, gap, gap', back, word, blanks, blanks', word', text) =
+  range_goes_on (hyphen left right) (b ∷ m) rest (f, gap, gap', back, word, blanks, blanks', word', text) are_right =
       elim (cut_at f (gap ++ (45 ∷ (gap' ++ back))) (b ∷ m) rest (text ∙ simp append_assoc)) [
-        | inl w ↦ left_cut (b ∷ m)
-            (word_goes_on d (behind_form bare) left (b ∷ m) w.0 refl (subst (SpellsWord d (behind_form bare) left) (w.1) word))
+        | inl w ↦ rests.left_word left (b ∷ m) w.0 refl (subst (SpellsWord d (behind_form bare) left) (w.1) word) are_right.0
         | inr w ↦ elim (cut_at gap (45 ∷ (gap' ++ back)) (w.0 ∷ w.1) rest (sym (w.3))) [
-          | inl g ↦ left_alone left (b ∷ m) f w.0 w.1 word (blanks_front (w.0 ∷ w.1) g.0 (subst (AreBlanks d) (g.1) (blanks.1))) w.2
+          | inl g ↦ subst (RangeGoesOn d IsRest Right) (sym (w.2))
+              (rests.left_alone left f (w.0 ∷ w.1) word
+              (blanks_front d (w.0 ∷ w.1) g.0 (subst (AreBlanks d) (g.1) (blanks.1))) are_right.0)
           | inr g ↦ (
               let head : g.0 ≡ 45 = (let e = g.3 in cc) in
               let tail : g.1 ++ rest ≡ gap' ++ back = (let e = g.3 in cc) in
               let whole : f ++ (gap ++ (45 ∷ g.1)) ≡ b ∷ m = (let e = w.2 in let k = g.2 in cc) in
-              subst RangeGoesOn whole (after_hyphen left f gap word blanks right gap' back g.1 rest blanks' word' tail))
+              subst (RangeGoesOn d IsRest Right) whole
+              (after_hyphen left f gap word blanks are_right.0 right gap' back g.1 rest blanks' word' are_right.1 tail))
         ]
       ]
 
@@ -348,22 +444,28 @@ module _ (d : Dialect) where
 
   record PaddedGoesOn (front : Text) : Type 0 where
     tree : RangeTree
-    more : Rest
-    spelled : SpellsPadded d tree (front ++ rest_text more)
+    more : Text
+    is_rest : IsRest more
+    spelled : SpellsPadded d tree (front ++ more)
+    right : IsRightRange d IsRest Right tree
 
-  padded_goes_on : (range : RangeTree) (front rest : Text) → SpellsPadded d range (front ++ rest) → PaddedGoesOn front
-  padded_goes_on range front rest (before, inner, after, blanks, spelled, blanks', text) =
+  padded_goes_on : (range : RangeTree) (front rest : Text) → SpellsPadded d range (front ++ rest) → IsRightRange d IsRest Right range
+      → PaddedGoesOn front
+  padded_goes_on range front rest (before, inner, after, blanks, spelled, blanks', text) right =
       elim (cut_at before (inner ++ after) front rest (text ∙ append_assoc before inner after)) [
         | inl w ↦ record {
           tree = empty;
-          more = nothing;
-          spelled = (front, [], [], blanks_front front w.0 (subst (AreBlanks d) (w.1) blanks), refl, refl, sym (append-nil _));
+          more = [];
+          is_rest = rests.nothing;
+          spelled = (front, [], [], blanks_front d front w.0 (subst (AreBlanks d) (w.1) blanks), refl, refl, sym (append-nil _));
+          right = tt;
         }
         | inr w ↦ elim (cut_at inner after (w.0 ∷ w.1) rest (sym (w.3))) [
           | inl g ↦ (
-              let k = range_goes_on range (w.0 ∷ w.1) g.0 (subst (SpellsRange d range) (g.1) spelled) in record {
+              let k = range_goes_on range (w.0 ∷ w.1) g.0 (subst (SpellsRange d range) (g.1) spelled) right in record {
                 tree = k.tree;
                 more = k.more;
+                is_rest = k.is_rest;
                 spelled = (
                   before,
                   k.inner,
@@ -371,22 +473,25 @@ module _ (d : Dialect) where
                   blanks,
                   k.spelled,
                   k.are_blanks,
-                  ap (λ t. t ++ rest_text k.more) (w.2) ∙ append_assoc before _ _ ∙ ap (λ t. before ++ t) k.text
+                  ap (λ t. t ++ k.more) (w.2) ∙ append_assoc before _ _ ∙ ap (λ t. before ++ t) k.text
                       ∙ sym (append_assoc before k.inner k.after),
                 );
+                right = k.right;
               })
           | inr g ↦ record {
             tree = range;
-            more = nothing;
+            more = [];
+            is_rest = rests.nothing;
             spelled = (
               before,
               inner,
               g.0 ∷ g.1,
               blanks,
               spelled,
-              blanks_front (g.0 ∷ g.1) rest (subst (AreBlanks d) (g.3) blanks'),
+              blanks_front d (g.0 ∷ g.1) rest (subst (AreBlanks d) (g.3) blanks'),
               append-nil front ∙ w.2 ∙ ap (λ t. before ++ t) (g.2) ∙ sym (append_assoc before inner _),
             );
+            right = right;
           }
         ]
       ]
@@ -395,43 +500,116 @@ module _ (d : Dialect) where
 
   pub record SetGoesOn (front : Text) : Type 0 where
     pub tree : SetTree
-    pub more : Rest
-    pub spelled : SpellsIn d tree (front ++ rest_text more)
+    pub more : Text
+    pub is_rest : IsRest more
+    pub spelled : SpellsIn d tree (front ++ more)
+    pub right : IsRightSet d IsRest Right tree
 
   one_range : (front : Text) → PaddedGoesOn front → SetGoesOn front
-  one_range front w = record { tree = w.tree ∷ []; more = w.more; spelled = w.spelled }
+  one_range front w = record { tree = w.tree ∷ []; more = w.more; is_rest = w.is_rest; spelled = w.spelled; right = (w.right, tt) }
 
-  one_bar : (range : RangeTree) (f : Text) → SpellsPadded d range f → SetGoesOn (f ++ codes "|")
-  one_bar range f h = record {
+  one_bar : (range : RangeTree) (f : Text) → SpellsPadded d range f → IsRightRange d IsRest Right range → SetGoesOn (f ++ codes "|")
+  one_bar range f h right = record {
     tree = range ∷ empty ∷ [];
-    more = bar;
+    more = codes "|";
+    is_rest = rests.bar;
     spelled = (f, [], h, ([], [], [], refl, refl, refl, refl), simp (append_assoc, append-nil));
+    right = (right, (tt, tt));
   }
 
-  with_range : (range : RangeTree) (f m : Text) (tree : SetTree) (more : Rest) → SpellsPadded d range f
-      → SpellsIn d tree (m ++ rest_text more) → SetGoesOn (f ++ (124 ∷ 124 ∷ m))
-  with_range range f m [] more h k = absurd k
-  with_range range f m (next ∷ others) more h k = record {
+  with_range : (range : RangeTree) (f m : Text) (tree : SetTree) (more : Text) → IsRest more → SpellsPadded d range f
+      → SpellsIn d tree (m ++ more) → IsRightRange d IsRest Right range → IsRightSet d IsRest Right tree → SetGoesOn (f ++ (124 ∷ 124 ∷ m))
+  with_range range f m [] more is_rest h k right others_right = absurd k
+  with_range range f m (next ∷ others) more is_rest h k right others_right = record {
     tree = range ∷ next ∷ others;
     more = more;
-    spelled = (f, m ++ rest_text more, h, k, simp append_assoc);
+    is_rest = is_rest;
+    spelled = (f, m ++ more, h, k, simp append_assoc);
+    right = (right, others_right);
   }
 
-  set_cut : (front f : Text) (b : ℕ) (m rest back : Text) (range : RangeTree) → SpellsPadded d range f → front ≡ f ++ (b ∷ m)
-      → 124 ∷ 124 ∷ back ≡ b ∷ (m ++ rest) → ((k : Text) → back ≡ k ++ rest → SetGoesOn k) → SetGoesOn front
-  set_cut front f b [] rest back range h text e goes =
-      let whole : f ++ codes "|" ≡ front = cc in subst SetGoesOn whole (one_bar range f h)
-  set_cut front f b (c ∷ k) rest back range h text e goes =
+  set_cut : (front f : Text) (b : ℕ) (m rest back : Text) (range : RangeTree) → SpellsPadded d range f → IsRightRange d IsRest Right range
+      → front ≡ f ++ (b ∷ m) → 124 ∷ 124 ∷ back ≡ b ∷ (m ++ rest) → ((k : Text) → back ≡ k ++ rest → SetGoesOn k) → SetGoesOn front
+  set_cut front f b [] rest back range h right text e goes =
+      let whole : f ++ codes "|" ≡ front = cc in subst SetGoesOn whole (one_bar range f h right)
+  set_cut front f b (c ∷ k) rest back range h right text e goes =
       let w = goes k cc in
       let whole : f ++ (124 ∷ 124 ∷ k) ≡ front = cc in
-      subst SetGoesOn whole (with_range range f k w.tree w.more h w.spelled)
+      subst SetGoesOn whole (with_range range f k w.tree w.more w.is_rest h w.spelled right w.right)
 
-  pub set_goes_on : (tree : SetTree) (front rest : Text) → SpellsIn d tree (front ++ rest) → SetGoesOn front
-  set_goes_on [] front rest h = absurd h
-  set_goes_on (range ∷ []) front rest h = one_range front (padded_goes_on range front rest h)
-  set_goes_on (range ∷ next ∷ others) front rest (f, back, first, spelled, text) =
+  pub set_goes_on : (tree : SetTree) (front rest : Text) → SpellsIn d tree (front ++ rest) → IsRightSet d IsRest Right tree → SetGoesOn front
+  set_goes_on [] front rest h right = absurd h
+  set_goes_on (range ∷ []) front rest h right = one_range front (padded_goes_on range front rest h right.0)
+  set_goes_on (range ∷ next ∷ others) front rest (f, back, first, spelled, text) right =
       elim (cut_at f (124 ∷ 124 ∷ back) front rest (text ∙ append_assoc f (codes "||") back)) [
-        | inl w ↦ one_range front (padded_goes_on range front w.0 (subst (SpellsPadded d range) (w.1) first))
-        | inr w ↦ set_cut front f w.0 w.1 rest back range first w.2 w.3
-            (λ k e. set_goes_on (next ∷ others) k rest (subst (SpellsIn d (next ∷ others)) e spelled))
+        | inl w ↦ one_range front (padded_goes_on range front w.0 (subst (SpellsPadded d range) (w.1) first) right.0)
+        | inr w ↦ set_cut front f w.0 w.1 rest back range first right.0 w.2 w.3
+            (λ k e. set_goes_on (next ∷ others) k rest (subst (SpellsIn d (next ∷ others)) e spelled) right.1)
       ]
+
+-- ---- fronts of range texts, without more
+
+-- nothing, a wildcard, a letter, a bar, or a space and a number
+abbrev pub IsTextRest : Text → Type 0
+IsTextRest t = IsPlainRest t ⊎ (t ≡ codes "|") ⊎ (t ≡ codes " 1")
+
+pub plain_rests : (d : Dialect) → AreRests d IsTextRest (λ s. Unit {0})
+plain_rests d = record {
+  nothing = inl (nothing, refl);
+  bar = inr (inl refl);
+  number = inr (inr refl);
+  right_number = λ form. tt;
+  word = λ form p front rest some h right. as_rest (behind_form form) front (goes (behind_form form) p front rest some h);
+  right_word = λ p front rest some h right. as_rest behind_hyphen front (goes behind_hyphen p front rest some h);
+  left_word = λ p front rest some h right. left_cut front (goes (behind_form bare) p front rest some h);
+  left_alone = λ p front blanks word are right. record {
+    tree = simples (record { form = bare; partial = p }) [];
+    inner = front;
+    after = blanks;
+    more = [];
+    is_rest = inl (nothing, refl);
+    spelled = ([], front, refl, word, refl);
+    are_blanks = are;
+    text = append-nil (front ++ blanks);
+    right = (tt, tt);
+  };
+}
+  where
+    goes : (role : Role) (p : PartialTree) (front rest : Text) → is_empty front ≡ false → SpellsWord d role p (front ++ rest)
+        → WordGoesOn IsPlainRest (λ tree. Unit {0}) d role front
+    goes role p front rest some h = plain_word (λ tree. Unit {0}) tt role p (λ tree shape. tt) d front rest some h
+
+    as_rest : (role : Role) (front : Text) → WordGoesOn IsPlainRest (λ tree. Unit {0}) d role front
+        → WordGoesOn IsTextRest (λ tree. Unit {0}) d role front
+    as_rest role front w = record { tree = w.tree; more = w.more; is_rest = inl w.is_rest; spelled = w.spelled; right = tt }
+
+    left_cut : (front : Text) → WordGoesOn IsPlainRest (λ tree. Unit {0}) d (behind_form bare) front
+        → RangeGoesOn d IsTextRest (λ s. Unit {0}) front
+    left_cut front w = record {
+      tree = simples (record { form = bare; partial = w.tree }) [];
+      inner = front ++ w.more;
+      after = [];
+      more = w.more;
+      is_rest = inl w.is_rest;
+      spelled = ([], front ++ w.more, refl, w.spelled, refl);
+      are_blanks = refl;
+      text = sym (append-nil _);
+      right = (tt, tt);
+    }
+
+pub set_front : (d : Dialect) (tree : SetTree) (front rest : Text) → SpellsIn d tree (front ++ rest)
+    → SetGoesOn d IsTextRest (λ s. Unit {0}) (plain_rests d) front
+set_front d tree front rest h = set_goes_on d IsTextRest (λ s. Unit {0}) (plain_rests d) tree front rest h (each tree)
+  where
+    all : (ss : List Simple) → AreRight d IsTextRest (λ s. Unit {0}) ss
+    all [] = tt
+    all (s ∷ ss) = (tt, all ss)
+
+    range : (r : RangeTree) → IsRightRange d IsTextRest (λ s. Unit {0}) r
+    range empty = tt
+    range (hyphen left right) = (tt, tt)
+    range (simples first others) = (tt, all others)
+
+    each : (tree : SetTree) → IsRightSet d IsTextRest (λ s. Unit {0}) tree
+    each [] = tt
+    each (r ∷ rs) = (range r, each rs)

@@ -135,7 +135,7 @@ short_front a' a rest e h = let less : length a' ≤ length a = rw (e, length-ap
 
 short_component : (c' c : Text) → IsFrontOfComponent c' c → is_short_number c ≡ true → is_short_number c' ≡ true
 short_component c' c (inl e) h = rw e refl
-short_component c' c (inr w) h = short_front c' c w.0 w.1 h
+short_component c' c (inr w) h = let less = w.0 in grind (arith, nat_tests)
 
 -- no part has a leading zero
 end_zeros : (c' : Text) (pre' build' : List Text) (c : Text) (pre build : List Text) → IsFrontOfEnd c' pre' build' c pre build
@@ -277,8 +277,8 @@ end_stays role a b c' pre' build' c pre build v n n' (inl (inl e, p, q)) small f
     absurd (let bad : is_wildcard c' ≡ true = rw e refl in grind arith)
 end_stays role a b c' pre' build' c pre build v n n' (inl (inr w, p, q)) small fewer is h k =
     let is' : n' ≡ v + length (numbers_text a b c') = is ∙ rw (p, q, append-nil) refl in
-    rw (p, q) (bare_end role a b c c' pre build v n n' fewer small (rw (w.1, length-append) (omega arith)) is'
-    (three_stated role a b c pre build n h (stated a b c c' w.3 k)))
+    rw (p, q) (bare_end role a b c c' pre build v n n' fewer small (w.0) is'
+    (three_stated role a b c pre build n h (stated a b c c' w.2 k)))
 end_stays role a b c' pre' build' c pre build v n n' (inr (inl w)) small fewer is h k =
     let some = some_parts pre' pre w.1 in
     let marks = marked_stays 45 pre' pre w.1 in

@@ -239,7 +239,7 @@ fn build_only_simple(
       compat = compat;
     }) }
 {
-    let comparator_set = bounds.made(alloc, partial, raised)?;
+    let comparator_set = bounds.to_vec(alloc, partial, raised)?;
     let mut ranges = Vec::with_capacity(alloc, 1)?;
     ranges.push_reserved(Range {
         comparator_set,

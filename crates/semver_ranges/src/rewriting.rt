@@ -88,9 +88,9 @@ impl Bounds {
     }
 
     // Answer: equation.
-    /// The comparators alone. For speed none of them is pushed where there might be no room.
+    /// The comparators by themselves. For speed none of them is pushed where there might be no room.
     #[inline(always)]
-    pub fn made(
+    pub fn to_vec(
         self,
         alloc: Global,
         partial: &Partial<'_>,
@@ -102,8 +102,8 @@ impl Bounds {
             ≡ comparators_of raised self partial.now) }
     {
         match self {
-            Bounds::Against(op) => alone(alloc, partial.as_comparator(alloc, op)?),
-            Bounds::Below(place) => alone(alloc, partial.raised(alloc, place, raised)?),
+            Bounds::Against(op) => singleton(alloc, partial.as_comparator(alloc, op)?),
+            Bounds::Below(place) => singleton(alloc, partial.raised(alloc, place, raised)?),
             Bounds::Between(place) => {
                 let mut comparators = Vec::with_capacity(alloc, 2)?;
                 comparators.push_reserved(partial.as_comparator(alloc, Op::Gte)?);
@@ -142,7 +142,7 @@ impl Bounds {
 // Answer: equation.
 /// A vector of one comparator.
 #[inline(always)]
-pub fn alone(alloc: Global, comparator: Comparator) -> Result<Vec<Comparator>, AllocError>
+pub fn singleton(alloc: Global, comparator: Comparator) -> Result<Vec<Comparator>, AllocError>
     ensures { IfOk result (λ comparators. comparators.items ≡ comparator ∷ []) }
 {
     let mut comparators = Vec::with_capacity(alloc, 1)?;

@@ -1,13 +1,12 @@
 -- What the simples that a range is yielded as say of a version is what its terms say.
-use Rattle.std.proofs.Common.{◌≡◌, Bool, true, false, ◌&&◌, ◌||◌, not, if◌then◌else◌, List, [], ◌∷◌, refl, sym, ap, ◌∙◌, Some, None, Option}
+use Rattle.std.proofs.Common.{◌≡◌, Bool, true, false, ◌&&◌, ◌||◌, if◌then◌else◌, [], ◌∷◌, refl, sym, ap, ◌∙◌}
 use Rattle.std.proofs.Math.Bool.{and-true}
-use Rattle.std.specs.Prelude.{map, Result, Ok, Err, IfOk, MatchResult}
 use Rattle.std.specs.List.{list_all, list_any}
 use Rattle.std.proofs.lemmas.List.Folds.{list_all-map}
 use Rattle.semver_texts.specs.Texts.{Text, is_empty}
 use Rattle.semver_texts.specs.Versions.{PlainVersion}
 use Rattle.semver_texts.proofs.Lists.{by_test}
-use Rattle.semver_ranges.specs.declared.partial.LowerBounds.TheVariants.{Stated, Lowest}
+use Rattle.semver_ranges.specs.declared.partial.LowerBounds.TheVariants.{Stated}
 use Rattle.semver_ranges.specs.declared.range.Compat.{Compat}
 use Rattle.semver_ranges.specs.declared.range.Compat.TheVariants as mode
 use Rattle.semver_ranges.specs.RangeTree.{PartialTree, RangeTree, SetTree, empty, hyphen, simples}
@@ -15,7 +14,6 @@ use Rattle.semver_ranges.specs.Partials.{stated, states_nothing}
 use Rattle.semver_ranges.specs.OwnMeaning.{meets_term}
 use Rattle.semver_ranges.specs.StatedPreReleases.{counts_in, states_pre_release_at}
 use Rattle.semver_ranges.specs.Terms.{Term, of_nothing, of_simple, left_side, right_side, terms}
-use Rattle.semver_ranges.specs.Steps.PartialViews.{begun_as}
 use Rattle.semver_ranges.specs.Steps.RangeEvents.{wildcard, yielded}
 use Rattle.semver_ranges.proofs.Tables.{nothing_is}
 use Rattle.semver_ranges.proofs.Tests.{list_any-mapped}
@@ -23,7 +21,6 @@ use Rattle.tool_ranges.specs.AllPreReleases.{meets_npm_with_all, meets_range_wit
 use Rattle.tool_ranges.specs.AllPreReleases as all
 use Rattle.tool_ranges.specs.NpmMeaning.{asks_nothing, is_every_release, meets_npm}
 use Rattle.tool_ranges.specs.NpmMeaning as npm
-use Rattle.tool_ranges.specs.declared.tally.Tally.{Tally}
 use Rattle.tool_ranges.specs.declared.tally.Terms.TheVariants.{Npm, NpmAll, Crate}
 use Rattle.semver_ranges.specs.declared.range_set.RangeError.{RangeError}
 use Rattle.semver_ranges.specs.declared.range_set.RangeError.TheVariants.{NotARange, NumberTooLarge, OutOfMemory}

@@ -5,7 +5,7 @@ use Rattle.std.specs.Prelude.{Result, Ok, Err, MatchResult, IfOk, ◌==◌}
 use Rattle.std.specs.List.{list_all, list_any}
 use Rattle.std.proofs.lemmas.Bool.{and_parts}
 use Rattle.std.proofs.lemmas.List.Folds.{list_all-append, list_any-append}
-use Rattle.semver_texts.specs.Texts.{Text, is_empty}
+use Rattle.semver_texts.specs.Texts.{Text}
 use Rattle.semver_texts.specs.Versions.{PlainVersion}
 use Rattle.semver_ranges.specs.declared.range_set.RangeError.{RangeError}
 use Rattle.semver_ranges.specs.declared.range_set.RangeError.TheVariants.{NotARange, NumberTooLarge, OutOfMemory}
@@ -14,7 +14,7 @@ use Rattle.semver_ranges.specs.StatedPreReleases.{states_pre_release_at}
 use Rattle.semver_ranges.specs.Terms.{of_simple}
 use Rattle.tool_ranges.specs.AllPreReleases.{meets_requirement_with_all}
 use Rattle.tool_ranges.specs.CargoGrammar.{SpellsRequirement}
-use Rattle.tool_ranges.specs.CargoMeaning.{as_read, meets_requirement}
+use Rattle.tool_ranges.specs.CargoMeaning.{as_read}
 use Rattle.tool_ranges.specs.CargoTexts.{RefusesRequirement}
 use Rattle.tool_ranges.specs.Steps.Asking.{EndsSaying, RefusesRequired, SaysRequired, comparator_met, requirement_met}
 use Rattle.tool_ranges.specs.Steps.CargoReading.{comparator_at}

@@ -1,5 +1,5 @@
 -- What a term that was read says of a version is what the term of the tree says.
-use Rattle.std.proofs.Common.{◌≡◌, ℕ, Bool, true, false, ◌&&◌, List, [], refl, sym, ◌∙◌}
+use Rattle.std.proofs.Common.{◌≡◌, ℕ, Bool, true, ◌&&◌, List, [], refl, sym, ◌∙◌}
 use Rattle.std.specs.List.{list_all}
 use Rattle.std.specs.Prelude.{if◌then◌else◌, length, ◌==◌, nat_eq, not}
 use Rattle.std.specs.Cmp.Lexicographic.{pointwise}

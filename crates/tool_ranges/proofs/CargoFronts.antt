@@ -14,22 +14,23 @@ use Rattle.semver_ranges.specs.Partials.{stated, states_nothing}
 use Rattle.tool_ranges.specs.CargoGrammar.{AreSpaces, SpellsComparator, SpellsComparators, SpellsRequirement, is_bare, is_every}
 use Rattle.tool_ranges.specs.CargoGrammar.{is_of_cargo, is_one, is_partial_of_cargo, sign, stands_alone, wildcards_are_last}
 use Rattle.semver_ranges.proofs.FrontPartials.{AreFrontOfParts, IsFrontOf, IsFrontOfComponent, IsFrontOfEnd, IsFrontOfPart}
-use Rattle.semver_ranges.proofs.FrontPartials.{Rest, cut_at, nothing, number, partial_goes_on, rest_text}
+use Rattle.semver_ranges.proofs.FrontPartials.{cut_at, nothing, partial_goes_on, rest_text}
+use Rattle.semver_ranges.proofs.FrontRanges.{IsPlainRest}
 
 -- ---- partials
 
 -- a partial that Cargo reads as far as another one
-record KeepsCargo (p' p : PartialTree) : Type 0 where
-  is_read : is_partial_of_cargo p' ≡ true
-  states : states_nothing p' ≡ states_nothing p
-  is_one : is_one p ≡ true → is_one p' ≡ true
+pub record KeepsCargo (p' p : PartialTree) : Type 0 where
+  pub is_read : is_partial_of_cargo p' ≡ true
+  pub states : states_nothing p' ≡ states_nothing p
+  pub is_one : is_one p ≡ true → is_one p' ≡ true
 
 -- whether a partial states nothing depends on its first component
-none_stated : (a : Text) (cs : List Text)
+pub none_stated : (a : Text) (cs : List Text)
     → is_empty (map (digits_value 10) (take_while (λ c. not (is_wildcard c)) (a ∷ cs))) ≡ is_wildcard a
 none_stated a cs = by_test (is_wildcard a) (λ y. rw y refl) (λ n. rw (n, one-add) refl)
 
-same_first : (a' a : Text) (cs' cs : List Text) → is_wildcard a' ≡ is_wildcard a
+pub same_first : (a' a : Text) (cs' cs : List Text) → is_wildcard a' ≡ is_wildcard a
     → is_empty (map (digits_value 10) (take_while (λ c. not (is_wildcard c)) (a' ∷ cs')))
     ≡ is_empty (map (digits_value 10) (take_while (λ c. not (is_wildcard c)) (a ∷ cs)))
 same_first a' a cs' cs e = none_stated a' cs' ∙ e ∙ sym (none_stated a cs)
@@ -66,7 +67,7 @@ three_last x y z z' e (inr s) = rw s e
 
 wild_of : (c' c : Text) → IsFrontOfComponent c' c → (is_wildcard c' ≡ true) ⊎ (is_wildcard c' ≡ is_wildcard c)
 wild_of c' c (inl e) = inl (rw e refl)
-wild_of c' c (inr w) = inr w.3
+wild_of c' c (inr w) = inr w.2
 
 -- no leading zero comes up
 letter_last : (x : Text) → all_ascii_digits (x ++ codes "a") ≡ false
@@ -138,7 +139,7 @@ keeps_one : (a' a : Text) (cs : List Text) → is_wildcard a' ≡ is_wildcard a
     ≡ is_empty (map (digits_value 10) (take_while (λ c. not (is_wildcard c)) (a ∷ cs))))
 keeps_one a' a cs e = (and_from _ _ (one_last (is_wildcard a')) refl, same_first a' a [] cs e)
 
-keeps_cargo : (p' p : PartialTree) → IsFrontOf p' p → is_partial_of_cargo p ≡ true → KeepsCargo p' p
+pub keeps_cargo : (p' p : PartialTree) → IsFrontOf p' p → is_partial_of_cargo p ≡ true → KeepsCargo p' p
 keeps_cargo (one a') (one a) w e =
     let k = keeps_one a' a [] w.3 in record { is_read = k.0; states = k.1; is_one = λ y. refl }
 keeps_cargo (one a') (two a b) w e =
@@ -165,13 +166,6 @@ keeps_cargo (three a' b' c' pre' build') (three a b c pre build) w e =
 
 -- ---- comparators
 
--- a comparator from a front of another one's text; it states a number if the other does
-record ComparatorGoesOn (s : Simple) (front : Text) : Type 0 where
-  tree : Simple
-  more : Rest
-  spelled : SpellsComparator tree (front ++ rest_text more)
-  states : states_nothing s.partial ≡ false → states_nothing tree.partial ≡ false
-
 -- spaces
 spaces_front : (x y : Text) → AreSpaces (x ++ y) → AreSpaces x
 spaces_front [] y e = refl
@@ -191,26 +185,6 @@ numbered f = record { form = f; partial = one (codes "1") }
 
 is_read_number : (f : Form) → is_of_cargo (numbered f) ≡ true
 is_read_number f = or_from (is_every (numbered f)) true refl
-
-number_after : (s : Simple) (f : Form) (front before gap : Text) → AreSpaces before → AreSpaces gap
-    → front ≡ before ++ (sign f ++ gap) → ComparatorGoesOn s front
-number_after s f front before gap spaces more text = record {
-  tree = numbered f;
-  more = number;
-  spelled = record {
-    before = before;
-    gap = gap ++ codes " ";
-    word = codes "1";
-    after = [];
-    before_is = spaces;
-    gap_is = one_more gap more;
-    after_is = refl;
-    partial = (refl, tt, refl);
-    is_read = is_read_number f;
-    text = rw text (simp append_assoc);
-  };
-  states = λ n. refl;
-}
 
 -- a front of a sign is a sign
 record SignFront (t : Text) : Type 0 where
@@ -246,95 +220,9 @@ every_kept false o o' true s' same keep e = cc
 every_kept true false o' true s' same keep e = cc
 every_kept true true o' true s' same keep e = rw (same, keep refl) refl
 
-module _ (s : Simple) (t : Text) (w : SpellsComparator s t) (front rest : Text) where
-  in_after : (m : Text) → front ≡ w.before ++ (sign s.form ++ (w.gap ++ (w.word ++ m))) → w.after ≡ m ++ rest → ComparatorGoesOn s front
-  in_after m text cut = record {
-    tree = s;
-    more = nothing;
-    spelled = record {
-      before = w.before;
-      gap = w.gap;
-      word = w.word;
-      after = m;
-      before_is = w.before_is;
-      gap_is = w.gap_is;
-      after_is = spaces_front m rest (subst AreSpaces cut w.after_is);
-      partial = w.partial;
-      is_read = w.is_read;
-      text = append-nil front ∙ text;
-    };
-    states = λ n. n;
-  }
-
-  in_word : (m r : Text) → is_empty m ≡ false → front ≡ w.before ++ (sign s.form ++ (w.gap ++ m)) → w.word ≡ m ++ r
-      → ComparatorGoesOn s front
-  in_word m r some text cut =
-      let g = partial_goes_on s.partial m r some (subst (SpellsPartial s.partial) cut w.partial) in
-      let read = and_parts (is_partial_of_cargo s.partial) _ w.is_read in
-      let k = keeps_cargo g.tree s.partial g.shape read.0 in record {
-        tree = record { form = s.form; partial = g.tree };
-        more = g.more;
-        spelled = record {
-          before = w.before;
-          gap = w.gap;
-          word = m ++ rest_text g.more;
-          after = [];
-          before_is = w.before_is;
-          gap_is = w.gap_is;
-          after_is = refl;
-          partial = g.spelled;
-          is_read = and_from _ _ k.is_read
-              (every_kept (is_bare s.form) (is_one s.partial) (is_one g.tree) (states_nothing s.partial) (states_nothing g.tree)
-              k.states k.is_one read.1);
-          text = rw text (simp (append_assoc, append-nil));
-        };
-        states = λ n. k.states ∙ n;
-      }
-
-  after_gap : (b : ℕ) (n : Text) → front ≡ w.before ++ (sign s.form ++ (w.gap ++ (b ∷ n))) → w.word ++ w.after ≡ b ∷ (n ++ rest)
-      → ComparatorGoesOn s front
-  after_gap b n text cut = elim (cut_at w.word w.after (b ∷ n) rest (sym cut)) [
-    | inl c ↦ in_word (b ∷ n) c.0 refl text c.1
-    | inr c ↦ in_after (c.0 ∷ c.1) (text ∙ ap (λ x. w.before ++ (sign s.form ++ (w.gap ++ x))) c.2) c.3
-  ]
-
-  after_sign : (b : ℕ) (n : Text) → front ≡ w.before ++ (sign s.form ++ (b ∷ n))
-      → w.gap ++ (w.word ++ w.after) ≡ b ∷ (n ++ rest) → ComparatorGoesOn s front
-  after_sign b n text cut = elim (cut_at w.gap (w.word ++ w.after) (b ∷ n) rest (sym cut)) [
-    | inl c ↦ number_after s s.form front w.before (b ∷ n) w.before_is
-        (spaces_front (b ∷ n) c.0 (subst AreSpaces c.1 w.gap_is)) text
-    | inr c ↦ after_gap c.0 c.1 (text ∙ ap (λ x. w.before ++ (sign s.form ++ x)) c.2) c.3
-  ]
-
-  after_before : (b : ℕ) (n : Text) → front ≡ w.before ++ (b ∷ n)
-      → sign s.form ++ (w.gap ++ (w.word ++ w.after)) ≡ b ∷ (n ++ rest) → ComparatorGoesOn s front
-  after_before b n text cut = elim (cut_at (sign s.form) (w.gap ++ (w.word ++ w.after)) (b ∷ n) rest (sym cut)) [
-    | inl c ↦
-        let f = sign_front s.form b n c.0 c.1 in
-        number_after s f.form front w.before [] w.before_is refl (text ∙ ap (λ x. w.before ++ x) (f.is ∙ sym (append-nil (sign f.form))))
-    | inr c ↦ after_sign c.0 c.1 (text ∙ ap (λ x. w.before ++ x) c.2) c.3
-  ]
-
-comparator_goes_on : (s : Simple) (front rest : Text) → SpellsComparator s (front ++ rest) → ComparatorGoesOn s front
-comparator_goes_on s front rest w =
-    elim (cut_at w.before (sign s.form ++ (w.gap ++ (w.word ++ w.after))) front rest w.text) [
-      | inl c ↦ number_after s bare front front [] (spaces_front front c.0 (subst AreSpaces c.1 w.before_is)) refl (sym (append-nil front))
-      | inr c ↦ after_before s (front ++ rest) w front rest c.0 c.1 c.2 c.3
-    ]
-
--- ---- comparators separated by commas
-
+-- which of some comparators state nothing
 abbrev any_states_nothing : List Simple → Bool
 any_states_nothing ss = list_any (λ s. states_nothing s.partial) ss
-
--- comparators from a front of the text of others: no more, and each states a number if each of the others does
-record ComparatorsGoOn (ss : List Simple) (front : Text) : Type 0 where
-  first : Simple
-  others : List Simple
-  more : Rest
-  spelled : SpellsComparators (first ∷ others) (front ++ rest_text more)
-  few : length (first ∷ others) ≤ length ss
-  states : any_states_nothing ss ≡ false → any_states_nothing (first ∷ others) ≡ false
 
 or_false : (x y : Bool) → (x || y) ≡ false → (x ≡ false) × (y ≡ false)
 or_false true y e = cc
@@ -342,38 +230,6 @@ or_false false y e = (refl, e)
 
 none_of : (x y : Bool) → x ≡ false → y ≡ false → (x || y) ≡ false
 none_of x y e h = rw (e, h) refl
-
-one_goes_on : (s : Simple) (ss : List Simple) (front : Text) → ComparatorGoesOn s front → ComparatorsGoOn (s ∷ ss) front
-one_goes_on s ss front w = record {
-  first = w.tree;
-  others = [];
-  more = w.more;
-  spelled = w.spelled;
-  few = omega arith;
-  states = λ n. none_of _ _ (w.states (or_false _ _ n).0) refl;
-}
-
-more_go_on : (s : Simple) (ss : List Simple) (f front m : Text) → SpellsComparator s f → front ≡ f ++ (44 ∷ m) → ComparatorsGoOn ss m
-    → ComparatorsGoOn (s ∷ ss) front
-more_go_on s ss f front m h text w = record {
-  first = s;
-  others = w.first ∷ w.others;
-  more = w.more;
-  spelled = (f, m ++ rest_text w.more, h, w.spelled, rw text (append_assoc f (44 ∷ m) (rest_text w.more)));
-  few = omega (arith, w.few);
-  states = λ n. let both = or_false _ _ n in none_of _ _ both.0 (w.states both.1);
-}
-
-comparators_go_on : (ss : List Simple) (front rest : Text) → SpellsComparators ss (front ++ rest) → ComparatorsGoOn ss front
-comparators_go_on [] front rest h = absurd h
-comparators_go_on (s ∷ []) front rest h = one_goes_on s [] front (comparator_goes_on s front rest h)
-comparators_go_on (s ∷ next ∷ others) front rest (f, back, h, more, text) = elim (cut_at f (44 ∷ back) front rest text) [
-  | inl c ↦ one_goes_on s (next ∷ others) front (comparator_goes_on s front c.0 (subst (SpellsComparator s) c.1 h))
-  | inr c ↦ more_go_on s (next ∷ others) f front c.1 h (let e = c.2 in let g = c.3 in cc)
-      (comparators_go_on (next ∷ others) c.1 rest (subst (SpellsComparators (next ∷ others)) (let g = c.3 in cc) more))
-]
-
--- ---- requirements
 
 alone_still : (ss : List Simple) (first : Simple) (others : List Simple) → length (first ∷ others) ≤ length ss
     → (any_states_nothing ss ≡ false → any_states_nothing (first ∷ others) ≡ false) → stands_alone ss ≡ true
@@ -388,20 +244,238 @@ alone_still (s ∷ next ∷ others) first (x ∷ xs) few states alone =
     not_true true e = cc
     not_true false e = refl
 
--- the front goes on as another requirement
-pub record RequirementGoesOn (front : Text) : Type 0 where
-  pub tree : List Simple
-  pub more : Rest
-  pub spelled : SpellsRequirement tree (front ++ rest_text more)
+-- ---- what has to be known of the fronts of partials, and of the rests with which they go on
 
-pub requirement_goes_on : (tree : List Simple) (front rest : Text) → SpellsRequirement tree (front ++ rest) → RequirementGoesOn front
-requirement_goes_on tree front rest h =
-    let w = comparators_go_on tree front rest h.comparators in record {
-      tree = w.first ∷ w.others;
-      more = w.more;
+pub record CargoPartialGoes (IsRest : Text → Type 0) (Right : Simple → Type 0) (s : Simple) (front : Text) : Type 0 where
+  pub tree : PartialTree
+  pub more : Text
+  pub is_rest : IsRest more
+  pub spelled : SpellsPartial tree (front ++ more)
+  pub kept : KeepsCargo tree s.partial
+  pub right : Right (record { form = s.form; partial = tree })
+
+pub record AreCargoRests (IsRest : Text → Type 0) (Right : Simple → Type 0) : Type 1 where
+  pub nothing : IsRest []
+  pub number : IsRest (codes " 1")
+  pub right_number : (form : Form) → Right (record { form = form; partial = one (codes "1") })
+  pub partial : (s : Simple) (front rest : Text) → is_empty front ≡ false → SpellsPartial s.partial (front ++ rest)
+      → is_partial_of_cargo s.partial ≡ true → Right s → CargoPartialGoes IsRest Right s front
+
+module _ (IsRest : Text → Type 0) (Right : Simple → Type 0) (rests : AreCargoRests IsRest Right) where
+  -- a comparator from a front of another one's text; it states a number if the other does
+  record ComparatorGoesOn (s : Simple) (front : Text) : Type 0 where
+    tree : Simple
+    more : Text
+    is_rest : IsRest more
+    spelled : SpellsComparator tree (front ++ more)
+    states : states_nothing s.partial ≡ false → states_nothing tree.partial ≡ false
+    right : Right tree
+
+  number_after : (s : Simple) (f : Form) (front before gap : Text) → AreSpaces before → AreSpaces gap
+      → front ≡ before ++ (sign f ++ gap) → ComparatorGoesOn s front
+  number_after s f front before gap spaces more text = record {
+    tree = numbered f;
+    more = codes " 1";
+    is_rest = rests.number;
+    spelled = record {
+      before = before;
+      gap = gap ++ codes " ";
+      word = codes "1";
+      after = [];
+      before_is = spaces;
+      gap_is = one_more gap more;
+      after_is = refl;
+      partial = (refl, tt, refl);
+      is_read = is_read_number f;
+      text = rw text (simp append_assoc);
+    };
+    states = λ n. refl;
+    right = rests.right_number f;
+  }
+
+  module _ (s : Simple) (t : Text) (w : SpellsComparator s t) (right : Right s) (front rest : Text) where
+    in_after : (m : Text) → front ≡ w.before ++ (sign s.form ++ (w.gap ++ (w.word ++ m))) → w.after ≡ m ++ rest → ComparatorGoesOn s front
+    in_after m text cut = record {
+      tree = s;
+      more = [];
+      is_rest = rests.nothing;
       spelled = record {
-        comparators = w.spelled;
-        alone = alone_still tree w.first w.others w.few w.states h.alone;
-        few = omega (arith, w.few, h.few);
+        before = w.before;
+        gap = w.gap;
+        word = w.word;
+        after = m;
+        before_is = w.before_is;
+        gap_is = w.gap_is;
+        after_is = spaces_front m rest (subst AreSpaces cut w.after_is);
+        partial = w.partial;
+        is_read = w.is_read;
+        text = append-nil front ∙ text;
       };
+      states = λ n. n;
+      right = right;
     }
+
+    in_word : (m r : Text) → is_empty m ≡ false → front ≡ w.before ++ (sign s.form ++ (w.gap ++ m)) → w.word ≡ m ++ r
+        → ComparatorGoesOn s front
+    in_word m r some text cut =
+        let read = and_parts (is_partial_of_cargo s.partial) _ w.is_read in
+        let g = rests.partial s m r some (subst (SpellsPartial s.partial) cut w.partial) read.0 right in
+        let k = g.kept in record {
+          tree = record { form = s.form; partial = g.tree };
+          more = g.more;
+          is_rest = g.is_rest;
+          spelled = record {
+            before = w.before;
+            gap = w.gap;
+            word = m ++ g.more;
+            after = [];
+            before_is = w.before_is;
+            gap_is = w.gap_is;
+            after_is = refl;
+            partial = g.spelled;
+            is_read = and_from _ _ k.is_read
+                (every_kept (is_bare s.form) (is_one s.partial) (is_one g.tree) (states_nothing s.partial) (states_nothing g.tree)
+                k.states k.is_one read.1);
+            text = rw text (simp (append_assoc, append-nil));
+          };
+          states = λ n. k.states ∙ n;
+          right = g.right;
+        }
+
+    after_gap : (b : ℕ) (n : Text) → front ≡ w.before ++ (sign s.form ++ (w.gap ++ (b ∷ n))) → w.word ++ w.after ≡ b ∷ (n ++ rest)
+        → ComparatorGoesOn s front
+    after_gap b n text cut = elim (cut_at w.word w.after (b ∷ n) rest (sym cut)) [
+      | inl c ↦ in_word (b ∷ n) c.0 refl text c.1
+      | inr c ↦ in_after (c.0 ∷ c.1) (text ∙ ap (λ x. w.before ++ (sign s.form ++ (w.gap ++ x))) c.2) c.3
+    ]
+
+    after_sign : (b : ℕ) (n : Text) → front ≡ w.before ++ (sign s.form ++ (b ∷ n))
+        → w.gap ++ (w.word ++ w.after) ≡ b ∷ (n ++ rest) → ComparatorGoesOn s front
+    after_sign b n text cut = elim (cut_at w.gap (w.word ++ w.after) (b ∷ n) rest (sym cut)) [
+      | inl c ↦ number_after s s.form front w.before (b ∷ n) w.before_is
+          (spaces_front (b ∷ n) c.0 (subst AreSpaces c.1 w.gap_is)) text
+      | inr c ↦ after_gap c.0 c.1 (text ∙ ap (λ x. w.before ++ (sign s.form ++ x)) c.2) c.3
+    ]
+
+    after_before : (b : ℕ) (n : Text) → front ≡ w.before ++ (b ∷ n)
+        → sign s.form ++ (w.gap ++ (w.word ++ w.after)) ≡ b ∷ (n ++ rest) → ComparatorGoesOn s front
+    after_before b n text cut = elim (cut_at (sign s.form) (w.gap ++ (w.word ++ w.after)) (b ∷ n) rest (sym cut)) [
+      | inl c ↦
+          let f = sign_front s.form b n c.0 c.1 in
+          number_after s f.form front w.before [] w.before_is refl (text ∙ ap (λ x. w.before ++ x) (f.is ∙ sym (append-nil (sign f.form))))
+      | inr c ↦ after_sign c.0 c.1 (text ∙ ap (λ x. w.before ++ x) c.2) c.3
+    ]
+
+  comparator_goes_on : (s : Simple) (front rest : Text) → SpellsComparator s (front ++ rest) → Right s → ComparatorGoesOn s front
+  comparator_goes_on s front rest w right =
+      elim (cut_at w.before (sign s.form ++ (w.gap ++ (w.word ++ w.after))) front rest w.text) [
+        | inl c ↦ number_after s bare front front [] (spaces_front front c.0 (subst AreSpaces c.1 w.before_is)) refl (sym (append-nil front))
+        | inr c ↦ after_before s (front ++ rest) w right front rest c.0 c.1 c.2 c.3
+      ]
+
+  -- ---- comparators separated by commas
+
+  abbrev pub AreAllRight : List Simple → Type 0
+  AreAllRight [] = Unit {0}
+  AreAllRight (s ∷ ss) = Right s × AreAllRight ss
+
+  -- comparators from a front of the text of others: no more, and each states a number if each of the others does
+  record ComparatorsGoOn (ss : List Simple) (front : Text) : Type 0 where
+    first : Simple
+    others : List Simple
+    more : Text
+    is_rest : IsRest more
+    spelled : SpellsComparators (first ∷ others) (front ++ more)
+    few : length (first ∷ others) ≤ length ss
+    states : any_states_nothing ss ≡ false → any_states_nothing (first ∷ others) ≡ false
+    right : AreAllRight (first ∷ others)
+
+  one_goes_on : (s : Simple) (ss : List Simple) (front : Text) → ComparatorGoesOn s front → ComparatorsGoOn (s ∷ ss) front
+  one_goes_on s ss front w = record {
+    first = w.tree;
+    others = [];
+    more = w.more;
+    is_rest = w.is_rest;
+    spelled = w.spelled;
+    few = omega arith;
+    states = λ n. none_of _ _ (w.states (or_false _ _ n).0) refl;
+    right = (w.right, tt);
+  }
+
+  more_go_on : (s : Simple) (ss : List Simple) (f front m : Text) → SpellsComparator s f → Right s → front ≡ f ++ (44 ∷ m)
+      → ComparatorsGoOn ss m → ComparatorsGoOn (s ∷ ss) front
+  more_go_on s ss f front m h right text w = record {
+    first = s;
+    others = w.first ∷ w.others;
+    more = w.more;
+    is_rest = w.is_rest;
+    spelled = (f, m ++ w.more, h, w.spelled, rw text (append_assoc f (44 ∷ m) w.more));
+    few = omega (arith, w.few);
+    states = λ n. let both = or_false _ _ n in none_of _ _ both.0 (w.states both.1);
+    right = (right, w.right);
+  }
+
+  comparators_go_on : (ss : List Simple) (front rest : Text) → SpellsComparators ss (front ++ rest) → AreAllRight ss
+      → ComparatorsGoOn ss front
+  comparators_go_on [] front rest h right = absurd h
+  comparators_go_on (s ∷ []) front rest h right = one_goes_on s [] front (comparator_goes_on s front rest h right.0)
+  comparators_go_on (s ∷ next ∷ others) front rest (f, back, h, more, text) right = elim (cut_at f (44 ∷ back) front rest text) [
+    | inl c ↦ one_goes_on s (next ∷ others) front (comparator_goes_on s front c.0 (subst (SpellsComparator s) c.1 h) right.0)
+    | inr c ↦ more_go_on s (next ∷ others) f front c.1 h right.0 (let e = c.2 in let g = c.3 in cc)
+        (comparators_go_on (next ∷ others) c.1 rest (subst (SpellsComparators (next ∷ others)) (let g = c.3 in cc) more) right.1)
+  ]
+
+  -- ---- requirements
+
+  -- the front goes on as another requirement
+  pub record RequirementGoesOn (front : Text) : Type 0 where
+    pub tree : List Simple
+    pub more : Text
+    pub is_rest : IsRest more
+    pub spelled : SpellsRequirement tree (front ++ more)
+    pub right : AreAllRight tree
+
+  pub requirement_goes_on : (tree : List Simple) (front rest : Text) → SpellsRequirement tree (front ++ rest) → AreAllRight tree
+      → RequirementGoesOn front
+  requirement_goes_on tree front rest h right =
+      let w = comparators_go_on tree front rest h.comparators right in record {
+        tree = w.first ∷ w.others;
+        more = w.more;
+        is_rest = w.is_rest;
+        spelled = record {
+          comparators = w.spelled;
+          alone = alone_still tree w.first w.others w.few w.states h.alone;
+          few = omega (arith, w.few, h.few);
+        };
+        right = w.right;
+      }
+
+-- ---- without more
+
+-- nothing, a wildcard, a letter, or a space and a number
+abbrev pub IsCargoRest : Text → Type 0
+IsCargoRest t = IsPlainRest t ⊎ (t ≡ codes " 1")
+
+pub plain_cargo : AreCargoRests IsCargoRest (λ s. Unit {0})
+plain_cargo = record {
+  nothing = inl (nothing, refl);
+  number = inr refl;
+  right_number = λ form. tt;
+  partial = λ s front rest some spelled read right. (
+      let g = partial_goes_on s.partial front rest some spelled in record {
+        tree = g.tree;
+        more = rest_text g.more;
+        is_rest = inl (g.more, refl);
+        spelled = g.spelled;
+        kept = keeps_cargo g.tree s.partial g.shape read;
+        right = tt;
+      });
+}
+
+pub requirement_front : (tree : List Simple) (front rest : Text) → SpellsRequirement tree (front ++ rest)
+    → RequirementGoesOn IsCargoRest (λ s. Unit {0}) plain_cargo front
+requirement_front tree front rest h = requirement_goes_on IsCargoRest (λ s. Unit {0}) plain_cargo tree front rest h (all tree)
+  where
+    all : (ss : List Simple) → AreAllRight IsCargoRest (λ s. Unit {0}) plain_cargo ss
+    all [] = tt
+    all (s ∷ ss) = (tt, all ss)

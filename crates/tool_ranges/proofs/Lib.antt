@@ -23,3 +23,8 @@ mod AskedRanges
 mod AskedRequirements
 pub mod ReadingLaws
 mod Places
+pub mod FittingSimples
+pub mod FittingPartials
+pub mod FittingRanges
+pub mod FittingTexts
+mod RangeErrors

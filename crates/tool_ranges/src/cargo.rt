@@ -140,7 +140,7 @@ fn build_one(alloc: Global, partial: &Partial<'_>, cell: Cell) -> Result<Vec<Ran
     ensures { IfOk result (λ ranges. set_with ranges.items
         ≡ in_one_range (cell_written cell partial.now)) }
 {
-    in_one_range(alloc, cell.made(alloc, partial)?)
+    in_one_range(alloc, cell.to_vec(alloc, partial)?)
 }
 
 /// The one range that has the comparators.

@@ -2,7 +2,7 @@
 
 ghost use Rattle.std.specs.Prelude.{◌≡◌, ◌++◌, ℕ, []};
 ghost use Rattle.semver_texts.specs.Texts.{Text};
-ghost use Rattle.tool_ranges.specs.Fronts.{BeginsAs, IsPlace};
+ghost use Rattle.tool_ranges.specs.Fronts.{BeginsAs, BeginsFitting, IsPlace};
 ghost use Rattle.tool_ranges.specs.declared.reading.Reading.{Reading};
 ghost use Rattle.tool_ranges.specs.Readings.{IsTextAs, SpellsAs, TreeOf};
 
@@ -24,4 +24,10 @@ pub fn fronts_begin_fronts()
 pub fn one_place()
     ensures same_place { (reading : Reading) (t : Text) (m n : ℕ)
         → IsPlace (BeginsAs reading) t m → IsPlace (BeginsAs reading) t n → m ≡ n }
+{}
+
+/// And one after which no range text has numbers that fit.
+pub fn one_limit_place()
+    ensures same_place { (reading : Reading) (t : Text) (m n : ℕ)
+        → IsPlace (BeginsFitting reading) t m → IsPlace (BeginsFitting reading) t n → m ≡ n }
 {}

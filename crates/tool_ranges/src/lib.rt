@@ -4,10 +4,14 @@
 mod asked;
 mod asking;
 pub mod cargo;
+mod ending;
+pub mod hints;
 pub mod laws;
+mod limit;
 pub mod meaning;
 pub mod npm;
 pub mod place;
 pub mod reading;
+pub mod refusals;
 mod rows;
 mod tally;

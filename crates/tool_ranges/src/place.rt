@@ -7,13 +7,21 @@ ghost use Rattle.std.specs.Str.{IsCharBoundary};
 ghost use Rattle.tool_ranges.specs.Fronts.{BeginsAs, IsPlace};
 ghost use Rattle.tool_ranges.specs.Meanings.{reading_of};
 ghost use Rattle.tool_ranges.specs.Readings.{IsTextAs};
-ghost use Rattle.tool_ranges.specs.Steps.Places.{GoesOnAs};
+ghost use Rattle.tool_ranges.specs.Steps.Places.{BeginsBy, GoesOnAs, GoesOnBy};
 
+use crate::limit::begins_fitting;
 use crate::meaning::{self, Meaning};
 use crate::reading::Reading;
 use semver_ranges::RangeError;
 use std::alloc::{AllocError, Global};
 use version_sets::PreReleases;
+
+/// What a front is to begin: a range text, or one whose numbers fit.
+#[derive(Clone, Copy)]
+pub(crate) enum Wanted {
+    Any,
+    Fitting,
+}
 
 // Answer: law answer_laws::ranges::one_error_place.
 /// Returns the place of the first error of a refused range text, in bytes: no range text of the
@@ -21,7 +29,7 @@ use version_sets::PreReleases;
 /// length of the text if something is missing at the end, as in `>=`, or if nothing is wrong but a
 /// number that is too large.
 ///
-/// It takes time in n log n for n bytes, and allocates one buffer of n + 2 bytes.
+/// It takes time in n log n for n bytes, and allocates one buffer of n + 5 bytes.
 ///
 /// # Errors
 ///
@@ -30,15 +38,27 @@ pub fn error_place(alloc: Global, reading: Reading, text: &str) -> Result<usize,
     // Some range text begins with what is before the place, and none with a longer front.
     ensures place { IfOk result (λ place. IsPlace (BeginsAs reading) text.now place) }
 {
-    let mut buffer = String::with_capacity(alloc, text.len().saturating_add(2))?;
-    if begins(reading, text, &mut buffer)? {
+    longest(alloc, Wanted::Any, reading, text)
+}
+
+/// The end of the longest front of a text that begins what is wanted.
+pub(crate) fn longest(
+    alloc: Global,
+    wanted: Wanted,
+    reading: Reading,
+    text: &str,
+) -> Result<usize, AllocError>
+    ensures place { IfOk result (λ place. IsPlace (BeginsBy wanted reading) text.now place) }
+{
+    let mut buffer = String::with_capacity(alloc, text.len().saturating_add(5))?;
+    if begins(wanted, reading, text, &mut buffer)? {
         return Ok(text.len());
     }
     let mut good = 0;
     let mut bad = text.len();
     let mut middle = between(text, good, bad);
     while good < middle {
-        if begins(reading, &text[..middle], &mut buffer)? {
+        if begins(wanted, reading, &text[..middle], &mut buffer)? {
             good = middle;
         } else {
             bad = middle;
@@ -50,7 +70,7 @@ pub fn error_place(alloc: Global, reading: Reading, text: &str) -> Result<usize,
 
 /// A place between two characters, after one place and before another, near to halfway between
 /// them; the first of the two if there is none.
-fn between(text: &str, good: usize, bad: usize) -> usize
+pub(crate) fn between(text: &str, good: usize, bad: usize) -> usize
     requires { good ≤ bad }
     ensures after { good ≤ result }
     ensures before { good < result → result < bad }
@@ -71,10 +91,25 @@ fn between(text: &str, good: usize, bad: usize) -> usize
     good
 }
 
+/// Whether a front begins what is wanted.
+fn begins(
+    wanted: Wanted,
+    reading: Reading,
+    front: &str,
+    buffer: &mut String,
+) -> Result<bool, AllocError>
+    ensures { IfOk result (λ found. IsTrue found ↔ GoesOnBy wanted reading front.now) }
+{
+    match wanted {
+        Wanted::Any => begins_any(reading, front, buffer),
+        Wanted::Fitting => begins_fitting(reading, front, buffer),
+    }
+}
+
 /// Whether a range text begins so. Nothing is missing after a number; a wildcard after a dot; a
 /// letter after a hyphen or a plus, and after digits with a leading zero; another bar after a bar;
 /// and a space and a number after an operator, a comma and the hyphen of a hyphen range.
-fn begins(reading: Reading, front: &str, buffer: &mut String) -> Result<bool, AllocError>
+fn begins_any(reading: Reading, front: &str, buffer: &mut String) -> Result<bool, AllocError>
     ensures { IfOk result (λ found. IsTrue found ↔ GoesOnAs reading front.now) }
 {
     if goes_on(reading, front, "", buffer)? {
@@ -129,7 +164,7 @@ fn is_none(refusal: RangeError) -> bool
 }
 
 /// A meaning by a dialect.
-fn some_meaning(reading: Reading) -> Meaning
+pub(crate) fn some_meaning(reading: Reading) -> Meaning
     ensures { reading_of result ≡ reading }
 {
     match reading {

@@ -21,7 +21,7 @@ ghost use Rattle.semver_ranges.specs.Steps.BoundsViews.{comparators_of};
 
 use semver_ranges::grammar::{Form, Simple};
 use semver_ranges::partial::{LowerBounds, Partial, PartialKind, Place, RaisedBounds};
-use semver_ranges::rewriting::{Bounds, alone, rewritten};
+use semver_ranges::rewriting::{Bounds, rewritten, singleton};
 use semver_ranges::{Comparator, Compat, Identifier, Op};
 use std::alloc::{AllocError, Global};
 
@@ -87,9 +87,9 @@ impl Cell {
         }
     }
 
-    /// The comparators alone. For speed none of them is pushed where there might be no room.
+    /// The comparators by themselves. For speed none of them is pushed where there might be no room.
     #[inline(always)]
-    pub(crate) fn made(
+    pub(crate) fn to_vec(
         self,
         alloc: Global,
         partial: &Partial<'_>,
@@ -101,13 +101,13 @@ impl Cell {
     {
         match self {
             Cell::Above(place) => {
-                alone(
+                singleton(
                     alloc,
                     from_raised(alloc, partial, place, LowerBounds::Stated)?,
                 )
             }
-            Cell::BelowAll => alone(alloc, lowest_below(alloc, partial)?),
-            Cell::Shared(bounds) => bounds.made(alloc, partial, RaisedBounds::Exact),
+            Cell::BelowAll => singleton(alloc, lowest_below(alloc, partial)?),
+            Cell::Shared(bounds) => bounds.to_vec(alloc, partial, RaisedBounds::Exact),
         }
     }
 

@@ -1,7 +1,7 @@
 -- A means of proof, which no public clause cites: the version of which a range is asked, and what
 -- each term of the range says of it, from the left to the right.
 use Rattle.std.specs.Prelude.{◌≡◌, Bool, true, false, ◌&&◌, ◌||◌, not, if◌then◌else◌, nat_eq, map}
-use Rattle.std.specs.Prelude.{List, [], ◌∷◌, IsTrue, Result, Ok, Err, Some, None, Option}
+use Rattle.std.specs.Prelude.{List, [], ◌∷◌, IsTrue, Result, Ok, Err, Some, None}
 use Rattle.std.specs.Cmp.Lexicographic.{pointwise}
 use Rattle.std.specs.List.{list_all, list_any}
 use Rattle.semver_texts.specs.Texts.{Text, cut_at_dots, is_empty}
@@ -22,7 +22,7 @@ use Rattle.semver_ranges.specs.Partials.{stated, zero_filled}
 use Rattle.semver_ranges.specs.StatedPreReleases.{states_pre_release_at}
 use Rattle.semver_ranges.specs.Terms.{of_simple}
 use Rattle.semver_ranges.specs.Steps.PartialViews.{stated_of, version_of}
-use Rattle.semver_ranges.specs.Steps.RangeEvents.{Event, one_simple, next_range, yielded, event_fits}
+use Rattle.semver_ranges.specs.Steps.RangeEvents.{Event, one_simple, next_range, yielded}
 use Rattle.semver_ranges.specs.Steps.Reading.{read}
 use Rattle.semver_parser.specs.Outlines.{identifier_of}
 use Rattle.tool_ranges.specs.AllPreReleases as all

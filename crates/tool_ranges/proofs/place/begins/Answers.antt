@@ -1,8 +1,14 @@
-use Rattle.tool_ranges.proofs.Places.{last_of}
+use Rattle.std.proofs.Common.{subst, sym}
+use Rattle.std.specs.Prelude.{◌↔◌, IfOk, IsTrue}
+use Rattle.tool_ranges.specs.Steps.Places.{GoesOnBy}
 use Rattle.tool_ranges.proofs.place.begins.Goals as goal
 
-pub returns : goal.returns
-returns c =
-    last_of c.args.reading c.args.front.now _ _ _ _ c.goes_on-5.result c.in_ok-goes_on.ensures c.in_ok-goes_on-2.ensures
-    c.in_ok-goes_on-3.ensures c.in_ok-goes_on-4.ensures c.if-branch.false c.if-branch-2.false c.if-branch-3.false c.if-branch-4.false
-    c.goes_on-5.ensures
+pub returns-in-Any : goal.returns-in-Any
+returns-in-Any c =
+    subst (λ w. IfOk c.begins_any.result (λ found. IsTrue found ↔ GoesOnBy w c.args.reading c.args.front.now)) (sym c.in-Any.is)
+    c.begins_any.ensures
+
+pub returns-in-Fitting : goal.returns-in-Fitting
+returns-in-Fitting c =
+    subst (λ w. IfOk c.begins_fitting.result (λ found. IsTrue found ↔ GoesOnBy w c.args.reading c.args.front.now)) (sym c.in-Fitting.is)
+    c.begins_fitting.ensures

@@ -1,8 +1,8 @@
-use Rattle.std.proofs.Common.{◌≡◌, true, Some, None, if◌then◌else◌, refl, subst, sym, ap, ◌∙◌}
+use Rattle.std.proofs.Common.{Some, None, refl, subst, sym, ap, ◌∙◌}
 use Rattle.semver_ranges.specs.Steps.CursorViews.{NextGives}
 use Rattle.semver_ranges.proofs.FoundEvents.{FirstSimple, first_simple}
-use Rattle.tool_ranges.specs.Steps.Asking.{asked_of, begun, dialect_of, ended, lower_of, term_fits}
-use Rattle.tool_ranges.proofs.AskedEvents.{large, none_read, range_more, says, term_more, told}
+use Rattle.tool_ranges.specs.Steps.Asking.{asked_of, dialect_of}
+use Rattle.tool_ranges.proofs.AskedEvents.{large, says, term_more, told}
 use Rattle.tool_ranges.proofs.tally.ask.Goals as goal
 use Rattle.tool_ranges.proofs.tally.ask.Goals.{In-Simple}
 

@@ -1,6 +1,6 @@
 use Rattle.std.proofs.Common.{ap, ◌∙◌}
 use Rattle.std.specs.List.{list_any}
-use Rattle.tool_ranges.specs.Steps.Asking.{Refuses, Says, asked_of, range_met}
+use Rattle.tool_ranges.specs.Steps.Asking.{Says, asked_of, range_met}
 use Rattle.tool_ranges.specs.declared.tally.Terms.TheVariants.{Crate}
 use Rattle.tool_ranges.proofs.AskedCrate.{answered, one_read, refused}
 use Rattle.tool_ranges.proofs.tally.ask_crate.Goals as goal

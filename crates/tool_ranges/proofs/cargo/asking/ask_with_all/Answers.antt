@@ -1,11 +1,5 @@
-use Rattle.std.proofs.Common.{true, false, Bool, ◌∙◌, ap}
-use Rattle.std.specs.Prelude.{IfOk, MatchResult, Result, Err}
-use Rattle.semver_ranges.specs.declared.range_set.RangeError.{RangeError}
-use Rattle.semver_ranges.specs.declared.range_set.RangeError.TheVariants.{OutOfMemory}
-use Rattle.semver_ranges.specs.RangeTree.{Simple}
-use Rattle.tool_ranges.specs.CargoGrammar.{SpellsRequirement}
-use Rattle.tool_ranges.specs.CargoTexts.{RefusesRequirement}
-use Rattle.tool_ranges.specs.Steps.Asking.{RefusesRequired, SaysRequired, asked_of, requirement_met}
+use Rattle.std.proofs.Common.{true, ◌∙◌}
+use Rattle.tool_ranges.specs.Steps.Asking.{asked_of}
 use Rattle.tool_ranges.proofs.AskedRequirements.{IsRequired, all_met, required}
 use Rattle.tool_ranges.proofs.ReadRows.{if_ok}
 use Rattle.tool_ranges.proofs.cargo.asking.ask_with_all.Goals as goal

@@ -1,10 +1,10 @@
-use Rattle.std.proofs.Common.{◌≡◌, true, length, refl, sym, ap, ◌∙◌, if◌then◌else◌, Bool}
+use Rattle.std.proofs.Common.{◌≡◌, true, length, refl, sym, ap, ◌∙◌, if◌then◌else◌}
 use Rattle.std.specs.List.{list_all, list_any}
 use Rattle.std.specs.Str.{chars}
 use Rattle.semver_texts.specs.Texts.{is_empty}
 use Rattle.tool_ranges.specs.NpmMeaning.{meets_npm}
 use Rattle.tool_ranges.specs.NpmGrammar.{may_stand}
-use Rattle.tool_ranges.specs.Steps.Asking.{Refuses, Says, asked_of, range_every, range_met}
+use Rattle.tool_ranges.specs.Steps.Asking.{Says, asked_of, range_every, range_met}
 use Rattle.tool_ranges.specs.declared.tally.Terms.TheVariants.{Npm}
 use Rattle.tool_ranges.proofs.AskedRanges.{npm_said, npm_refusal}
 use Rattle.tool_ranges.proofs.NpmLaws.{answered, read_one, refused}

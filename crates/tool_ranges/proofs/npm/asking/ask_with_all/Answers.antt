@@ -3,7 +3,7 @@ use Rattle.std.specs.List.{list_all}
 use Rattle.std.specs.Str.{chars}
 use Rattle.tool_ranges.specs.AllPreReleases.{meets_npm_with_all}
 use Rattle.tool_ranges.specs.NpmGrammar.{may_stand}
-use Rattle.tool_ranges.specs.Steps.Asking.{Refuses, Says, asked_of}
+use Rattle.tool_ranges.specs.Steps.Asking.{Says, asked_of}
 use Rattle.tool_ranges.specs.declared.tally.Terms.TheVariants.{NpmAll}
 use Rattle.tool_ranges.proofs.AskedRanges.{all_said, npm_refusal}
 use Rattle.tool_ranges.proofs.NpmLaws.{answered, read_one, refused}

@@ -1,8 +1,5 @@
 use Rattle.std.proofs.Common.{◌≡◌, ◌&&◌, ◌||◌}
-use Rattle.std.specs.Prelude.{not, nat_eq}
-use Rattle.std.specs.Cmp.Lexicographic.{pointwise}
 use Rattle.semver_texts.specs.Texts.{is_empty}
-use Rattle.semver_texts.specs.Versions.{numbers}
 use Rattle.semver_ranges.specs.StatedPreReleases.{states_pre_release_at}
 use Rattle.semver_ranges.specs.Terms.{of_simple}
 use Rattle.tool_ranges.specs.NpmMeaning.{asks_nothing, asks_nothing_by, is_zero}

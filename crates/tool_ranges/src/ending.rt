@@ -5,7 +5,7 @@ const LONG: usize = 250;
 
 /// The last comparator of a text, as far as it goes.
 #[derive(Clone, Copy, Drop)]
-pub struct Ending {
+pub(crate) struct Ending {
     /// How many dots it has before a pre-release and a build.
     dots: usize,
     /// Where it begins after its operator, and where its last number or identifier does.
@@ -20,7 +20,7 @@ pub struct Ending {
 impl Ending {
     /// What a text ends with. Any byte that is in no number, wildcard and identifier ends a
     /// comparator.
-    pub fn of(text: &[u8]) -> Ending {
+    pub(crate) fn of(text: &[u8]) -> Ending {
         let mut ending = Ending::before(0);
         for at in 0..text.len() {
             let byte = text.get(at).copied();
@@ -81,18 +81,18 @@ impl Ending {
 
     /// Whether fewer than three numbers have come, or the third is a wildcard, and the last has
     /// come to its end.
-    pub fn is_partial(self) -> bool {
+    pub(crate) fn is_partial(self) -> bool {
         !self.has_suffix() && self.ends_component() && (self.dots < 2 || self.ends_wild())
     }
 
     /// Whether a wildcard without numbers before it has come.
-    pub fn is_wildcard(self) -> bool {
+    pub(crate) fn is_wildcard(self) -> bool {
         !self.has_suffix() && self.ends_wild() && self.dots == 0
     }
 
     /// Whether npm may take no byte more of a number or an identifier: what it bounds are versions
     /// and identifiers of 250 characters and more. `text` is the text, and `next` the byte after it.
-    pub fn may_be_too_long(self, text: &[u8], next: u8) -> bool {
+    pub(crate) fn may_be_too_long(self, text: &[u8], next: u8) -> bool {
         let goes_on = match next {
             b'.' => !matches!(self.last, Some(b'.' | b'+')),
             _ => next.is_ascii_alphanumeric() || next == b'-',
@@ -102,7 +102,7 @@ impl Ending {
 
     /// Whether the last number or the last identifier of a pre-release is of digits and begins with
     /// a zero that isn't all of it. `text` is the text, and `next` a digit that comes after it.
-    pub fn has_leading_zero(self, text: &[u8], next: Option<u8>) -> bool {
+    pub(crate) fn has_leading_zero(self, text: &[u8], next: Option<u8>) -> bool {
         let Some(word) = text.get(self.word..) else {
             return false;
         };

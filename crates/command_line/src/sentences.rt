@@ -1,0 +1,24 @@
+//! The sentences of hints. They name the option of the dialect that takes what this one doesn't.
+
+use tool_ranges::hints::Hint;
+
+/// The sentence of a hint.
+pub fn sentence(hint: Hint) -> &'static str {
+    match hint {
+        Hint::LeadingZero => "a number has no leading zero",
+        Hint::ThreeNumbers => "a pre-release or a build comes after three numbers",
+        Hint::CargoCommas => "Cargo separates comparators by commas",
+        Hint::CargoWildcard => "Cargo takes * without numbers before it only alone",
+        Hint::CargoBars => "Cargo takes no ||; --as npm does",
+        Hint::CargoV => "Cargo takes no leading v; --as npm does",
+        Hint::CargoHyphen => "Cargo takes no hyphen ranges; --as npm does",
+        Hint::NpmLength => {
+            "npm takes no version above 256 characters, and no build identifier above 250"
+        }
+        Hint::NpmComma => "npm separates comparators by spaces; --as cargo takes commas",
+        Hint::CrateComma => "the crate takes no commas; --as cargo does",
+        Hint::CrateV => "the crate takes no leading v; --as npm does",
+        Hint::Limit => "numbers and raised bounds are at most 2^64 - 1",
+        Hint::NpmLimit => "npm's numbers and raised bounds are at most 2^53 - 1",
+    }
+}

@@ -1,0 +1,161 @@
+-- Fronts of range texts that have a set, by each reading: each goes on as one that has.
+use Rattle.std.proofs.Common.{◌≡◌, ℕ, Bool, true, false, inl, inr, List, [], ◌∷◌, ◌++◌, codes, refl, sym, ap, ◌∙◌}
+use Rattle.std.proofs.Common.{arith, subst, Option, Some, None}
+use Rattle.std.specs.Prelude.{◌&&◌}
+use Rattle.std.specs.List.{list_all}
+use Rattle.std.specs.Str.{IsUtf8, chars}
+use Rattle.std.proofs.lemmas.Bool.{and_parts, and_from}
+use Rattle.std.proofs.lemmas.Bool.Decides.{nat_tests}
+use Rattle.std.proofs.lemmas.Str.{chars-append}
+use Rattle.semver_texts.specs.Texts.{Text}
+use Rattle.semver_texts.specs.Versions.{PlainVersion}
+use Rattle.semver_texts.specs.declared.dialect.Dialect.TheVariants as dialect
+use Rattle.semver_texts.proofs.Lists.{by_test}
+use Rattle.semver_ranges.specs.declared.range.Compat.{Compat}
+use Rattle.semver_ranges.specs.declared.range.Compat.TheVariants as compat
+use Rattle.semver_ranges.specs.RangeTree.{Form, bare, equal, less, at_most, greater, at_least, tilde, caret, Simple, one}
+use Rattle.semver_ranges.specs.Partials.{stated, fits_u64}
+use Rattle.semver_ranges.specs.Terms.{of_simple}
+use Rattle.semver_ranges.specs.RewritingTable.{bound_fits, raised_bound, simple_fits}
+use Rattle.semver_ranges.proofs.FrontPartials.{nothing, wildcard, letter}
+use Rattle.tool_ranges.specs.declared.reading.Reading.{Reading}
+use Rattle.tool_ranges.specs.declared.reading.Reading.TheVariants.{Cargo, Npm, Crate}
+use Rattle.tool_ranges.specs.CargoMeaning.{as_read, named}
+use Rattle.tool_ranges.specs.CargoTable.{requirement_fits}
+use Rattle.tool_ranges.specs.Fronts.{BeginsFitting}
+use Rattle.tool_ranges.specs.NpmGrammar.{may_stand}
+use Rattle.tool_ranges.specs.NpmTable.{is_safe, is_safe_bound, is_safe_simple}
+use Rattle.tool_ranges.specs.Readings.{HasSetAs}
+use Rattle.tool_ranges.specs.ToolTable.{begins_above, fits_in, raised_in}
+use Rattle.tool_ranges.proofs.CargoFronts.{AreCargoRests, AreAllRight, requirement_goes_on}
+use Rattle.tool_ranges.proofs.FittingSimples.{IsLimit, bound_within, fits_for, number_fits}
+use Rattle.tool_ranges.proofs.FittingPartials.{IsNaming, partial_fits}
+use Rattle.tool_ranges.proofs.FittingRanges.{IsFittingRest, fitting_set}
+
+-- ---- the limits
+
+u64_limit : IsLimit fits_u64
+u64_limit = record { one = refl; below = λ m n less h. grind (arith, nat_tests) }
+
+safe_limit : IsLimit is_safe
+safe_limit = record { one = refl; below = λ m n less h. grind (arith, nat_tests) }
+
+-- ---- the tables
+
+bound_u64 : (bound : Option PlainVersion) → bound_fits bound ≡ bound_within fits_u64 bound
+bound_u64 None = refl
+bound_u64 (Some bound) = refl
+
+bound_safe : (bound : Option PlainVersion) → is_safe_bound bound ≡ bound_within is_safe bound
+bound_safe None = refl
+bound_safe (Some bound) = refl
+
+crate_table : (mode : Compat) (s : Simple) → simple_fits mode s ≡ fits_for fits_u64 false mode s.form (stated s.partial)
+crate_table mode s = ap (λ b. list_all fits_u64 (stated s.partial) && b) (bound_u64 (raised_bound mode (of_simple s)))
+
+npm_table : (s : Simple) → is_safe_simple s ≡ fits_for is_safe true compat.Npm s.form (stated s.partial)
+npm_table s = ap (λ b. list_all is_safe (stated s.partial) && b) (bound_safe (raised_in compat.Npm s))
+
+tool_table : (mode : Compat) (s : Simple) → fits_in mode s ≡ fits_for fits_u64 true mode s.form (stated s.partial)
+tool_table mode s = by_test (begins_above s) (λ y. rw y refl)
+    (λ n. rw n (ap (λ b. list_all fits_u64 (stated s.partial) && b) (bound_u64 (raised_bound mode (of_simple s)))))
+
+-- ---- Cargo's
+
+cargo_naming : IsNaming named
+cargo_naming = record { wild = wild; caret_stays = λ w. refl }
+  where
+    wild : (form : Form) → named true form ≡ caret → form ≡ caret
+    wild bare e = cc
+    wild equal e = e
+    wild less e = e
+    wild at_most e = e
+    wild greater e = e
+    wild at_least e = e
+    wild tilde e = e
+    wild caret e = e
+
+abbrev RightOfCargo : Simple → Type 0
+RightOfCargo s = fits_in compat.Cargo (as_read s) ≡ true
+
+cargo_rests : AreCargoRests IsFittingRest RightOfCargo
+cargo_rests = record {
+  nothing = inl (inl (nothing, refl));
+  number = inr (inr (inl refl));
+  right_number = λ form. tool_table compat.Cargo (as_read (record { form = form; partial = one (codes "1") }))
+      ∙ number_fits fits_u64 u64_limit true compat.Cargo (named false form) refl;
+  partial = λ s front rest some spelled read right. (
+      let w = partial_fits fits_u64 u64_limit true compat.Cargo named cargo_naming s.form s.partial front rest some spelled
+      (sym (tool_table compat.Cargo (as_read s)) ∙ right) in record {
+        tree = w.tree;
+        more = w.more;
+        is_rest = inl w.is_rest;
+        spelled = w.spelled;
+        kept = w.cargo read;
+        right = tool_table compat.Cargo (as_read (record { form = s.form; partial = w.tree })) ∙ w.right;
+      });
+}
+
+abbrev AllOfCargo : List Simple → Type 0
+AllOfCargo ss = AreAllRight IsFittingRest RightOfCargo cargo_rests ss
+
+all_right : (ss : List Simple) → requirement_fits ss ≡ true → AllOfCargo ss
+all_right [] h = tt
+all_right (s ∷ ss) h = let both = and_parts (fits_in compat.Cargo (as_read s)) _ h in (both.0, all_right ss both.1)
+
+all_fit : (ss : List Simple) → AllOfCargo ss → requirement_fits ss ≡ true
+all_fit [] h = refl
+all_fit (s ∷ ss) h = and_from _ _ h.0 (all_fit ss h.1)
+
+-- ---- npm's characters
+
+rest_stands : (more : Text) → IsFittingRest more → list_all may_stand (chars more) ≡ true
+unfolding chars
+rest_stands more (inl (inl (nothing, e))) = rw e refl
+rest_stands more (inl (inl (wildcard, e))) = rw e refl
+rest_stands more (inl (inl (letter, e))) = rw e refl
+rest_stands more (inl (inr (inl e))) = rw e refl
+rest_stands more (inl (inr (inr (inl e)))) = rw e refl
+rest_stands more (inl (inr (inr (inr (inl e))))) = rw e refl
+rest_stands more (inl (inr (inr (inr (inr (inl e)))))) = rw e refl
+rest_stands more (inl (inr (inr (inr (inr (inr e)))))) = rw e refl
+rest_stands more (inr (inl e)) = rw e refl
+rest_stands more (inr (inr (inl e))) = rw e refl
+rest_stands more (inr (inr (inr (nothing, e)))) = rw e refl
+rest_stands more (inr (inr (inr (wildcard, e)))) = rw e refl
+rest_stands more (inr (inr (inr (letter, e)))) = rw e refl
+
+all_front : (f : ℕ → Bool) (x y : Text) → list_all f (x ++ y) ≡ true → list_all f x ≡ true
+all_front f [] y h = refl
+all_front f (b ∷ x) y h = let both = and_parts (f b) _ h in and_from _ _ both.0 (all_front f x y both.1)
+
+all_both : (f : ℕ → Bool) (x y : Text) → list_all f x ≡ true → list_all f y ≡ true → list_all f (x ++ y) ≡ true
+all_both f [] y h k = k
+all_both f (b ∷ x) y h k = let both = and_parts (f b) _ h in and_from _ _ both.0 (all_both f x y both.1 k)
+
+pub still_stand : (t rest more : Text) → IsUtf8 t → list_all may_stand (chars (t ++ rest)) ≡ true → list_all may_stand (chars more) ≡ true
+    → list_all may_stand (chars (t ++ more)) ≡ true
+still_stand t rest more utf8 h stands =
+    let here = all_front may_stand (chars t) (chars rest) (subst (λ c. list_all may_stand c ≡ true) (chars-append t rest utf8) h) in
+    subst (λ c. list_all may_stand c ≡ true) (sym (chars-append t more utf8)) (all_both may_stand (chars t) (chars more) here stands)
+
+-- ---- each reading
+
+pub fitting_on : (reading : Reading) (t : Text) → IsUtf8 t → BeginsFitting reading t
+    → (more : Text) × IsFittingRest more × HasSetAs reading (t ++ more)
+fitting_on Cargo t utf8 (rest, (tree, spelled, fits)) =
+    let w = requirement_goes_on IsFittingRest RightOfCargo cargo_rests tree t rest spelled (all_right tree fits) in
+    (w.more, w.is_rest, (w.tree, w.spelled, all_fit w.tree w.right))
+fitting_on Npm t utf8 (rest, (tree, spelled, fits)) =
+    let w = fitting_set is_safe safe_limit refl true compat.Npm is_safe_simple npm_table dialect.Npm tree t rest spelled.spelled fits in (
+      w.more,
+      w.is_rest,
+      (
+        w.tree,
+        record { spelled = w.spelled; characters = still_stand t rest w.more utf8 spelled.characters (rest_stands w.more w.is_rest) },
+        w.fits,
+      ),
+    )
+fitting_on (Crate mode) t utf8 (rest, (tree, spelled, fits)) =
+    let w = fitting_set fits_u64 u64_limit refl false mode (simple_fits mode) (crate_table mode) dialect.Crate tree t rest spelled fits in
+    (w.more, w.is_rest, (w.tree, w.spelled, w.fits))

@@ -1,0 +1,39 @@
+-- What is refused of a range text without memory that ran out: it has one error, and no set.
+use Rattle.std.proofs.Common.{◌≡◌, ◌≢◌, Err, ◌↔◌, true, false, sym, ◌∙◌, ap}
+use Rattle.std.specs.Prelude.{Result}
+use Rattle.semver_texts.specs.Texts.{Text}
+use Rattle.semver_ranges.specs.declared.range_set.RangeError.{RangeError}
+use Rattle.semver_ranges.specs.declared.range_set.RangeError.TheVariants.{NotARange, NumberTooLarge, OutOfMemory}
+use Rattle.tool_ranges.specs.declared.reading.Reading.{Reading}
+use Rattle.tool_ranges.specs.Readings.{HasSetAs, IsTextAs, IsTooLargeAs, RefusesAs, fits_as}
+use Rattle.tool_ranges.proofs.ReadingLaws.{one_tree}
+
+pub record HasError (reading : Reading) (t : Text) (e : RangeError) : Type 0 where
+  pub not_a_range : (e ≡ NotARange) ↔ ¬ (IsTextAs reading t)
+  pub too_large : (e ≡ NumberTooLarge) ↔ IsTooLargeAs reading t
+  pub no_set : ¬ (HasSetAs reading t)
+  pub kept : e ≢ OutOfMemory
+
+not_large_and_fitting : (reading : Reading) (t : Text) → IsTooLargeAs reading t → HasSetAs reading t → ⊥
+not_large_and_fitting reading t (tree, spells, large) (other, spells', fits) =
+    let same = one_tree reading tree other t spells spells' in
+    let wrong : false ≡ true = sym large ∙ (ap (fits_as reading) same ∙ fits) in
+    cc
+
+module _ {A : Type 0} (reading : Reading) (t : Text) (r : Result A RangeError) (refuses : RefusesAs reading t r)
+    (kept : r ≡ Err OutOfMemory → ⊥) where
+  no_set_of : (e : RangeError) → r ≡ Err e → HasSetAs reading t → ⊥
+  no_set_of NotARange is (tree, spells, fits) = refuses.not_a_range.0 is (tree, spells)
+  no_set_of NumberTooLarge is set = not_large_and_fitting reading t (refuses.too_large.0 is) set
+  no_set_of OutOfMemory is set = kept is
+
+  pub has_error : (e : RangeError) → r ≡ Err e → HasError reading t e
+  has_error e is = record {
+    not_a_range = (λ h. refuses.not_a_range.0 (is ∙ ap Err h), λ none. one_error is (refuses.not_a_range.1 none));
+    too_large = (λ h. refuses.too_large.0 (is ∙ ap Err h), λ large. one_error is (refuses.too_large.1 large));
+    no_set = no_set_of e is;
+    kept = λ h. kept (is ∙ ap Err h);
+  }
+    where
+      one_error : {e f : RangeError} → r ≡ Err e → r ≡ Err f → e ≡ f
+      one_error h k = cc

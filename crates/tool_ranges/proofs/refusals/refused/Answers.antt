@@ -1,0 +1,39 @@
+use Rattle.std.proofs.Common.{IfErr, Ok, Err, refl, subst}
+use Rattle.std.specs.Prelude.{Result}
+use Rattle.tool_ranges.specs.Meanings.{reading_of}
+use Rattle.tool_ranges.specs.Readings.{HasSetAs}
+use Rattle.tool_ranges.proofs.RangeErrors.{HasError, has_error}
+use Rattle.tool_ranges.proofs.refusals.refused.Goals as goal
+
+pub returns-in_default-clause-range : goal.returns-in_default-clause-range
+returns-in_default-clause-range c =
+    (λ h. subst (λ r. HasSetAs r c.args.text.now) c.some_meaning.ensures c.in_default.ensures.refusals.accepted, λ h. refl)
+
+pub returns-in_err-place-clause-out_of_memory : goal.returns-in_err-place-clause-out_of_memory
+returns-in_err-place-clause-out_of_memory c =
+    let e = c.check.ensures in
+    let known = subst (λ r. HasError r c.args.text.now c.in-Err.error) c.some_meaning.ensures
+    (has_error (reading_of c.some_meaning.result) c.args.text.now c.check.result e.refusals e.no_memory c.in-Err.error c.in-Err.is) in
+    any_err c.from_residual.result known.no_set
+  where
+    any_err : {A B P : Type 0} (r : Result A B) → P → IfErr r (λ x. P)
+    any_err (Ok x) p = tt
+    any_err (Err x) p = p
+
+known : (c : goal.In_ok-place) → HasError c.args.reading c.args.text.now c.in-Err.error
+known c =
+    let e = c.check.ensures in
+    subst (λ r. HasError r c.args.text.now c.in-Err.error) c.some_meaning.ensures
+    (has_error (reading_of c.some_meaning.result) c.args.text.now c.check.result e.refusals e.no_memory c.in-Err.error c.in-Err.is)
+
+pub returns-clause-range : goal.returns-clause-range
+returns-clause-range c = (λ h. cc, λ set. absurd ((known c).no_set set))
+
+pub returns-clause-not_a_range : goal.returns-clause-not_a_range
+returns-clause-not_a_range c = (known c).not_a_range
+
+pub returns-clause-too_large : goal.returns-clause-too_large
+returns-clause-too_large c = (known c).too_large
+
+pub returns-clause-no_memory : goal.returns-clause-no_memory
+returns-clause-no_memory c = (known c).kept

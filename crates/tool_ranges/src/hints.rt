@@ -1,0 +1,93 @@
+//! Hints for who takes one tool's ranges for another's.
+
+use crate::ending::Ending;
+use crate::reading::Reading;
+
+/// What may have been meant where a text stops being a range: what another dialect takes there, or
+/// which rule of the dialect is broken.
+#[derive(Clone, Copy, PartialEq, Eq, Debug)]
+pub enum Hint {
+    /// A number has no leading zero.
+    LeadingZero,
+    /// A pre-release or a build comes after three numbers.
+    ThreeNumbers,
+    /// Cargo separates comparators by commas.
+    CargoCommas,
+    /// Cargo takes `*` without numbers before it only alone.
+    CargoWildcard,
+    /// Cargo takes no `||`; npm does.
+    CargoBars,
+    /// Cargo takes no leading `v`; npm does.
+    CargoV,
+    /// Cargo takes no hyphen ranges; npm does.
+    CargoHyphen,
+    /// npm takes no version above 256 characters, and no build identifier above 250.
+    NpmLength,
+    /// npm separates comparators by spaces; Cargo takes commas.
+    NpmComma,
+    /// The crate takes no commas; Cargo does.
+    CrateComma,
+    /// The crate takes no leading `v`; npm does.
+    CrateV,
+    /// Numbers and raised bounds are at most 2^64 - 1.
+    Limit,
+    /// To npm, numbers and raised bounds are at most 2^53 - 1.
+    NpmLimit,
+}
+
+/// What may have been meant at the place at which a text stops being a range, if there is something
+/// to say.
+pub(crate) fn hint_at(reading: Reading, text: &str, place: usize) -> Option<Hint> {
+    let front = text.as_bytes().get(..place)?;
+    let next = text.as_bytes().get(place).copied();
+    let ending = Ending::of(front);
+    if !matches!(reading, Reading::Crate(..)) && ending.has_leading_zero(front, next) {
+        return Some(Hint::LeadingZero);
+    }
+    match (reading, next?) {
+        (_, b'-' | b'+') if ending.is_partial() => Some(Hint::ThreeNumbers),
+        (Reading::Cargo, next) => of_cargo(front, ending, next),
+        (Reading::Npm, next) if ending.may_be_too_long(front, next) => Some(Hint::NpmLength),
+        (Reading::Npm, b',') => Some(Hint::NpmComma),
+        (Reading::Crate(..), b',') => Some(Hint::CrateComma),
+        (Reading::Crate(..), b'v' | b'V') => Some(Hint::CrateV),
+        _ => None,
+    }
+}
+
+/// What may have been meant to Cargo, by the text before the place, its ending and the byte there.
+fn of_cargo(front: &[u8], ending: Ending, next: u8) -> Option<Hint> {
+    let after_comparator = ends_comparator(front);
+    let after_space = front.last() == Some(&b' ');
+    match next {
+        b'|' => Some(Hint::CargoBars),
+        b'v' | b'V' => Some(Hint::CargoV),
+        b'-' if after_comparator && after_space => Some(Hint::CargoHyphen),
+        b'<'..=b'>' | b'^' | b'~' if after_comparator => Some(Hint::CargoCommas),
+        b'0'..=b'9' | b'*' | b'x' | b'X' if after_comparator && after_space => {
+            Some(Hint::CargoCommas)
+        }
+        b'*' | b'x' | b'X' if !after_comparator => Some(Hint::CargoWildcard),
+        b',' if ending.is_wildcard() => Some(Hint::CargoWildcard),
+        _ => None,
+    }
+}
+
+/// Which limit a number of a range is above.
+pub(crate) fn limit(reading: Reading) -> Hint {
+    match reading {
+        Reading::Npm => Hint::NpmLimit,
+        Reading::Cargo | Reading::Crate(_) => Hint::Limit,
+    }
+}
+
+/// Whether a text ends with a comparator, spaces after it aside.
+fn ends_comparator(text: &[u8]) -> bool {
+    let mut last = None;
+    for byte in text {
+        if *byte != b' ' {
+            last = Some(*byte);
+        }
+    }
+    matches!(last, Some(b'0'..=b'9' | b'a'..=b'z' | b'A'..=b'Z' | b'*' | b'-'))
+}

@@ -1,0 +1,86 @@
+//! Where a text stops being a range, and why.
+
+ghost use Rattle.std.specs.Prelude.{◌≡◌, ◌≢◌, ◌↔◌, IfErr, IfOk, IfSome, None};
+ghost use Rattle.semver_ranges.specs.declared.range_set.RangeError.TheVariants.{NotARange};
+ghost use Rattle.semver_ranges.specs.declared.range_set.RangeError.TheVariants.{NumberTooLarge};
+ghost use Rattle.semver_ranges.specs.declared.range_set.RangeError.TheVariants.{OutOfMemory};
+ghost use Rattle.tool_ranges.specs.Fronts.{BeginsAs, BeginsFitting, IsPlace};
+ghost use Rattle.tool_ranges.specs.Readings.{HasSetAs, IsTextAs, IsTooLargeAs};
+
+use crate::hints::{self, Hint};
+use crate::limit::limit_place;
+use crate::meaning;
+use crate::place::{error_place, some_meaning};
+use crate::reading::Reading;
+use semver_ranges::RangeError;
+use std::alloc::{AllocError, Global};
+
+/// Where and why a text gives no range.
+#[derive(Debug, PartialEq, Eq, Drop)]
+pub struct Refusal {
+    /// `NotARange` or `NumberTooLarge`.
+    pub error: RangeError,
+    /// The byte offset of the first character that no range of the dialect has there, or the length
+    /// of the text if something is missing at its end. Of a number that is too large it is the
+    /// first after which no range has numbers that fit.
+    pub place: usize,
+    /// What may have been meant, or which limit there is.
+    pub hint: Option<Hint>,
+}
+
+// Answer: free, the hint: ../replayed_cases/stdin.
+/// Returns where and why a text gives no range by a dialect, or `None` if it gives one.
+///
+/// `1.2 || 3` by Cargo's is `NotARange` at 4, with the hint that Cargo takes no `||`.
+///
+/// # Errors
+///
+/// Out of memory: it needs memory for the text once more, where that gives no range.
+pub fn refused(alloc: Global, reading: Reading, text: &str) -> Result<Option<Refusal>, AllocError>
+    // Nothing is refused of a text that gives a range.
+    ensures range { IfOk result (λ found. (found ≡ None) ↔ HasSetAs reading text.now) }
+    ensures not_a_range { IfOk result (λ found. IfSome found (λ refusal.
+        (refusal.error ≡ NotARange) ↔ ¬ (IsTextAs reading text.now))) }
+    ensures too_large { IfOk result (λ found. IfSome found (λ refusal.
+        (refusal.error ≡ NumberTooLarge) ↔ IsTooLargeAs reading text.now)) }
+    ensures no_memory { IfOk result (λ found. IfSome found (λ refusal.
+        refusal.error ≢ OutOfMemory)) }
+    // Some range text begins with what is before the place, and none with a longer front.
+    ensures place { IfOk result (λ found. IfSome found (λ refusal. refusal.error ≡ NotARange
+        → IsPlace (BeginsAs reading) text.now refusal.place)) }
+    // Some text that gives a range begins with it, and none with a longer front.
+    ensures limit { IfOk result (λ found. IfSome found (λ refusal. refusal.error ≡ NumberTooLarge
+        → IsPlace (BeginsFitting reading) text.now refusal.place)) }
+    // Memory runs out only in place of an error.
+    ensures out_of_memory { IfErr result (λ _. ¬ (HasSetAs reading text.now)) }
+{
+    let Err(error) = meaning::check(some_meaning(reading), text) else {
+        return Ok(None);
+    };
+    let (place, hint) = explained(alloc, reading, text, &error)?;
+    Ok(Some(Refusal { error, place, hint }))
+}
+
+/// The place of an error of a text, and the hint.
+fn explained(
+    alloc: Global,
+    reading: Reading,
+    text: &str,
+    error: &RangeError,
+) -> Result<(usize, Option<Hint>), AllocError>
+    ensures place { IfOk result (λ told. error.now ≡ NotARange
+        → IsPlace (BeginsAs reading) text.now told.0) }
+    ensures limit { IfOk result (λ told. error.now ≡ NumberTooLarge
+        → IsPlace (BeginsFitting reading) text.now told.0) }
+{
+    match error {
+        RangeError::NumberTooLarge => {
+            let place = limit_place(alloc, reading, text)?;
+            Ok((place, Some(hints::limit(reading))))
+        }
+        _ => {
+            let place = error_place(alloc, reading, text)?;
+            Ok((place, hints::hint_at(reading, text, place)))
+        }
+    }
+}
