@@ -44,7 +44,7 @@ from .values import (
 )
 from .version_sets import VersionSet
 
-__version__ = "0.6.0"
+__version__ = "0.6.1"
 
 __all__ = [
     "AnyVersion",

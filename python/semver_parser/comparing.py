@@ -65,4 +65,4 @@ def _set_of(
     try:
         return VersionSet(text, reading, pre_releases)
     except RangeError as error:
-        raise RangeError(error.name, error.text, which) from None
+        raise error.of(which) from None

@@ -101,6 +101,12 @@ class RangeError(_TextError):
     - `not-a-range`: the text isn't in the grammar of ranges, as `1.2.3 -4`.
     - `number-too-large`: it is, and a number that it states, or a bound that is raised by one, is
       above 2**64 - 1, or by npm's reading above 2**53 - 1.
+
+    `place` is where in the text it stops being a range: the index of the first character that no
+    range has there, or the text's length if something is missing at its end; of a number that is
+    too large, that of the first after which no range has numbers that fit. `hint` says what may
+    have been meant, or which limit there is, if there is something to say. Both are None where the
+    text isn't UTF-8, and in an error that isn't raised by a call of this package.
     """
 
     _NUMBERS = {"not-utf8": 10, "not-a-range": 11, "number-too-large": 12}
@@ -108,14 +114,24 @@ class RangeError(_TextError):
     def __init__(self, name: str, text: Text, which: Optional[str] = None) -> None:
         super().__init__(name, text, which)
         self.which = which
+        self.place: Optional[int] = None
+        self.hint: Optional[str] = None
 
     def _place(self) -> str:
         return "" if self.which is None else f", in the {self.which} range"
 
+    def __str__(self) -> str:
+        return super().__str__() + ("" if self.hint is None else f" ({self.hint})")
+
+    def of(self, which: str) -> "RangeError":
+        """The error of the old or the new range of two."""
+        error = RangeError(self.name, self.text, which)
+        error.place, error.hint = self.place, self.hint
+        return error
+
 
 _VERSION_FAULTS = {number: name for name, number in VersionError._NUMBERS.items()}
 _RANGE_FAULTS = {number: name for name, number in RangeError._NUMBERS.items()}
-_NEW_RANGE_FAULTS = {16: "not-utf8", 17: "not-a-range", 18: "number-too-large"}
 
 
 _REASONS = {
@@ -130,13 +146,31 @@ _REASONS = {
 }
 
 
+def _index(text: Text, place: int) -> int:
+    """The index in a text of the character at a place in its bytes."""
+    if isinstance(text, bytes):
+        return place
+    return len(encoded(text)[:place].decode("utf-8", "surrogatepass"))
+
+
 def _explained(error: VersionError, reading: int) -> VersionError:
     """The error, with where and why its text is no version by the reading of a number."""
     text_bytes, place = encoded(error.text), ctypes.c_size_t()
     answer = LIBRARY.semver_parser_explain_version(text_bytes, len(text_bytes), reading, place)
-    error.reason, error.place = _REASONS.get(answer), place.value
-    if isinstance(error.text, str):
-        error.place = len(text_bytes[: place.value].decode("utf-8", "surrogatepass"))
+    error.reason, error.place = _REASONS.get(answer), _index(error.text, place.value)
+    return error
+
+
+def _explained_range(error: RangeError, reading: int) -> RangeError:
+    """The error, with where and why its text gives no range by the reading of a number."""
+    text_bytes, place, hint = encoded(error.text), ctypes.c_size_t(), ctypes.c_int32()
+    answer = LIBRARY.semver_parser_explain_range(text_bytes, len(text_bytes), reading, place, hint)
+    if answer == RANGE_OUT_OF_MEMORY:
+        raise MemoryError
+    if _RANGE_FAULTS.get(answer) == error.name != "not-utf8":
+        error.place = _index(error.text, place.value)
+        if hint.value:
+            error.hint = LIBRARY.semver_parser_fault_text(hint.value).decode("utf-8")
     return error
 
 
@@ -145,21 +179,18 @@ def raise_fault(
     range: Text = "",
     version: Text = "",
     index: Optional[int] = None,
-    new_range: Optional[Text] = None,
     reading: Optional[int] = None,
 ) -> None:
     """Raises what the answer of a call says, unless that is OK. The index is that of the version
-    among many, the new range is given where two are compared, and the number of the reading where a
-    version is read."""
+    among many, and the number of the reading is given where a text is read."""
     if answer == OK:
         return
     if answer in _VERSION_FAULTS:
         error = VersionError(_VERSION_FAULTS[answer], version, index)
         raise error if reading is None else _explained(error, reading)
     if answer in _RANGE_FAULTS:
-        raise RangeError(_RANGE_FAULTS[answer], range, None if new_range is None else "old")
-    if answer in _NEW_RANGE_FAULTS and new_range is not None:
-        raise RangeError(_NEW_RANGE_FAULTS[answer], new_range, "new")
+        of_range = RangeError(_RANGE_FAULTS[answer], range)
+        raise of_range if reading is None else _explained_range(of_range, reading)
     if answer in (VERSION_OUT_OF_MEMORY, RANGE_OUT_OF_MEMORY, NEW_RANGE_OUT_OF_MEMORY):
         raise MemoryError
     raise AssertionError(f"the library answered {answer}")

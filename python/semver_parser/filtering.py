@@ -140,7 +140,7 @@ class Filter:
             len(texts),
             answers,
         )
-        raise_fault(answer, range=self.range)
+        raise_fault(answer, range=self.range, reading=reading_number)
         return answers.raw[: len(texts)]
 
 

@@ -136,6 +136,7 @@ def _declare(library: ctypes.CDLL, path: str) -> None:
     calls = {
         "parse_version": [*text, number, ctypes.POINTER(ReadVersion)],
         "explain_version": [*text, number, counted],
+        "explain_range": [*text, number, counted, ctypes.POINTER(number)],
         "comparators": [*text, number, flag, *rooms],
         "meets": [*text, number, number, *text, ctypes.POINTER(flag)],
         "meets_each": [*text, number, number, ctypes.POINTER(TextItem), size, ctypes.c_char_p],

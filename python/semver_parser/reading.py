@@ -117,5 +117,5 @@ def _comparators(text: Text, reading: int, exact: bool) -> Tuple[List[ReadCompar
         answer = LIBRARY.semver_parser_comparators(
             text_bytes, len(text_bytes), reading, exact, *rooms
         )
-    raise_fault(answer, range=text)
+    raise_fault(answer, range=text, reading=reading)
     return comparators[: count.value], pre_releases.raw[: length.value]

@@ -40,7 +40,7 @@ def least(
             len(printed),
             length,
         )
-    raise_fault(answer, range=range)
+    raise_fault(answer, range=range, reading=reading_number)
     return version_of(printed.raw[: length.value]) if length.value else None
 
 

@@ -39,7 +39,7 @@ class VersionSet:
         pre_releases: Optional[PreReleases] = None,
     ) -> None:
         numbers, text = numbers_of(reading, pre_releases), encoded(range)
-        made = _made(LIBRARY.semver_parser_set, (text, len(text), *numbers), range)
+        made = _made(LIBRARY.semver_parser_set, (text, len(text), *numbers), range, numbers[0])
         self._keep(reading, made)
 
     def _keep(self, reading: Reading, data: Tuple[bytes, bytes]) -> None:
@@ -135,7 +135,10 @@ class VersionSet:
 
 
 def _made(
-    call: Callable[..., int], inputs: Tuple[Any, ...], range: Text = ""
+    call: Callable[..., int],
+    inputs: Tuple[Any, ...],
+    range: Text = "",
+    reading: Optional[int] = None,
 ) -> Tuple[bytes, bytes]:
     """The data of a set that a call makes."""
     count, length = ctypes.c_size_t(_SWITCHES), ctypes.c_size_t(_BYTES)
@@ -144,7 +147,7 @@ def _made(
         switches = (Switch * count.value)()
         out = ctypes.create_string_buffer(length.value)
         answer = call(*inputs, switches, len(switches), count, out, len(out), length)
-    raise_fault(answer, range=range)
+    raise_fault(answer, range=range, reading=reading)
     return bytes(switches)[: count.value * ctypes.sizeof(Switch)], out.raw[: length.value]
 
 

@@ -100,10 +100,10 @@ def rows() -> Iterator[Row]:
 
 
 def rows_of_tools() -> Iterator[Tuple[str, str, Row]]:
-    """The rows of the tools: what is asked, `cargo`, `npm` or `crate`, and the row.
+    """The rows of the tools: what is asked, the dialect, and the row.
 
     Asked is `rewritten`, `meant` or `meant-with-all`, which takes all pre-releases within bounds,
-    `version`, or `refused`: where and why a text is no version.
+    `version`, or `refused`: where and why a text is no version, or `refused-range`: gives no range.
     """
     for row in rows():
         asked, _, tool = row.call.partition("-as-")

@@ -9,6 +9,7 @@ from typing import List, Optional, Tuple
 from semver_parser import (
     Comparator,
     Compat,
+    Filter,
     Op,
     Range,
     RangeError,
@@ -17,6 +18,10 @@ from semver_parser import (
     Text,
     Version,
     VersionError,
+    VersionSet,
+    compare_ranges,
+    least,
+    meets,
     parse_range,
     parse_version,
 )
@@ -374,6 +379,28 @@ class Faults(unittest.TestCase):
         for text in (f"{MOST + 1}", f"<={MOST}"):
             self.refuses_range(text, "number-too-large")
 
+    def test_places_of_ranges(self) -> None:
+        """The place counts characters of a `str`, and bytes of `bytes`."""
+        for text, place in (("\u3000>\u3000v\u2070", 4), ("\u3000>\u3000v\u2070".encode(), 8)):
+            with self.assertRaises(RangeError) as caught:
+                parse_range(text, Reading.NPM)
+            self.assertEqual((caught.exception.place, caught.exception.hint), (place, None))
+        for call in (least, VersionSet, lambda it: Filter(it).kept(["1.2.3"])):
+            with self.assertRaises(RangeError) as caught:
+                call("1.2 || 3")
+            self.assertEqual(caught.exception.place, 4)
+            self.assertEqual(caught.exception.hint, "Cargo takes no ||; npm does")
+        with self.assertRaises(RangeError) as caught:
+            parse_range(b"1.2\xff")
+        self.assertEqual((caught.exception.place, caught.exception.hint), (None, None))
+        with self.assertRaises(RangeError) as caught:
+            meets("1 2", "1.2.3")
+        self.assertEqual(caught.exception.place, 2)
+        with self.assertRaises(RangeError) as caught:
+            compare_ranges("1", "1 2")
+        again = pickle.loads(pickle.dumps(caught.exception))
+        self.assertEqual((again.which, again.place, again.hint), ("new", 2, caught.exception.hint))
+
     def test_not_utf8(self) -> None:
         for text in (b"1.2.3\xff", b"\x80", "1.2.3\ud800", "\udcff", "\ud83d\ude00"):
             self.refuses_version(text, "not-utf8")
@@ -385,9 +412,9 @@ class Faults(unittest.TestCase):
         for reading in (Reading.CARGO, Reading.NPM):
             with self.assertRaisesRegex(ValueError, r"^not a version: '1\.2'$"):
                 parse_version("1.2", reading)
-        with self.assertRaisesRegex(ValueError, r"^not a range: b'v1'$"):
+        with self.assertRaisesRegex(ValueError, r"^not a range: b'v1' \(Cargo takes no leading v; npm does\)$"):
             parse_range(b"v1")
-        with self.assertRaisesRegex(ValueError, r"^not a range: 'v{79}\.\. \(of length 100000\)$"):
+        with self.assertRaisesRegex(ValueError, r"^not a range: 'v{79}\.\. \(of length 100000\) \("):
             parse_range("v" * 100_000)
 
     def test_errors_are_values(self) -> None:

@@ -209,10 +209,10 @@ class ComparedTest(unittest.TestCase):
                 self.assertEqual((told.which, told.name, told.text), (which, name, text))
                 again = pickle.loads(pickle.dumps(told))
                 self.assertEqual((again.which, str(again)), (which, str(told)))
-        with self.assertRaisesRegex(RangeError, r"^not a range, in the new range: 'v1'$"):
+        with self.assertRaisesRegex(RangeError, r"^not a range, in the new range: 'v1' \(Cargo takes no"):
             compare_ranges("^1", "v1")
         with self.assertRaises(MemoryError):
-            raise_fault(19, range="^1", new_range="^1")
+            raise_fault(19, range="^1")
         with self.assertRaises(RangeError) as alone:
             least("v1")
         self.assertIsNone(alone.exception.which)

@@ -21,10 +21,29 @@ from tests.table import answer, checksum, fields_of_version, rows, rows_of_tools
 _SUM = "sum-of-"
 _VERSION = "version"
 _REFUSED = "refused"
+_NO_RANGE = "refused-range"
 _READINGS_OF_TOOLS = {"cargo": Reading.CARGO, "npm": Reading.NPM}
+_READINGS_OF_CRATE = {"crate-cargo": Reading.CRATE_CARGO, "crate-npm": Reading.CRATE_NPM}
 _READINGS_OF_REFUSED = {**_READINGS_OF_TOOLS, "crate": Reading.CRATE_CARGO}
+_READINGS = {**_READINGS_OF_REFUSED, **_READINGS_OF_CRATE}
 # How the table writes the reasons for which a text is no version, where it isn't the name in words.
 _REASONS = {"text-after": "text after the version"}
+# How the table writes the hints.
+_HINTS = {
+    "a number has no leading zero": "leading zero",
+    "a pre-release or a build comes after three numbers": "three numbers",
+    "Cargo separates comparators by commas": "commas",
+    "Cargo takes * without numbers before it only alone": "wildcard alone",
+    "Cargo takes no ||; npm does": "no bars to Cargo",
+    "Cargo takes no leading v; npm does": "no v to Cargo",
+    "Cargo takes no hyphen ranges; npm does": "no hyphen range to Cargo",
+    "npm takes no version above 256 characters, and no build identifier above 250": "lengths of npm",
+    "npm separates comparators by spaces; Cargo takes commas": "no comma to npm",
+    "the crate takes no commas; Cargo does": "no comma to the crate",
+    "the crate takes no leading v; npm does": "no v to the crate",
+    "numbers and raised bounds are at most 2^64 - 1": "limit",
+    "npm's numbers and raised bounds are at most 2^53 - 1": "limit of npm",
+}
 # The rules for pre-releases that mean what is asked. None is the tool's own rule too.
 _RULES_OF_MEANT: Dict[str, Tuple[Optional[PreReleases], ...]] = {
     "meant": (None, PreReleases.OF_TOOL),
@@ -65,8 +84,10 @@ class Tools(unittest.TestCase):
         for asked, tool, row in rows_of_tools():
             asked = asked.removeprefix(_SUM)
             with self.subTest(call=row.call, text=row.text[:200], steps=row.steps):
-                reading = _READINGS_OF_REFUSED[tool]
-                if asked == _REFUSED:
+                reading = _READINGS[tool]
+                if asked == _NO_RANGE:
+                    self.check_no_range(row.text, reading, row.wanted)
+                elif asked == _REFUSED:
                     self.check_refusal(row.text, reading, row.wanted)
                 elif asked == _VERSION:
                     self.check_version(row.call, row.text, reading, row.wanted)
@@ -83,6 +104,8 @@ class Tools(unittest.TestCase):
             self.assertGreater(counts[tool, _VERSION], 50)
         for tool in _READINGS_OF_REFUSED:
             self.assertGreaterEqual(counts[tool, _REFUSED], 15)
+        for tool in (*_READINGS_OF_TOOLS, *_READINGS_OF_CRATE):
+            self.assertGreaterEqual(counts[tool, _NO_RANGE], 69)
 
     def check_refusal(self, text: str, reading: Reading, wanted: str) -> None:
         """Where and why a text is no version; the table has the place in bytes."""
@@ -93,6 +116,18 @@ class Tools(unittest.TestCase):
             assert error.place is not None and error.reason is not None
             words = _REASONS.get(error.reason, error.reason.replace("-", " "))
             answered = f"{len(text[: error.place].encode())}: {words}"
+        self.assertEqual(answered, wanted)
+
+    def check_no_range(self, text: str, reading: Reading, wanted: str) -> None:
+        """Where and why a text gives no range, and the hint."""
+        try:
+            parse_range(text, reading)
+            answered = "a range"
+        except RangeError as error:
+            assert error.place is not None
+            words = "" if error.hint is None else f", {_HINTS[error.hint]}"
+            place = len(text[: error.place].encode())
+            answered = f"{place}: {error.name.replace('-', ' ')}{words}"
         self.assertEqual(answered, wanted)
 
     def check_version(self, call: str, text: str, reading: Reading, wanted: str) -> None:

@@ -98,6 +98,37 @@ int32_t explain_version(const text *of, int32_t reading, size_t *place) {
     return answer;
 }
 
+static int32_t explain_range_at(
+    const uint8_t *bytes, const text *of, int32_t reading, size_t *place, int32_t *hint) {
+    *place = SIZE_MAX;
+    *hint = UNTOLD;
+    int32_t answer = semver_parser_explain_range(bytes, of->length, reading, place, hint);
+    if (answer == SEMVER_PARSER_NOT_A_RANGE || answer == SEMVER_PARSER_NUMBER_TOO_LARGE) {
+        require(*place <= of->length, "a place outside of the text", of);
+        require(*hint == 0
+                    || (*hint >= SEMVER_PARSER_HINT_LEADING_ZERO
+                        && *hint <= SEMVER_PARSER_HINT_NPM_LIMIT),
+            "no hint", of);
+    } else {
+        require(*place == SIZE_MAX && *hint == UNTOLD, "a place where none is", of);
+    }
+    return answer;
+}
+
+int32_t explain_range(const text *of, int32_t reading, size_t *place, int32_t *hint) {
+    uint8_t *bytes = alone(of);
+    int32_t answer = explain_range_at(bytes, of, reading, place, hint);
+    free(bytes);
+    if (of->length == 0) {
+        size_t again;
+        int32_t other;
+        require(explain_range_at(NULL, of, reading, &again, &other) == answer && again == *place
+                    && other == *hint,
+            "another answer at null", of);
+    }
+    return answer;
+}
+
 bool is_of_version(int32_t answer) {
     return (answer >= SEMVER_PARSER_OK && answer <= SEMVER_PARSER_VERSION_OUT_OF_MEMORY)
            || answer == SEMVER_PARSER_NOT_A_VERSION;

@@ -14,6 +14,10 @@ int32_t read_version(const text *of, int32_t reading, semver_parser_version *out
  * empty text is read at null too. */
 int32_t explain_version(const text *of, int32_t reading, size_t *place);
 
+/* Where and why a text gives no range by a reading: OK, or the error with `place` and `hint`, if it
+ * has them. An empty text is read at null too. */
+int32_t explain_range(const text *of, int32_t reading, size_t *place, int32_t *hint);
+
 /* How a version text compares with another by a reading: OK with -1, 0 or 1 in `order`, or the
  * fault with whether it is the other's in `in_other`, which is false if there is no such reading.
  * An empty text is passed at null too. */

@@ -39,6 +39,12 @@ static int32_t explain_text(void) {
     return semver_parser_explain_version(NULL, 5, reading, &place);
 }
 
+static int32_t explain_range_text(void) {
+    size_t place;
+    int32_t hint;
+    return semver_parser_explain_range(NULL, 5, reading, &place, &hint);
+}
+
 static int32_t precedence_of(const uint8_t *version, const uint8_t *other) {
     int32_t order;
     bool in_other;
@@ -273,6 +279,7 @@ static void nulls_with_a_length(void) {
     check(sum_before != NULL, "no memory", "");
     ends_at_null(read_text, "the text of a version");
     ends_at_null(explain_text, "the text of what is no version");
+    ends_at_null(explain_range_text, "the text of what gives no range");
     ends_at_null(precedence_version, "the first of two versions");
     ends_at_null(precedence_other, "the other of two versions");
     ends_at_null(rewrite_text, "the text of a range");

@@ -254,6 +254,22 @@ static void sets_take(void) {
     }
 }
 
+/* A text whose range is refused takes one request, or none where nothing is. */
+static void explanation_takes(const char *bytes, int requests, int32_t wanted) {
+    for (int request = 0; request <= requests; request++) {
+        size_t place = 777;
+        int32_t hint = 777;
+        grant(request);
+        int32_t answered = semver_parser_explain_range(
+            (const uint8_t *)bytes, strlen(bytes), reading, &place, &hint);
+        check(refused == (request < requests), "another number of requests", bytes, request);
+        check(answered == (refused ? (int32_t)SEMVER_PARSER_RANGE_OUT_OF_MEMORY : wanted),
+            "another answer of a range", bytes, request);
+        check(!refused || (place == 777 && hint == 777), "written without memory", bytes, request);
+        check(taken == 0, "memory is kept", bytes, request);
+    }
+}
+
 /* Two ranges whose comparison takes requests, or takes none. Wherever memory runs out one number
  * tells it, and only in place of an answer: the error of a text comes all the same. */
 static void comparison_takes(
@@ -369,6 +385,10 @@ static void takes_by_reading(void) {
             range_takes("\xFF", exact != 0, tells, false, SEMVER_PARSER_RANGE_NOT_UTF8);
         }
     }
+    explanation_takes("^1.2", 0, SEMVER_PARSER_OK);
+    explanation_takes("\xFF", 0, SEMVER_PARSER_RANGE_NOT_UTF8);
+    explanation_takes("^1.2.3-rc |", 1, SEMVER_PARSER_NOT_A_RANGE);
+    explanation_takes("<=18446744073709551615", 1, SEMVER_PARSER_NUMBER_TOO_LARGE);
     meeting_takes("1.2.3", "1.2.3", 0, SEMVER_PARSER_OK, true);
     meeting_takes("1.2.3", "1.2.3-rc", 0, SEMVER_PARSER_OK, false);
     meeting_takes("1.2.3", "1.2.3-rc.1/", is_of_tool() ? 0 : 2,

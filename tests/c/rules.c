@@ -766,10 +766,10 @@ static void sentences(void) {
     text none = string("");
     check(strcmp(semver_parser_library_version(), SEMVER_PARSER_VERSION) == 0,
         "another version of the library", &none);
-    for (int32_t answer = -1; answer <= 32; answer++) {
+    for (int32_t answer = -1; answer <= 45; answer++) {
         const char *sentence = semver_parser_fault_text(answer);
         check(sentence != NULL && sentence[0] != 0, "no sentence", &none);
-        bool is_named = answer == 0 || (answer >= 2 && answer <= 31);
+        bool is_named = answer == 0 || (answer >= 2 && answer <= 44);
         check(is_named == (strcmp(sentence, semver_parser_fault_text(1)) != 0),
             "the sentence of no answer", &none);
         for (int32_t other = 0; other < answer && is_named; other++) {

@@ -4,8 +4,9 @@
  * or the word of its error; `meant-as-npm` has versions too, of which the table has those that the
  * range means by the tool's own rule for pre-releases, and `meant-with-all-as-npm` those that it
  * means with all pre-releases; `version-as-npm` has a version text, of which the table has the
- * fields, or `none`; and `refused-as-npm`, or `refused-as-crate`, one of which the table has where
- * and why it is no version. Of a call that begins with `sum-of-` the table has the checksum of the
+ * fields, or `none`; `refused-as-npm`, or `refused-as-crate`, one of which the table has where and
+ * why it is no version; and `refused-range-as-npm`, or `refused-range-as-crate-npm`, one of which it
+ * has where and why it gives no range, and the hint. Of a call that begins with `sum-of-` the table has the checksum of the
  * answer. Ends with status 1 if a row differs or a call has few rows. */
 #include "calls.h"
 #include "table.h"
@@ -15,11 +16,11 @@
 #include <string.h>
 
 /* What a call asks: which versions are meant by a rule, what a range is rewritten to, what a
- * version is, or where and why a text is none. */
-enum { REWRITTEN = -1, VERSION = -2, EXPLAINED = -3 };
+ * version is, or where and why a text is none, or gives no range. */
+enum { REWRITTEN = -1, VERSION = -2, EXPLAINED = -3, NO_RANGE = -4 };
 
-/* A call of the table, its reading, its rule for pre-releases, REWRITTEN, VERSION or EXPLAINED, how
- * many rows it has at least, and how many of them passed and failed. */
+/* A call of the table, its reading, its rule for pre-releases or one of these numbers, how many rows
+ * it has at least, and how many of them passed and failed. */
 typedef struct {
     const char *name;
     int32_t reading;
@@ -48,6 +49,26 @@ static const char *reason_words(int32_t answer) {
     case SEMVER_PARSER_VERSION_TOO_LONG: return "too long";
     case SEMVER_PARSER_VERSION_TEXT_AFTER: return "text after the version";
     default: return "another number";
+    }
+}
+
+static const char *hint_words(int32_t hint) {
+    switch (hint) {
+    case 0: return "";
+    case SEMVER_PARSER_HINT_LEADING_ZERO: return ", leading zero";
+    case SEMVER_PARSER_HINT_THREE_NUMBERS: return ", three numbers";
+    case SEMVER_PARSER_HINT_COMMAS: return ", commas";
+    case SEMVER_PARSER_HINT_WILDCARD: return ", wildcard alone";
+    case SEMVER_PARSER_HINT_CARGO_BARS: return ", no bars to Cargo";
+    case SEMVER_PARSER_HINT_CARGO_V: return ", no v to Cargo";
+    case SEMVER_PARSER_HINT_CARGO_HYPHEN: return ", no hyphen range to Cargo";
+    case SEMVER_PARSER_HINT_NPM_LENGTH: return ", lengths of npm";
+    case SEMVER_PARSER_HINT_NPM_COMMA: return ", no comma to npm";
+    case SEMVER_PARSER_HINT_CRATE_COMMA: return ", no comma to the crate";
+    case SEMVER_PARSER_HINT_CRATE_V: return ", no v to the crate";
+    case SEMVER_PARSER_HINT_LIMIT: return ", limit";
+    case SEMVER_PARSER_HINT_NPM_LIMIT: return ", limit of npm";
+    default: return ", another hint";
     }
 }
 
@@ -198,11 +219,29 @@ static bool replay_explanation(const row *of, int32_t reading) {
     return passed;
 }
 
+/* Replays a row on where and why a text gives no range. */
+static bool replay_no_range(const row *of, int32_t reading) {
+    text told = {NULL, 0, 0};
+    size_t place;
+    int32_t hint;
+    int32_t answer = explain_range(&of->of, reading, &place, &hint);
+    if (answer == SEMVER_PARSER_OK) {
+        text_say(&told, "a range");
+    } else {
+        const char *error = answer == SEMVER_PARSER_NOT_A_RANGE ? "not a range" : "number too large";
+        text_say(&told, "%zu: %s%s", place, error, hint_words(hint));
+    }
+    bool passed = is_answer(&told, of->expected, of, "by the reading");
+    text_free(&told);
+    return passed;
+}
+
 /* Replays a row of a call, and counts it. */
 static void replay(tool_call *by, const row *of) {
     bool passed = by->rule == REWRITTEN   ? replay_rewriting(of, by->reading)
                   : by->rule == VERSION   ? replay_version(of, by->reading)
                   : by->rule == EXPLAINED ? replay_explanation(of, by->reading)
+                  : by->rule == NO_RANGE  ? replay_no_range(of, by->reading)
                                           : replay_meaning(of, by->reading, by->rule);
     by->passed += passed;
     by->failed += !passed;
@@ -248,6 +287,10 @@ int main(int count, char **arguments) {
         {"refused-as-cargo", SEMVER_PARSER_CARGO, EXPLAINED, 45, 0, 0},
         {"refused-as-npm", SEMVER_PARSER_NPM, EXPLAINED, 30, 0, 0},
         {"refused-as-crate", SEMVER_PARSER_CRATE_NPM, EXPLAINED, 15, 0, 0},
+        {"refused-range-as-cargo", SEMVER_PARSER_CARGO, NO_RANGE, 69, 0, 0},
+        {"refused-range-as-npm", SEMVER_PARSER_NPM, NO_RANGE, 69, 0, 0},
+        {"refused-range-as-crate-cargo", SEMVER_PARSER_CRATE_CARGO, NO_RANGE, 69, 0, 0},
+        {"refused-range-as-crate-npm", SEMVER_PARSER_CRATE_NPM, NO_RANGE, 69, 0, 0},
     };
     const int call_count = sizeof calls / sizeof *calls;
     bool passed = true;

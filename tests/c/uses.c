@@ -110,9 +110,15 @@ static int use_least(void) {
 
 static int use_explaining(void) {
     size_t place = 0;
-    return semver_parser_explain_version(bytes_of("1.2.03"), 6, SEMVER_PARSER_CARGO, &place)
-                       == SEMVER_PARSER_VERSION_LEADING_ZERO
-                   && place == 5
+    int32_t hint = 0;
+    if (semver_parser_explain_version(bytes_of("1.2.03"), 6, SEMVER_PARSER_CARGO, &place)
+            != SEMVER_PARSER_VERSION_LEADING_ZERO
+        || place != 5) {
+        return 1;
+    }
+    return semver_parser_explain_range(bytes_of("1 || 2"), 6, SEMVER_PARSER_CARGO, &place, &hint)
+                       == SEMVER_PARSER_NOT_A_RANGE
+                   && place == 2 && hint == SEMVER_PARSER_HINT_CARGO_BARS
                ? 0
                : 1;
 }

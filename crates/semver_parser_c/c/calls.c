@@ -55,6 +55,12 @@ int32_t semver_parser_explain_version(
         text_at(text, text_length), text_length, reading, place);
 }
 
+int32_t semver_parser_explain_range(
+    const uint8_t *text, size_t text_length, int32_t reading, size_t *place, int32_t *hint) {
+    return semver_parser_proved_explain_range(
+        text_at(text, text_length), text_length, reading, place, hint);
+}
+
 int32_t semver_parser_precedence(const uint8_t *version, size_t version_length,
     const uint8_t *other, size_t other_length, int32_t reading, int32_t *order, bool *in_other) {
     return semver_parser_proved_precedence(text_at(version, version_length), version_length,
@@ -244,6 +250,23 @@ const char *semver_parser_fault_text(int32_t answer) {
     case SEMVER_PARSER_VERSION_TEXT_AFTER: return "text follows the version";
     case SEMVER_PARSER_NOT_A_SET: return "the data is no set of versions";
     case SEMVER_PARSER_NO_SUCH_OPERATION: return "no operation on sets has this number";
+    case SEMVER_PARSER_HINT_LEADING_ZERO: return "a number has no leading zero";
+    case SEMVER_PARSER_HINT_THREE_NUMBERS:
+        return "a pre-release or a build comes after three numbers";
+    case SEMVER_PARSER_HINT_COMMAS: return "Cargo separates comparators by commas";
+    case SEMVER_PARSER_HINT_WILDCARD: return "Cargo takes * without numbers before it only alone";
+    case SEMVER_PARSER_HINT_CARGO_BARS: return "Cargo takes no ||; npm does";
+    case SEMVER_PARSER_HINT_CARGO_V: return "Cargo takes no leading v; npm does";
+    case SEMVER_PARSER_HINT_CARGO_HYPHEN: return "Cargo takes no hyphen ranges; npm does";
+    case SEMVER_PARSER_HINT_NPM_LENGTH:
+        return "npm takes no version above 256 characters, and no build identifier above 250";
+    case SEMVER_PARSER_HINT_NPM_COMMA:
+        return "npm separates comparators by spaces; Cargo takes commas";
+    case SEMVER_PARSER_HINT_CRATE_COMMA: return "the crate takes no commas; Cargo does";
+    case SEMVER_PARSER_HINT_CRATE_V: return "the crate takes no leading v; npm does";
+    case SEMVER_PARSER_HINT_LIMIT: return "numbers and raised bounds are at most 2^64 - 1";
+    case SEMVER_PARSER_HINT_NPM_LIMIT:
+        return "npm's numbers and raised bounds are at most 2^53 - 1";
     default: return "no call answers this number";
     }
 }

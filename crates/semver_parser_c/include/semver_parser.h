@@ -1,8 +1,7 @@
-/* Versions and ranges of Cargo, npm and the Rust crate semver-parser: a C library for Linux on
- * x86-64-v2.
+/* Versions and ranges of Cargo, npm and the Rust crate semver-parser, for Linux on x86-64-v2.
  *
  * Results and what is written are proved (src/lib.rt), but for c/calls.c and c/heap.c, which are
- * trusted, and figures on memory. docs/GRAMMAR.md of the source says which texts are read, and
+ * trusted, hints, and figures on memory. docs/GRAMMAR.md says which texts are read, and
  * docs/MEANING.md what a range means.
  *
  * STRINGS AND BUFFERS. Strings are UTF-8, given as pointer and byte length; they need no
@@ -11,12 +10,12 @@
  * valid.
  *
  * THE CALLER MUST pass strings, arrays and buffers of the given size, and not change them during the
- * call; must pass pointers to write to that overlap with no other argument, are aligned and, for a
- * single object, not null; bools of 0 or 1; and must not call from a signal handler, nor in the
- * forked child of a process with several threads. Threads may call at the same time.
+ * call; pointers to write to that overlap with no other argument, are aligned and, for a single
+ * object, not null; bools of 0 or 1; and must not call from a signal handler, nor in the forked
+ * child of a process with several threads. Threads may call at the same time.
  *
  * RESULTS. A function returns SEMVER_PARSER_OK (0) or the number of an error. After an error nothing
- * was written, but for what a function says of SEMVER_PARSER_NO_ROOM, `in_other` and `place`. Errors
+ * was written, but for what is said of SEMVER_PARSER_NO_ROOM, `in_other`, `place` and `hint`. Errors
  * come in this order, each exactly if it applies:
  * - SEMVER_PARSER_NO_SUCH_READING, _NO_SUCH_RULE, _NO_SUCH_OPERATION, then _NOT_A_SET;
  * - of a range: SEMVER_PARSER_RANGE_NOT_UTF8, _NOT_A_RANGE, _NUMBER_TOO_LARGE;
@@ -31,8 +30,8 @@
  * MEMORY. Nothing is kept between calls, and there is nothing to free. Allocations are by `malloc`.
  * Time is linear in the texts, and n log n for n comparators if a range is made into a set.
  *
- * Compile with `pkg-config --cflags --libs semver_parser`; from the source, cc program.c c/calls.c
- * c/heap.c out/libsemver_parser_c.a
+ * Compile with `pkg-config --cflags --libs semver_parser`, or cc program.c c/calls.c c/heap.c
+ * out/libsemver_parser_c.a
  */
 #ifndef SEMVER_PARSER_H
 #define SEMVER_PARSER_H
@@ -43,11 +42,11 @@
 #include <stddef.h>
 #include <stdint.h>
 
-/* The library's version. While the first number is 0, the second is raised if a call changes. */
+/* The library's version. The second number is raised if a call changes. */
 #define SEMVER_PARSER_VERSION_MAJOR 0
 #define SEMVER_PARSER_VERSION_MINOR 6
-#define SEMVER_PARSER_VERSION_PATCH 0
-#define SEMVER_PARSER_VERSION "0.6.0"
+#define SEMVER_PARSER_VERSION_PATCH 1
+#define SEMVER_PARSER_VERSION "0.6.1"
 
 #ifdef __cplusplus
 extern "C" {
@@ -57,7 +56,7 @@ extern "C" {
 enum {
     SEMVER_PARSER_OK = 0,
 
-    /* Errors of a version. Those by the crate's dialect are of its tokens. */
+    /* Errors of a version. */
     SEMVER_PARSER_VERSION_NOT_UTF8 = 2,
     /* `1.2`. */
     SEMVER_PARSER_UNEXPECTED_END = 3,
@@ -82,7 +81,7 @@ enum {
     SEMVER_PARSER_NO_ROOM = 14,
     SEMVER_PARSER_NO_SUCH_RULE = 15,
 
-    /* Errors of the new range, and out of memory at either. */
+    /* Errors of the new range. */
     SEMVER_PARSER_NEW_RANGE_NOT_UTF8 = 16,
     SEMVER_PARSER_NEW_NOT_A_RANGE = 17,
     SEMVER_PARSER_NEW_NUMBER_TOO_LARGE = 18,
@@ -92,7 +91,7 @@ enum {
     /* By Cargo's or npm's dialect. */
     SEMVER_PARSER_NOT_A_VERSION = 21,
 
-    /* Why a text is no version, of semver_parser_explain_version: empty or white space; */
+    /* Why a text is no version: empty or white space; */
     SEMVER_PARSER_VERSION_EMPTY = 22,
     /* a number is missing (`1.2`, `1..3`); */
     SEMVER_PARSER_VERSION_NOT_THREE_NUMBERS = 23,
@@ -110,7 +109,23 @@ enum {
     SEMVER_PARSER_VERSION_TEXT_AFTER = 29,
 
     SEMVER_PARSER_NOT_A_SET = 30,
-    SEMVER_PARSER_NO_SUCH_OPERATION = 31
+    SEMVER_PARSER_NO_SUCH_OPERATION = 31,
+
+    /* Hints. */
+    SEMVER_PARSER_NO_HINT = 0,
+    SEMVER_PARSER_HINT_LEADING_ZERO = 32,
+    SEMVER_PARSER_HINT_THREE_NUMBERS = 33,
+    SEMVER_PARSER_HINT_COMMAS = 34,
+    SEMVER_PARSER_HINT_WILDCARD = 35,
+    SEMVER_PARSER_HINT_CARGO_BARS = 36,
+    SEMVER_PARSER_HINT_CARGO_V = 37,
+    SEMVER_PARSER_HINT_CARGO_HYPHEN = 38,
+    SEMVER_PARSER_HINT_NPM_LENGTH = 39,
+    SEMVER_PARSER_HINT_NPM_COMMA = 40,
+    SEMVER_PARSER_HINT_CRATE_COMMA = 41,
+    SEMVER_PARSER_HINT_CRATE_V = 42,
+    SEMVER_PARSER_HINT_LIMIT = 43,
+    SEMVER_PARSER_HINT_NPM_LIMIT = 44
 };
 
 /* Dialects of ranges and versions (docs/MEANING.md, "Which dialect?"). */
@@ -126,7 +141,7 @@ enum {
     SEMVER_PARSER_CRATE_NPM = 3
 };
 
-/* Rules for pre-releases. Every dialect has the first and the third. */
+/* Rules for pre-releases. All dialects have the first and the third. */
 enum {
     /* None satisfies a range. */
     SEMVER_PARSER_RELEASES_ALONE = 0,
@@ -161,14 +176,14 @@ enum {
     SEMVER_PARSER_MEETS = 1
 };
 
-/* Where a part of a text is. `length` is 0 if there is none; then `offset` is 0 too, but in a
- * comparator it is the sum of the lengths before. */
+/* Where a part of a text is. Without one both are 0, but in a comparator `offset` is the sum of the
+ * lengths before. */
 typedef struct {
     size_t offset;
     size_t length;
 } semver_parser_part;
 
-/* A version. The parts are the identifiers, joined by dots, without `-` and `+`. */
+/* A version. The parts are without `-` and `+`. */
 typedef struct {
     uint64_t major;
     uint64_t minor;
@@ -177,8 +192,7 @@ typedef struct {
     semver_parser_part build;
 } semver_parser_version;
 
-/* A comparator: the number of its range, counted from 0, its operator, its numbers, and where `out`
- * has its pre-release. */
+/* A comparator. `range` counts from 0; `pre` is in `out`. */
 typedef struct {
     size_t range;
     int32_t op;
@@ -188,15 +202,15 @@ typedef struct {
     semver_parser_part pre;
 } semver_parser_comparator;
 
-/* Where the least version is that is lost, gained and shared; 0 and 0 if there is none. */
+/* Where the versions are; 0 and 0 if there is none. */
 typedef struct {
     semver_parser_part lost;
     semver_parser_part gained;
     semver_parser_part shared;
 } semver_parser_comparison;
 
-/* A switch of a set (docs/MEANING.md), and where its bytes have the pre-release. Before them is a
- * head: 1, and how many are of releases and of pre-releases. */
+/* A switch of a set (docs/MEANING.md), and where its pre-release is. Before them is a head: 1, and
+ * how many are of releases and of pre-releases. */
 typedef struct {
     uint64_t major;
     uint64_t minor;
@@ -219,10 +233,10 @@ typedef struct {
     size_t length;
 } semver_parser_text;
 
-/* Returns the version of the library that is loaded, zero-terminated. */
+/* Returns the version of the loaded library, zero-terminated. */
 const char *semver_parser_library_version(void);
 
-/* Returns a sentence for a result, in English, zero-terminated. */
+/* Returns an English sentence for a result or a hint, zero-terminated. */
 const char *semver_parser_fault_text(int32_t answer);
 
 /* Reads a version. `1.2.3-rc.1+b5` gives 1, 2, 3, the pre-release at offset 6 with length 4, and
@@ -231,15 +245,21 @@ const char *semver_parser_fault_text(int32_t answer);
 int32_t semver_parser_parse_version(const uint8_t *text, size_t text_length, int32_t reading,
                                     semver_parser_version *out);
 
-/* Returns SEMVER_PARSER_OK exactly for a version, and for any other text the reason, one of
+/* Returns SEMVER_PARSER_OK exactly for a version, and otherwise the reason, one of
  * SEMVER_PARSER_VERSION_EMPTY to _VERSION_TEXT_AFTER. Then `place` is the offset of the first
  * character that no version has there, or `text_length`: `1.2.03` gives _VERSION_LEADING_ZERO and
  * 5. The bytes need not be UTF-8. Does not allocate. */
 int32_t semver_parser_explain_version(const uint8_t *text, size_t text_length, int32_t reading,
                                       size_t *place);
 
+/* Returns SEMVER_PARSER_OK exactly for a range. After _NOT_A_RANGE `place` is where no range has
+ * the character, or `text_length`, and after _NUMBER_TOO_LARGE where no numbers fit any more:
+ * `1 || 2` by SEMVER_PARSER_CARGO gives 2 and _HINT_CARGO_BARS. Only errors allocate. */
+int32_t semver_parser_explain_range(const uint8_t *text, size_t text_length, int32_t reading,
+                                    size_t *place, int32_t *hint);
+
 /* Compares two versions by precedence (SemVer 2.0.0, section 11): `order` is -1, 0 or 1. Builds
- * don't count. After an error `in_other` says whether it is that of `other`; the first text is read
+ * don't count. After an error `in_other` says whether it is of `other`; the first text is read
  * first. For two versions only a pre-release of `other` allocates. */
 int32_t semver_parser_precedence(const uint8_t *version, size_t version_length,
                                  const uint8_t *other, size_t other_length, int32_t reading,
@@ -252,48 +272,46 @@ int32_t semver_parser_precedence(const uint8_t *version, size_t version_length,
 int32_t semver_parser_rewrite(const uint8_t *text, size_t text_length, int32_t reading, bool exact,
                               uint8_t *out, size_t room, size_t *length);
 
-/* Gives the same comparators as data, and the identifiers of their pre-releases, joined by dots,
- * one after the other in `out`. `^1.2.3-rc.1` by SEMVER_PARSER_NPM gives `rc.10`, `>=` 1, 2, 3 with
- * a pre-release at 0 with length 4, and `<` 2, 0, 0 with one at 4 with length 1. Allocates up to
- * 241 bytes for each byte. */
+/* Gives the same comparators as data, with their pre-releases one after the other in `out`.
+ * `^1.2.3-rc.1` by SEMVER_PARSER_NPM gives `rc.10`: `>=` 1, 2, 3 with offset 0 and length 4, and
+ * `<` 2, 0, 0 with 4 and 1. Allocates up to 241 bytes for each byte. */
 int32_t semver_parser_comparators(const uint8_t *text, size_t text_length, int32_t reading,
                                   bool exact, semver_parser_comparator *comparators,
                                   size_t comparator_room, size_t *count, uint8_t *out, size_t room,
                                   size_t *length);
 
-/* Returns whether a range means a version, by a dialect and a rule for pre-releases: by the meaning
- * of the text, and not by its comparators. Builds don't count. Allocates only for a text that is no
- * version: SEMVER_PARSER_RANGE_OUT_OF_MEMORY never comes. */
+/* Returns whether a range means a version: by the meaning of the text, and not by its comparators.
+ * Builds don't count. Allocates only for a text that is no version:
+ * SEMVER_PARSER_RANGE_OUT_OF_MEMORY never comes. */
 int32_t semver_parser_meets(const uint8_t *range, size_t range_length, int32_t reading,
                             int32_t pre_releases, const uint8_t *version, size_t version_length,
                             bool *meets);
 
-/* Asks so of each of `count` versions, and reads the range once. Each byte of `answers` is
+/* The same for `count` versions, reading the range once. Each byte of `answers` is
  * SEMVER_PARSER_MEETS, SEMVER_PARSER_DOES_NOT_MEET, or the error of that version. If an empty
- * string is null, the array is copied first. Allocates up to 74 bytes for each byte of the range,
- * and its set. */
+ * string is null, the array is copied. Allocates up to 74 bytes for each byte of the range, and its
+ * set. */
 int32_t semver_parser_meets_each(const uint8_t *range, size_t range_length, int32_t reading,
                                  int32_t pre_releases, const semver_parser_text *versions,
                                  size_t count, uint8_t *answers);
 
-/* Prints the least version that a range means, by precedence and without a build. `length` is 0
- * exactly if it means none. `>1.0.0-rc.1` has 1.0.0 by SEMVER_PARSER_RELEASES_ALONE, and
- * 1.0.0-rc.1.0 by any other rule. */
+/* Prints the least version that a range means, without a build. `length` is 0 exactly if it means
+ * none. `>1.0.0-rc.1` has 1.0.0 by SEMVER_PARSER_RELEASES_ALONE, and else 1.0.0-rc.1.0. */
 int32_t semver_parser_least(const uint8_t *range, size_t range_length, int32_t reading,
                             int32_t pre_releases, uint8_t *out, size_t room, size_t *length);
 
-/* Compares what two ranges mean, and prints three versions one after the other: the least that is
- * lost, gained and shared. By SEMVER_PARSER_RELEASES_ALONE `^1.2.0` and `>=1.4.0` give
+/* Prints the least versions that are lost, gained and shared, one after the other, if a new range
+ * replaces an old one. By SEMVER_PARSER_RELEASES_ALONE `^1.2.0` and `>=1.4.0` give
  * `1.2.02.0.01.4.0`, lost at 0, gained at 5 and shared at 10. `comparison` is also written if the
- * buffer is too small. The errors of the old range come first, then those of the new one, then
- * SEMVER_PARSER_NEW_RANGE_OUT_OF_MEMORY, which is of both. */
+ * buffer is too small. Errors of the old range come first, then those of the new one, then
+ * SEMVER_PARSER_NEW_RANGE_OUT_OF_MEMORY. */
 int32_t semver_parser_compare(const uint8_t *old_range, size_t old_range_length,
                               const uint8_t *new_range, size_t new_range_length, int32_t reading,
                               int32_t pre_releases, uint8_t *out, size_t room, size_t *length,
                               semver_parser_comparison *comparison);
 
-/* Makes a range into a set of versions as data, which can be copied and stored; equal sets have
- * equal data. `^1.2` by SEMVER_PARSER_RELEASES_ALONE gives 1, 2, 0, and 1, 2, 0, and 2, 0, 0. */
+/* Makes a range into a set of versions as data, which can be copied and stored. Equal sets have
+ * equal data: `^1.2` by SEMVER_PARSER_RELEASES_ALONE gives 1, 2, 0, then 1, 2, 0, then 2, 0, 0. */
 int32_t semver_parser_set(const uint8_t *range, size_t range_length, int32_t reading,
                           int32_t pre_releases, semver_parser_switch *made, size_t made_room,
                           size_t *count, uint8_t *out, size_t room, size_t *length);
@@ -315,8 +333,8 @@ int32_t semver_parser_compare_sets(semver_parser_flat_set set, semver_parser_fla
 int32_t semver_parser_set_least(semver_parser_flat_set set, uint8_t *out, size_t room,
                                 size_t *length);
 
-/* Prints the releases of a set, or its pre-releases, as a range of npm's: `>=1.2.0 <2.0.0`, `*` for
- * all, `<0.0.0-0` for none. */
+/* Prints the releases of a set, or its pre-releases, as a range: `>=1.2.0 <2.0.0`, `*` for all,
+ * `<0.0.0-0` for none. */
 int32_t semver_parser_print_set(semver_parser_flat_set set, bool pre_releases, uint8_t *out,
                                 size_t room, size_t *length);
 

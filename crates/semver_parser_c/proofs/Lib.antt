@@ -1,4 +1,4 @@
-mod ToldComparators
+mod ListedComparators
 mod Steps
 mod RangeFaults
 mod Dialects
@@ -10,3 +10,4 @@ mod OneRewriting
 mod OneLeast
 mod OneMeeting
 mod OneSet
+mod ExplainedRanges

@@ -43,8 +43,8 @@ abbrev pub pre_releases : List Numbered → Text
 pre_releases cs = flat_map pre_release cs
 
 -- a comparator as it is told where the text of its pre-release begins at an offset
-abbrev pub told_comparator : ℕ → Numbered → RewrittenComparator
-told_comparator at c = record {
+abbrev pub listed_comparator : ℕ → Numbered → RewrittenComparator
+listed_comparator at c = record {
   range = c.range;
   op = op_number c.comparator.op;
   major = c.comparator.version.major;
@@ -54,13 +54,13 @@ told_comparator at c = record {
 }
 
 -- comparators as they are told: each offset is the one before and the length there
-abbrev pub told_from : ℕ → List Numbered → List RewrittenComparator
-told_from at [] = []
-told_from at (c ∷ cs) = told_comparator at c ∷ told_from (at + length (pre_release c)) cs
+abbrev pub listed_from : ℕ → List Numbered → List RewrittenComparator
+listed_from at [] = []
+listed_from at (c ∷ cs) = listed_comparator at c ∷ listed_from (at + length (pre_release c)) cs
 
 -- the first offset is 0
-abbrev pub told_comparators : List Numbered → List RewrittenComparator
-told_comparators cs = told_from 0 cs
+abbrev pub listed_comparators : List Numbered → List RewrittenComparator
+listed_comparators cs = listed_from 0 cs
 
 -- at the place that is told of each stands its pre-release
 abbrev pub HasPreReleases : Text → List RewrittenComparator → List Numbered → Type 0

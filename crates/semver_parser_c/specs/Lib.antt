@@ -12,3 +12,4 @@ pub mod Orders
 pub mod OneAnswer
 pub mod Steps
 pub mod Refusals
+pub mod RangeRefusals

@@ -126,6 +126,50 @@ not_a_set = pos 30
 abbrev pub no_such_operation : ℤ
 no_such_operation = pos 31
 
+-- there is no hint
+abbrev pub no_hint : ℤ
+no_hint = pos 0
+
+-- the hints
+abbrev pub hint_leading_zero : ℤ
+hint_leading_zero = pos 32
+
+abbrev pub hint_three_numbers : ℤ
+hint_three_numbers = pos 33
+
+abbrev pub hint_commas : ℤ
+hint_commas = pos 34
+
+abbrev pub hint_wildcard : ℤ
+hint_wildcard = pos 35
+
+abbrev pub hint_cargo_bars : ℤ
+hint_cargo_bars = pos 36
+
+abbrev pub hint_cargo_v : ℤ
+hint_cargo_v = pos 37
+
+abbrev pub hint_cargo_hyphen : ℤ
+hint_cargo_hyphen = pos 38
+
+abbrev pub hint_npm_length : ℤ
+hint_npm_length = pos 39
+
+abbrev pub hint_npm_comma : ℤ
+hint_npm_comma = pos 40
+
+abbrev pub hint_crate_comma : ℤ
+hint_crate_comma = pos 41
+
+abbrev pub hint_crate_v : ℤ
+hint_crate_v = pos 42
+
+abbrev pub hint_limit : ℤ
+hint_limit = pos 43
+
+abbrev pub hint_npm_limit : ℤ
+hint_npm_limit = pos 44
+
 -- the readings of a range text: Cargo's own
 abbrev pub cargo : ℤ
 cargo = pos 0

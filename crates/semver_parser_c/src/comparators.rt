@@ -5,7 +5,7 @@ ghost use Rattle.std.specs.Prelude.{string_bytes};
 ghost use Rattle.semver_parser.specs.Outlines.{dotted_text};
 ghost use Rattle.semver_parser.specs.RangeViews.{comparator_of, identifier_of, set_of};
 ghost use Rattle.semver_parser_c.specs.Comparators.{comparators_of, op_number, pre_releases};
-ghost use Rattle.semver_parser_c.specs.Comparators.{told_comparator, told_comparators};
+ghost use Rattle.semver_parser_c.specs.Comparators.{listed_comparator, listed_comparators};
 ghost use Rattle.semver_parser_c.specs.Printing.{PutsBoth};
 
 use crate::{Part, RewrittenComparator, numbers};
@@ -16,47 +16,47 @@ use std::fmt;
 
 /// Comparators, and the texts of their pre-releases.
 #[derive(Drop)]
-pub struct Told {
+pub struct Listed {
     /// The comparators, in order.
     pub comparators: Vec<RewrittenComparator>,
     /// The texts of their pre-releases, one after the other.
     pub pre_releases: String,
 }
 
-/// Tells the comparators of a set, each with the number of its range, from 0 on.
-pub fn tell(alloc: Global, set: &RangeSet) -> Result<Told, AllocError>
+/// Lists the comparators of a set, each with the number of its range, from 0 on.
+pub fn list(alloc: Global, set: &RangeSet) -> Result<Listed, AllocError>
     ensures comparators { IfOk result
-        (λ told. told.comparators.items ≡ told_comparators (comparators_of (set_of set.now))) }
+        (λ made. made.comparators.items ≡ listed_comparators (comparators_of (set_of set.now))) }
     ensures texts { IfOk result
-        (λ told. string_bytes told.pre_releases ≡ pre_releases (comparators_of (set_of set.now))) }
+        (λ made. string_bytes made.pre_releases ≡ pre_releases (comparators_of (set_of set.now))) }
 {
-    let mut told = Told {
+    let mut listed = Listed {
         comparators: Vec::new(alloc),
         pre_releases: String::new(alloc),
     };
     for (number, range) in set.ranges.iter().enumerate() {
         for comparator in &range.comparator_set {
-            append(&mut told, number, comparator)?;
+            append(&mut listed, number, comparator)?;
         }
     }
-    Ok(told)
+    Ok(listed)
 }
 
 /// Appends a comparator of the range of a number.
-fn append(told: &mut Told, number: usize, comparator: &Comparator) -> Result<(), AllocError>
-    ensures comparators { OnOk result (told.new.comparators.items
-        ≡ told.old.comparators.items
-        ++ told_comparator (length (string_bytes told.old.pre_releases))
+fn append(listed: &mut Listed, number: usize, comparator: &Comparator) -> Result<(), AllocError>
+    ensures comparators { OnOk result (listed.new.comparators.items
+        ≡ listed.old.comparators.items
+        ++ listed_comparator (length (string_bytes listed.old.pre_releases))
         (record { range = number; comparator = comparator_of comparator.now }) ∷ []) }
-    ensures texts { OnOk result (string_bytes told.new.pre_releases
-        ≡ string_bytes told.old.pre_releases
+    ensures texts { OnOk result (string_bytes listed.new.pre_releases
+        ≡ string_bytes listed.old.pre_releases
         ++ dotted_text (comparator_of comparator.now).version.pre) }
 {
-    let offset = told.pre_releases.as_bytes().len();
+    let offset = listed.pre_releases.as_bytes().len();
     let pre_release = Dotted(&comparator.pre);
-    write!(told.pre_releases, "{pre_release}")?;
-    let length = told.pre_releases.as_bytes().len() - offset;
-    told.comparators.push(RewrittenComparator {
+    write!(listed.pre_releases, "{pre_release}")?;
+    let length = listed.pre_releases.as_bytes().len() - offset;
+    listed.comparators.push(RewrittenComparator {
         range: number,
         op: op_number(&comparator.op),
         major: comparator.major,
@@ -95,7 +95,7 @@ fn op_number(op: &Op) -> i32
 /// Tells how many comparators and bytes there are, and puts both at the front of their rooms where
 /// both fit.
 pub fn put(
-    told: &Told,
+    listed: &Listed,
     comparators: &mut [RewrittenComparator],
     count: &mut usize,
     out: &mut [u8],
@@ -103,27 +103,27 @@ pub fn put(
 ) -> i32
     ensures { PutsBoth
         (record {
-          items = told.now.comparators.items;
+          items = listed.now.comparators.items;
           old = comparators.old;
           new = comparators.new;
           told = count.new;
         })
         (record {
-          items = string_bytes told.now.pre_releases;
+          items = string_bytes listed.now.pre_releases;
           old = out.old;
           new = out.new;
           told = length.new;
         })
         result }
 {
-    let items = told.comparators.len();
-    let bytes = told.pre_releases.as_bytes();
+    let items = listed.comparators.len();
+    let bytes = listed.pre_releases.as_bytes();
     *count = items;
     *length = bytes.len();
     if items > comparators.len() || bytes.len() > out.len() {
         return numbers::NO_ROOM;
     }
-    comparators[..items].copy_from_slice(&told.comparators);
+    comparators[..items].copy_from_slice(&listed.comparators);
     out[..bytes.len()].copy_from_slice(bytes);
     numbers::OK
 }

@@ -15,6 +15,7 @@ mod flat_sets;
 pub mod laws;
 mod meeting;
 mod numbers;
+mod range_refusals;
 mod range_text;
 mod readings;
 mod refusals;
@@ -34,6 +35,7 @@ ghost use Rattle.semver_parser.specs.Precedence.{precedence};
 ghost use Rattle.semver_parser.specs.PrintedRanges.{set_text};
 ghost use Rattle.tool_ranges.specs.declared.reading.Reading.{Reading};
 ghost use Rattle.tool_ranges.specs.declared.meaning.Meaning.{Meaning};
+ghost use Rattle.tool_ranges.specs.Fronts.{BeginsAs, BeginsFitting, IsPlace};
 ghost use Rattle.tool_ranges.specs.Readings.{SpellsAs, TreeOf, dialect_of, fits_as};
 ghost use Rattle.tool_ranges.specs.Meanings.{MeansAs, meant_as, reading_of};
 ghost use Rattle.semver_parser_c.specs.Numbers as number;
@@ -47,9 +49,10 @@ ghost use Rattle.semver_parser_c.specs.Faults.{RefusesVersion, version_faults};
 ghost use Rattle.semver_parser_c.specs.Orders.{at_fault, order_number};
 ghost use Rattle.semver_parser_c.specs.Places.{bytes_at, told};
 ghost use Rattle.semver_parser_c.specs.Comparators.{HasPreReleases, comparators_of};
-ghost use Rattle.semver_parser_c.specs.Comparators.{pre_releases, told_comparators};
+ghost use Rattle.semver_parser_c.specs.Comparators.{pre_releases, listed_comparators};
 ghost use Rattle.semver_parser_c.specs.Printing.{Puts, PutsBoth};
 ghost use Rattle.semver_parser_c.specs.Refusals.{reason_number, reason_numbers};
+ghost use Rattle.semver_parser_c.specs.RangeRefusals.{ExplainsRange, IsExplained, hint_numbers};
 ghost use Rattle.semver_parser_c.specs.Meetings.{IsAnswer};
 ghost use Rattle.semver_parser_c.specs.Sets.{IsMeant, text_of};
 ghost use Rattle.semver_parser_c.specs.Compared.{Compares, TellsWhich, joined_texts, places_of};
@@ -244,6 +247,49 @@ pub extern "C" fn semver_parser_proved_explain_version(
     }
 }
 
+// Answer: free, the hint: ../replayed_cases/stdin.
+/// Where and why a text gives no range by the reading of a number: `OK` if it gives one, else the
+/// number of its error. After `NOT_A_RANGE` `place` is the byte offset of the first character that
+/// no range has there, or the length of the text if something is missing at its end, and `hint` the
+/// number of what may have been meant, or 0. After `NUMBER_TOO_LARGE` `place` is that of the first
+/// character after which no range has numbers that fit, and `hint` the number of the limit.
+///
+/// `1 || 2` by `CARGO` gives `NOT_A_RANGE`, 2 and `HINT_CARGO_BARS`.
+///
+/// # Errors
+///
+/// `NO_SUCH_READING`, whatever the text. Then `RANGE_NOT_UTF8`, `NOT_A_RANGE` and
+/// `NUMBER_TOO_LARGE`, and `RANGE_OUT_OF_MEMORY` in place of one of the last two. After any other
+/// answer `place` and `hint` are as they were.
+#[unsafe(no_mangle)]
+pub extern "C" fn semver_parser_proved_explain_range(
+    alloc: Global,
+    text: &[u8],
+    reading: i32,
+    place: &mut usize,
+    hint: &mut i32,
+) -> i32
+    ensures numbers { IsOneOf (number.ok ∷ number.no_such_reading ∷ range_faults) result }
+    ensures refusals { ExplainsRange reading text.now result }
+    ensures place { (r : Reading) → reading ≡ reading_number r → result ≡ number.not_a_range
+        → IsPlace (BeginsAs r) text.now place.new }
+    ensures limit { (r : Reading) → reading ≡ reading_number r → result ≡ number.number_too_large
+        → IsPlace (BeginsFitting r) text.now place.new }
+    ensures hint { IsExplained result → IsOneOf hint_numbers hint.new }
+    ensures unchanged { (IsExplained result → ⊥)
+        → (place.new ≡ place.old) × (hint.new ≡ hint.old) }
+{
+    let Some(reading) = readings::reading_of(reading) else {
+        return numbers::NO_SUCH_READING;
+    };
+    let (number, told) = range_refusals::explained(alloc, reading, text);
+    if let Some((at, what)) = told {
+        *place = at;
+        *hint = what;
+    }
+    number
+}
+
 // Answer: law semver_parser_c::laws::one_rewriting.
 /// Rewrites a range text into plain comparators, and prints them: `OK` with the printed set at the
 /// front of `out`. `reading` is the number of a reading: `CARGO` and `NPM` are the tools' own, and
@@ -331,7 +377,7 @@ pub extern "C" fn semver_parser_proved_comparators(
         × (tree : TreeOf r) × SpellsAs r tree text.now × IsTrue (fits_as r tree)
         × PutsBoth
         (record {
-          items = told_comparators (comparators_of (set_for exact r tree));
+          items = listed_comparators (comparators_of (set_for exact r tree));
           old = comparators.old;
           new = comparators.new;
           told = count.new;
@@ -360,7 +406,7 @@ pub extern "C" fn semver_parser_proved_comparators(
         Ok(set) => set,
         Err(number) => return number,
     };
-    match comparators::tell(alloc, &rewritten) {
+    match comparators::list(alloc, &rewritten) {
         Ok(told) => comparators::put(&told, comparators, count, out, length),
         Err(_) => numbers::RANGE_OUT_OF_MEMORY,
     }

@@ -67,6 +67,35 @@ pub const NOT_A_SET: i32 = 30;
 /// No operation on two sets has the number.
 pub const NO_SUCH_OPERATION: i32 = 31;
 
+/// There is no hint.
+pub const NO_HINT: i32 = 0;
+/// The hint that a number has no leading zero.
+pub const HINT_LEADING_ZERO: i32 = 32;
+/// The hint that a pre-release or a build comes after three numbers.
+pub const HINT_THREE_NUMBERS: i32 = 33;
+/// The hint that Cargo separates comparators by commas.
+pub const HINT_COMMAS: i32 = 34;
+/// The hint that Cargo takes `*` without numbers before it only alone.
+pub const HINT_WILDCARD: i32 = 35;
+/// The hint that Cargo takes no `||`.
+pub const HINT_CARGO_BARS: i32 = 36;
+/// The hint that Cargo takes no leading `v`.
+pub const HINT_CARGO_V: i32 = 37;
+/// The hint that Cargo takes no hyphen ranges.
+pub const HINT_CARGO_HYPHEN: i32 = 38;
+/// The hint that npm takes no version above 256 characters, and no build identifier above 250.
+pub const HINT_NPM_LENGTH: i32 = 39;
+/// The hint that npm separates comparators by spaces.
+pub const HINT_NPM_COMMA: i32 = 40;
+/// The hint that the crate takes no commas.
+pub const HINT_CRATE_COMMA: i32 = 41;
+/// The hint that the crate takes no leading `v`.
+pub const HINT_CRATE_V: i32 = 42;
+/// The hint that numbers and raised bounds are at most 2^64 - 1.
+pub const HINT_LIMIT: i32 = 43;
+/// The hint that npm's numbers and raised bounds are at most 2^53 - 1.
+pub const HINT_NPM_LIMIT: i32 = 44;
+
 /// Cargo's own reading of a range text.
 pub const CARGO: i32 = 0;
 /// npm's own reading.

@@ -1,5 +1,5 @@
 use Rattle.std.proofs.Common.{◌∙◌, ◌∷◌, ap, inl, rules, sym, refl}
-use Rattle.semver_parser_c.specs.Comparators.{comparators_of, pre_releases, told_comparators}
+use Rattle.semver_parser_c.specs.Comparators.{comparators_of, pre_releases, listed_comparators}
 use Rattle.semver_parser_c.specs.Numbers as number
 use Rattle.semver_parser_c.proofs.OneAnswer.{rewrite_exact, text_once, uncast}
 use Rattle.semver_parser_c.proofs.OnePutting.{both_once, put_are_one}
@@ -30,5 +30,5 @@ returns c =
           let (r, is, tree, spells, fit, puts) = p.rewritten put in
           let (s, is', other, spells', fit', puts') = q.rewritten put' in
           let same = ap comparators_of (same_set c.args.exact _ _ r s tree other is is' spells spells') in
-          both_once _ _ _ _ _ _ (ap told_comparators same) c.requires.comparators (ap pre_releases same) c.requires.room puts puts'));
+          both_once _ _ _ _ _ _ (ap listed_comparators same) c.requires.comparators (ap pre_releases same) c.requires.room puts puts'));
     }

@@ -1,4 +1,4 @@
--- Steps of telling comparators one by one, and that at the places that are told stand the pre-releases.
+-- Steps of listing comparators one by one, and that the listed places have the pre-releases.
 use Rattle.std.proofs.Common.{◌≡◌, ℕ, ℤ, List, [], ◌∷◌, ◌++◌, ◌+◌, ◌<◌, length, take, drop, get_or, map, add-one, sym, ◌∙◌, arith, refl}
 use Rattle.std.proofs.Common.{append_assoc, length-append}
 use Rattle.std.proofs.Math.Seq.{drop-cons, drop-append_seam, take-append_seam}
@@ -9,25 +9,25 @@ use Rattle.semver_parser.specs.declared.Comparator.{Comparator}
 use Rattle.semver_parser_c.specs.declared.RewrittenComparator.{RewrittenComparator}
 use Rattle.semver_parser_c.specs.Numbers.{ok}
 use Rattle.semver_parser_c.specs.Comparators.{HasPreReleases, Numbered, pre_release, pre_releases}
-use Rattle.semver_parser_c.specs.Comparators.{told_comparator, told_comparators, told_from}
+use Rattle.semver_parser_c.specs.Comparators.{listed_comparator, listed_comparators, listed_from}
 use Rattle.semver_parser_c.specs.Printing.{IsAtFront, Putting, PutsBoth}
 
--- what was told, and what there is to tell of the comparators that are left, is what there is to tell of all
+-- what was listed, and the list of the comparators that are left, are together the list of all
 pub record Remains (told : List RewrittenComparator) (text : Text) (left all : List Numbered) : Type 0 where
-  pub comparators : told ++ told_from (length text) left ≡ told_comparators all
+  pub comparators : told ++ listed_from (length text) left ≡ listed_comparators all
   pub texts : text ++ pre_releases left ≡ pre_releases all
 
 -- comparators of the range of a number
 abbrev pub numbered : ℕ → List Comparator → List Numbered
 numbered n xs = map (λ c. record { range = n; comparator = c }) (map comparator_of xs)
 
--- one more comparator of a range is told
-pub told_next : (n : ℕ) (xs : List Comparator) (i : ℕ) (x : Comparator) (rest all : List Numbered) (told after : List RewrittenComparator)
+-- one more comparator of a range is listed
+pub listed_next : (n : ℕ) (xs : List Comparator) (i : ℕ) (x : Comparator) (rest all : List Numbered) (told after : List RewrittenComparator)
     (text longer : Text)
     → i < length xs → x ≡ get_or xs i x → Remains told text (numbered n (drop i xs) ++ rest) all
-    → after ≡ told ++ told_comparator (length text) (record { range = n; comparator = comparator_of x }) ∷ []
+    → after ≡ told ++ listed_comparator (length text) (record { range = n; comparator = comparator_of x }) ∷ []
     → longer ≡ text ++ dotted_text (comparator_of x).version.pre → Remains after longer (numbered n (drop (i + 1) xs) ++ rest) all
-told_next n xs i x rest all told after text longer within is so_far after_is longer_is =
+listed_next n xs i x rest all told after text longer within is so_far after_is longer_is =
     let first : drop i xs ≡ x ∷ drop (i + 1) xs = drop-cons xs i x within ∙ (λ j. sym is j ∷ drop (sym (add-one i) j) xs) in
     let w = rw first at so_far in
     record {
@@ -37,7 +37,7 @@ told_next n xs i x rest all told after text longer within is so_far after_is lon
 
 -- at each place stands the pre-release, where the texts are after some bytes
 places_have : (text before behind : Text) (at : ℕ) (cs : List Numbered) → text ≡ before ++ (pre_releases cs ++ behind)
-    → at ≡ length before → HasPreReleases text (told_from at cs) cs
+    → at ≡ length before → HasPreReleases text (listed_from at cs) cs
 places_have text before behind at [] is at_is = tt
 places_have text before behind at (c ∷ cs) is at_is = (
   simp (is, at_is, append_assoc, drop-append_seam, take-append_seam),
@@ -51,7 +51,7 @@ fronts a b r puts is = grind arith
 
 -- and at the places in the rooms the pre-releases
 pub rooms_have : (a : Putting RewrittenComparator) (b : Putting ℕ) (r : ℤ) (cs : List Numbered) → PutsBoth a b r → r ≡ ok
-    → a.items ≡ told_comparators cs → b.items ≡ pre_releases cs → HasPreReleases b.new (take a.told a.new) cs
+    → a.items ≡ listed_comparators cs → b.items ≡ pre_releases cs → HasPreReleases b.new (take a.told a.new) cs
 rooms_have a b r cs puts is told_is text_is =
     let w = fronts a b r puts is in
     simp (w.0.1, puts.0, take-append_seam, told_is) (places_have b.new [] (drop (length b.items) b.old) 0 cs (simp (w.1.1, text_is)) refl)

@@ -1,0 +1,19 @@
+-- Why a text gives no range, by the numbers of the dialect and of the error.
+use Rattle.std.proofs.Common.{◌≡◌, ℤ, ◌∷◌, arith, inr, subst}
+use Rattle.semver_parser.specs.Texts.{Text}
+use Rattle.tool_ranges.specs.declared.reading.Reading.{Reading}
+use Rattle.semver_parser_c.specs.Numbers.{ok, no_such_reading}
+use Rattle.semver_parser_c.specs.Faults.{IsOneOf, range_faults}
+use Rattle.semver_parser_c.specs.RangeRefusals.{ExplainsBy, ExplainsRange}
+use Rattle.semver_parser_c.specs.Steps.RangeFaults.{IsReadingOf}
+
+other_number : (n : ℤ) → IsOneOf (ok ∷ range_faults) n → n ≡ no_such_reading → ⊥
+other_number n one is = grind arith
+
+pub explains : (r : Reading) (reading : ℤ) (text : Text) (n : ℤ) → IsReadingOf r reading → IsOneOf (ok ∷ range_faults) n
+    → ExplainsBy r text n → ExplainsRange reading text n
+explains r reading text n only one by = record {
+  named = inr (r, only.named);
+  no_such_reading = (λ is. absurd (other_number n one is), λ none. absurd (none (r, only.named)));
+  range = λ s is. subst (λ x. ExplainsBy x text n) (only.only s is) by;
+}

@@ -1,0 +1,34 @@
+-- Where and why a text gives no range, by numbers.
+use Rattle.std.specs.Prelude.{ℤ, ◌≡◌, ◌↔◌, ◌⊎◌, IsUtf8, List, [], ◌∷◌}
+use Rattle.semver_parser.specs.Texts.{Text}
+use Rattle.tool_ranges.specs.declared.reading.Reading.{Reading}
+use Rattle.tool_ranges.specs.Readings.{HasSetAs, IsTextAs, IsTooLargeAs}
+use Rattle.semver_parser_c.specs.Numbers as number
+use Rattle.semver_parser_c.specs.Faults.{IsOneOf}
+use Rattle.semver_parser_c.specs.Readings.{IsReading, reading_number}
+
+-- the number says whether a text gives a range by a reading, or why not; memory may run out in place
+-- of the last two errors
+pub record ExplainsBy (reading : Reading) (text : Text) (n : ℤ) : Type 0 where
+  pub ok : (n ≡ number.ok) ↔ (IsUtf8 text × HasSetAs reading text)
+  pub not_utf8 : (n ≡ number.range_not_utf8) ↔ ¬ (IsUtf8 text)
+  pub not_a_range : n ≡ number.not_a_range → ¬ (IsTextAs reading text)
+  pub too_large : n ≡ number.number_too_large → IsTooLargeAs reading text
+
+-- so by the reading of a number, if there is one
+pub record ExplainsRange (reading : ℤ) (text : Text) (n : ℤ) : Type 0 where
+  pub named : (n ≡ number.no_such_reading) ⊎ IsReading reading
+  pub no_such_reading : (n ≡ number.no_such_reading) ↔ ¬ (IsReading reading)
+  pub range : (r : Reading) → reading ≡ reading_number r → ExplainsBy r text n
+
+-- there is a place, and perhaps a hint
+abbrev pub IsExplained : ℤ → Type 0
+IsExplained n = IsOneOf (number.not_a_range ∷ number.number_too_large ∷ []) n
+
+-- the numbers of all hints, and that there is none
+abbrev pub hint_numbers : List ℤ
+hint_numbers = number.no_hint ∷ number.hint_leading_zero ∷ number.hint_three_numbers
+    ∷ number.hint_commas ∷ number.hint_wildcard ∷ number.hint_cargo_bars ∷ number.hint_cargo_v
+    ∷ number.hint_cargo_hyphen ∷ number.hint_npm_length ∷ number.hint_npm_comma
+    ∷ number.hint_crate_comma ∷ number.hint_crate_v ∷ number.hint_limit
+    ∷ number.hint_npm_limit ∷ []

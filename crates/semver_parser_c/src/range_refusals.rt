@@ -1,0 +1,65 @@
+//! Where and why a text gives no range, by the numbers that C has for errors and hints.
+
+ghost use Rattle.std.specs.Prelude.{◌≡◌, ◌∷◌, IfSome, MatchOption};
+ghost use Rattle.tool_ranges.specs.Fronts.{BeginsAs, BeginsFitting, IsPlace};
+ghost use Rattle.semver_parser_c.specs.Numbers as number;
+ghost use Rattle.semver_parser_c.specs.Faults.{IsOneOf, range_faults};
+ghost use Rattle.semver_parser_c.specs.RangeRefusals.{ExplainsBy, IsExplained, hint_numbers};
+
+use crate::numbers;
+use semver_parser::RangeError;
+use std::alloc::Global;
+use tool_ranges::hints::Hint;
+use tool_ranges::reading::Reading;
+use tool_ranges::refusals::refused;
+
+/// Whether a text gives a range by a dialect, or why not, by numbers, and then the place and the
+/// number of the hint.
+pub fn explained(alloc: Global, reading: Reading, text: &[u8]) -> (i32, Option<(usize, i32)>)
+    ensures number { IsOneOf (number.ok ∷ range_faults) result.0 }
+    ensures by { ExplainsBy reading text.now result.0 }
+    ensures told { MatchOption result.1 (IsExplained result.0 → ⊥)
+        (λ told. IsExplained result.0 × IsOneOf hint_numbers told.1) }
+    ensures place { result.0 ≡ number.not_a_range → IfSome result.1
+        (λ told. IsPlace (BeginsAs reading) text.now told.0) }
+    ensures limit { result.0 ≡ number.number_too_large → IfSome result.1
+        (λ told. IsPlace (BeginsFitting reading) text.now told.0) }
+{
+    let Ok(text) = std::str::from_utf8(text) else {
+        return (numbers::RANGE_NOT_UTF8, None);
+    };
+    match refused(alloc, reading, text) {
+        Ok(None) => (numbers::OK, None),
+        Ok(Some(refusal)) => {
+            let told = Some((refusal.place, number_of(refusal.hint)));
+            match refusal.error {
+                RangeError::NotARange => (numbers::NOT_A_RANGE, told),
+                RangeError::NumberTooLarge => (numbers::NUMBER_TOO_LARGE, told),
+                RangeError::OutOfMemory => unreachable!(),
+            }
+        }
+        Err(_) => (numbers::RANGE_OUT_OF_MEMORY, None),
+    }
+}
+
+/// The number of a hint.
+fn number_of(hint: Option<Hint>) -> i32
+    ensures numbers { IsOneOf hint_numbers result }
+{
+    match hint {
+        None => numbers::NO_HINT,
+        Some(Hint::LeadingZero) => numbers::HINT_LEADING_ZERO,
+        Some(Hint::ThreeNumbers) => numbers::HINT_THREE_NUMBERS,
+        Some(Hint::CargoCommas) => numbers::HINT_COMMAS,
+        Some(Hint::CargoWildcard) => numbers::HINT_WILDCARD,
+        Some(Hint::CargoBars) => numbers::HINT_CARGO_BARS,
+        Some(Hint::CargoV) => numbers::HINT_CARGO_V,
+        Some(Hint::CargoHyphen) => numbers::HINT_CARGO_HYPHEN,
+        Some(Hint::NpmLength) => numbers::HINT_NPM_LENGTH,
+        Some(Hint::NpmComma) => numbers::HINT_NPM_COMMA,
+        Some(Hint::CrateComma) => numbers::HINT_CRATE_COMMA,
+        Some(Hint::CrateV) => numbers::HINT_CRATE_V,
+        Some(Hint::Limit) => numbers::HINT_LIMIT,
+        Some(Hint::NpmLimit) => numbers::HINT_NPM_LIMIT,
+    }
+}
