@@ -1,9 +1,12 @@
 //! Tests of the library that need more than data. On what its calls return: what is read of texts,
 //! sets of versions, the derived orders and precedence, and values made by hand. On what they write
 //! and append: printed values, whole writes and the report, at writers that fail, and the lines of
-//! a text in pieces. At the end it runs the example of README.md. It writes what it found. What that
-//! has to be is in the file beside this crate: it comes from the written rules and from the
-//! declarations of the Rust crate.
+//! a text in pieces. Then it runs the example of README.md, and calls what allocates. It writes what
+//! it found. What that has to be is in the file beside this crate: it comes from the written rules
+//! and from the declarations of the Rust crate.
+//!
+//! If standard input has a number, it only makes so many requests for memory, and then calls what
+//! allocates (`./test`, `requests`).
 #![tactic(auto)]
 
 mod bytes;
@@ -15,27 +18,38 @@ mod orders;
 mod precedence;
 mod printing;
 mod reading;
+mod refused;
 mod reports;
 mod sets;
 mod writers;
 mod writes;
 
 use std::io;
+use std::io::Read;
 
 fn main(rt: HostRuntime) -> io::Result<()> {
-    write_values(&rt)?;
-    printing::write_versions(&rt, rt.alloc())?;
-    printing::write_sets(&rt, rt.alloc())?;
-    printing::write_errors(&rt, rt.alloc())?;
-    writes::write_writes(&rt, rt.alloc())?;
-    reports::write_report(&rt, rt.alloc())?;
-    lines::write_cuts(&rt, rt.alloc())?;
-    lines::write_strict_lines(&rt, rt.alloc())?;
-    lines::write_invalid_lines(&rt, rt.alloc())?;
-    lines::write_long_lines(&rt, rt.alloc())?;
-    lines::write_prefixes(&rt, rt.alloc())?;
-    let _ = example::write_operators(&rt, rt.alloc());
-    Ok(())
+    let requests = read_number(&mut rt.stdin())?;
+    if requests.is_none() {
+        write_values(&rt)?;
+        write_writes(&rt)?;
+        let _ = example::write_operators(&rt, rt.alloc());
+    }
+    refused::write_calls(&rt, requests.unwrap_or(0))
+}
+
+/// The number that the input has, or `None` if it is empty.
+fn read_number(input: &mut impl Read) -> io::Result<Option<u32>> {
+    let mut digits = [0u8; 8];
+    let count = input.read(&mut digits)?;
+    let mut number = None;
+    for digit in &digits[..count] {
+        if digit.is_ascii_digit() {
+            let so_far: u32 = number.unwrap_or(0);
+            let value = u32::from(digit - b'0');
+            number = Some(so_far.saturating_mul(10).saturating_add(value));
+        }
+    }
+    Ok(number)
 }
 
 /// What calls return.
@@ -49,4 +63,18 @@ fn write_values(rt: &HostRuntime) -> io::Result<()> {
     precedence::write_precedence(rt, rt.alloc())?;
     made::write_versions(rt, rt.alloc())?;
     made::write_sets(rt, rt.alloc())
+}
+
+/// What calls write and append.
+fn write_writes(rt: &HostRuntime) -> io::Result<()> {
+    printing::write_versions(rt, rt.alloc())?;
+    printing::write_sets(rt, rt.alloc())?;
+    printing::write_errors(rt, rt.alloc())?;
+    writes::write_writes(rt, rt.alloc())?;
+    reports::write_report(rt, rt.alloc())?;
+    lines::write_cuts(rt, rt.alloc())?;
+    lines::write_strict_lines(rt, rt.alloc())?;
+    lines::write_invalid_lines(rt, rt.alloc())?;
+    lines::write_long_lines(rt, rt.alloc())?;
+    lines::write_prefixes(rt, rt.alloc())
 }

@@ -1,8 +1,6 @@
-//! Calls what allocates, and checks that each call returns in full or out of memory, and
-//! leaves what it promises. Standard input is the number of requests to make first. Where it is
-//! empty, every call has to answer in full; else the one request that is refused has to be met by
-//! exactly one call, which is named.
-#![tactic(auto)]
+//! Calls what allocates, and checks that each call returns in full or out of memory, and leaves what
+//! it promises. With ample memory every call has to return in full; else the one request that is
+//! refused has to be met by exactly one call, which is named.
 
 mod filters;
 mod fixed;
@@ -17,7 +15,6 @@ use release_filter::Filter;
 use semver_parser::Compat;
 use std::alloc::Global;
 use std::io;
-use std::io::Read;
 use version_sets::VersionSet;
 
 /// How a call ended.
@@ -54,20 +51,24 @@ impl Ending {
 /// After so many requests the next one is refused.
 const FIRST_REFUSED: u32 = 999;
 
-fn main(rt: HostRuntime) -> io::Result<()> {
-    if spend_requests(rt.alloc(), &mut rt.stdin())? == FIRST_REFUSED {
-        tell(&rt, &of_long_texts(rt.alloc()))?;
+/// Makes so many requests, and then all calls, and writes how they ended.
+pub fn write_calls(rt: &HostRuntime, requests: u32) -> io::Result<()> {
+    for _ in 0..requests {
+        let _request = Box::new(rt.alloc(), 0u8);
     }
-    tell(&rt, &of_versions(rt.alloc()))?;
-    tell(&rt, &of_ranges(rt.alloc()))?;
+    if requests == FIRST_REFUSED {
+        tell(rt, &of_long_texts(rt.alloc()))?;
+    }
+    tell(rt, &of_versions(rt.alloc()))?;
+    tell(rt, &of_ranges(rt.alloc()))?;
     match filters::as_stated(rt.alloc()) {
-        Ok(filter) => tell(&rt, &of_filter(rt.alloc(), &filter))?,
-        Err(ending) => tell(&rt, &[("filter_as_stated", ending)])?,
+        Ok(filter) => tell(rt, &of_filter(rt.alloc(), &filter))?,
+        Err(ending) => tell(rt, &[("filter_as_stated", ending)])?,
     }
-    tell(&rt, &of_lines(rt.alloc()))?;
+    tell(rt, &of_lines(rt.alloc()))?;
     match sets::of_texts(rt.alloc()) {
-        Ok((first, second)) => tell(&rt, &of_sets(rt.alloc(), &first, &second))?,
-        Err(ending) => tell(&rt, &[("sets_of_texts", ending)])?,
+        Ok((first, second)) => tell(rt, &of_sets(rt.alloc(), &first, &second))?,
+        Err(ending) => tell(rt, &[("sets_of_texts", ending)])?,
     }
     rt.println("done")
 }
@@ -180,12 +181,12 @@ fn of_ranges(alloc: Global) -> [(&'static str, Ending); 29] {
         ("refused_cargo_reads", sets::of_refused_requirements(alloc)),
         ("npm_range", ranges::npm_range(alloc)),
         ("refused_npm_ranges", ranges::refused_npm_ranges(alloc)),
-        ("place_of_an_error", ranges::place_of_an_error(alloc)),
         ("npm_read", sets::of_npm_ranges(alloc)),
         ("refused_npm_reads", sets::of_refused_npm_ranges(alloc)),
         ("within_bounds", sets::within_bounds(alloc)),
         ("refused_bounds", sets::of_refused_bounds(alloc)),
         ("refused_range_texts", ranges::refused_texts(alloc)),
+        ("range_error", ranges::range_error(alloc)),
         ("range_set_clone", ranges::clone(alloc)),
         ("filter", filters::filter(alloc)),
         (
@@ -242,22 +243,4 @@ fn of_sets(alloc: Global, first: &VersionSet, second: &VersionSet) -> [(&'static
 /// How calls on long texts end that make no request. They take long, and are made once.
 fn of_long_texts(alloc: Global) -> [(&'static str, Ending); 1] {
     [("refused_at_the_end", ranges::refused_at_the_end(alloc))]
-}
-
-/// Makes as many requests as the input says, and returns how many these were.
-fn spend_requests(alloc: Global, input: &mut impl Read) -> io::Result<u32> {
-    let mut digits = [0u8; 8];
-    let count = input.read(&mut digits)?;
-    let mut requests = 0u32;
-    for digit in &digits[..count] {
-        if digit.is_ascii_digit() {
-            requests = requests
-                .saturating_mul(10)
-                .saturating_add(u32::from(digit - b'0'));
-        }
-    }
-    for _ in 0..requests {
-        let _request = Box::new(alloc, 0u8);
-    }
-    Ok(requests)
 }

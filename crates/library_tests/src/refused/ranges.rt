@@ -5,8 +5,8 @@ use super::fixed::Fixed;
 use semver_parser::{Compat, RangeError, RangeSet};
 use std::alloc::Global;
 use std::fmt::Write as _;
-use tool_ranges::place::error_place;
 use tool_ranges::reading::Reading;
+use tool_ranges::refusals::refused;
 use tool_ranges::{cargo, npm};
 
 const TEXT: &str = "^1.2.3-beta.4 || 2.x";
@@ -83,14 +83,6 @@ pub fn refused_npm_ranges(alloc: Global) -> Ending {
     )
 }
 
-/// The place of an error is found with one buffer.
-pub fn place_of_an_error(alloc: Global) -> Ending {
-    match error_place(alloc, Reading::Cargo, "1.2 || 3") {
-        Ok(place) => Ending::full_if(place == 4),
-        Err(_) => Ending::Refused,
-    }
-}
-
 /// The same in Cargo mode.
 pub fn from_str(alloc: Global) -> Ending {
     match RangeSet::from_str(alloc, TEXT) {
@@ -127,6 +119,18 @@ pub fn refused_texts(alloc: Global) -> Ending {
         }
     }
     Ending::Full
+}
+
+/// Where a text stops being a range. What gives one is refused nothing, without a request.
+pub fn range_error(alloc: Global) -> Ending {
+    if !matches!(refused(alloc, Reading::Npm, "1.2 || 3"), Ok(None)) {
+        return Ending::Wrong;
+    }
+    match refused(alloc, Reading::Cargo, "1.2 || 3") {
+        Ok(Some(refusal)) => Ending::full_if(refusal.place == 4),
+        Ok(None) => Ending::Wrong,
+        Err(_) => Ending::Refused,
+    }
 }
 
 /// 9,999 times two bars, and one more: 10,000 ranges and half of what parts them from the next.
