@@ -21,6 +21,12 @@ extern "C" {
         version: *const u8,
         version_len: usize,
     ) -> u64;
+    fn speed_meets_npm(
+        range: *const u8,
+        range_len: usize,
+        version: *const u8,
+        version_len: usize,
+    ) -> u64;
     fn speed_set(text: *const u8, len: usize) -> u64;
     fn speed_within(text: *const u8, len: usize, times: u64) -> u64;
     fn speed_has(
@@ -111,7 +117,14 @@ pub fn here_meets(text: &str) -> u64 {
     })
 }
 
-/// The same by the crate `semver`.
+/// The same as npm reads both.
+pub fn here_meets_npm(text: &str) -> u64 {
+    text.split_once('\t').map_or(REFUSED, |(range, version)| unsafe {
+        speed_meets_npm(range.as_ptr(), range.len(), version.as_ptr(), version.len())
+    })
+}
+
+/// A requirement asked of a version by the crate `semver`, as by `here_meets`.
 pub fn semver_meets(text: &str) -> u64 {
     let read = text.split_once('\t').and_then(|(range, version)| {
         Some((VersionReq::parse(range).ok()?, Version::parse(version).ok()?))

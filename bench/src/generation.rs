@@ -18,10 +18,11 @@ pub enum Make {
     Asked,
     AskedTwo,
     AskedPre,
+    AskedNpm,
 }
 
 impl Make {
-    pub const ALL: [(&'static str, Make); 10] = [
+    pub const ALL: [(&'static str, Make); 11] = [
         ("plain", Make::Plain),
         ("mixed", Make::Mixed),
         ("refused", Make::Refused),
@@ -32,6 +33,7 @@ impl Make {
         ("asked", Make::Asked),
         ("asked-two", Make::AskedTwo),
         ("asked-pre", Make::AskedPre),
+        ("asked-npm", Make::AskedNpm),
     ];
 
     /// So many distinct texts, one a line. The same seed makes the same ones.
@@ -48,6 +50,7 @@ impl Make {
             Make::Asked => distinct(source, count, |_| "^N.N.N\tN.N.N", fill),
             Make::AskedTwo => distinct(source, count, |_| ">=N.N.N, <M\tN.N.N", fill),
             Make::AskedPre => distinct(source, count, |_| "~N.N.NP\tN.N.NP", fill),
+            Make::AskedNpm => distinct(source, count, |_| "^N.N.N || ^N.N.N || ^N.N.N\tN.N.N", fill),
         }
     }
 }

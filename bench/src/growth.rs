@@ -1,6 +1,8 @@
 //! How the work grows with a text: the instructions of one call, counted by callgrind.
 
-use crate::calls::{here_range, here_set, here_version, here_within, Call, REFUSED};
+use crate::calls::{
+    here_meets_npm, here_range, here_set, here_version, here_within, Call, REFUSED,
+};
 use crate::cells::grouped;
 use std::env;
 use std::process::Command;
@@ -12,7 +14,7 @@ struct Form {
     calls: fn(&str, u64) -> bool,
 }
 
-const FORMS: [Form; 7] = [
+const FORMS: [Form; 9] = [
     Form {
         name: "identifiers",
         text: |count| format!("1.2.3-{}", joined("rc", ".", count)),
@@ -37,6 +39,16 @@ const FORMS: [Form; 7] = [
         name: "ranges",
         text: |count| joined("^1.2.3", " || ", count),
         calls: |text, times| reads(here_range, text, times),
+    },
+    Form {
+        name: "simples, asked of one version",
+        text: |count| format!("{}\t9.9.9", joined("^1.2.3", " ", count)),
+        calls: |text, times| reads(here_meets_npm, text, times),
+    },
+    Form {
+        name: "ranges, asked of one version",
+        text: |count| format!("{}\t9.9.9", joined("^1.2.3", " || ", count)),
+        calls: |text, times| reads(here_meets_npm, text, times),
     },
     Form {
         name: "ranges, made into a set",

@@ -3,7 +3,8 @@
 //! `bench` times them beside those of the Rust crates, on texts that it makes, and whole runs of
 //! the program `release-filter` beside those of `filter-by-semver`. `bench seed N` does so on the
 //! texts of another seed. `bench texts` and `bench texts N` write such texts down, to be looked at,
-//! and `bench growth` counts the instructions of calls on texts of growing size.
+//! `bench growth` counts the instructions of calls on texts of growing size, and `bench npm` times
+//! ranges of npm's dialect beside node-semver.
 
 mod agreement;
 mod calls;
@@ -13,6 +14,7 @@ mod faults;
 mod forms;
 mod generation;
 mod growth;
+mod npm;
 mod programs;
 #[path = "../../compare/src/random.rs"]
 mod random;
@@ -36,8 +38,9 @@ fn main() -> ExitCode {
         ["texts"] => texts::write_all(SEED),
         ["texts", seed] => number(seed).and_then(texts::write_all),
         ["growth"] => growth::print_table(),
+        ["npm"] => npm::print_table(SEED),
         ["run", name, count, calls] => growth::run(name, count, calls),
-        _ => Err("usage: bench [seed N | texts [N] | growth]".to_string()),
+        _ => Err("usage: bench [seed N | texts [N] | growth | npm]".to_string()),
     };
     match outcome {
         Ok(()) => ExitCode::SUCCESS,

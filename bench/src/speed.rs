@@ -70,7 +70,7 @@ fn row_times(row: &Row, texts: &[&str]) -> Times {
 }
 
 /// A side that reads texts one by one.
-fn side<'a>(call: Call) -> Side<'a, &'a [&'a str]> {
+pub fn side<'a>(call: Call) -> Side<'a, &'a [&'a str]> {
     Box::new(move |texts| texts.iter().fold(0, |sum: u64, text| sum.wrapping_add(call(text))))
 }
 

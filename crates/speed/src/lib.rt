@@ -82,10 +82,25 @@ pub extern "C" fn speed_meets(range: &[u8], version: &[u8]) -> u64
     requires { IsUtf8 range.now }
 {
     let range = unsafe { std::str::from_utf8_unchecked(range) };
-    let Some(outline) = version::outline_in(version, Dialect::Cargo) else {
+    meets_as(Meaning::Cargo, range, version)
+}
+
+/// The same as npm reads both.
+#[unsafe(no_mangle)]
+pub extern "C" fn speed_meets_npm(range: &[u8], version: &[u8]) -> u64
+    requires { IsUtf8 range.now }
+{
+    let range = unsafe { std::str::from_utf8_unchecked(range) };
+    meets_as(Meaning::Npm, range, version)
+}
+
+/// What a range text says of the version of a text.
+#[inline(always)]
+fn meets_as(meaning: Meaning, range: &str, version: &[u8]) -> u64 {
+    let Some(outline) = version::outline_in(version, meaning.reading().dialect()) else {
         return u64::MAX;
     };
-    match meaning::meets(Meaning::Cargo, range, &outline) {
+    match meaning::meets(meaning, range, &outline) {
         Ok(met) => u64::from(met),
         Err(_) => u64::MAX,
     }
