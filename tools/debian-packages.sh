@@ -58,10 +58,11 @@ write_control() {
         s/@LIBC@/${needs_of-}/" "$top/tools/debian/$1.control"
 }
 
-# The licences and the changes, in each package.
+# make_documents NAME: the licences and the changes, in each package, and what lintian needn't say.
 make_documents() {
-    documents=$root/usr/share/doc/$package
+    documents=$root/usr/share/doc/$package overrides=$root/usr/share/lintian/overrides
     mkdir -p "$documents"
+    [ ! -e "$top/tools/debian/$1.overrides" ] || { mkdir -p "$overrides" && cp "$top/tools/debian/$1.overrides" "$overrides/$package"; }
     awk 'FNR == NR { mit = mit ($0 == "" ? " ." : " " $0) "\n"; next }
         $0 == "@MIT@" { printf "%s", mit; next } { print }' \
         "$top/LICENSE-MIT" "$top/tools/debian/copyright" > "$documents/copyright"
@@ -75,16 +76,25 @@ write_shlibs() {
     echo "libsemver_parser $interface $library_package (>= $version)"
 }
 
+# Which functions the library has: each needs this version of it, as `write_shlibs` says of all.
+write_symbols() {
+    echo "libsemver_parser.so.$interface $library_package #MINVER#"
+    echo '* Build-Depends-Package: libsemver-parser-dev'
+    objdump -T "$root/$libraries/libsemver_parser.so.$version" |
+        sed -n "s/.* \(semver_parser_[a-z_]*\)\$/ \1@Base $version/p" | LC_ALL=C sort
+}
+
 # make_debian_package NAME PACKAGE ARCHITECTURE: of the files that the package has.
 make_debian_package() {
     package=$2 root=$work/debian/$2
-    make_documents
+    make_documents "$1"
     mkdir "$root/DEBIAN"
     write_control "$1" > "$root/DEBIAN/control"
     case $1 in
     library)
         echo 'activate-noawait ldconfig' > "$root/DEBIAN/triggers"
         write_shlibs > "$root/DEBIAN/shlibs"
+        write_symbols > "$root/DEBIAN/symbols"
         ;;
     python | checkers)
         for script in postinst prerm; do
