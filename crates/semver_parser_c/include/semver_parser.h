@@ -254,7 +254,8 @@ int32_t semver_parser_explain_version(const uint8_t *text, size_t text_length, i
 
 /* Returns SEMVER_PARSER_OK exactly for a range. After _NOT_A_RANGE `place` is where no range has
  * the character, or `text_length`, and after _NUMBER_TOO_LARGE where no numbers fit any more:
- * `1 || 2` by SEMVER_PARSER_CARGO gives 2 and _HINT_CARGO_BARS. Only errors allocate. */
+ * `1 || 2` by SEMVER_PARSER_CARGO gives 2 and _HINT_CARGO_BARS. Only these allocate, and may be
+ * _RANGE_OUT_OF_MEMORY. */
 int32_t semver_parser_explain_range(const uint8_t *text, size_t text_length, int32_t reading,
                                     size_t *place, int32_t *hint);
 
