@@ -11,7 +11,7 @@ checkout="$work/a checkout"
 # What is built is copied last, so it is newest.
 copy_checkout() {
     mkdir -p "$checkout/crates/semver_parser_c/src" "$checkout/crates/semver_parser_c/specs" "$checkout/crates/semver_parser_c/proofs" "$work/bin"
-    cp -R crates.txt VERSION LICENSE-APACHE LICENSE-MIT install compare-ranges release-filter semver-parser man tests tools "$checkout"
+    cp -R crates.txt VERSION LICENSE-APACHE LICENSE-MIT Makefile debian compare-ranges release-filter semver-parser man tests tools "$checkout"
     cp -R crates/semver_parser_c/c crates/semver_parser_c/include "$checkout/crates/semver_parser_c"
     cp -R python "$checkout"
     copy_built
@@ -48,14 +48,20 @@ has() {
     printf '%s\n' "$1" | diff -u - "$work/$2"
 }
 
-# refuses WHY COMMAND..: the command has to end with status 2 and one line that says why, and to
-# write nothing else.
+# refuses WHY COMMAND..: the command has to end with status 2 and one line that says why, beside what
+# make says of its end, and to write nothing else.
 refuses() {
     why=$1
     shift
     ends 2 "$@"
+    without_make
     has "$why" stderr
     [ ! -s "$work/stdout" ] || fail "$*: it writes before it refuses"
+}
+
+# without_make: takes from standard error what make says when a recipe fails.
+without_make() {
+    sed -i '/^make\(\[[0-9]*\]\)\?: \*\*\* /d' "$work/stderr"
 }
 
 # holds FOLDER: tells what the folder has, but for folders.
@@ -98,9 +104,11 @@ shared: >=1.4.0 <2.0.0' stdout
     ends 0 env -i "$1/compare-ranges" --npm '^1.2' '>=1.2.0 <2.0.0'
 }
 
-# stopped_while_compiling COMMAND.. FOLDER: the command is stopped while a file of C is compiled. It
+# stopped_while_compiling FOLDER COMMAND..: the command is stopped while a file of C is compiled. It
 # ends by the signal, leaves no temporary file, and puts nothing into the folder.
 stopped_while_compiling() {
+    folder=$1
+    shift
     rm -rf "$work/temporary" "$work/half"
     mkdir "$work/temporary"
     printf '#!/bin/sh\necho $$ > "%s/half"\nexec sleep 60\n' "$work" > "$work/bin/slow-compiler"
@@ -110,8 +118,7 @@ stopped_while_compiling() {
     until [ -s "$work/half" ]; do sleep 0.05; done
     kill -s TERM "$script" "$(cat "$work/half")"
     wait "$script" 2> /dev/null || status=$?
-    shift $(($# - 1))
-    [ "$(kill -l "$status")" = TERM ] && [ -z "$(ls -A "$work/temporary")" ] && [ ! -e "$1" ] || fail "stopped with status $status, and something is left"
+    [ "$(kill -l "$status")" = TERM ] && [ -z "$(ls -A "$work/temporary")" ] && [ ! -e "$folder" ] || fail "stopped with status $status, and something is left"
 }
 
 # same_calls NM-FLAGS..: the names that a library shows are those that the header declares.

@@ -1,268 +1,145 @@
-# What the scripts share that run, install or package what is built. Each sets `top` first, the
-# folder of the repository, by its whole path, and then reads this file.
-#
-# What is built lies in out/built, by its last name. It counts as built where it is there, and
-# nothing is newer that it may be made from: crates.txt, and in each crate the folders src, specs
-# and proofs with all that they hold. So times decide and not bytes, and a change of the kit isn't
-# seen. It is put there by one renaming, once its build has ended well, and is dated back to the
-# time at which that began. So a build that fails or is stopped leaves what was there, and what is
-# edited while it runs is newer.
-
-# So that `cd` and what is run go by the names that they are given, and don't look in other folders.
+# What the Makefile, the wrappers and the tests share. Each sets `top` first, the folder of the
+# repository by its whole path, and then reads this file, which has `cd` look in no other folders.
 unset CDPATH
+# A folder for temporary files, what isn't whole yet, and whether a command runs beside the script.
+work='' half='' running=''
 
-# A folder for what is needed on the way; a file that isn't whole yet; the command that runs beside
-# the script, whether one is being started, and the signal that came meanwhile. Each is empty where
-# there is none.
-work='' unfinished='' job='' starting='' came=''
-
-# refuse WHY: says why in one line, and ends with status 2.
+# refuse WHY..: says why in one line, and ends with status 2.
 refuse() {
-    echo "${0##*/}: $1" >&2
+    echo "${self:-${0##*/}}: $*" >&2
     exit 2
 }
 
-# let_go: ends what runs, and takes away what isn't whole and what was needed on the way.
-let_go() {
-    [ -z "$job" ] || { kill "$job" && wait "$job"; } 2> /dev/null || :
-    [ -z "$unfinished" ] || rm -f -- "$unfinished"
-    [ -z "$work" ] || rm -rf -- "$work" 2> /dev/null || rm -rf -- "$work"
-    work='' unfinished='' job=''
-}
-
-# stopped SIGNAL: ends the script by the signal that it was sent, once it is known what has to end
-# with it.
-stopped() {
-    came=$1
-    [ -z "$starting" ] || return 0
-    trap - EXIT "$1"
-    let_go
-    kill -s "$1" "$$"
-}
-
-# begin: makes the folder, and has all let go of when the script ends or is stopped. Once is enough.
+# begin: makes the folder `work`, and has all let go of when the script ends or is stopped.
 begin() {
-    [ -z "$work" ] || return 0
     trap let_go EXIT
-    trap 'stopped HUP' HUP
-    trap 'stopped INT' INT
-    trap 'stopped PIPE' PIPE
-    trap 'stopped TERM' TERM
+    for signal in HUP INT PIPE TERM; do
+        trap "let_go; trap - EXIT $signal; kill -s $signal $$" "$signal"
+    done
     work=$(mktemp -d) || refuse 'cannot make a folder for temporary files'
 }
 
-# beside COMMAND..: runs a command so that a signal to the script ends both, and gives its status.
-# The command gets no input.
+let_go() {
+    [ -z "$running" ] || { kill "$!" && wait "$!"; } 2> /dev/null || :
+    [ -z "$half" ] || rm -rf -- "$half"
+    [ -z "$work" ] || rm -rf -- "$work" 2> /dev/null || rm -rf -- "$work"
+}
+
+# beside COMMAND..: runs a command without input, so that a signal to the script ends both.
 beside() {
-    beside=0 starting=yes
+    running=yes beside=0
     "$@" < /dev/null &
-    job=$! starting=''
-    [ -z "$came" ] || stopped "$came"
-    wait "$job" || beside=$?
-    job=''
+    wait "$!" || beside=$?
+    running=''
     return "$beside"
 }
 
-# built NAME: tells where the built file of a name is.
-built() {
-    echo "$top/out/built/$1"
+# again GOAL..: has make make something, by the variables of the environment.
+again() {
+    beside env MAKEFLAGS= make -s --no-print-directory -C "$top" "$@"
 }
 
-# is_built NAME: whether a file is built.
-is_built() {
-    built=$(built "$1")
-    [ -s "$built" ] || return
-    newer=$(find "$top/crates.txt" "$top"/crates/*/src "$top"/crates/*/specs "$top"/crates/*/proofs -newer "$built") && [ -z "$newer" ]
+# run PROGRAM ARGUMENT..: runs a program, and has make build it first if anything is newer.
+run() {
+    built=$top/out/built/$1
+    newer=$(cd "$top" && find crates.txt crates/*/src crates/*/specs crates/*/proofs \
+        -newer "$built" 2> /dev/null) || newer=unknown
+    [ -z "$newer" ] || { begin && again "out/built/$1" >&2 && let_go; } || exit 2
+    shift
+    exec "$built" "$@"
 }
 
-# may_build NAME: refuses where a build can't be, or would leave files of root among those of
-# another user.
+# may_build NAME: refuses a build that can't be, or would leave files of root among another user's.
 may_build() {
-    if [ "$(id -u)" = 0 ] && [ -z "$(find "$top" -prune -user 0)" ]; then
-        refuse "$1 isn't built, and root builds nothing in a checkout of another user: run ./install --build as its owner, then sudo ./install"
-    fi
-    for folder in "$top" "$top/out" "$top/out/built" "$top"/crates/* "$top"/crates/*/out; do
-        [ ! -e "$folder" ] || [ -w "$folder" ] || refuse "$1 isn't built, and cannot be: $folder may not be written to"
-    done
-    command -v rt > /dev/null || refuse "$1 isn't built, and cannot be: there is no command rt (README names the kit that has it)"
-}
-
-# keep NAME FILE DATED: has a built file count as built, dated as the file DATED.
-keep() {
-    mkdir -p "$top/out/built" || return
-    unfinished=$top/out/built/.$1.$$
-    cp -- "$2" "$unfinished" && touch -r "$3" "$unfinished" && mv -f "$unfinished" "$(built "$1")" || return
-    unfinished=''
-}
-
-# in_crate_of TOP CRATE COMMAND..: runs a command in the folder of a crate, of this repository or a
-# copy. What it makes on the way and leaves lies in the folder `work`.
-in_crate_of() {
-    cd "$1/crates/$2" || exit
-    shift 2
-    TMPDIR=$work
-    export TMPDIR
-    exec "$@"
-}
-
-# crates_of CRATE..: the crates that these stand on, and themselves, one on a line, in the order of
-# crates.txt, which has the lowest first.
-crates_of() {
-    awk -v wanted="$*" '
-        /^[^#]/ { head = $1; sub(":", "", head); names[++count] = head; uses[head] = $0 }
-        function need(name,   words, at) {
-            if (!(name in uses) || name in needed) return
-            needed[name]
-            sub("^[^:]*:", "", uses[name])
-            at = split(uses[name], words)
-            while (at) need(words[at--])
-        }
-        END {
-            at = split(wanted, tops)
-            while (at) need(tops[at--])
-            for (at = 1; at <= count; at++) if (names[at] in needed) print names[at]
-        }
-    ' "$top/crates.txt"
-}
-
-# is_unproved CRATE: whether a crate is there, and nothing of it was proved yet.
-is_unproved() {
-    [ -d "$top/crates/$1/src" ] && [ -z "$(ls -A "$top/crates/$1/out" 2> /dev/null)" ]
-}
-
-# is_proved CRATE: whether a library is proved, and nothing is newer that it is made from.
-is_proved() {
-    stamp=$top/crates/$1/out/rlib/stamp
-    [ -e "$stamp" ] && [ -z "$(cd "$top/crates/$1" && find src specs proofs "$top/crates.txt" -newer "$stamp" 2> /dev/null)" ]
-}
-
-# prove_beside CRATE..: proves these crates and all that they stand on, those side by side that don't
-# stand on each other. It does so where each of them is proved or nothing of it is; else `rt` goes
-# on with what it kept of them.
-prove_beside() {
-    : > "$work/lanes"
-    for crate in $(crates_of "$@"); do
-        case " $* " in
-        *" $crate "*) ! is_unproved "$crate" || echo "$crate" >> "$work/lanes" ;;
-        *) if is_unproved "$crate"; then echo "$crate" >> "$work/lanes"; else is_proved "$crate" || return 0; fi ;;
-        esac
-    done
-    [ ! -s "$work/lanes" ] || beside run_lanes
-}
-
-# run_lanes: starts a lane for each crate of the list, and waits for all. One that fails ends the
-# others.
-run_lanes() {
-    lanes='' failed=0
-    trap 'kill $lanes 2> /dev/null; wait; exit 143' TERM
-    for crate in $(cat "$work/lanes"); do
-        prove_in_lane "$crate" &
-        lanes="$lanes $!"
-    done
-    for lane in $lanes; do wait "$lane" || failed=$?; done
-    return "$failed"
-}
-
-# prove_in_lane CRATE: waits until all that the crate stands on is proved, and proves it in a copy:
-# `rt` works in one crate at a time and on all that it stands on, so in one folder two lanes would
-# wait for each other. What is proved in the copy is then as if it had been proved here.
-prove_in_lane() {
-    proving='' lane=$work/lane-$1
-    trap '[ -z "$proving" ] || kill "$proving" 2> /dev/null; wait; exit 143' TERM
-    for lower in $(crates_of "$1"); do
-        [ "$lower" = "$1" ] && continue
-        while grep -qx "$lower" "$work/lanes" && [ ! -e "$work/proved-$lower" ]; do
-            [ ! -e "$work/unproved" ] || return
-            sleep 0.2
-        done
-    done
-    echo "proving $1 ($(grep -nx "$1" "$work/lanes" | cut -d: -f1) of $(wc -l < "$work/lanes"))" >&2
-    copy_into_lane "$1" || return
-    make_in "$lane" "$1" $(jobs_of "$1") > "$work/notes-$1" 2>&1 &
-    proving=$!
-    wait "$proving" || {
-        : > "$work/unproved"
-        cat "$work/notes-$1" >> "$work/notes"
-        return 1
-    }
-    mkdir -p "$top/crates/$1/out" && mv "$lane/crates/$1/out"/* "$top/crates/$1/out" && : > "$work/proved-$1"
-}
-
-# jobs_of CRATE: the flags for as many jobs as there are cores, each with some 2.5 GB of memory, where
-# no other crate of the list can be proved beside this one; else none, and `rt` chooses.
-jobs_of() {
-    for other in $(cat "$work/lanes"); do
-        { crates_of "$1" | grep -qx "$other"; } || { crates_of "$other" | grep -qx "$1"; } || return 0
-    done
-    jobs=$(awk -v cores="$(nproc)" '/^MemAvailable:/ { jobs = int($2 / 2500000); print jobs < cores ? jobs : cores }' /proc/meminfo)
-    [ "${jobs:-0}" -lt 3 ] || echo "--jobs $jobs"
-}
-
-# copy_into_lane CRATE: the crate's files and its line in crates.txt, and of those that it stands on
-# also what is proved, by links where these can be.
-copy_into_lane() {
-    mkdir -p "$lane/crates" || return
-    for lower in $(crates_of "$1"); do
-        grep "^$lower[ :]" "$top/crates.txt" >> "$lane/crates.txt" && mkdir "$lane/crates/$lower" || return
-        for part in "$top/crates/$lower"/*; do
-            case $part in */out) ;; *) cp -R "$part" "$lane/crates/$lower" || return ;; esac
-        done
-        [ "$lower" != "$1" ] || continue
-        mkdir "$lane/crates/$lower/out" || return
-        cp -Rl "$top/crates/$lower/out/rlib" "$lane/crates/$lower/out" 2> /dev/null ||
-            { rm -rf "$lane/crates/$lower/out/rlib" && cp -R "$top/crates/$lower/out/rlib" "$lane/crates/$lower/out"; } || return
+    [ "$(id -u)" != 0 ] || [ -O "$top" ] || refuse "$1 isn't built, and root builds nothing in a" \
+        'checkout of another user: run make as its owner, then sudo make install'
+    for folder in "$top" "$top/out" "$top"/out/* "$top/crates/$1" "$top/crates/$1/out"; do
+        [ ! -e "$folder" ] || [ -w "$folder" ] ||
+            refuse "$1 isn't built, and cannot be: $folder may not be written to"
     done
 }
 
-# crate_of NAME: tells the crate that a built file is made of.
-crate_of() {
-    case $1 in
-    libsemver_parser_c.a) echo semver_parser_c ;;
-    *) echo "$1" | sed 's/-/_/g; s/$/_main/' ;;
-    esac
-}
-
-# make_in TOP CRATE FLAG..: makes what a crate is for, in a copy of the repository, with flags for
-# `rt`: a library, that for C without what c/ has, or a program, which also runs once and has to end
-# with status 0.
-make_in() {
-    made_in=$1 made=$2
-    shift 2
-    case $made in
-    semver_parser_main) in_crate_of "$made_in" "$made" rt run "$@" -- 1.2.3 ;;
-    *_main) in_crate_of "$made_in" "$made" rt run "$@" -- --help ;;
-    *) in_crate_of "$made_in" "$made" rt lib "$@" ;;
-    esac
-}
-
-# build NAME..: builds those that aren't built. It says so first, on standard error, and which crate
-# is proved; what is said on the way goes there where it fails, and else nowhere.
-build() {
-    missing='' wanted=''
+# prove CRATE BELOW..: proves a crate in a copy of it and of those below it, since `rt` locks all of
+# them, and moves what it made to the crate's out/. There `proved` is the program or static library,
+# or else empty. A program runs once. What `rt` writes is shown if it fails.
+prove() {
+    may_build "$1"
+    command -v rt > /dev/null || refuse "$1 isn't built, and cannot be: there is no command rt" \
+        '(README names the kit that has it)'
+    echo "proving $1, which can take some minutes" >&2
+    crate=$1 copy=$work/copy
     for name in "$@"; do
-        is_built "$name" || missing="$missing $name" wanted="$wanted $(crate_of "$name")"
+        from=$top/crates/$name into=$copy/crates/$name
+        mkdir -p "$into/out"
+        sed -n "s/^\(semver_parser_wasm\) staticlib:/\1 wasm64 memory=4194304:/; /^$name[ :]/p" \
+            "$top/crates.txt" >> "$copy/crates.txt"
+        find "$from" -mindepth 1 -maxdepth 1 ! -name out -exec cp -R -t "$into" {} +
+        kept=$from/out/rlib && [ "$name" != "$crate" ] || kept=$from/out/.
+        [ ! -e "$kept" ] || cp -Rl "$kept" "$into/out" 2> /dev/null || cp -R "$kept" "$into/out"
     done
-    [ -n "$missing" ] || return 0
-    for name in $missing; do
-        may_build "$name"
-        echo "proving and building $name first, which can take some minutes" >&2
-    done
-    begin
-    : > "$work/begun"
-    : > "$work/notes"
-    prove_beside $wanted || {
-        cat "$work/notes" >&2
-        return 2
-    }
-    for name in $missing; do build_one "$name" "$(crate_of "$name")" || return; done
+    case $crate in
+    semver_parser_main) set -- run -- 1.2.3 ;;
+    *_main) set -- run -- --help ;;
+    *) set -- lib ;;
+    esac
+    cd "$copy/crates/$crate"
+    beside env TMPDIR="$work" rt "$@" > "$work/notes" 2>&1 || { cat "$work/notes" >&2 && exit 2; }
+    cp "out/$crate" out/proved 2> /dev/null || cp "out/lib$crate.a" out/proved 2> /dev/null ||
+        : > out/proved
+    half=$top/crates/$crate/.out.$$
+    mv out "$half" && rm -rf "$top/crates/$crate/out" && mv "$half" "$top/crates/$crate/out"
 }
 
-# build_one NAME CRATE: builds the file over all that is proved below it, and keeps it.
-build_one() {
-    beside make_in "$top" "$2" > "$work/notes" 2>&1 || {
-        cat "$work/notes" >&2
-        return 2
-    }
-    case $1 in *.a) made=$1 ;; *) made=$2 ;; esac
-    keep "$1" "$top/crates/$2/out/$made" "$work/begun"
+# may_write FOLDER: refuses a folder if it, or the nearest one that is there, may not be written to.
+may_write() {
+    nearest=$1
+    while [ ! -e "$nearest" ]; do nearest=$(dirname -- "$nearest"); done
+    [ -d "$nearest" ] || refuse "not a folder: $nearest"
+    [ -w "$nearest" ] || refuse "cannot write to $nearest"
+}
+
+# put TREE PATH: copies a file or a link of a tree into the folder `to`, under another name first.
+put() {
+    half=$to/${2%/*}/.${2##*/}.$$
+    { cp -P -- "$1/$2" "$half" && mv -fT -- "$half" "$to/$2"; } 2> /dev/null ||
+        refuse "cannot write $to/$2"
+}
+
+# put_all TREE: puts all files of a tree into the folder `to`, and first a record: a line for each
+# file, one with a slash at its end for each folder that is made, and those of an earlier record. So
+# `remove_all` removes nothing else, also if the files of an older version were others.
+record=share/semver-parser/installed
+put_all() {
+    mkdir -p "$1/${record%/*}" && : > "$1/$record"
+    (cd "$1" && find . -type d) > "$work/folders"
+    find "$1" ! -type d -printf '%P\n' | LC_ALL=C sort > "$work/files"
+    while read -r it; do
+        may_write "$to/$it" && [ -e "$to/$it" ] || echo "$it/"
+    done < "$work/folders" > "$work/record"
+    while read -r it; do
+        [ ! -d "$to/$it" ] || [ -L "$to/$it" ] || refuse "cannot write $to/$it: it is a folder"
+    done < "$work/files"
+    [ ! -f "$to/$record" ] || cat "$to/$record" >> "$work/record"
+    LC_ALL=C sort -u "$work/record" "$work/files" > "$1/$record"
+    while read -r it; do mkdir -p -- "$to/$it"; done < "$work/folders"
+    put "$1" "$record"
+    while read -r it; do
+        put "$1" "$it"
+        [ "$it" = "$record" ] || echo "installed $to/$it"
+    done < "$work/files"
+}
+
+# remove_all: removes the files of the record, what python3 keeps of them, and folders empty then.
+remove_all() {
+    [ -f "$to/$record" ] || refuse "nothing is installed under $to"
+    LC_ALL=C sort -r "$to/$record" > "$work/record"
+    ! grep -q '^/\|^$\|\(^\|/\)\.\.\(/\|$\)' "$work/record" ||
+        refuse "$to/$record isn't as it was written"
+    cd "$to"
+    sed 's:/*[^/]*$::' "$work/record" | while read -r folder; do may_write "$to/$folder"; done
+    grep -v '/$' "$work/record" | xargs -d '\n' rm -fv --
+    grep '/$' "$work/record" | while read -r folder; do
+        case $folder in */semver_[pc]*) rm -rf -- "$folder/__pycache__" ;; esac
+        rmdir -- "$to/${folder#./}" 2> /dev/null || :
+    done
 }
