@@ -5,7 +5,7 @@
 #   make uninstall        removes what was installed under PREFIX
 #   make archive          makes OUT/semver-parser-VERSION-linux-x86_64.tar.gz
 #   make clean            removes what was compiled of C; what is proved stays
-#   dpkg-buildpackage -b  makes the Debian packages, in the folder above this one
+#   dpkg-buildpackage -b -uc   makes the Debian packages, in the folder above this one
 PREFIX ?= /usr/local
 LIBDIR ?= lib
 OUT ?= out

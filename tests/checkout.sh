@@ -35,11 +35,13 @@ fail() {
     exit 1
 }
 
-# ends STATUS COMMAND..: the command has to end with the status. What it writes is kept.
+# ends STATUS COMMAND..: the command has to end with the status. What it writes is kept, but for what
+# make says if a recipe fails.
 ends() {
     wanted=$1 status=0
     shift
     "$@" > "$work/stdout" 2> "$work/stderr" || status=$?
+    sed -i '/^make[][0-9]*: \*\*\* /d' "$work/stderr"
     [ "$status" = "$wanted" ] || fail "$*: status $status in place of $wanted"
 }
 
@@ -48,20 +50,14 @@ has() {
     printf '%s\n' "$1" | diff -u - "$work/$2"
 }
 
-# refuses WHY COMMAND..: the command has to end with status 2 and one line that says why, beside what
-# make says of its end, and to write nothing else.
+# refuses WHY COMMAND..: the command has to end with status 2 and one line that says why, and to
+# write nothing else.
 refuses() {
     why=$1
     shift
     ends 2 "$@"
-    without_make
     has "$why" stderr
     [ ! -s "$work/stdout" ] || fail "$*: it writes before it refuses"
-}
-
-# without_make: takes from standard error what make says when a recipe fails.
-without_make() {
-    sed -i '/^make\(\[[0-9]*\]\)\?: \*\*\* /d' "$work/stderr"
 }
 
 # holds FOLDER: tells what the folder has, but for folders.
