@@ -1,11 +1,11 @@
 # Builds, installs and packs; tools/README.md says why so.
-#   make                  proves and builds what isn't built: the programs and the C library
-#   make install          installs these, the header, a file for pkg-config and the manual
-#   make install-python   installs the Python package and the checkers, too
-#   make uninstall        removes what was installed under PREFIX
-#   make archive          makes OUT/semver-parser-VERSION-linux-x86_64.tar.gz
-#   make clean            removes what was compiled of C; what is proved stays
-#   dpkg-buildpackage -b -uc   makes the Debian packages, in the folder above this one
+#   make                      proves and builds what isn't built: the programs and the C library
+#   make install              installs these, the header, a file for pkg-config and the manual
+#   make install-python       installs the Python package and the checkers, too
+#   make uninstall            removes what was installed under PREFIX
+#   make archive              makes OUT/semver-parser-VERSION-linux-x86_64.tar.gz
+#   make clean                removes what was compiled of C; what is proved stays
+#   dpkg-buildpackage -b -uc  makes the Debian packages, in the folder above this one
 PREFIX ?= /usr/local
 LIBDIR ?= lib
 OUT ?= out

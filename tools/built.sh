@@ -53,15 +53,14 @@ run() {
 may_build() {
     [ "$(id -u)" != 0 ] || [ -O "$top" ] || refuse "$1 isn't built, and root builds nothing in a" \
         'checkout of another user: run make as its owner, then sudo make install'
-    for folder in "$top" "$top/out" "$top"/out/* "$top/crates/$1" "$top/crates/$1/out"; do
+    for folder in "$top" "$top"/out "$top"/out/*/ "$top/crates/$1" "$top/crates/$1/out"; do
         [ ! -e "$folder" ] || [ -w "$folder" ] ||
             refuse "$1 isn't built, and cannot be: $folder may not be written to"
     done
 }
 
-# prove CRATE BELOW..: proves a crate in a copy of it and of those below it, since `rt` locks all of
-# them, and moves what it made to the crate's out/. There `proved` is the program or static library,
-# or else empty. A program runs once. What `rt` writes is shown if it fails.
+# prove CRATE BELOW..: proves a crate in a copy of it and those below it, since `rt` locks them all,
+# and moves its out/ to its place; `proved` is the program or static library there, or else empty.
 prove() {
     may_build "$1"
     command -v rt > /dev/null || refuse "$1 isn't built, and cannot be: there is no command rt" \
@@ -82,7 +81,7 @@ prove() {
     *_main) set -- run -- --help ;;
     *) set -- lib ;;
     esac
-    cd "$copy/crates/$crate"
+    cd "$copy/crates/$crate" && rm -f out/proved
     beside env TMPDIR="$work" rt "$@" > "$work/notes" 2>&1 || { cat "$work/notes" >&2 && exit 2; }
     cp "out/$crate" out/proved 2> /dev/null || cp "out/lib$crate.a" out/proved 2> /dev/null ||
         : > out/proved
@@ -137,7 +136,8 @@ remove_all() {
         refuse "$to/$record isn't as it was written"
     cd "$to"
     sed 's:/*[^/]*$::' "$work/record" | while read -r folder; do may_write "$to/$folder"; done
-    grep -v '/$' "$work/record" | xargs -d '\n' rm -fv --
+    grep -v "/$\|^$record$" "$work/record" | xargs -d '\n' rm -fv --
+    rm -f -- "$record"
     grep '/$' "$work/record" | while read -r folder; do
         case $folder in */semver_[pc]*) rm -rf -- "$folder/__pycache__" ;; esac
         rmdir -- "$to/${folder#./}" 2> /dev/null || :
