@@ -21,8 +21,7 @@ begin() {
 
 let_go() {
     [ -z "$running" ] || { kill "$!" && wait "$!"; } 2> /dev/null || :
-    [ -z "$half" ] || rm -rf -- "$half"
-    [ -z "$work" ] || rm -rf -- "$work" 2> /dev/null || rm -rf -- "$work"
+    rm -rf -- "$half" "$work" 2> /dev/null || rm -rf -- "$half" "$work"
 }
 
 # beside COMMAND..: runs a command without input, so that a signal to the script ends both.
@@ -61,6 +60,7 @@ may_build() {
 
 # prove CRATE BELOW..: proves a crate in a copy of it and those below it, since `rt` locks them all,
 # and moves its out/ to its place; `proved` is the program or static library there, or else empty.
+# Files that `rt` replaces and never changes are links.
 prove() {
     may_build "$1"
     command -v rt > /dev/null || refuse "$1 isn't built, and cannot be: there is no command rt" \
@@ -72,16 +72,16 @@ prove() {
         mkdir -p "$into/out"
         sed -n "s/^\(semver_parser_wasm\) staticlib:/\1 wasm64 memory=4194304:/; /^$name[ :]/p" \
             "$top/crates.txt" >> "$copy/crates.txt"
-        find "$from" -mindepth 1 -maxdepth 1 ! -name out -exec cp -R -t "$into" {} +
-        kept=$from/out/rlib && [ "$name" != "$crate" ] || kept=$from/out/.
+        skip=./out kept=$from/out/rlib && [ "$name" != "$crate" ] || skip=*.oantt kept=$from/out/.
         [ ! -e "$kept" ] || cp -Rl "$kept" "$into/out" 2> /dev/null || cp -R "$kept" "$into/out"
+        tar -C "$from" --exclude="$skip" -cf - . | tar -C "$into" -xf -
     done
     case $crate in
     semver_parser_main) set -- run -- 1.2.3 ;;
     *_main) set -- run -- --help ;;
     *) set -- lib ;;
     esac
-    cd "$copy/crates/$crate" && rm -f out/proved
+    cd "$copy/crates/$crate"
     beside env TMPDIR="$work" rt "$@" > "$work/notes" 2>&1 || { cat "$work/notes" >&2 && exit 2; }
     cp "out/$crate" out/proved 2> /dev/null || cp "out/lib$crate.a" out/proved 2> /dev/null ||
         : > out/proved
