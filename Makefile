@@ -171,6 +171,5 @@ archive:
 	tar -C "$$work" --sort=name --format=gnu --mtime="@$$date" --owner=0 --group=0 \
 		--numeric-owner -cf "$$work/tar" $(archive)
 	gzip -n -9 < "$$work/tar" > "$$work/$(archive).tar.gz"
-	mkdir -p "$$OUT"
-	to=$$OUT put "$$work" ./$(archive).tar.gz
+	mkdir -p "$$OUT" && to=$$OUT put "$$work" ./$(archive).tar.gz
 	echo "made $$OUT/$(archive).tar.gz"

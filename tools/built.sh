@@ -41,6 +41,7 @@ again() {
 # run PROGRAM ARGUMENT..: runs a program, and has make build it first if anything is newer.
 run() {
     built=$top/out/built/$1
+    [ -s "$built" ] || rm -f -- "$built"
     newer=$(cd "$top" && find crates.txt crates/*/src crates/*/specs crates/*/proofs \
         -newer "$built" 2> /dev/null) || newer=unknown
     [ -z "$newer" ] || { begin && again "out/built/$1" >&2 && let_go; } || exit 2
