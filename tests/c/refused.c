@@ -335,6 +335,19 @@ static void many_take(const char *range, bool at_null, int32_t wanted) {
     check(!refused, "another number of requests", range, request);
 }
 
+/* Of at most three texts the range takes none. */
+static void few_take_none(const char *range, int32_t wanted) {
+    const semver_parser_text versions[] = {{(const uint8_t *)"1.2.3", 5},
+        {(const uint8_t *)"2.0.0", 5}, {(const uint8_t *)"1.2.4", 5}};
+    uint8_t answers[3];
+    for (size_t count = 0; count <= 3; count++) {
+        grant(0);
+        int32_t answered = semver_parser_meets_each((const uint8_t *)range, strlen(range), reading,
+                                                    rule_of_reading(), versions, count, answers);
+        check(answered == wanted && !refused, "few versions take memory", range, 0);
+    }
+}
+
 /* A version takes none by any reading, nor does its fault by a tool's own. By the crate's the fault
  * takes what is read before it. */
 static void versions_take_by_reading(void) {
@@ -418,6 +431,9 @@ static void takes_by_reading(void) {
         many_take("^", at_null != 0, SEMVER_PARSER_NOT_A_RANGE);
         many_take("<=18446744073709551615", at_null != 0, SEMVER_PARSER_NUMBER_TOO_LARGE);
     }
+    few_take_none(two, SEMVER_PARSER_OK);
+    few_take_none("^", SEMVER_PARSER_NOT_A_RANGE);
+    few_take_none("<=18446744073709551615", SEMVER_PARSER_NUMBER_TOO_LARGE);
 }
 
 /* `reading` is the number of none then. */

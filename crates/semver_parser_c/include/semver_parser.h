@@ -288,10 +288,9 @@ int32_t semver_parser_meets(const uint8_t *range, size_t range_length, int32_t r
                             int32_t pre_releases, const uint8_t *version, size_t version_length,
                             bool *meets);
 
-/* The same for `count` versions, reading the range once. Each byte of `answers` is
- * SEMVER_PARSER_MEETS, SEMVER_PARSER_DOES_NOT_MEET, or the error of that version. If an empty
- * string is null, the array is copied. Allocates up to 74 bytes for each byte of the range, and its
- * set. */
+/* The same for `count` versions. Each byte of `answers` is SEMVER_PARSER_MEETS,
+ * SEMVER_PARSER_DOES_NOT_MEET, or the error of that version. If an empty string is null, the array
+ * is copied. With 4 or more, allocates up to 74 bytes for each byte of the range, and its set. */
 int32_t semver_parser_meets_each(const uint8_t *range, size_t range_length, int32_t reading,
                                  int32_t pre_releases, const semver_parser_text *versions,
                                  size_t count, uint8_t *answers);

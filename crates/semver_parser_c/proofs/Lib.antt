@@ -11,3 +11,4 @@ mod OneLeast
 mod OneMeeting
 mod OneSet
 mod ExplainedRanges
+mod VersionUtf8

@@ -1,5 +1,5 @@
 -- What is refused of a range that is asked of a version, and of the version.
-use Rattle.std.proofs.Common.{◌≡◌, ◌≢◌, ◌∙◌, ◌++◌, ◌⊎◌, ℤ, arith, inl, inr, refl, sym, rules}
+use Rattle.std.proofs.Common.{◌≢◌, ◌++◌, ℤ, arith}
 use Rattle.std.specs.Prelude.{IsUtf8}
 use Rattle.semver_parser.specs.Texts.{Text}
 use Rattle.semver_parser.specs.ToolVersions.{IsVersionTextIn}
@@ -8,7 +8,7 @@ use Rattle.tool_ranges.specs.declared.meaning.Meaning.{Meaning}
 use Rattle.tool_ranges.specs.Meanings.{reading_of}
 use Rattle.tool_ranges.specs.Readings.{dialect_of}
 use Rattle.semver_parser_c.specs.Numbers.{range_out_of_memory, version_out_of_memory}
-use Rattle.semver_parser_c.specs.Faults.{IsOneOf, RefusesRange, RefusesVersion, named_faults, version_faults}
+use Rattle.semver_parser_c.specs.Faults.{IsOneOf, RefusesVersion, named_faults, version_faults}
 use Rattle.semver_parser_c.specs.Readings.{IsDialect}
 use Rattle.semver_parser_c.specs.Steps.RangeFaults.{IsMeaningOf, IsReadable, IsRefused, IsUnjudged}
 use Rattle.semver_parser_c.proofs.Dialects.{of_reading}

@@ -3,19 +3,11 @@ use Rattle.std.specs.Prelude.{ℕ, pos, Bool, true, false, ◌≡◌, ◌≢◌,
 use Rattle.semver_parser.specs.Texts.{Text}
 use Rattle.semver_parser.specs.Versions.{VersionValue}
 use Rattle.semver_parser.specs.ToolVersions.{IsVersionTextIn, SpellsIn}
-use Rattle.release_filter.specs.Filters.{FilterValue, passes}
 use Rattle.tool_ranges.specs.declared.meaning.Meaning.{Meaning}
 use Rattle.tool_ranges.specs.Readings.{TreeOf, SpellsAs, dialect_of}
 use Rattle.tool_ranges.specs.Meanings.{reading_of, meant_as}
 use Rattle.semver_parser_c.specs.Numbers as number
 use Rattle.semver_parser_c.specs.Faults.{IsOneOf, MayRunOutIn, RefusedIn, version_faults}
-
--- what passes the filter is what the range text means, of versions in the dialect of its reading
-pub record IsFilterOf (filter : FilterValue) (m : Meaning) (range : Text) : Type 0 where
-  pub dialect : filter.dialect ≡ dialect_of (reading_of m)
-  pub meaning : (tree : TreeOf (reading_of m)) (v : VersionValue) (version : Text)
-      → SpellsAs (reading_of m) tree range → SpellsIn (dialect_of (reading_of m)) v version
-      → passes filter v ≡ meant_as m tree v
 
 -- what is written for whether a version meets a range
 abbrev pub meeting_byte : Bool → ℕ

@@ -1,3 +1,4 @@
 pub mod RangeFaults
 pub mod MeantSets
 pub mod VersionFaults
+pub mod Questions

@@ -14,8 +14,8 @@ ghost use Rattle.semver_parser_c.specs.Readings.{IsDialect, IsNamed};
 ghost use Rattle.semver_parser_c.specs.Steps.RangeFaults.{HasFault, IsReadable, IsUnjudged, Stands};
 
 use crate::range_text::{self, RangeFault};
-use crate::{numbers, readings, version_text};
-use semver_parser::version::{self, Dialect, Outline};
+use crate::{readings, version_text};
+use semver_parser::version::{self, Outline};
 use semver_parser::{RangeError, laws};
 use std::alloc::Global;
 use tool_ranges::meaning::{self, Meaning};
@@ -47,9 +47,9 @@ pub fn judge(
         Err(number) => return Err(number),
     };
     let dialect = meaning.reading().dialect();
-    let Some(outline) = outline(version, dialect) else {
+    let Some(outline) = version::outline_in(version, dialect) else {
         return match check(meaning, range) {
-            Ok(()) => Err(fault(alloc, version, dialect)),
+            Ok(()) => Err(version_text::fault(alloc, version, dialect)),
             Err(fault) => Err(range_text::number_of(fault)),
         };
     };
@@ -60,7 +60,7 @@ pub fn judge(
 }
 
 /// Whether a range text means the version of an outline, or its error.
-fn meets(meaning: Meaning, range: &[u8], version: &Outline<'_>) -> Result<bool, RangeFault>
+pub fn meets(meaning: Meaning, range: &[u8], version: &Outline<'_>) -> Result<bool, RangeFault>
     ensures accepted { IfOk result (λ _. IsReadable (reading_of meaning) range.now) }
     ensures meaning { IfOk result (λ met. (tree : TreeOf (reading_of meaning))
         → SpellsAs (reading_of meaning) tree range.now
@@ -80,7 +80,7 @@ fn meets(meaning: Meaning, range: &[u8], version: &Outline<'_>) -> Result<bool, 
 }
 
 /// Whether a range text is read, or its error.
-fn check(meaning: Meaning, range: &[u8]) -> Result<(), RangeFault>
+pub fn check(meaning: Meaning, range: &[u8]) -> Result<(), RangeFault>
     ensures accepted { IfOk result (λ _. IsReadable (reading_of meaning) range.now) }
     ensures fault { IfErr result (λ fault. HasFault (reading_of meaning) range.now fault) }
     ensures no_memory { result ≢ Err OutOfMemory }
@@ -93,27 +93,5 @@ fn check(meaning: Meaning, range: &[u8]) -> Result<(), RangeFault>
         Err(RangeError::NotARange) => Err(RangeFault::NotARange),
         Err(RangeError::NumberTooLarge) => Err(RangeFault::TooLarge),
         Err(RangeError::OutOfMemory) => Err(RangeFault::OutOfMemory),
-    }
-}
-
-/// The outline of the version that a text spells in a dialect, if it is UTF-8 and spells one.
-fn outline(version: &[u8], dialect: Dialect) -> Option<Outline<'_>>
-    ensures { MatchOption result (IsUtf8 version.now → ¬ (IsVersionTextIn dialect version.now))
-        (λ o. IsUtf8 version.now × SpellsIn dialect (version_of o) version.now) }
-{
-    match std::str::from_utf8(version) {
-        Ok(text) => version::outline_in(text.as_bytes(), dialect),
-        Err(_) => None,
-    }
-}
-
-/// The number of the error of a text that spells no version in a dialect.
-fn fault(alloc: Global, version: &[u8], dialect: Dialect) -> i32
-    requires { IsUtf8 version.now → ¬ (IsVersionTextIn dialect version.now) }
-    ensures { RefusesVersion dialect version.now result }
-{
-    match std::str::from_utf8(version) {
-        Ok(text) => version_text::fault(alloc, text, dialect),
-        Err(_) => numbers::VERSION_NOT_UTF8,
     }
 }

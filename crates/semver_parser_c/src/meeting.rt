@@ -1,65 +1,125 @@
 //! Whether versions meet a range, by a reading and by the rule for pre-releases that numbers name.
 
-ghost use Rattle.std.specs.Prelude.{◌≡◌, ◌<◌, ℕ, pos, length, drop};
-ghost use Rattle.std.specs.Prelude.{slice_get, slice_index, IfOk, IfErr, IfSome, IsUtf8};
+ghost use Rattle.std.specs.Prelude.{◌≡◌, ◌≢◌, ◌<◌, ◌≤◌, ℕ, pos, length, drop};
+ghost use Rattle.std.specs.Prelude.{slice_get, slice_index, Err, IfOk, IfErr, IfSome};
 ghost use Rattle.semver_parser.specs.Texts.{Text};
-ghost use Rattle.semver_parser.specs.Versions.{VersionValue};
-ghost use Rattle.semver_parser.specs.ToolVersions.{IsVersionTextIn, SpellsIn};
-ghost use Rattle.tool_ranges.specs.declared.meaning.Meaning.{Meaning};
-ghost use Rattle.release_filter.specs.Filters.{passes};
+ghost use Rattle.tool_ranges.specs.declared.meaning.Meaning.{Meaning as SomeMeaning};
+ghost use Rattle.tool_ranges.specs.Meanings.{reading_of};
+ghost use Rattle.semver_parser_c.specs.Numbers as number;
 ghost use Rattle.semver_parser_c.specs.Readings.{IsNamed};
-ghost use Rattle.semver_parser_c.specs.Faults.{IsAccepted, IsOneOf};
-ghost use Rattle.semver_parser_c.specs.Faults.{RefusesRange, RefusesVersion, version_faults};
-ghost use Rattle.semver_parser_c.specs.Meetings.{IsAnswer, IsFilterOf};
-ghost use Rattle.semver_parser_c.specs.Steps.RangeFaults.{IsRefused, Stands};
+ghost use Rattle.semver_parser_c.specs.Faults.{IsAccepted, IsOneOf, RefusesRange, version_faults};
+ghost use Rattle.semver_parser_c.specs.Meetings.{IsAnswer};
+ghost use Rattle.semver_parser_c.specs.Steps.Questions.{IsFilterOf, IsQuestion, IsQuestionOf};
+ghost use Rattle.semver_parser_c.specs.Steps.Questions.{IsVerdict};
+ghost use Rattle.semver_parser_c.specs.Steps.RangeFaults.{IsReadable, IsRefused, Stands};
 
-use crate::{numbers, sets, version_text};
+use crate::{asking, numbers, range_text, readings, sets, version_text};
 use release_filter::{Filter, Judged};
+use semver_parser::{laws, version};
 use std::alloc::Global;
+use tool_ranges::meaning::Meaning;
 
-/// The filter of a range text by the numbers of a reading and a rule, or the number of the fault.
-pub fn filter_of(
+/// Of so many versions at most a range is asked as its text, which takes no memory.
+const AT_ONCE: usize = 3;
+
+/// A range that is asked of versions: its set; or its text, which is judged as it is read.
+#[derive(Drop)]
+pub enum Question<'r> {
+    Filter(Filter),
+    Text(Meaning, &'r [u8]),
+}
+
+/// The question of a range text by the numbers of a reading and a rule, or the number of the fault.
+/// It will be asked of so many versions.
+pub fn question_of<'r>(
     alloc: Global,
-    range: &[u8],
+    range: &'r [u8],
     reading: i32,
     pre_releases: i32,
-) -> Result<Filter, i32>
-    ensures accepted { IfOk result (λ filter. IsAccepted reading pre_releases range.now) }
-    ensures meaning { IfOk result (λ filter. (m : Meaning) → IsNamed m reading pre_releases
-        → IsFilterOf filter m range.now) }
-    ensures stands { IfOk result (λ filter. Stands
-        (RefusesRange reading pre_releases range.now)) }
+    count: usize,
+) -> Result<Question<'r>, i32>
+    ensures accepted { IfOk result (λ _. IsAccepted reading pre_releases range.now) }
+    ensures meaning { IfOk result (λ question. (m : SomeMeaning) → IsNamed m reading pre_releases
+        → IsQuestionOf question m range.now) }
+    ensures stands { IfOk result (λ _. Stands (RefusesRange reading pre_releases range.now)) }
     ensures refused { IfErr result (λ n. IsRefused reading pre_releases range.now n) }
+    ensures at_once { count ≤ 3 → result ≢ Err number.range_out_of_memory }
 {
+    if count <= AT_ONCE {
+        return text_of(range, reading, pre_releases);
+    }
     match sets::read(alloc, range, reading, pre_releases) {
-        Ok((meaning, set)) => Ok(Filter::of_versions(set, meaning.reading().dialect())),
+        Ok((meaning, set)) => {
+            let filter = Filter::of_versions(set, meaning.reading().dialect());
+            Ok(Question::Filter(filter))
+        }
         Err(number) => Err(number),
     }
 }
 
-/// Whether a version text passes a filter, or the number of its fault.
-pub fn judge(alloc: Global, filter: &Filter, version: &[u8]) -> Result<bool, i32>
-    ensures met { IfOk result (λ met. (v : VersionValue) → SpellsIn filter.now.dialect v version.now
-        → met ≡ passes filter.now v) }
-    ensures read { IfOk result (λ met. IsVersionTextIn filter.now.dialect version.now) }
-    ensures utf8 { IfOk result (λ met. IsUtf8 version.now) }
-    ensures refused { IfErr result (RefusesVersion filter.now.dialect version.now) }
-    ensures none { IfErr result (λ _. IsUtf8 version.now
-        → ¬ (IsVersionTextIn filter.now.dialect version.now)) }
+/// A range text that is read, as a question, or the number of the fault.
+fn text_of<'r>(range: &'r [u8], reading: i32, pre_releases: i32) -> Result<Question<'r>, i32>
+    ensures accepted { IfOk result (λ _. IsAccepted reading pre_releases range.now) }
+    ensures meaning { IfOk result (λ question. (m : SomeMeaning) → IsNamed m reading pre_releases
+        → IsQuestionOf question m range.now) }
+    ensures stands { IfOk result (λ _. Stands (RefusesRange reading pre_releases range.now)) }
+    ensures refused { IfErr result (λ n. IsRefused reading pre_releases range.now n) }
+    ensures no_memory { result ≢ Err number.range_out_of_memory }
 {
-    let Ok(text) = std::str::from_utf8(version) else {
-        return Err(numbers::VERSION_NOT_UTF8);
+    let meaning = match readings::meaning_of(reading, pre_releases) {
+        Ok(meaning) => meaning,
+        Err(number) => return Err(number),
     };
-    match filter.judge(text.as_bytes()) {
-        Judged::Passes(_) => Ok(true),
-        Judged::DoesNotPass => Ok(false),
-        Judged::NoVersion => Err(version_text::fault(alloc, text, filter.dialect())),
+    match asking::check(meaning, range) {
+        Ok(()) => Ok(Question::Text(meaning, range)),
+        Err(fault) => Err(range_text::number_of(fault)),
     }
 }
 
-/// Writes for each of the texts, as far as there is room, whether it passes a filter, or its fault.
-pub fn judge_each(alloc: Global, filter: &Filter, versions: &[&[u8]], answers: &mut [u8])
-    ensures answers { (m : Meaning) (range : Text) → IsFilterOf filter.now m range
+/// Whether a version text meets a range, or the number of its fault.
+fn judge(alloc: Global, question: &Question<'_>, version: &[u8]) -> Result<bool, i32>
+    requires { IsQuestion question.now }
+    ensures { (m : SomeMeaning) (range : Text) → IsQuestionOf question.now m range
+        → IsVerdict m range version.now result }
+{
+    match question {
+        Question::Filter(filter) => judge_by_set(alloc, filter, version),
+        Question::Text(meaning, range) => judge_by_text(alloc, *meaning, range, version),
+    }
+}
+
+/// Whether a version text passes a filter, or the number of its fault.
+fn judge_by_set(alloc: Global, filter: &Filter, version: &[u8]) -> Result<bool, i32>
+    ensures { (m : SomeMeaning) (range : Text) → IsFilterOf filter.now m range
+        → IsVerdict m range version.now result }
+{
+    match filter.judge(version) {
+        Judged::Passes(_) => Ok(true),
+        Judged::DoesNotPass => Ok(false),
+        Judged::NoVersion => Err(version_text::fault(alloc, version, filter.dialect())),
+    }
+}
+
+/// Whether a range text that is read means the version of a text, or the number of its fault.
+fn judge_by_text(alloc: Global, meaning: Meaning, range: &[u8], version: &[u8]) -> Result<bool, i32>
+    requires { IsReadable (reading_of meaning) range.now }
+    ensures { IsVerdict meaning range.now version.now result }
+{
+    laws::one_version_in();
+    let dialect = meaning.reading().dialect();
+    let Some(outline) = version::outline_in(version, dialect) else {
+        return Err(version_text::fault(alloc, version, dialect));
+    };
+    match asking::meets(meaning, range, &outline) {
+        Ok(met) => Ok(met),
+        Err(_) => unreachable!(),
+    }
+}
+
+/// Writes for each of the texts, as far as there is room, whether it meets a range, or its fault.
+pub fn judge_each(alloc: Global, question: &Question<'_>, versions: &[&[u8]], answers: &mut [u8])
+    requires { IsQuestion question.now }
+    ensures answers { (m : SomeMeaning) (range : Text) → IsQuestionOf question.now m range
         → (k : ℕ) → k < length versions.now → k < length answers.old
         → IfSome (slice_get versions.now k)
         (λ text. IsAnswer m range text.now (slice_index answers.new k)) }
@@ -67,16 +127,17 @@ pub fn judge_each(alloc: Global, filter: &Filter, versions: &[&[u8]], answers: &
         ≡ drop (length versions.now) answers.old }
 {
     for at in 0..versions.len().min(answers.len()) {
-        answers[at] = byte_for(alloc, filter, versions[at]);
+        answers[at] = byte_for(alloc, question, versions[at]);
     }
 }
 
-/// What is written for a version text: whether it passes a filter, or the number of its fault.
-fn byte_for(alloc: Global, filter: &Filter, version: &[u8]) -> u8
-    ensures { (m : Meaning) (range : Text) → IsFilterOf filter.now m range
+/// What is written for a version text: whether it meets a range, or the number of its fault.
+fn byte_for(alloc: Global, question: &Question<'_>, version: &[u8]) -> u8
+    requires { IsQuestion question.now }
+    ensures { (m : SomeMeaning) (range : Text) → IsQuestionOf question.now m range
         → IsAnswer m range version.now result }
 {
-    match judge(alloc, filter, version) {
+    match judge(alloc, question, version) {
         Ok(true) => numbers::MEETS,
         Ok(false) => numbers::DOES_NOT_MEET,
         Err(number) => byte_of(number),

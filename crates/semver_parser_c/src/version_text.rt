@@ -26,10 +26,7 @@ pub fn outline(alloc: Global, text: &[u8], dialect: Dialect) -> Result<Outline<'
     ensures refused { IfErr result (RefusesVersion dialect text.now) }
     ensures none { IfErr result (λ _. IsUtf8 text.now → ¬ (IsVersionTextIn dialect text.now)) }
 {
-    let Ok(text) = std::str::from_utf8(text) else {
-        return Err(numbers::VERSION_NOT_UTF8);
-    };
-    match version::outline_in(text.as_bytes(), dialect) {
+    match version::outline_in(text, dialect) {
         Some(outline) => Ok(outline),
         None => Err(fault(alloc, text, dialect)),
     }
@@ -64,11 +61,14 @@ pub fn plain_version(alloc: Global, text: &[u8], dialect: Dialect) -> Result<Ver
 }
 
 /// The number of the error of a text that spells no version in a dialect: in the crate's by its
-/// tokens.
-pub fn fault(alloc: Global, text: &str, dialect: Dialect) -> i32
+/// tokens. A text that spells one is UTF-8, so only then it is asked whether this one is.
+pub fn fault(alloc: Global, text: &[u8], dialect: Dialect) -> i32
     requires { ¬ (IsVersionTextIn dialect text.now) }
     ensures { RefusesVersion dialect text.now result }
 {
+    let Ok(text) = std::str::from_utf8(text) else {
+        return numbers::VERSION_NOT_UTF8;
+    };
     match dialect {
         Dialect::Crate => fault_by_tokens(alloc, text),
         Dialect::Cargo | Dialect::Npm => numbers::NOT_A_VERSION,

@@ -1,11 +1,11 @@
-use Rattle.std.proofs.Common.{◌≡◌, ◌≢◌, ◌∙◌, ap, rules}
-use Rattle.tool_ranges.specs.declared.meaning.Meaning.{Meaning}
+use Rattle.std.proofs.Common.{◌≡◌, ◌≢◌, ◌∙◌, ap, refl, rules}
 use Rattle.tool_ranges.specs.Meanings.{meant_as, reading_of}
 use Rattle.tool_ranges.specs.Readings.{dialect_of}
 use Rattle.semver_parser.specs.Outlines.{version_of}
 use Rattle.semver_parser_c.specs.Numbers.{range_out_of_memory}
 use Rattle.semver_parser_c.specs.Steps.RangeFaults.{IsMeaningOf}
 use Rattle.semver_parser_c.proofs.Dialects.{of_reading}
+use Rattle.semver_parser_c.proofs.VersionUtf8.{version_utf8}
 use Rattle.semver_parser_c.proofs.OneMeeting.{range_refused, version_refused}
 use Rattle.semver_parser_c.proofs.RangeFaults.{named_found, refused, stands}
 use Rattle.semver_parser_c.proofs.asking.judge.Goals as goal
@@ -20,7 +20,7 @@ returns-in-Ok-check-clause-refused c =
     search (
       rules,
       version_refused c.in-Ok.meaning _ _ c.args.range.now c.args.version.now _ c.in-Ok.ensures.named c.in-Ok-check.ensures.accepted
-          (rw same at c.fault.ensures) (rw same at c.in_default.ensures),
+          (rw same at c.fault.ensures) (λ _. rw same at (c.in_default.ensures.none.0 refl)),
     )
 
 pub returns-in-Err-check-clause-refused : goal.returns-in-Err-check-clause-refused
@@ -40,14 +40,14 @@ returns-in-Ok-meets-clause-read c = λ d is.
     let only : IsMeaningOf c.in-Ok.meaning c.args.reading c.args.pre_releases = search rules in
     let same = c.dialect-dialect.ensures.dialect ∙ ap dialect_of c.reading.ensures
     ∙ of_reading (reading_of c.in-Ok.meaning) _ d only.named.0 is in
-    (version_of c.in-Some.outline, rw same at c.in-Some.ensures.1)
+    (version_of c.in-Some.outline, rw same at c.in-Some.ensures.version)
 
 pub returns-in-Ok-meets-clause-meaning : goal.returns-in-Ok-meets-clause-meaning
 returns-in-Ok-meets-clause-meaning c = λ m named tree v spells version_spells.
     let only : IsMeaningOf c.in-Ok.meaning c.args.reading c.args.pre_releases = search rules in
     let own : c.in-Ok.meaning ≡ m = only.only m named in
     let same = c.dialect-dialect.ensures.dialect ∙ ap dialect_of c.reading.ensures ∙ ap (λ k. dialect_of (reading_of k)) own in
-    let one = c.one_version_in.ensures.same_version _ _ _ _ (rw same at c.in-Some.ensures.1) version_spells in
+    let one = c.one_version_in.ensures.same_version _ _ _ _ (rw same at c.in-Some.ensures.version) version_spells in
     (rw own at c.in-Ok-meets.ensures.meaning) tree spells ∙ ap (meant_as m tree) one
 
 pub returns-in-Err-meets-clause-refused : goal.returns-in-Err-meets-clause-refused
@@ -58,3 +58,6 @@ returns-in-Err-meets-clause-refused c =
       range_refused _ _ _ c.args.version.now _
           (refused _ _ _ _ _ c.in-Ok.ensures.named (c.number_of-in-Err-meets.ensures.told _ _ c.in-Err-meets.ensures.fault)) found,
     )
+
+pub returns-in-Ok-meets-clause-utf8 : goal.returns-in-Ok-meets-clause-utf8
+returns-in-Ok-meets-clause-utf8 c = version_utf8 _ _ _ c.in-Some.ensures.version

@@ -1,0 +1,41 @@
+-- A means of proof, which no public clause cites: a range that is asked of versions, by its set or as
+-- its text, and what is said of a version.
+use Rattle.std.specs.Prelude.{ℤ, Bool, Result, Ok, Err, ◌≡◌}
+use Rattle.semver_parser.specs.Texts.{Text}
+use Rattle.semver_parser.specs.Versions.{VersionValue}
+use Rattle.semver_parser.specs.ToolVersions.{IsVersionTextIn, SpellsIn}
+use Rattle.release_filter.specs.Filters.{FilterValue, passes}
+use Rattle.tool_ranges.specs.declared.meaning.Meaning.{Meaning}
+use Rattle.tool_ranges.specs.Readings.{TreeOf, SpellsAs, dialect_of}
+use Rattle.tool_ranges.specs.Meanings.{reading_of, meant_as}
+use Rattle.semver_parser_c.specs.declared.meeting.Question.{Question}
+use Rattle.semver_parser_c.specs.declared.meeting.Question.TheVariants as question
+use Rattle.semver_parser_c.specs.Faults.{RefusesVersion}
+use Rattle.semver_parser_c.specs.Steps.RangeFaults.{IsReadable}
+
+-- what passes the filter is what the range text means, of versions in the dialect of its reading
+pub record IsFilterOf (filter : FilterValue) (m : Meaning) (range : Text) : Type 0 where
+  pub dialect : filter.dialect ≡ dialect_of (reading_of m)
+  pub meaning : (tree : TreeOf (reading_of m)) (v : VersionValue) (version : Text)
+      → SpellsAs (reading_of m) tree range → SpellsIn (dialect_of (reading_of m)) v version
+      → passes filter v ≡ meant_as m tree v
+
+-- the question is that of the range text by the meaning: a filter of it, or the text itself, which
+-- is read
+abbrev pub IsQuestionOf : Question → Meaning → Text → Type 0
+IsQuestionOf (question.Filter filter) m range = IsFilterOf filter m range
+IsQuestionOf (question.Text meaning text) m range =
+    (meaning ≡ m) × (text.now ≡ range) × IsReadable (reading_of m) range
+
+-- it is that of some range text
+abbrev pub IsQuestion : Question → Type 0
+IsQuestion q = (m : Meaning) × (range : Text) × IsQuestionOf q m range
+
+-- whether the version that a text spells is one that the range means, or the error of a text that
+-- spells none
+abbrev pub IsVerdict : Meaning → Text → Text → Result Bool ℤ → Type 0
+IsVerdict m range version (Ok met) = IsVersionTextIn (dialect_of (reading_of m)) version
+    × ((tree : TreeOf (reading_of m)) (v : VersionValue) → SpellsAs (reading_of m) tree range
+    → SpellsIn (dialect_of (reading_of m)) v version → met ≡ meant_as m tree v)
+IsVerdict m range version (Err n) = RefusesVersion (dialect_of (reading_of m)) version n
+    × ¬ (IsVersionTextIn (dialect_of (reading_of m)) version)
