@@ -160,3 +160,21 @@ pub fn one_version_parse(
     semver_parser::laws::one_outcome();
     (version::parse(alloc, input), version::parse(alloc, input))
 }
+
+/// So it is from its tokens alone.
+pub fn one_parse_by_tokens(
+    alloc: Global,
+    input: &str,
+) -> (
+    Result<Version, parser::Error<'_>>,
+    Result<Version, parser::Error<'_>>,
+)
+    ensures one { UnlessOutOfMemory result.0 (UnlessOutOfMemory result.1
+        (answer_of version_value result.0 ≡ answer_of version_value result.1)) }
+{
+    semver_parser::laws::one_outcome();
+    (
+        version::parse_by_tokens(alloc, input),
+        version::parse_by_tokens(alloc, input),
+    )
+}

@@ -62,16 +62,20 @@ pub fn parse(alloc: Global, input: &str) -> Result<Version, parser::Error<'_>>
 {
     match read(alloc, input) {
         Ok(Some(version)) => Ok(version),
-        Ok(None) => Ok(by_tokens(alloc, input)?),
+        Ok(None) => Ok(parse_by_tokens(alloc, input)?),
         Err(_) => Err(parser::Error::OutOfMemory),
     }
 }
 
-/// What `parse` answers, token by token.
+// Answer: law answer_laws::versions::one_parse_by_tokens.
+/// Returns what [`parse`] does, with its errors, from the tokens alone. Of a text that spells no
+/// version, as [`outline`] may have shown, it takes less time: `1.2` gives `UnexpectedEnd`.
 #[inline(never)]
-fn by_tokens(alloc: Global, input: &str) -> Result<Version, parser::Error<'_>>
+pub fn parse_by_tokens(alloc: Global, input: &str) -> Result<Version, parser::Error<'_>>
+    // Unless memory ran out, the answer is the outcome of the text.
     ensures outcome { UnlessOutOfMemory result
         (IsOutcomeOf input.now (answer_of version_value result)) }
+    // Memory runs out only where it may as the text is parsed.
     ensures out_of_memory { IfOutOfMemory result (TextMayRunOut input.now) }
 {
     let mut parser = Parser::new(input)?;

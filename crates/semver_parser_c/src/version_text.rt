@@ -80,7 +80,7 @@ fn fault_by_tokens(alloc: Global, text: &str) -> i32
     requires { ¬ (IsVersionText text.now) }
     ensures { RefusesVersion Crate text.now result }
 {
-    let Err(error) = version::parse(alloc, text) else {
+    let Err(error) = version::parse_by_tokens(alloc, text) else {
         unreachable!();
     };
     fault_number(&error)

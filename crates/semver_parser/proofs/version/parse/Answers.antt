@@ -13,14 +13,14 @@ returns-in-Ok-Some c =
     all_of c.args.input.now c.utf8.input (Ok c.in-Ok-Some.version) (spelled_outcome (version_value c.in-Ok-Some.version) c.args.input.now
     ((c.in-Ok-Some.ensures.exact (version_value c.in-Ok-Some.version)).0 (ap (option_map version_value) c.in-Ok-Some.field-0-is))) tt
 
-pub returns-in_ok-by_tokens-in-Ok-None : goal.returns-in_ok-by_tokens-in-Ok-None
-returns-in_ok-by_tokens-in-Ok-None c =
-    let told = c.in_ok-by_tokens-in-Ok-None.ensures in
-    all_of c.args.input.now c.utf8.input (Ok c.in_ok-by_tokens-in-Ok-None.field-0) told.outcome told.out_of_memory
+pub returns-in_ok-parse_by_tokens-in-Ok-None : goal.returns-in_ok-parse_by_tokens-in-Ok-None
+returns-in_ok-parse_by_tokens-in-Ok-None c =
+    let told = c.in_ok-parse_by_tokens-in-Ok-None.ensures in
+    all_of c.args.input.now c.utf8.input (Ok c.in_ok-parse_by_tokens-in-Ok-None.field-0) told.outcome told.out_of_memory
 
-pub returns-in_err-by_tokens-in-Ok-None : goal.returns-in_err-by_tokens-in-Ok-None
-returns-in_err-by_tokens-in-Ok-None c =
-    let told = c.in_err-by_tokens-in-Ok-None.ensures in
+pub returns-in_err-parse_by_tokens-in-Ok-None : goal.returns-in_err-parse_by_tokens-in-Ok-None
+returns-in_err-parse_by_tokens-in-Ok-None c =
+    let told = c.in_err-parse_by_tokens-in-Ok-None.ensures in
     let p = err_from_is_err_and c.from_residual.result c.from_residual.ensures.1 in
     all_of c.args.input.now c.utf8.input c.from_residual.result (rw (p.1, p.2) told.outcome) (rw (p.1, p.2) told.out_of_memory)
 

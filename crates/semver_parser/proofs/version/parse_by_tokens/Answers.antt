@@ -8,8 +8,8 @@ use Rattle.semver_texts.specs.declared.version.Version.{Version}
 use Rattle.semver_tokens.specs.declared.parser.Error.{Error}
 use Rattle.semver_tokens.proofs.IdentifierTexts.{unless_out_of_memory, unless_err, if_err}
 use Rattle.semver_parser.proofs.ParseFacts.{at_bad_start, lexer_has_memory, at_fault, at_refusal, at_end, tail_given, at_tail_refusal}
-use Rattle.semver_parser.proofs.version.by_tokens.Goals as goal
-use Rattle.semver_parser.proofs.version.by_tokens.Goals.{Else-is_eof}
+use Rattle.semver_parser.proofs.version.parse_by_tokens.Goals as goal
+use Rattle.semver_parser.proofs.version.parse_by_tokens.Goals.{Else-is_eof}
 
 abbrev Answer : Type 0
 Answer = Result Version Error
