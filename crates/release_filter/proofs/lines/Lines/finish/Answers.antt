@@ -5,115 +5,64 @@ use Rattle.release_filter.specs.declared.judging.Judged.TheVariants as judged
 use Rattle.std.specs.Prelude.{IsTrue}
 use Rattle.release_filter.specs.Counting.{counts_value}
 use Rattle.release_filter.specs.LineTexts.{after_mark}
-use Rattle.release_filter.specs.Pieces.{EndsInvalid, LinesValue, RefusesEnd}
-use Rattle.release_filter.specs.Steps.Taking.{Concludes, held_value, texts}
-use Rattle.release_filter.specs.declared.lines.LinesError.TheVariants.{NoVersion}
+use Rattle.release_filter.specs.declared.lines.Lines.TheView.{view}
+use Rattle.release_filter.specs.Pieces.{LinesValue, RefusesEnd}
+use Rattle.release_filter.specs.Steps.Taking.{Concludes}
+use Rattle.release_filter.specs.declared.lines.LinesError.TheVariants.{NoVersion, OutOfMemory}
 use Rattle.release_filter.proofs.Endings.{fails_kept, ends_invalid, ends_valid, ends_valid_none, finished_none, finished_one, seen_end}
 use Rattle.release_filter.proofs.Endings.{some_line}
 use Rattle.release_filter.proofs.Passing.{no_length, not_both}
 use Rattle.release_filter.proofs.lines.Lines.finish.Goals as goal
-use Rattle.release_filter.proofs.lines.Lines.finish.Goals.{else-self-via-then-self+else-is_bad, else-self-via-else-self}
+use Rattle.release_filter.proofs.lines.Lines.finish.Goals.{After-noted, else-self-via-then-self+else-is_bad, else-self-via-else-self}
 
 pub returns-in_default-clause-refuses : goal.returns-in_default-clause-refuses
 returns-in_default-clause-refuses c =
-    let s = c.self.inside in
-    let value : LinesValue = record {
-      filter = s.chosen.filter;
-      prefixes = texts s.chosen.prefixes.items;
-      is_strict = s.is_strict;
-      at_front = s.at_front;
-      unended = s.unended.items;
-      held = held_value s.held;
-      counts = counts_value s.counts;
-    } in
+    let value = view c.self.inside in
     let line = c.after_mark-line.result.now in
-    let is = c.after_mark-line.ensures ∙ ap (after_mark s.at_front) c.as_slice.ensures.value in
+    let is = c.after_mark-line.ensures ∙ ap (after_mark value.at_front) c.as_slice.ensures.value in
     let none = no_length line (sym c.is_empty.ensures ∙ c.if-is_empty.true) in
-    subst (λ (x : LinesValue). IsTrue x.is_strict → ¬ (EndsInvalid x)) c.self.view_is
+    subst (λ (x : LinesValue). RefusesEnd x OutOfMemory) c.self.view_is
     (λ strict. ends_valid_none value line is c.one_version_in.ensures.same_version none)
 
 pub returns-then-is_bad-clause-refuses : goal.returns-then-is_bad-clause-refuses
 returns-then-is_bad-clause-refuses c =
-    let s = c.self.inside in
-    let value : LinesValue = record {
-      filter = s.chosen.filter;
-      prefixes = texts s.chosen.prefixes.items;
-      is_strict = s.is_strict;
-      at_front = s.at_front;
-      unended = s.unended.items;
-      held = held_value s.held;
-      counts = counts_value s.counts;
-    } in
+    let value = view c.self.inside in
     let line = c.after_mark-line.result.now in
-    let is = c.after_mark-line.ensures ∙ ap (after_mark s.at_front) c.as_slice.ensures.value in
+    let is = c.after_mark-line.ensures ∙ ap (after_mark value.at_front) c.as_slice.ensures.value in
     let some = some_line line (sym c.is_empty.ensures ∙ c.if-is_empty.false) in
     let ends = ends_invalid value line is some c.self.invariant c.judge_line-judged.result c.judge_line-judged.ensures
     c.is_invalid-is_bad.result c.is_invalid-is_bad.ensures c.if-is_bad.true in
     subst (λ (x : LinesValue). RefusesEnd x (NoVersion c.saturating_add.result)) c.self.view_is
     (c.if-self.true, ends, c.saturating_add.ensures)
 
-pub returns-in_default-noted-clause-refuses : goal.returns-in_default-noted-clause-refuses
-returns-in_default-noted-clause-refuses c =
-    let s = c.self.inside in
-    let value : LinesValue = record {
-      filter = s.chosen.filter;
-      prefixes = texts s.chosen.prefixes.items;
-      is_strict = s.is_strict;
-      at_front = s.at_front;
-      unended = s.unended.items;
-      held = held_value s.held;
-      counts = counts_value s.counts;
-    } in
+-- where the lines are strict, the last one isn't a bad one
+not_bad : (c : After-noted) → IsTrue c.self.inside.is_strict → c.is_invalid-is_bad.result ≡ false
+not_bad c strict = elim c.else-self.branch [
+  | else-self-via-then-self+else-is_bad w ↦ w.if-is_bad.false
+  | else-self-via-else-self w ↦ absurd (not_both strict w.if-self.false)
+]
+
+valid_end : (c : After-noted) → RefusesEnd c.args.self.now OutOfMemory
+valid_end c =
+    let value = view c.self.inside in
     let line = c.after_mark-line.result.now in
-    let is = c.after_mark-line.ensures ∙ ap (after_mark s.at_front) c.as_slice.ensures.value in
+    let is = c.after_mark-line.ensures ∙ ap (after_mark value.at_front) c.as_slice.ensures.value in
     let some = some_line line (sym c.is_empty.ensures ∙ c.if-is_empty.false) in
-    subst (λ (x : LinesValue). IsTrue x.is_strict → ¬ (EndsInvalid x)) c.self.view_is
-    (λ strict. elim c.else-self.branch [
-      | else-self-via-then-self+else-is_bad w ↦
-          ends_valid value line is some c.self.invariant c.judge_line-judged.result c.judge_line-judged.ensures
-          c.one_version_in.ensures.same_version
-          c.is_invalid-is_bad.result c.is_invalid-is_bad.ensures w.if-is_bad.false
-      | else-self-via-else-self w ↦ absurd (not_both strict w.if-self.false)
-    ])
+    subst (λ (x : LinesValue). RefusesEnd x OutOfMemory) c.self.view_is
+    (λ strict. ends_valid value line is some c.self.invariant c.judge_line-judged.result c.judge_line-judged.ensures
+    c.one_version_in.ensures.same_version c.is_invalid-is_bad.result c.is_invalid-is_bad.ensures (not_bad c strict))
+
+pub returns-in_default-noted-clause-refuses : goal.returns-in_default-noted-clause-refuses
+returns-in_default-noted-clause-refuses c = valid_end (goal.at.returns-in_default-noted-clause-refuses c).After-noted
 
 pub returns-in_default-finish-clause-refuses : goal.returns-in_default-finish-clause-refuses
-returns-in_default-finish-clause-refuses c =
-    let s = c.self.inside in
-    let value : LinesValue = record {
-      filter = s.chosen.filter;
-      prefixes = texts s.chosen.prefixes.items;
-      is_strict = s.is_strict;
-      at_front = s.at_front;
-      unended = s.unended.items;
-      held = held_value s.held;
-      counts = counts_value s.counts;
-    } in
-    let line = c.after_mark-line.result.now in
-    let is = c.after_mark-line.ensures ∙ ap (after_mark s.at_front) c.as_slice.ensures.value in
-    let some = some_line line (sym c.is_empty.ensures ∙ c.if-is_empty.false) in
-    subst (λ (x : LinesValue). IsTrue x.is_strict → ¬ (EndsInvalid x)) c.self.view_is
-    (λ strict. elim c.else-self.branch [
-      | else-self-via-then-self+else-is_bad w ↦
-          ends_valid value line is some c.self.invariant c.judge_line-judged.result c.judge_line-judged.ensures
-          c.one_version_in.ensures.same_version
-          c.is_invalid-is_bad.result c.is_invalid-is_bad.ensures w.if-is_bad.false
-      | else-self-via-else-self w ↦ absurd (not_both strict w.if-self.false)
-    ])
+returns-in_default-finish-clause-refuses c = valid_end (goal.at.returns-in_default-finish-clause-refuses c).After-noted
 
 pub returns-then-is_empty-clause-finishes : goal.returns-then-is_empty-clause-finishes
 returns-then-is_empty-clause-finishes c =
-    let s = c.self.inside in
-    let value : LinesValue = record {
-      filter = s.chosen.filter;
-      prefixes = texts s.chosen.prefixes.items;
-      is_strict = s.is_strict;
-      at_front = s.at_front;
-      unended = s.unended.items;
-      held = held_value s.held;
-      counts = counts_value s.counts;
-    } in
+    let value = view c.self.inside in
     let line = c.after_mark-line.result.now in
-    let is = c.after_mark-line.ensures ∙ ap (after_mark s.at_front) c.as_slice.ensures.value in
+    let is = c.after_mark-line.ensures ∙ ap (after_mark value.at_front) c.as_slice.ensures.value in
     let none = no_length line (sym c.is_empty.ensures ∙ c.if-is_empty.true) in
     let old = c.args.kept.now.items in
     let new = c.finish.new.kept.items in
@@ -130,26 +79,12 @@ returns-then-is_empty-clause-finishes c =
 
 pub returns-clause-finishes : goal.returns-clause-finishes
 returns-clause-finishes c =
-    let s = c.self.inside in
-    let value : LinesValue = record {
-      filter = s.chosen.filter;
-      prefixes = texts s.chosen.prefixes.items;
-      is_strict = s.is_strict;
-      at_front = s.at_front;
-      unended = s.unended.items;
-      held = held_value s.held;
-      counts = counts_value s.counts;
-    } in
+    let value = view c.self.inside in
     let line = c.after_mark-line.result.now in
-    let is = c.after_mark-line.ensures ∙ ap (after_mark s.at_front) c.as_slice.ensures.value in
+    let is = c.after_mark-line.ensures ∙ ap (after_mark value.at_front) c.as_slice.ensures.value in
     let some = some_line line (sym c.is_empty.ensures ∙ c.if-is_empty.false) in
     let old = c.args.kept.now.items in
     let new = c.finish-2.new.kept.items in
-    let valid : IsTrue value.is_strict → c.is_invalid-is_bad.result ≡ false =
-    λ strict. elim c.else-self.branch [
-      | else-self-via-then-self+else-is_bad w ↦ w.if-is_bad.false
-      | else-self-via-else-self w ↦ absurd (not_both strict w.if-self.false)
-    ] in
     let begins = c.begin-2.ensures ∙ (λ i. record value {
       at_front = true;
       unended = [];
@@ -158,7 +93,7 @@ returns-clause-finishes c =
     }) in
     let ended = finished_one value line is some c.self.invariant c.judge_line-judged.result c.judge_line-judged.ensures
     (counts_value c.add.new.self) old new c.in-Ok-finish.ensures.answers (λ plain. c.add.ensures ∙ c.in-Ok-noted.ensures plain)
-    c.is_invalid-is_bad.result c.is_invalid-is_bad.ensures valid in (
+    c.is_invalid-is_bad.result c.is_invalid-is_bad.ensures (not_bad (goal.at.returns-clause-finishes c).After-noted) in (
       ended.0,
       seen_end value _ _ _ ended.0 old new c.self.view_is begins ended.1,
       λ strict. ended.2 (ap (λ (v : LinesValue). v.is_strict) c.self.view_is ∙ strict),

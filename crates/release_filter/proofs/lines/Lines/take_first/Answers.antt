@@ -2,8 +2,9 @@ use Rattle.std.proofs.Common.{◌≡◌, ◌∙◌, ◌++◌, [], ap, ap₂, ari
 use Rattle.std.proofs.lemmas.Grind.{common_steps}
 use Rattle.release_filter.specs.Counting.{counts_value}
 use Rattle.release_filter.specs.LineTexts.{after_mark}
+use Rattle.release_filter.specs.declared.lines.Lines.TheView.{view}
 use Rattle.release_filter.specs.Pieces.{LinesValue}
-use Rattle.release_filter.specs.Steps.Taking.{held_value, texts}
+use Rattle.release_filter.specs.Steps.Taking.{held_value}
 use Rattle.release_filter.proofs.Endings.{took_judged}
 use Rattle.release_filter.proofs.TakenPieces.{seen}
 use Rattle.release_filter.proofs.lines.Lines.take_first.Goals as goal
@@ -11,15 +12,7 @@ use Rattle.release_filter.proofs.lines.Lines.take_first.Goals as goal
 pub returns-clause-takes : goal.returns-clause-takes
 returns-clause-takes c =
     let s = c.self-2.inside in
-    let value : LinesValue = record {
-      filter = s.chosen.filter;
-      prefixes = texts s.chosen.prefixes.items;
-      is_strict = s.is_strict;
-      at_front = s.at_front;
-      unended = s.unended.items;
-      held = held_value s.held;
-      counts = counts_value s.counts;
-    } in
+    let value = view s in
     let found = c.in-Some-first_judged in
     let line = found.line.now in
     let same = c.self-2.view_is ∙ sym c.self.view_is in

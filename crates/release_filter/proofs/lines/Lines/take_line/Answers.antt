@@ -1,8 +1,8 @@
 use Rattle.std.proofs.Common.{[], ◌∷◌, subst, ◌≡◌, ◌∙◌, ◌++◌, ℕ, Global, Vec, ap, false, length, refl, sym, true}
 use Rattle.release_filter.specs.Counting.{counts_value}
 use Rattle.release_filter.specs.LineTexts.{after_mark}
-use Rattle.release_filter.specs.Pieces.{LinesValue}
-use Rattle.release_filter.specs.Steps.Taking.{held_value, texts}
+use Rattle.release_filter.specs.declared.lines.Lines.TheView.{view}
+use Rattle.release_filter.specs.Steps.Taking.{held_value}
 use Rattle.release_filter.specs.Wanted.{IsBest, order_of}
 use Rattle.std.specs.Prelude.{option_to_list}
 use Rattle.semver_parser.specs.Texts.{Text}
@@ -14,15 +14,7 @@ use Rattle.release_filter.proofs.lines.Lines.take_line.Goals as goal
 pub returns-in-Ok-take-clause-takes : goal.returns-in-Ok-take-clause-takes
 returns-in-Ok-take-clause-takes c =
     let s = c.self.inside in
-    let value : LinesValue = record {
-      filter = s.chosen.filter;
-      prefixes = texts s.chosen.prefixes.items;
-      is_strict = s.is_strict;
-      at_front = s.at_front;
-      unended = s.unended.items;
-      held = held_value s.held;
-      counts = counts_value s.counts;
-    } in
+    let value = view s in
     let line : c.after_mark-line.result.now ≡ after_mark s.at_front (s.unended.items ++ c.args.end.now) =
     cc c.in_ok-extend_from_slice.ensures.items in
     let whole = took_judged value c.args.end.now c.clear-in-Ok-take.new.self.items c.after_mark-line.result.now c.judge_line-judged.result
@@ -35,15 +27,7 @@ returns-in-Ok-take-clause-takes c =
 pub returns-then-may_hand_over-clause-takes : goal.returns-then-may_hand_over-clause-takes
 returns-then-may_hand_over-clause-takes c =
     let s = c.self.inside in
-    let value : LinesValue = record {
-      filter = s.chosen.filter;
-      prefixes = texts s.chosen.prefixes.items;
-      is_strict = s.is_strict;
-      at_front = s.at_front;
-      unended = s.unended.items;
-      held = held_value s.held;
-      counts = counts_value s.counts;
-    } in
+    let value = view s in
     let may = c.may_hand_over-may_hand_over.ensures c.if-may_hand_over.true in
     let line = c.after_mark-line.result.now in
     let is : line ≡ after_mark s.at_front (s.unended.items ++ c.args.end.now) = cc c.in_ok-extend_from_slice.ensures.items in
@@ -65,15 +49,7 @@ returns-then-may_hand_over-clause-takes c =
 pub returns-then-may_hold-clause-takes : goal.returns-then-may_hold-clause-takes
 returns-then-may_hold-clause-takes c =
     let s = c.self.inside in
-    let value : LinesValue = record {
-      filter = s.chosen.filter;
-      prefixes = texts s.chosen.prefixes.items;
-      is_strict = s.is_strict;
-      at_front = s.at_front;
-      unended = s.unended.items;
-      held = held_value s.held;
-      counts = counts_value s.counts;
-    } in
+    let value = view s in
     let may = c.may_hold-may_hold.ensures c.if-may_hold.true in
     let line = c.after_mark-line.result.now in
     let all = s.unended.items ++ c.args.end.now in

@@ -1,9 +1,8 @@
 use Rattle.std.proofs.Common.{◌≢◌, ◌∙◌, ◌++◌, ◌<◌, ap, length, subst, take}
 use Rattle.std.proofs.lemmas.List.Elements.{All-append, All-same, All-take}
+use Rattle.release_filter.specs.declared.lines.Lines.TheView.{view}
 use Rattle.release_filter.specs.Pieces.{LinesValue}
-use Rattle.release_filter.specs.Counting.{counts_value}
 use Rattle.release_filter.specs.Skipping.{IsLeft, MayHaveVersion}
-use Rattle.release_filter.specs.Steps.Taking.{held_value, texts}
 use Rattle.release_filter.proofs.SkippedLines.{left_all}
 use Rattle.release_filter.proofs.lines.Lines.take_rest.Goals as goal
 
@@ -23,15 +22,7 @@ invariant_of-self-else-skips c =
 pub returns-else-skips-clause-takes : goal.returns-else-skips-clause-takes
 returns-else-skips-clause-takes c =
     let s = c.self.inside in
-    let value : LinesValue = record {
-      filter = s.chosen.filter;
-      prefixes = texts s.chosen.prefixes.items;
-      is_strict = s.is_strict;
-      at_front = s.at_front;
-      unended = s.unended.items;
-      held = held_value s.held;
-      counts = counts_value s.counts;
-    } in
+    let value = view s in
     let whole = s.unended.items ++ c.args.rest.now in
     let new = c.extend_from_slice.new.self.items in
     let is = c.as_slice.ensures.value ∙ c.in_ok-extend_from_slice.ensures.items in
