@@ -8,9 +8,6 @@ pub mod EventSteps
 pub mod EventSums
 pub mod ExactLaws
 pub mod FoundEvents
-pub mod FrontPartials
-pub mod FrontRanges
-pub mod FrontWords
 pub mod Fronts
 pub mod KeptParts
 pub mod LongWords

@@ -13,9 +13,9 @@ use Rattle.semver_ranges.specs.RangeTree.{PartialTree, one, two, three, Simple, 
 use Rattle.semver_ranges.specs.Partials.{stated, states_nothing}
 use Rattle.tool_ranges.specs.CargoGrammar.{AreSpaces, SpellsComparator, SpellsComparators, SpellsRequirement, is_bare, is_every}
 use Rattle.tool_ranges.specs.CargoGrammar.{is_of_cargo, is_one, is_partial_of_cargo, sign, stands_alone, wildcards_are_last}
-use Rattle.semver_ranges.proofs.FrontPartials.{AreFrontOfParts, IsFrontOf, IsFrontOfComponent, IsFrontOfEnd, IsFrontOfPart}
-use Rattle.semver_ranges.proofs.FrontPartials.{cut_at, nothing, partial_goes_on, rest_text}
-use Rattle.semver_ranges.proofs.FrontRanges.{IsPlainRest}
+use Rattle.version_fronts.proofs.FrontPartials.{AreFrontOfParts, IsFrontOf, IsFrontOfComponent, IsFrontOfEnd, IsFrontOfPart}
+use Rattle.version_fronts.proofs.FrontPartials.{cut_at, nothing, partial_goes_on, rest_text}
+use Rattle.version_fronts.proofs.FrontRanges.{IsPlainRest}
 
 -- ---- partials
 

@@ -13,10 +13,10 @@ use Rattle.semver_ranges.specs.NpmLengths.{is_short_number}
 use Rattle.semver_ranges.specs.RangeTree.{PartialTree, one, two, three, SpellsPartial, components, is_component, is_wildcard}
 use Rattle.semver_ranges.specs.RangeTree.{Form, caret, Role, is_word_of_npm}
 use Rattle.semver_ranges.specs.Partials.{stated}
-use Rattle.semver_ranges.proofs.FrontPartials.{nothing, wildcard, rest_text, IsFrontOf, EndsIn, InFirst, EndGoesOn}
-use Rattle.semver_ranges.proofs.FrontPartials.{after_numbers, cut_component, ends_in, value_front, value_less, partial_goes_on}
-use Rattle.semver_ranges.proofs.FrontPartials.{IsFrontOfComponent, IsFrontOfEnd, AreAfter}
-use Rattle.semver_ranges.proofs.FrontRanges.{IsPlainRest, npm_taken}
+use Rattle.version_fronts.proofs.FrontPartials.{nothing, wildcard, rest_text, IsFrontOf, EndsIn, InFirst, EndGoesOn}
+use Rattle.version_fronts.proofs.FrontPartials.{after_numbers, cut_component, ends_in, value_front, value_less, partial_goes_on}
+use Rattle.version_fronts.proofs.FrontPartials.{IsFrontOfComponent, IsFrontOfEnd, AreAfter}
+use Rattle.version_fronts.proofs.FrontRanges.{IsPlainRest, npm_taken}
 use Rattle.tool_ranges.specs.CargoGrammar.{is_one, is_partial_of_cargo}
 use Rattle.tool_ranges.specs.CargoMeaning.{has_wildcard}
 use Rattle.tool_ranges.proofs.CargoFronts.{KeepsCargo, keeps_cargo, same_first}

@@ -14,9 +14,9 @@ use Rattle.semver_ranges.specs.RangeTree.{Role, SpellsPartial}
 use Rattle.semver_ranges.specs.Partials.{stated, states_nothing}
 use Rattle.semver_ranges.specs.Terms.{of_simple, left_side, right_side, terms}
 use Rattle.semver_ranges.specs.RewritingTable.{fits_by, term_fits_by}
-use Rattle.semver_ranges.proofs.FrontPartials.{Rest, nothing, wildcard, rest_text, IsFrontOf, IsFrontOfComponent, IsFrontOfEnd, value_front}
-use Rattle.semver_ranges.proofs.FrontRanges.{IsPlainRest, WordGoesOn, word_by, plain_word, PartialGoes, RangeGoesOn, AreRests}
-use Rattle.semver_ranges.proofs.FrontRanges.{AreRight, IsRightRange, IsRightSet, set_goes_on, number_word, one_space, some_space}
+use Rattle.version_fronts.proofs.FrontPartials.{Rest, nothing, wildcard, rest_text, IsFrontOf, IsFrontOfComponent, IsFrontOfEnd, value_front}
+use Rattle.version_fronts.proofs.FrontRanges.{IsPlainRest, WordGoesOn, word_by, plain_word, PartialGoes, RangeGoesOn, AreRests}
+use Rattle.version_fronts.proofs.FrontRanges.{AreRight, IsRightRange, IsRightSet, set_goes_on, number_word, one_space, some_space}
 use Rattle.tool_ranges.proofs.FittingSimples.{IsLimit, fits_for, none_fits, at_least_fits, number_fits, stated_fit}
 use Rattle.tool_ranges.proofs.FittingPartials.{IsWordRest, IsNaming, partial_fits, before_wildcard, val, few_stated, first_stated}
 

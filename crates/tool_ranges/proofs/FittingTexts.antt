@@ -17,7 +17,7 @@ use Rattle.semver_ranges.specs.RangeTree.{Form, bare, equal, less, at_most, grea
 use Rattle.semver_ranges.specs.Partials.{stated, fits_u64}
 use Rattle.semver_ranges.specs.Terms.{of_simple}
 use Rattle.semver_ranges.specs.RewritingTable.{bound_fits, raised_bound, simple_fits}
-use Rattle.semver_ranges.proofs.FrontPartials.{nothing, wildcard, letter}
+use Rattle.version_fronts.proofs.FrontPartials.{nothing, wildcard, letter}
 use Rattle.tool_ranges.specs.declared.reading.Reading.{Reading}
 use Rattle.tool_ranges.specs.declared.reading.Reading.TheVariants.{Cargo, Npm, Crate}
 use Rattle.tool_ranges.specs.CargoMeaning.{as_read, named}

@@ -14,8 +14,8 @@ use Rattle.semver_texts.specs.declared.dialect.Dialect.TheVariants as dialect
 use Rattle.semver_ranges.specs.RangeTree.{SpellsIn, bare, empty, one}
 use Rattle.semver_ranges.specs.declared.range_set.RangeError.{RangeError}
 use Rattle.semver_ranges.specs.declared.range_set.RangeError.TheVariants.{NotARange, NumberTooLarge, OutOfMemory}
-use Rattle.semver_ranges.proofs.FrontPartials.{nothing, wildcard, letter}
-use Rattle.semver_ranges.proofs.FrontRanges.{IsTextRest, set_front}
+use Rattle.version_fronts.proofs.FrontPartials.{nothing, wildcard, letter}
+use Rattle.version_fronts.proofs.FrontRanges.{IsTextRest, set_front}
 use Rattle.tool_ranges.specs.declared.reading.Reading.{Reading}
 use Rattle.tool_ranges.specs.declared.reading.Reading.TheVariants.{Cargo, Npm, Crate}
 use Rattle.tool_ranges.specs.Fronts.{BeginsAs, BeginsFitting, IsPlace}

@@ -10,10 +10,10 @@ use Rattle.semver_ranges.specs.RangeTree.{PartialTree, one, Simple, RangeTree, e
 use Rattle.semver_ranges.specs.RangeTree.{less, at_most, greater, at_least, tilde, caret, Role, behind_form, behind_hyphen, is_blank}
 use Rattle.semver_ranges.specs.RangeTree.{AreBlanks, AreSomeBlanks, SpellsPartial, SpellsWord, IsSignAndBlanks, SpellsForm, SpellsSimple}
 use Rattle.semver_ranges.specs.RangeTree.{SpellsSimples, SpellsRange, SpellsPadded, SpellsIn, is_word_of_npm}
-use Rattle.semver_ranges.proofs.FrontPartials.{Rest, nothing, wildcard, rest_text, IsFrontOf, partial_goes_on}
-use Rattle.semver_ranges.proofs.FrontPartials.{cut_at}
+use Rattle.version_fronts.proofs.FrontPartials.{Rest, nothing, wildcard, rest_text, IsFrontOf, partial_goes_on}
+use Rattle.version_fronts.proofs.FrontPartials.{cut_at}
 use Rattle.semver_ranges.specs.Terms.{left_side, right_side}
-use Rattle.semver_ranges.proofs.FrontWords.{word_stays}
+use Rattle.version_fronts.proofs.FrontWords.{word_stays}
 
 -- ---- words
 

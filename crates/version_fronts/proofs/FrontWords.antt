@@ -17,8 +17,8 @@ use Rattle.semver_ranges.specs.RangeTree.{Role, behind_form, behind_hyphen, Form
 use Rattle.semver_ranges.specs.RangeTree.{tilde, caret}
 use Rattle.semver_ranges.specs.RangeTree.{is_taken_whole, qualifier, has_short_version, is_word_of_npm}
 use Rattle.semver_ranges.specs.RangeTree.{has_no_leading_zeros, has_short_parts}
-use Rattle.semver_ranges.proofs.FrontPartials.{IsFrontOfComponent, IsFrontOfPart}
-use Rattle.semver_ranges.proofs.FrontPartials.{AreFrontOfParts, IsFrontOfEnd, IsFrontOf}
+use Rattle.version_fronts.proofs.FrontPartials.{IsFrontOfComponent, IsFrontOfPart}
+use Rattle.version_fronts.proofs.FrontPartials.{AreFrontOfParts, IsFrontOfEnd, IsFrontOf}
 
 -- ---- a part
 
