@@ -8,7 +8,7 @@ use Rattle.semver_texts.proofs.Lists.{by_test}
 use Rattle.semver_texts.specs.Versions.{PlainVersion, numbers}
 use Rattle.semver_ranges.specs.declared.range.Compat.{Compat}
 use Rattle.semver_ranges.specs.declared.range.Compat.TheVariants.{Cargo, Npm}
-use Rattle.semver_ranges.specs.RangeTree.{Form, bare, equal, less, at_most, greater, at_least, tilde, caret}
+use Rattle.semver_ranges.specs.RangeTree.{Form, bare, at_least, caret}
 use Rattle.semver_ranges.specs.RewritingTable.{cell, cell_raised, up}
 use Rattle.tool_ranges.specs.ToolTable.{is_greater, states_some}
 
@@ -35,13 +35,7 @@ module _ (f : ℕ → Bool) (limit : IsLimit f) (tool : Bool) (mode : Compat) wh
 
   pub none_fits : (form : Form) → fits_for f tool mode form [] ≡ true
   none_fits bare = grind arith
-  none_fits equal = grind arith
-  none_fits less = grind arith
-  none_fits at_most = grind arith
-  none_fits greater = grind arith
-  none_fits at_least = grind arith
-  none_fits tilde = grind arith
-  none_fits caret = grind arith
+  none_fits _ = grind arith
 
   -- one number that can be raised
   pub one_fits : (form : Form) (a : ℕ) → f (a + 1) ≡ true → fits_for f tool mode form (a ∷ []) ≡ true
@@ -52,13 +46,7 @@ module _ (f : ℕ → Bool) (limit : IsLimit f) (tool : Bool) (mode : Compat) wh
 
       by_form : (form : Form) → fits_for f tool mode form (a ∷ []) ≡ true
       by_form bare = grind (arith, zero_fits, here)
-      by_form equal = grind (arith, zero_fits, here)
-      by_form less = grind (arith, zero_fits, here)
-      by_form at_most = grind (arith, zero_fits, here)
-      by_form greater = grind (arith, zero_fits, here)
-      by_form at_least = grind (arith, zero_fits, here)
-      by_form tilde = grind (arith, zero_fits, here)
-      by_form caret = grind (arith, zero_fits, here)
+      by_form _ = grind (arith, zero_fits, here)
 
   -- two, of which the second can be raised; after a caret the first, unless it is 0
   pub two_fit : (form : Form) (a b : ℕ) → f a ≡ true → f (b + 1) ≡ true
@@ -69,16 +57,10 @@ module _ (f : ℕ → Bool) (limit : IsLimit f) (tool : Bool) (mode : Compat) wh
       here = limit.below b (b + 1) (omega arith) e
 
       by_form : (form : Form) → (form ≡ caret → (a == 0) ≡ false → f (a + 1) ≡ true) → fits_for f tool mode form (a ∷ b ∷ []) ≡ true
-      by_form bare r = grind (arith, zero_fits, here)
-      by_form equal r = grind (arith, zero_fits, here)
-      by_form less r = grind (arith, zero_fits, here)
-      by_form at_most r = grind (arith, zero_fits, here)
-      by_form greater r = grind (arith, zero_fits, here)
-      by_form at_least r = grind (arith, zero_fits, here)
-      by_form tilde r = grind (arith, zero_fits, here)
       by_form caret r = by_test (a == 0)
           (λ y. grind (arith, zero_fits, here))
           (λ n. let more = r refl n in grind (arith, zero_fits, here))
+      by_form _ r = grind (arith, zero_fits, here)
 
   -- three, of which the third is smaller
   module _ (a b c c' : ℕ) (fewer : c' ≤ c) where
@@ -91,64 +73,15 @@ module _ (f : ℕ → Bool) (limit : IsLimit f) (tool : Bool) (mode : Compat) wh
     next : f (c + 1) ≡ true → f (c' + 1) ≡ true
     next = limit.below (c' + 1) (c + 1) (omega (arith, fewer))
 
-    both_zero : (mode : Compat) (form : Form) → (a == 0) ≡ true → (b == 0) ≡ true → Keeps mode form
-    both_zero Cargo bare y z h = grind (arith, here, next, zero_fits)
-    both_zero Npm bare y z h = grind (arith, here, next, zero_fits)
-    both_zero Cargo equal y z h = grind (arith, here, next, zero_fits)
-    both_zero Cargo less y z h = grind (arith, here, next, zero_fits)
-    both_zero Cargo at_most y z h = grind (arith, here, next, zero_fits)
-    both_zero Cargo greater y z h = grind (arith, here, next, zero_fits)
-    both_zero Cargo at_least y z h = grind (arith, here, next, zero_fits)
-    both_zero Cargo tilde y z h = grind (arith, here, next, zero_fits)
-    both_zero Cargo caret y z h = grind (arith, here, next, zero_fits)
-    both_zero Npm equal y z h = grind (arith, here, next, zero_fits)
-    both_zero Npm less y z h = grind (arith, here, next, zero_fits)
-    both_zero Npm at_most y z h = grind (arith, here, next, zero_fits)
-    both_zero Npm greater y z h = grind (arith, here, next, zero_fits)
-    both_zero Npm at_least y z h = grind (arith, here, next, zero_fits)
-    both_zero Npm tilde y z h = grind (arith, here, next, zero_fits)
-    both_zero Npm caret y z h = grind (arith, here, next, zero_fits)
-
-    first_zero : (mode : Compat) (form : Form) → (a == 0) ≡ true → (b == 0) ≡ false → Keeps mode form
-    first_zero Cargo bare y z h = grind (arith, here, next, zero_fits)
-    first_zero Npm bare y z h = grind (arith, here, next, zero_fits)
-    first_zero Cargo equal y z h = grind (arith, here, next, zero_fits)
-    first_zero Cargo less y z h = grind (arith, here, next, zero_fits)
-    first_zero Cargo at_most y z h = grind (arith, here, next, zero_fits)
-    first_zero Cargo greater y z h = grind (arith, here, next, zero_fits)
-    first_zero Cargo at_least y z h = grind (arith, here, next, zero_fits)
-    first_zero Cargo tilde y z h = grind (arith, here, next, zero_fits)
-    first_zero Cargo caret y z h = grind (arith, here, next, zero_fits)
-    first_zero Npm equal y z h = grind (arith, here, next, zero_fits)
-    first_zero Npm less y z h = grind (arith, here, next, zero_fits)
-    first_zero Npm at_most y z h = grind (arith, here, next, zero_fits)
-    first_zero Npm greater y z h = grind (arith, here, next, zero_fits)
-    first_zero Npm at_least y z h = grind (arith, here, next, zero_fits)
-    first_zero Npm tilde y z h = grind (arith, here, next, zero_fits)
-    first_zero Npm caret y z h = grind (arith, here, next, zero_fits)
-
-    none_zero : (mode : Compat) (form : Form) → (a == 0) ≡ false → Keeps mode form
-    none_zero Cargo bare y h = grind (arith, here, next, zero_fits)
-    none_zero Npm bare y h = grind (arith, here, next, zero_fits)
-    none_zero Cargo equal y h = grind (arith, here, next, zero_fits)
-    none_zero Cargo less y h = grind (arith, here, next, zero_fits)
-    none_zero Cargo at_most y h = grind (arith, here, next, zero_fits)
-    none_zero Cargo greater y h = grind (arith, here, next, zero_fits)
-    none_zero Cargo at_least y h = grind (arith, here, next, zero_fits)
-    none_zero Cargo tilde y h = grind (arith, here, next, zero_fits)
-    none_zero Cargo caret y h = grind (arith, here, next, zero_fits)
-    none_zero Npm equal y h = grind (arith, here, next, zero_fits)
-    none_zero Npm less y h = grind (arith, here, next, zero_fits)
-    none_zero Npm at_most y h = grind (arith, here, next, zero_fits)
-    none_zero Npm greater y h = grind (arith, here, next, zero_fits)
-    none_zero Npm at_least y h = grind (arith, here, next, zero_fits)
-    none_zero Npm tilde y h = grind (arith, here, next, zero_fits)
-    none_zero Npm caret y h = grind (arith, here, next, zero_fits)
+    -- by whether the first two are 0
+    keeps : (x y : Bool) → (a == 0) ≡ x → (b == 0) ≡ y → (mode : Compat) (form : Form) → Keeps mode form
+    keeps true true e e' Cargo bare h = grind (arith, here, next, zero_fits)
+    keeps x y e e' Cargo bare h = grind (arith, here, next, zero_fits)
+    keeps x y e e' Npm bare h = grind (arith, here, next, zero_fits)
+    keeps _ _ e e' _ _ h = grind (arith, here, next, zero_fits)
 
     pub three_fit : (form : Form) → Keeps mode form
-    three_fit form = by_test (a == 0)
-        (λ y. by_test (b == 0) (λ z. both_zero mode form y z) (λ z. first_zero mode form y z))
-        (λ y. none_zero mode form y)
+    three_fit form = keeps (a == 0) (b == 0) refl refl mode form
 
   -- what fits is stated
   pub stated_fit : (form : Form) (s : List ℕ) → fits_for f tool mode form s ≡ true → list_all f s ≡ true

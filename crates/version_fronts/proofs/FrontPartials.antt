@@ -7,6 +7,7 @@ use Rattle.std.specs.Str.{all_ascii_digits}
 use Rattle.std.specs.Str.Parse.{digits_value, digits_value_after}
 use Rattle.std.proofs.lemmas.Bool.{and_parts, and_from}
 use Rattle.std.proofs.lemmas.Bool.Decides.{nat_tests}
+use Rattle.std.proofs.lemmas.List.Folds.{list_all-append}
 use Rattle.semver_texts.specs.Texts.{Text, has_no_leading_zero, is_empty, is_part, is_part_byte, marked}
 use Rattle.semver_texts.proofs.Lists.{by_test}
 use Rattle.semver_ranges.specs.RangeTree.{PartialTree, one, two, three, SpellsPartial, components, is_component, is_wildcard}
@@ -130,10 +131,6 @@ cut_component (b ∷ d ∷ x) rest some e = let w = cut_component_in b d x rest 
 
 -- ---- parts
 
-part_front : (x y : Text) → list_all is_part_byte (x ++ y) ≡ true → list_all is_part_byte x ≡ true
-part_front [] y e = refl
-part_front (b ∷ x) y e = grind (arith, part_front x y)
-
 letter_part : (x : Text) → list_all is_part_byte x ≡ true → is_part (x ++ codes "a") ≡ true
 letter_part [] e = refl
 letter_part (b ∷ x) e = grind (arith, letter_part x)
@@ -186,7 +183,8 @@ cut_part x [] (b ∷ rest) e p = record {
 }
 cut_part x (d ∷ front) (b ∷ rest) e p =
     let bytes : list_all is_part_byte x ≡ true = (and_parts _ _ p).1 in
-    cut_begun x d front b rest e (part_front (d ∷ front) (b ∷ rest) (subst (λ t. list_all is_part_byte t ≡ true) e bytes))
+    cut_begun x d front b rest e
+    (and_parts _ _ (sym (list_all-append is_part_byte (d ∷ front) (b ∷ rest)) ∙ ap (list_all is_part_byte) (sym e) ∙ bytes)).0
 
 -- parts, from a front of what they are joined to
 record PartsGoOn (xs : List Text) (front rest : Text) : Type 0 where

@@ -13,8 +13,7 @@ use Rattle.semver_texts.specs.Texts.{Text, has_no_leading_zero, is_empty, marked
 use Rattle.semver_texts.proofs.Lists.{by_test}
 use Rattle.semver_ranges.specs.NpmLengths.{is_short_number, is_short_pre, is_short_build, is_short_version, leading_digits}
 use Rattle.semver_ranges.specs.RangeTree.{PartialTree, one, two, three, is_wildcard, components}
-use Rattle.semver_ranges.specs.RangeTree.{Role, behind_form, behind_hyphen, Form, bare, equal, less, at_most, greater, at_least}
-use Rattle.semver_ranges.specs.RangeTree.{tilde, caret}
+use Rattle.semver_ranges.specs.RangeTree.{Role, behind_form, behind_hyphen, Form, bare}
 use Rattle.semver_ranges.specs.RangeTree.{is_taken_whole, qualifier, has_short_version, is_word_of_npm}
 use Rattle.semver_ranges.specs.RangeTree.{has_no_leading_zeros, has_short_parts}
 use Rattle.version_fronts.proofs.FrontPartials.{IsFrontOfComponent, IsFrontOfPart}
@@ -206,13 +205,7 @@ word_length v p = v + length (join_with_byte 46 (components p) ++ qualifier p)
 same_form : (form : Form) (a b c : Text) (pre build : List Text) (a' b' c' : Text) (pre' build' : List Text)
     → is_taken_whole (behind_form form) (three a' b' c' pre' build') ≡ is_taken_whole (behind_form form) (three a b c pre build)
 same_form bare a b c pre build a' b' c' pre' build' = refl
-same_form equal a b c pre build a' b' c' pre' build' = refl
-same_form less a b c pre build a' b' c' pre' build' = refl
-same_form at_most a b c pre build a' b' c' pre' build' = refl
-same_form greater a b c pre build a' b' c' pre' build' = refl
-same_form at_least a b c pre build a' b' c' pre' build' = refl
-same_form tilde a b c pre build a' b' c' pre' build' = refl
-same_form caret a b c pre build a' b' c' pre' build' = refl
+same_form _ a b c pre build a' b' c' pre' build' = refl
 
 same_whole : (role : Role) (a b c : Text) (pre build : List Text) (a' b' c' : Text) (pre' build' : List Text)
     → is_empty pre' ≡ is_empty pre → is_taken_whole role (three a' b' c' pre' build') ≡ is_taken_whole role (three a b c pre build)
