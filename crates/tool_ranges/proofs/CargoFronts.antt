@@ -14,8 +14,8 @@ use Rattle.semver_ranges.specs.Partials.{stated, states_nothing}
 use Rattle.tool_ranges.specs.CargoGrammar.{AreSpaces, SpellsComparator, SpellsComparators, SpellsRequirement, is_bare, is_every}
 use Rattle.tool_ranges.specs.CargoGrammar.{is_of_cargo, is_one, is_partial_of_cargo, sign, stands_alone, wildcards_are_last}
 use Rattle.version_fronts.proofs.FrontPartials.{AreFrontOfParts, IsFrontOf, IsFrontOfComponent, IsFrontOfEnd, IsFrontOfPart}
-use Rattle.version_fronts.proofs.FrontPartials.{cut_at, nothing, partial_goes_on, rest_text}
-use Rattle.version_fronts.proofs.FrontRanges.{IsPlainRest}
+use Rattle.version_fronts.proofs.FrontPartials.{cut_at, partial_goes_on, rest_text}
+use Rattle.version_fronts.proofs.FrontRanges.{IsTextRest, text_rest}
 
 -- ---- partials
 
@@ -452,20 +452,16 @@ module _ (IsRest : Text → Type 0) (Right : Simple → Type 0) (rests : AreCarg
 
 -- ---- without more
 
--- nothing, a wildcard, a letter, or a space and a number
-abbrev pub IsCargoRest : Text → Type 0
-IsCargoRest t = IsPlainRest t ⊎ (t ≡ codes " 1")
-
-pub plain_cargo : AreCargoRests IsCargoRest (λ s. Unit {0})
+pub plain_cargo : AreCargoRests IsTextRest (λ s. Unit {0})
 plain_cargo = record {
-  nothing = inl (nothing, refl);
-  number = inr refl;
+  nothing = (0, omega arith, refl);
+  number = (4, omega arith, refl);
   right_number = λ form. tt;
   partial = λ s front rest some spelled read right. (
       let g = partial_goes_on s.partial front rest some spelled in record {
         tree = g.tree;
         more = rest_text g.more;
-        is_rest = inl (g.more, refl);
+        is_rest = text_rest (rest_text g.more) (g.more, refl);
         spelled = g.spelled;
         kept = keeps_cargo g.tree s.partial g.shape read;
         right = tt;
@@ -473,9 +469,9 @@ plain_cargo = record {
 }
 
 pub requirement_front : (tree : List Simple) (front rest : Text) → SpellsRequirement tree (front ++ rest)
-    → RequirementGoesOn IsCargoRest (λ s. Unit {0}) plain_cargo front
-requirement_front tree front rest h = requirement_goes_on IsCargoRest (λ s. Unit {0}) plain_cargo tree front rest h (all tree)
+    → RequirementGoesOn IsTextRest (λ s. Unit {0}) plain_cargo front
+requirement_front tree front rest h = requirement_goes_on IsTextRest (λ s. Unit {0}) plain_cargo tree front rest h (all tree)
   where
-    all : (ss : List Simple) → AreAllRight IsCargoRest (λ s. Unit {0}) plain_cargo ss
+    all : (ss : List Simple) → AreAllRight IsTextRest (λ s. Unit {0}) plain_cargo ss
     all [] = tt
     all (s ∷ ss) = (tt, all ss)

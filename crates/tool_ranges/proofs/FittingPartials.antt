@@ -2,10 +2,11 @@
 use Rattle.std.proofs.Common.{◌≡◌, ℕ, ◌+◌, ◌≤◌, Bool, true, false, ◌⊎◌, inl, inr, List, [], ◌∷◌, ◌++◌, codes, length, refl, sym, ap, ◌∙◌}
 use Rattle.std.proofs.Common.{arith, append-nil, append_assoc, length-append, subst, one-add}
 use Rattle.std.specs.Prelude.{◌==◌, not, map, take_while}
-use Rattle.std.specs.List.{list_all, list_any}
+use Rattle.std.specs.List.{Contains, list_all, list_any}
 use Rattle.std.specs.Str.Parse.{digits_value}
 use Rattle.std.proofs.lemmas.Bool.{and_parts, and_from}
 use Rattle.std.proofs.lemmas.Bool.Decides.{nat_tests}
+use Rattle.std.proofs.lemmas.List.Elements.{Contains-append_left}
 use Rattle.semver_texts.specs.Texts.{Text, is_empty}
 use Rattle.semver_texts.proofs.Lists.{by_test, never}
 use Rattle.semver_ranges.specs.declared.range.Compat.{Compat}
@@ -13,10 +14,10 @@ use Rattle.semver_ranges.specs.NpmLengths.{is_short_number}
 use Rattle.semver_ranges.specs.RangeTree.{PartialTree, one, two, three, SpellsPartial, components, is_component, is_wildcard}
 use Rattle.semver_ranges.specs.RangeTree.{Form, caret, Role, is_word_of_npm}
 use Rattle.semver_ranges.specs.Partials.{stated}
-use Rattle.version_fronts.proofs.FrontPartials.{nothing, wildcard, rest_text, IsFrontOf, EndsIn, InFirst, EndGoesOn}
+use Rattle.version_fronts.proofs.FrontPartials.{Rest, rest_text, IsFrontOf, EndsIn, InFirst, EndGoesOn}
 use Rattle.version_fronts.proofs.FrontPartials.{after_numbers, cut_component, ends_in, value_front, value_less, partial_goes_on}
 use Rattle.version_fronts.proofs.FrontPartials.{IsFrontOfComponent, IsFrontOfEnd, AreAfter}
-use Rattle.version_fronts.proofs.FrontRanges.{IsPlainRest, npm_taken}
+use Rattle.version_fronts.proofs.FrontRanges.{plain_text, plain_texts, npm_taken}
 use Rattle.tool_ranges.specs.CargoGrammar.{is_one, is_partial_of_cargo}
 use Rattle.tool_ranges.specs.CargoMeaning.{has_wildcard}
 use Rattle.tool_ranges.proofs.CargoFronts.{KeepsCargo, keeps_cargo, same_first}
@@ -25,8 +26,17 @@ use Rattle.tool_ranges.proofs.FittingSimples.{IsLimit, fits_for, none_fits, one_
 -- ---- what a front goes on with
 
 -- what it goes on with anyway, or one number more, or two, the last of them a wildcard
+abbrev numbers_more : List Text
+numbers_more = codes ".0" ∷ codes "0" ∷ codes ".*" ∷ codes "0.*" ∷ codes ".0.*" ∷ []
+
+abbrev pub word_rests : List Text
+word_rests = plain_texts ++ numbers_more
+
 abbrev pub IsWordRest : Text → Type 0
-IsWordRest t = IsPlainRest t ⊎ (t ≡ codes ".0") ⊎ (t ≡ codes "0") ⊎ (t ≡ codes ".*") ⊎ (t ≡ codes "0.*") ⊎ (t ≡ codes ".0.*")
+IsWordRest t = Contains word_rests t
+
+plain_rest : (more : Rest) → IsWordRest (rest_text more)
+plain_rest more = Contains-append_left plain_texts numbers_more (rest_text more) (plain_text (rest_text more) (more, refl))
 
 abbrev pub val : Text → ℕ
 val t = digits_value 10 t
@@ -173,7 +183,7 @@ module _ (f : ℕ → Bool) (limit : IsLimit f) (tool : Bool) (mode : Compat) (n
       → Fits form (one front) → PartialFits form p front rest
   first_front form p a front rest back some e text shape right =
       let w = cut_component front back some (subst (λ t. is_component t ≡ true) text e) in
-      kept form p (one front) front rest [] (inl (nothing, refl)) ((and_from _ _ w.0 refl), tt, refl) (omega arith)
+      kept form p (one front) front rest [] (0, omega arith, refl) ((and_from _ _ w.0 refl), tt, refl) (omega arith)
       (shape w.0 (w.1 ∙ ap is_wildcard (sym text))) right
 
   -- a number that can be raised, or the whole of it
@@ -205,7 +215,7 @@ module _ (f : ℕ → Bool) (limit : IsLimit f) (tool : Bool) (mode : Compat) (n
       → is_one p ≡ false → is_component a ≡ true → Fits form p → is_wildcard a ≡ false → front ≡ a → PartialFits form p front rest
   zero_on form p a cs front rest e few others q h n text =
       wild_on form p a (codes "0") cs front rest (codes ".0.*") e few others n refl q refl (λ role m word. refl) h limit.one
-      (inr (inr (inr (inr (inr refl))))) (rw text refl)
+      (7, omega arith, refl) (rw text refl)
 
   -- ---- a partial that states nothing
 
@@ -232,7 +242,7 @@ module _ (f : ℕ → Bool) (limit : IsLimit f) (tool : Bool) (mode : Compat) (n
       → begins_wild p ≡ true → PartialFits form p front rest
   of_nothing form p front rest some spelled y =
       let w = partial_goes_on p front rest some spelled in
-      kept form p w.tree front rest (rest_text w.more) (inl (w.more, refl)) w.spelled w.short w.shape
+      kept form p w.tree front rest (rest_text w.more) (plain_rest w.more) w.spelled w.short w.shape
       (subst (λ l. fits_for f tool mode (name (has_wildcard w.tree) form) l ≡ true) (sym (none_stated w.tree p w.shape y))
       (none_fits f limit tool mode _))
 
@@ -248,7 +258,7 @@ module _ (f : ℕ → Bool) (limit : IsLimit f) (tool : Bool) (mode : Compat) (n
       → (is_wildcard b ≡ false → front ≡ a ++ (46 ∷ b) → PartialFits form p front rest) → PartialFits form p front rest
   in_second form p a b cs front rest [] back e few others n q r h text cut shape whole =
       wild_on form p a (codes "0") (b ∷ cs) front rest (codes "0.*") e (omega (arith, few)) others n refl q refl
-      (λ role m word. refl) h limit.one (inr (inr (inr (inr (inl refl))))) (rw text (append_assoc a _ _))
+      (λ role m word. refl) h limit.one (6, omega arith, refl) (rw text (append_assoc a _ _))
   in_second form p a b cs front rest (d ∷ m) back e few others n q r h text cut shape whole =
       let component = subst (λ t. is_component t ≡ true) cut r in
       let w = cut_component (d ∷ m) back refl component in
@@ -257,7 +267,7 @@ module _ (f : ℕ → Bool) (limit : IsLimit f) (tool : Bool) (mode : Compat) (n
       (λ y.
       let here : FitsBy form (a ∷ b ∷ cs) = subst (FitsBy form) e h in
       let h' = rw (n, y) at here in
-      kept form p (two a (d ∷ m)) front rest [] (inl (nothing, refl))
+      kept form p (two a (d ∷ m)) front rest [] (0, omega arith, refl)
       (and_from _ _ q (and_from _ _ w.0 refl), tt, rw text refl) (omega arith)
       (shape (d ∷ m) (inr (rw (cut, length-append) (omega arith), w.0, same, rw cut (value_front (d ∷ m) back))))
       (rw (n, same, y) h'))
@@ -266,7 +276,7 @@ module _ (f : ℕ → Bool) (limit : IsLimit f) (tool : Bool) (mode : Compat) (n
         | inl more ↦ wild_on form p a (d ∷ m) (b ∷ cs) front rest (codes ".*") e (omega (arith, few)) others n (same ∙ k) q w.0
             (λ role len word. short_begun (d ∷ m) back
             (subst (λ t. is_short_number t ≡ true) cut (short_second role p a b cs len e word))) h more
-            (inr (inr (inr (inl refl)))) (rw text (append_assoc a _ _))
+            (5, omega arith, refl) (rw text (append_assoc a _ _))
         | inr none ↦ whole k (text ∙ ap (λ t. a ++ (46 ∷ t)) (sym (cut ∙ ap (λ t. (d ∷ m) ++ t) none ∙ append-nil (d ∷ m))))
       ])
 
@@ -280,7 +290,7 @@ module _ (f : ℕ → Bool) (limit : IsLimit f) (tool : Bool) (mode : Compat) (n
   two_whole : (form : Form) (a b front rest : Text) → is_component a ≡ true → is_component b ≡ true → Fits form (two a b)
       → front ≡ a ++ (46 ∷ b) → PartialFits form (two a b) front rest
   two_whole form a b front rest q r h text =
-      kept form (two a b) (two a b) front rest [] (inl (nothing, refl)) (and_from _ _ q (and_from _ _ r refl), tt, rw text refl)
+      kept form (two a b) (two a b) front rest [] (0, omega arith, refl) (and_from _ _ q (and_from _ _ r refl), tt, rw text refl)
       (omega arith) (refl, itself b r) h
 
   -- ---- a third component for nothing: a wildcard for one, 0 for a number
@@ -305,14 +315,14 @@ module _ (f : ℕ → Bool) (limit : IsLimit f) (tool : Bool) (mode : Compat) (n
 
     second_whole : (front rest back after : Text) → rest ≡ back ++ (46 ∷ (c ++ after)) → front ≡ a ++ (46 ∷ b) → Whole front rest
     second_whole front rest back after is text =
-        third_none front rest (codes ".") (inr (inr (inr (inl refl))), inr (inl refl))
+        third_none front rest (codes ".") ((5, omega arith, refl), (3, omega arith, refl))
         (let more = some_component c s in rw (is, length-append back _, length-append) (omega (arith, more)))
         (λ x. rw text (append_assoc a _ _))
 
     in_third : (front rest begun back after : Text) → rest ≡ back ++ after → front ≡ a ++ (46 ∷ (b ++ (46 ∷ begun)))
         → c ≡ begun ++ back → Whole front rest
     in_third front rest [] back after is text cut =
-        third_none front rest [] (inl (wildcard, refl), inr (inr (inl refl)))
+        third_none front rest [] ((1, omega arith, refl), (4, omega arith, refl))
         (let more : 1 ≤ length back = subst (λ t. 1 ≤ length t) cut (some_component c s) in
         rw (is, length-append) (omega (arith, more)))
         (λ x. rw text (simp append_assoc))
@@ -320,14 +330,14 @@ module _ (f : ℕ → Bool) (limit : IsLimit f) (tool : Bool) (mode : Compat) (n
         let w = cut_component (d ∷ m) back refl (subst (λ t. is_component t ≡ true) cut s) in
         let same : is_wildcard (d ∷ m) ≡ is_wildcard c = w.1 ∙ ap is_wildcard (sym cut) in
         let fewer : val (d ∷ m) ≤ val c = rw cut (value_front (d ∷ m) back) in
-        kept form (three a b c pre build) (three a b (d ∷ m) [] []) front rest [] (inl (nothing, refl))
+        kept form (three a b c pre build) (three a b (d ∷ m) [] []) front rest [] (0, omega arith, refl)
         (and_from _ _ q (and_from _ _ r (and_from _ _ w.0 refl)), (refl, refl), rw text refl) (omega arith)
         (refl, refl, inl (inr (rw (cut, length-append) (omega arith), w.0, same, fewer), refl, refl))
         (three_fits form a b c (d ∷ m) pre build [] [] same (λ n. fewer) h)
 
     at_end : (front rest : Text) → EndGoesOn a b c pre build front rest → Whole front rest
     at_end front rest w =
-        kept form (three a b c pre build) (three a b c w.pre' w.build') front rest (rest_text w.more) (inl (w.more, refl)) w.spelled
+        kept form (three a b c pre build) (three a b c w.pre' w.build') front rest (rest_text w.more) (plain_rest w.more) w.spelled
         w.short (refl, refl, after w.shape) h
       where
         after : {pre' build' : List Text} → AreAfter pre' build' pre build → IsFrontOfEnd c pre' build' c pre build

@@ -1,9 +1,10 @@
 -- Fronts of range texts whose numbers fit: each goes on as a range text whose numbers fit.
-use Rattle.std.proofs.Common.{◌≡◌, ℕ, ◌≤◌, Bool, true, false, ◌⊎◌, inl, inr, List, [], ◌∷◌, ◌++◌, codes, length, refl, sym, ap, ◌∙◌}
+use Rattle.std.proofs.Common.{◌≡◌, ℕ, ◌≤◌, Bool, true, false, inl, inr, List, [], ◌∷◌, ◌++◌, codes, length, refl, sym, ap, ◌∙◌}
 use Rattle.std.proofs.Common.{arith, append-nil, append_assoc, subst}
 use Rattle.std.specs.Prelude.{not, map}
-use Rattle.std.specs.List.{list_all}
+use Rattle.std.specs.List.{Contains, list_all}
 use Rattle.std.proofs.lemmas.Bool.{and_parts, and_from}
+use Rattle.std.proofs.lemmas.List.Elements.{Contains-append_left}
 use Rattle.semver_texts.specs.Texts.{Text, is_empty}
 use Rattle.semver_texts.specs.declared.dialect.Dialect.{Dialect}
 use Rattle.semver_texts.proofs.Lists.{by_test}
@@ -14,15 +15,26 @@ use Rattle.semver_ranges.specs.RangeTree.{Role, SpellsPartial}
 use Rattle.semver_ranges.specs.Partials.{stated, states_nothing}
 use Rattle.semver_ranges.specs.Terms.{of_simple, left_side, right_side, terms}
 use Rattle.semver_ranges.specs.RewritingTable.{fits_by, term_fits_by}
-use Rattle.version_fronts.proofs.FrontPartials.{Rest, nothing, wildcard, rest_text, IsFrontOf, IsFrontOfComponent, IsFrontOfEnd, value_front}
+use Rattle.version_fronts.proofs.FrontPartials.{nothing, wildcard, letter, IsFrontOf, IsFrontOfComponent, IsFrontOfEnd, value_front}
 use Rattle.version_fronts.proofs.FrontRanges.{IsPlainRest, WordGoesOn, word_by, plain_word, PartialGoes, RangeGoesOn, AreRests}
 use Rattle.version_fronts.proofs.FrontRanges.{AreRight, IsRightRange, IsRightSet, set_goes_on, number_word, one_space, some_space}
 use Rattle.tool_ranges.proofs.FittingSimples.{IsLimit, fits_for, none_fits, at_least_fits, number_fits, stated_fit}
-use Rattle.tool_ranges.proofs.FittingPartials.{IsWordRest, IsNaming, partial_fits, before_wildcard, val, few_stated, first_stated}
+use Rattle.tool_ranges.proofs.FittingPartials.{IsWordRest, word_rests, IsNaming, partial_fits, before_wildcard, val, few_stated, first_stated}
 
 -- what a front goes on with: what that of a word does, a bar, a space and a number, or that and the right side of a hyphen range
+abbrev others : List Text
+others = codes "|" ∷ codes " 1" ∷ codes " - 1" ∷ codes "* - 1" ∷ codes "a - 1" ∷ []
+
 abbrev pub IsFittingRest : Text → Type 0
-IsFittingRest t = IsWordRest t ⊎ (t ≡ codes "|") ⊎ (t ≡ codes " 1") ⊎ ((more : Rest) × (t ≡ rest_text more ++ codes " - 1"))
+IsFittingRest t = Contains (word_rests ++ others) t
+
+pub fitting_rest : (t : Text) → IsWordRest t → IsFittingRest t
+fitting_rest t w = Contains-append_left word_rests others t w
+
+left_rest : (t : Text) → IsPlainRest t → IsFittingRest (t ++ codes " - 1")
+left_rest t (nothing, e) = rw e (10, omega arith, refl)
+left_rest t (wildcard, e) = rw e (11, omega arith, refl)
+left_rest t (letter, e) = rw e (12, omega arith, refl)
 
 -- a form is its own name, whatever wildcards there are
 abbrev pub own_name : Bool → Form → Form
@@ -115,7 +127,7 @@ module _ (f : ℕ → Bool) (limit : IsLimit f) (two_fits : f 2 ≡ true) (tool 
       (to_fits (record { form = form; partial = p }) right) in record {
         tree = w.tree;
         more = w.more;
-        is_rest = inl w.is_rest;
+        is_rest = fitting_rest w.more w.is_rest;
         spelled = w.spelled;
         right = from_fits (record { form = form; partial = w.tree }) w.right;
         npm = w.npm role;
@@ -125,7 +137,7 @@ module _ (f : ℕ → Bool) (limit : IsLimit f) (two_fits : f 2 ≡ true) (tool 
       → SpellsWord d role p (front ++ rest) → Right (record { form = form; partial = p })
       → WordGoesOn IsFittingRest (λ tree. Right (record { form = form; partial = tree })) d role front
   fitting_word d form role p front rest some h right =
-      word_by IsFittingRest (λ tree. Right (record { form = form; partial = tree })) (inl (inl (wildcard, refl))) (right_star form) role p
+      word_by IsFittingRest (λ tree. Right (record { form = form; partial = tree })) (1, omega arith, refl) (right_star form) role p
       (fitting_goes form role p right) d front rest some h
 
   -- the left side of a hyphen range, of which the bound isn't raised
@@ -149,7 +161,7 @@ module _ (f : ℕ → Bool) (limit : IsLimit f) (two_fits : f 2 ≡ true) (tool 
     inner = (front ++ w.more) ++ (codes " " ++ (45 ∷ (codes " " ++ codes "1")));
     after = [];
     more = w.more ++ codes " - 1";
-    is_rest = inr (inr (inr (w.is_rest.0, ap (λ t. t ++ codes " - 1") w.is_rest.1)));
+    is_rest = left_rest w.more w.is_rest;
     spelled = (
       front ++ w.more,
       codes " ",
@@ -173,7 +185,7 @@ module _ (f : ℕ → Bool) (limit : IsLimit f) (two_fits : f 2 ≡ true) (tool 
     inner = front ++ ((blanks ++ codes " ") ++ (45 ∷ (codes " " ++ codes "1")));
     after = [];
     more = codes " - 1";
-    is_rest = inr (inr (inr (nothing, refl)));
+    is_rest = (10, omega arith, refl);
     spelled = (
       front,
       blanks ++ codes " ",
@@ -192,9 +204,9 @@ module _ (f : ℕ → Bool) (limit : IsLimit f) (two_fits : f 2 ≡ true) (tool 
 
   pub fitting_rests : (d : Dialect) → AreRests d IsFittingRest Right
   fitting_rests d = record {
-    nothing = inl (inl (nothing, refl));
-    bar = inr (inl refl);
-    number = inr (inr (inl refl));
+    nothing = (0, omega arith, refl);
+    bar = (8, omega arith, refl);
+    number = (9, omega arith, refl);
     right_number = right_one;
     word = λ form p front rest some h right. fitting_word d form (behind_form form) p front rest some h right;
     right_word = λ p front rest some h right. fitting_word d at_most behind_hyphen p front rest some h right;

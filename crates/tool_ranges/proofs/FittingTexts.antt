@@ -1,11 +1,13 @@
 -- Fronts of range texts that have a set, by each reading: each goes on as one that has.
-use Rattle.std.proofs.Common.{◌≡◌, ℕ, Bool, true, false, inl, inr, List, [], ◌∷◌, ◌++◌, codes, refl, sym, ap, ◌∙◌}
-use Rattle.std.proofs.Common.{arith, subst, Option, Some, None}
+use Rattle.std.proofs.Common.{◌≡◌, true, false, List, [], ◌∷◌, ◌++◌, codes, refl, sym, ap, ◌∙◌}
+use Rattle.std.proofs.Common.{arith, Option, Some, None}
 use Rattle.std.specs.Prelude.{◌&&◌}
-use Rattle.std.specs.List.{list_all}
+use Rattle.std.specs.List.{AllByRecursion, Contains, list_all}
 use Rattle.std.specs.Str.{IsUtf8, chars}
 use Rattle.std.proofs.lemmas.Bool.{and_parts, and_from}
 use Rattle.std.proofs.lemmas.Bool.Decides.{nat_tests}
+use Rattle.std.proofs.lemmas.List.Elements.{All-contains, All-from_recursion}
+use Rattle.std.proofs.lemmas.List.Folds.{list_all-append}
 use Rattle.std.proofs.lemmas.Str.{chars-append}
 use Rattle.semver_texts.specs.Texts.{Text}
 use Rattle.semver_texts.specs.Versions.{PlainVersion}
@@ -17,7 +19,6 @@ use Rattle.semver_ranges.specs.RangeTree.{Form, bare, equal, less, at_most, grea
 use Rattle.semver_ranges.specs.Partials.{stated, fits_u64}
 use Rattle.semver_ranges.specs.Terms.{of_simple}
 use Rattle.semver_ranges.specs.RewritingTable.{bound_fits, raised_bound, simple_fits}
-use Rattle.version_fronts.proofs.FrontPartials.{nothing, wildcard, letter}
 use Rattle.tool_ranges.specs.declared.reading.Reading.{Reading}
 use Rattle.tool_ranges.specs.declared.reading.Reading.TheVariants.{Cargo, Npm, Crate}
 use Rattle.tool_ranges.specs.CargoMeaning.{as_read, named}
@@ -26,11 +27,14 @@ use Rattle.tool_ranges.specs.Fronts.{BeginsFitting}
 use Rattle.tool_ranges.specs.NpmGrammar.{may_stand}
 use Rattle.tool_ranges.specs.NpmTable.{is_safe, is_safe_bound, is_safe_simple}
 use Rattle.tool_ranges.specs.Readings.{HasSetAs}
+use Rattle.tool_ranges.specs.Steps.Places.{rests}
+use Rattle.tool_ranges.specs.declared.place.Wanted.{Wanted}
+use Rattle.tool_ranges.specs.declared.place.Wanted.TheVariants.{Any, Fitting}
 use Rattle.tool_ranges.specs.ToolTable.{begins_above, fits_in, raised_in}
 use Rattle.tool_ranges.proofs.CargoFronts.{AreCargoRests, AreAllRight, requirement_goes_on}
 use Rattle.tool_ranges.proofs.FittingSimples.{IsLimit, bound_within, fits_for, number_fits}
 use Rattle.tool_ranges.proofs.FittingPartials.{IsNaming, partial_fits}
-use Rattle.tool_ranges.proofs.FittingRanges.{IsFittingRest, fitting_set}
+use Rattle.tool_ranges.proofs.FittingRanges.{IsFittingRest, fitting_rest, fitting_set}
 
 -- ---- the limits
 
@@ -80,8 +84,8 @@ RightOfCargo s = fits_in compat.Cargo (as_read s) ≡ true
 
 cargo_rests : AreCargoRests IsFittingRest RightOfCargo
 cargo_rests = record {
-  nothing = inl (inl (nothing, refl));
-  number = inr (inr (inl refl));
+  nothing = (0, omega arith, refl);
+  number = (9, omega arith, refl);
   right_number = λ form. tool_table compat.Cargo (as_read (record { form = form; partial = one (codes "1") }))
       ∙ number_fits fits_u64 u64_limit true compat.Cargo (named false form) refl;
   partial = λ s front rest some spelled read right. (
@@ -89,7 +93,7 @@ cargo_rests = record {
       (sym (tool_table compat.Cargo (as_read s)) ∙ right) in record {
         tree = w.tree;
         more = w.more;
-        is_rest = inl w.is_rest;
+        is_rest = fitting_rest w.more w.is_rest;
         spelled = w.spelled;
         kept = w.cargo read;
         right = tool_table compat.Cargo (as_read (record { form = s.form; partial = w.tree })) ∙ w.right;
@@ -109,35 +113,20 @@ all_fit (s ∷ ss) h = and_from _ _ h.0 (all_fit ss h.1)
 
 -- ---- npm's characters
 
-rest_stands : (more : Text) → IsFittingRest more → list_all may_stand (chars more) ≡ true
+abbrev Stands : Text → Type 0
+Stands t = list_all may_stand (chars t) ≡ true
+
+all_stand : (wanted : Wanted) → AllByRecursion Stands (rests wanted)
 unfolding chars
-rest_stands more (inl (inl (nothing, e))) = rw e refl
-rest_stands more (inl (inl (wildcard, e))) = rw e refl
-rest_stands more (inl (inl (letter, e))) = rw e refl
-rest_stands more (inl (inr (inl e))) = rw e refl
-rest_stands more (inl (inr (inr (inl e)))) = rw e refl
-rest_stands more (inl (inr (inr (inr (inl e))))) = rw e refl
-rest_stands more (inl (inr (inr (inr (inr (inl e)))))) = rw e refl
-rest_stands more (inl (inr (inr (inr (inr (inr e)))))) = rw e refl
-rest_stands more (inr (inl e)) = rw e refl
-rest_stands more (inr (inr (inl e))) = rw e refl
-rest_stands more (inr (inr (inr (nothing, e)))) = rw e refl
-rest_stands more (inr (inr (inr (wildcard, e)))) = rw e refl
-rest_stands more (inr (inr (inr (letter, e)))) = rw e refl
+all_stand Any = (refl, (refl, (refl, (refl, (refl, tt)))))
+all_stand Fitting = (refl, (refl, (refl, (refl, (refl, (refl, (refl, (refl, (refl, (refl, (refl, (refl, (refl, tt)))))))))))))
 
-all_front : (f : ℕ → Bool) (x y : Text) → list_all f (x ++ y) ≡ true → list_all f x ≡ true
-all_front f [] y h = refl
-all_front f (b ∷ x) y h = let both = and_parts (f b) _ h in and_from _ _ both.0 (all_front f x y both.1)
-
-all_both : (f : ℕ → Bool) (x y : Text) → list_all f x ≡ true → list_all f y ≡ true → list_all f (x ++ y) ≡ true
-all_both f [] y h k = k
-all_both f (b ∷ x) y h k = let both = and_parts (f b) _ h in and_from _ _ both.0 (all_both f x y both.1 k)
-
-pub still_stand : (t rest more : Text) → IsUtf8 t → list_all may_stand (chars (t ++ rest)) ≡ true → list_all may_stand (chars more) ≡ true
-    → list_all may_stand (chars (t ++ more)) ≡ true
-still_stand t rest more utf8 h stands =
-    let here = all_front may_stand (chars t) (chars rest) (subst (λ c. list_all may_stand c ≡ true) (chars-append t rest utf8) h) in
-    subst (λ c. list_all may_stand c ≡ true) (sym (chars-append t more utf8)) (all_both may_stand (chars t) (chars more) here stands)
+pub still_stand : (wanted : Wanted) (t rest more : Text) → IsUtf8 t → list_all may_stand (chars (t ++ rest)) ≡ true
+    → Contains (rests wanted) more → list_all may_stand (chars (t ++ more)) ≡ true
+still_stand wanted t rest more utf8 h is =
+    let here = and_parts (list_all may_stand (chars t)) _ (rw (chars-append t rest utf8, list_all-append) at h) in
+    let stands = All-contains Stands (rests wanted) more (All-from_recursion Stands (rests wanted) (all_stand wanted)) is in
+    rw (chars-append t more utf8, list_all-append) (and_from (list_all may_stand (chars t)) _ here.0 stands)
 
 -- ---- each reading
 
@@ -152,7 +141,7 @@ fitting_on Npm t utf8 (rest, (tree, spelled, fits)) =
       w.is_rest,
       (
         w.tree,
-        record { spelled = w.spelled; characters = still_stand t rest w.more utf8 spelled.characters (rest_stands w.more w.is_rest) },
+        record { spelled = w.spelled; characters = still_stand Fitting t rest w.more utf8 spelled.characters w.is_rest },
         w.fits,
       ),
     )

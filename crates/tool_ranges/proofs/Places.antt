@@ -1,8 +1,8 @@
 -- The place of a range text's error: whether a text is a range text, where its fronts go on, and the longest that does.
-use Rattle.std.proofs.Common.{◌≡◌, ℕ, ◌<◌, ◌≤◌, Bool, true, false, Ok, Err, Result, ◌⊎◌, inl, inr, ⊎_elim, [], ◌∷◌, ◌++◌, codes, refl, sym}
-use Rattle.std.proofs.Common.{◌-◌, append-nil, ap, ◌∙◌, subst, arith, length, take, drop, append_assoc}
-use Rattle.std.specs.Prelude.{◌↔◌, IsTrue, IfOk, not}
-use Rattle.std.specs.List.{list_all, slice_range}
+use Rattle.std.proofs.Common.{◌≡◌, ℕ, ◌+◌, ◌<◌, ◌≤◌, Bool, true, false, ◌⊎◌, inl, inr, ⊎_elim, List, [], ◌∷◌, ◌++◌, codes, refl, sym}
+use Rattle.std.proofs.Common.{◌-◌, append-nil, ◌∙◌, subst, arith, below_more, get_or, length, take, drop, append_assoc}
+use Rattle.std.specs.Prelude.{◌↔◌, IsTrue}
+use Rattle.std.specs.List.{Contains, slice_range}
 use Rattle.std.specs.Str.{IsUtf8, IsCharBoundary, chars}
 use Rattle.std.proofs.Math.Seq.{take-length}
 use Rattle.std.proofs.lemmas.Bool.{cases_lt, cases_order}
@@ -14,172 +14,67 @@ use Rattle.semver_texts.specs.declared.dialect.Dialect.TheVariants as dialect
 use Rattle.semver_ranges.specs.RangeTree.{SpellsIn, bare, empty, one}
 use Rattle.semver_ranges.specs.declared.range_set.RangeError.{RangeError}
 use Rattle.semver_ranges.specs.declared.range_set.RangeError.TheVariants.{NotARange, NumberTooLarge, OutOfMemory}
-use Rattle.version_fronts.proofs.FrontPartials.{nothing, wildcard, letter}
-use Rattle.version_fronts.proofs.FrontRanges.{IsTextRest, set_front}
+use Rattle.version_fronts.proofs.FrontRanges.{set_front}
 use Rattle.tool_ranges.specs.declared.reading.Reading.{Reading}
 use Rattle.tool_ranges.specs.declared.reading.Reading.TheVariants.{Cargo, Npm, Crate}
-use Rattle.tool_ranges.specs.Fronts.{BeginsAs, BeginsFitting, IsPlace}
+use Rattle.tool_ranges.specs.Fronts.{BeginsAs, IsPlace}
 use Rattle.tool_ranges.proofs.CargoFronts.{requirement_front}
-use Rattle.tool_ranges.proofs.FittingRanges.{IsFittingRest}
 use Rattle.tool_ranges.proofs.FittingTexts.{fitting_on, still_stand}
+use Rattle.tool_ranges.proofs.RangeErrors.{HasError}
 use Rattle.tool_ranges.specs.declared.place.Wanted.{Wanted}
 use Rattle.tool_ranges.specs.declared.place.Wanted.TheVariants.{Any, Fitting}
 use Rattle.tool_ranges.specs.CargoGrammar.{SpellsRequirement}
-use Rattle.tool_ranges.specs.NpmGrammar.{may_stand}
-use Rattle.tool_ranges.specs.Readings.{HasSetAs, IsTextAs, RefusesAs}
-use Rattle.tool_ranges.specs.Steps.Places.{BeginsBy, GoesOnAs, GoesOnBy, GoesOnFitting}
+use Rattle.tool_ranges.specs.Readings.{HasSetAs, IsTextAs}
+use Rattle.tool_ranges.specs.Steps.Places.{BeginsBy, GoesOnBy, IsWanted, rests}
 
--- ---- whether a text is a range text
+-- ---- whether a text is what is wanted
 
-text_from : {A : Type 0} (reading : Reading) (t : Text) (r : Result A RangeError) → RefusesAs reading t r
-    → (r ≡ Err NotARange → ⊥) → IsTextAs reading t
-text_from reading t (Ok x) w other = let fits = w.accepted in (fits.0, fits.1)
-text_from reading t (Err NotARange) w other = absurd (other refl)
-text_from reading t (Err NumberTooLarge) w other = let large = w.too_large.0 refl in (large.0, large.1)
-text_from reading t (Err OutOfMemory) w other = let fits = w.out_of_memory refl in (fits.0, fits.1)
+pub wanted_fits : (wanted : Wanted) (reading : Reading) (t : Text) → HasSetAs reading t → IsWanted wanted reading t
+wanted_fits Any reading t (tree, spells, fits) = (tree, spells)
+wanted_fits Fitting reading t set = set
 
--- what is said of a text by a dialect's own refusal
-module _ {A : Type 0} (reading asked : Reading) (t : Text) (same : asked ≡ reading) where
-  pub accepted_text : (x : A) → RefusesAs asked t (Ok x) → IsTextAs reading t
-  accepted_text x w = subst (λ r. IsTextAs r t) same (let fits = w.accepted in (fits.0, fits.1))
-
-  pub refused_text : (e : RangeError) (none : Bool) → RefusesAs {A = A} asked t (Err e) → IsTrue none ↔ (e ≡ NotARange)
-      → IsTrue (not none) ↔ IsTextAs reading t
-  refused_text e true w is = (
-    λ h. cc,
-    λ text. absurd (w.not_a_range.0 (ap Err (is.0 refl)) (subst (λ r. IsTextAs r t) (sym same) text)),
-  )
-  refused_text e false w is = (
-    λ h. subst (λ r. IsTextAs r t) same
-        (text_from {A = A} asked t (Err e) w (λ k. let bad : e ≡ NotARange = cc in let no = is.1 bad in cc)),
-    λ text. refl,
-  )
+pub wanted_refused : (wanted : Wanted) (reading : Reading) (t : Text) (e : RangeError) → HasError reading t e → IsWanted wanted reading t
+    → (e ≡ NumberTooLarge) × (wanted ≡ Any)
+wanted_refused Any reading t NotARange w h = absurd (w.not_a_range.0 refl h)
+wanted_refused Any reading t NumberTooLarge w h = (refl, refl)
+wanted_refused Any reading t OutOfMemory w h = absurd (w.kept refl)
+wanted_refused Fitting reading t e w h = absurd (w.no_set h)
 
 not_said : (said : Bool) (A : Type 0) → IsTrue said ↔ A → said ≡ false → A → ⊥
 not_said said A is e a = let h = is.1 a in cc
 
--- the last of the rests that are asked of a front
-module _ {E : Type 0} (A B C D F : Type 0) where
-  pub last_of : (a b c d : Bool) (r : Result Bool E) → IsTrue a ↔ A → IsTrue b ↔ B → IsTrue c ↔ C → IsTrue d ↔ D
-      → a ≡ false → b ≡ false → c ≡ false → d ≡ false → IfOk r (λ found. IsTrue found ↔ F)
-      → IfOk r (λ found. IsTrue found ↔ (A ⊎ B ⊎ C ⊎ D ⊎ F))
-  last_of a b c d (Err e) is_a is_b is_c is_d no_a no_b no_c no_d is = tt
-  last_of a b c d (Ok found) is_a is_b is_c is_d no_a no_b no_c no_d is = (
-    λ h. inr (inr (inr (inr (is.0 h)))),
-    λ goes. elim goes [
-      | inl w ↦ absurd (not_said a _ is_a no_a w)
-      | inr w ↦ elim w [
-        | inl w ↦ absurd (not_said b _ is_b no_b w)
-        | inr w ↦ elim w [
-          | inl w ↦ absurd (not_said c _ is_c no_c w)
-          | inr w ↦ elim w [
-            | inl w ↦ absurd (not_said d _ is_d no_d w)
-            | inr w ↦ is.1 w
-          ]
-        ]
-      ]
-    ],
-  )
-
-  -- and the last of three
-  pub last_of_three : (a b : Bool) (r : Result Bool E) → IsTrue a ↔ A → IsTrue b ↔ B → a ≡ false → b ≡ false
-      → IfOk r (λ found. IsTrue found ↔ C) → IfOk r (λ found. IsTrue found ↔ (A ⊎ B ⊎ C))
-  last_of_three a b (Err e) is_a is_b no_a no_b is = tt
-  last_of_three a b (Ok found) is_a is_b no_a no_b is = (
-    λ h. inr (inr (is.0 h)),
-    λ goes. elim goes [
-      | inl w ↦ absurd (not_said a _ is_a no_a w)
-      | inr w ↦ elim w [
-        | inl w ↦ absurd (not_said b _ is_b no_b w)
-        | inr w ↦ is.1 w
-      ]
-    ],
-  )
+-- one more rest is asked
+pub none_more : (P : Text → Type 0) (xs : List Text) (i : ℕ) → ((k : ℕ) → k < i → ¬ (P (get_or xs k []))) → ¬ (P (get_or xs i []))
+    → (k : ℕ) → k < i + 1 → ¬ (P (get_or xs k []))
+none_more P xs i before here k within = below_more (λ k. ¬ (P (get_or xs k []))) i before here k within
 
 -- ---- fronts
 
-begins_any_from : (reading : Reading) (t : Text) → GoesOnAs reading t → BeginsAs reading t
-begins_any_from reading t (inl w) = (codes "", w)
-begins_any_from reading t (inr (inl w)) = (codes "*", w)
-begins_any_from reading t (inr (inr (inl w))) = (codes "a", w)
-begins_any_from reading t (inr (inr (inr (inl w)))) = (codes "|", w)
-begins_any_from reading t (inr (inr (inr (inr w)))) = (codes " 1", w)
+begins_from : (wanted : Wanted) (reading : Reading) (t : Text) → GoesOnBy wanted reading t → BeginsBy wanted reading t
+begins_from wanted reading t w = (w.1, w.4)
 
-begins_fitting_from : (reading : Reading) (t : Text) → GoesOnFitting reading t → BeginsFitting reading t
-begins_fitting_from reading t (inl (inl w)) = (codes "", w)
-begins_fitting_from reading t (inl (inr (inl w))) = (codes "*", w)
-begins_fitting_from reading t (inl (inr (inr (inl w)))) = (codes "a", w)
-begins_fitting_from reading t (inl (inr (inr (inr (inl w))))) = (codes "|", w)
-begins_fitting_from reading t (inl (inr (inr (inr (inr w))))) = (codes " 1", w)
-begins_fitting_from reading t (inr (inl (inl w))) = (codes ".0", w)
-begins_fitting_from reading t (inr (inl (inr (inl w)))) = (codes "0", w)
-begins_fitting_from reading t (inr (inl (inr (inr (inl w))))) = (codes ".*", w)
-begins_fitting_from reading t (inr (inl (inr (inr (inr (inl w)))))) = (codes "0.*", w)
-begins_fitting_from reading t (inr (inl (inr (inr (inr (inr w)))))) = (codes ".0.*", w)
-begins_fitting_from reading t (inr (inr (inl w))) = (codes " - 1", w)
-begins_fitting_from reading t (inr (inr (inr (inl w)))) = (codes "* - 1", w)
-begins_fitting_from reading t (inr (inr (inr (inr w)))) = (codes "a - 1", w)
+goes_by : (wanted : Wanted) (reading : Reading) (t more : Text) → Contains (rests wanted) more → IsWanted wanted reading (t ++ more)
+    → GoesOnBy wanted reading t
+goes_by wanted reading t more is w = (is.0, more, is.1, is.2, w)
 
-pub begins_from : (wanted : Wanted) (reading : Reading) (t : Text) → GoesOnBy wanted reading t → BeginsBy wanted reading t
-begins_from Any reading t w = begins_any_from reading t w
-begins_from Fitting reading t w = begins_fitting_from reading t w
-
-goes_on_by : (reading : Reading) (t more : Text) → IsTextRest more → IsTextAs reading (t ++ more) → GoesOnAs reading t
-goes_on_by reading t more (inl (nothing, e)) w = inl (subst (λ r. IsTextAs reading (t ++ r)) e w)
-goes_on_by reading t more (inl (wildcard, e)) w = inr (inl (subst (λ r. IsTextAs reading (t ++ r)) e w))
-goes_on_by reading t more (inl (letter, e)) w = inr (inr (inl (subst (λ r. IsTextAs reading (t ++ r)) e w)))
-goes_on_by reading t more (inr (inl e)) w = inr (inr (inr (inl (subst (λ r. IsTextAs reading (t ++ r)) e w))))
-goes_on_by reading t more (inr (inr e)) w = inr (inr (inr (inr (subst (λ r. IsTextAs reading (t ++ r)) e w))))
-
-fits_by : (reading : Reading) (t more : Text) → IsFittingRest more → HasSetAs reading (t ++ more) → GoesOnFitting reading t
-fits_by reading t more is w = by is
-  where
-    at : (r : Text) → more ≡ r → HasSetAs reading (t ++ r)
-    at r e = subst (λ r. HasSetAs reading (t ++ r)) e w
-
-    by : IsFittingRest more → GoesOnFitting reading t
-    by (inl (inl (nothing, e))) = inl (inl (at _ e))
-    by (inl (inl (wildcard, e))) = inl (inr (inl (at _ e)))
-    by (inl (inl (letter, e))) = inl (inr (inr (inl (at _ e))))
-    by (inl (inr (inl e))) = inr (inl (inl (at _ e)))
-    by (inl (inr (inr (inl e)))) = inr (inl (inr (inl (at _ e))))
-    by (inl (inr (inr (inr (inl e))))) = inr (inl (inr (inr (inl (at _ e)))))
-    by (inl (inr (inr (inr (inr (inl e)))))) = inr (inl (inr (inr (inr (inl (at _ e))))))
-    by (inl (inr (inr (inr (inr (inr e)))))) = inr (inl (inr (inr (inr (inr (at _ e))))))
-    by (inr (inl e)) = inl (inr (inr (inr (inl (at _ e)))))
-    by (inr (inr (inl e))) = inl (inr (inr (inr (inr (at _ e)))))
-    by (inr (inr (inr (nothing, e)))) = inr (inr (inl (at _ e)))
-    by (inr (inr (inr (wildcard, e)))) = inr (inr (inr (inl (at _ e))))
-    by (inr (inr (inr (letter, e)))) = inr (inr (inr (inr (at _ e))))
-
-rest_stands : (more : Text) → IsTextRest more → list_all may_stand (chars more) ≡ true
-unfolding chars
-rest_stands more (inl (nothing, e)) = rw e refl
-rest_stands more (inl (wildcard, e)) = rw e refl
-rest_stands more (inl (letter, e)) = rw e refl
-rest_stands more (inr (inl e)) = rw e refl
-rest_stands more (inr (inr e)) = rw e refl
-
-goes_on_any : (reading : Reading) (t : Text) → IsUtf8 t → BeginsAs reading t → GoesOnAs reading t
+goes_on_any : (reading : Reading) (t : Text) → IsUtf8 t → BeginsAs reading t → GoesOnBy Any reading t
 goes_on_any Cargo t utf8 (rest, (tree, spelled)) =
-    let w = requirement_front tree t rest spelled in
-    goes_on_by Cargo t w.more (⊎_elim (λ plain. inl plain) (λ number. inr (inr number)) w.is_rest) (w.tree, w.spelled)
+    let w = requirement_front tree t rest spelled in goes_by Any Cargo t w.more w.is_rest (w.tree, w.spelled)
 goes_on_any Npm t utf8 (rest, (tree, spelled)) =
     let w = set_front dialect.Npm tree t rest spelled.spelled in
-    goes_on_by Npm t w.more w.is_rest (
+    goes_by Any Npm t w.more w.is_rest (
       w.tree,
-      record { spelled = w.spelled; characters = still_stand t rest w.more utf8 spelled.characters (rest_stands w.more w.is_rest) },
+      record { spelled = w.spelled; characters = still_stand Any t rest w.more utf8 spelled.characters w.is_rest },
     )
 goes_on_any (Crate mode) t utf8 (rest, (tree, spelled)) =
-    let w = set_front dialect.Crate tree t rest spelled in goes_on_by (Crate mode) t w.more w.is_rest (w.tree, w.spelled)
+    let w = set_front dialect.Crate tree t rest spelled in goes_by Any (Crate mode) t w.more w.is_rest (w.tree, w.spelled)
 
 pub goes_on : (wanted : Wanted) (reading : Reading) (t : Text) → IsUtf8 t → BeginsBy wanted reading t → GoesOnBy wanted reading t
 goes_on Any reading t utf8 w = goes_on_any reading t utf8 w
-goes_on Fitting reading t utf8 w = let k = fitting_on reading t utf8 w in fits_by reading t k.0 k.1 k.2
+goes_on Fitting reading t utf8 w = let k = fitting_on reading t utf8 w in goes_by Fitting reading t k.0 k.1 k.2
 
 pub shorter_front : (wanted : Wanted) (reading : Reading) (x y : Text) → BeginsBy wanted reading (x ++ y) → BeginsBy wanted reading x
-shorter_front Any reading x y (rest, text) = (y ++ rest, subst (IsTextAs reading) (append_assoc x y rest) text)
-shorter_front Fitting reading x y (rest, text) = (y ++ rest, subst (HasSetAs reading) (append_assoc x y rest) text)
+shorter_front wanted reading x y (rest, text) = (y ++ rest, subst (IsWanted wanted reading) (append_assoc x y rest) text)
 
 pub prefix_front : (wanted : Wanted) (reading : Reading) (t : Text) (m n : ℕ) → m ≤ n → BeginsBy wanted reading (take n t)
     → BeginsBy wanted reading (take m t)
@@ -210,12 +105,13 @@ one_comparator = record {
 }
 
 pub nothing_begins : (wanted : Wanted) (reading : Reading) → BeginsBy wanted reading []
+unfolding chars
 nothing_begins Any Cargo = (codes "1", (record { form = bare; partial = one (codes "1") } ∷ [], one_comparator))
-nothing_begins Any Npm = ([], (empty ∷ [], record { spelled = empty_range dialect.Npm; characters = rest_stands [] (inl (nothing, refl)) }))
+nothing_begins Any Npm = ([], (empty ∷ [], record { spelled = empty_range dialect.Npm; characters = refl }))
 nothing_begins Any (Crate mode) = ([], (empty ∷ [], empty_range dialect.Crate))
 nothing_begins Fitting Cargo = (codes "1", (record { form = bare; partial = one (codes "1") } ∷ [], one_comparator, refl))
 nothing_begins Fitting Npm =
-    ([], (empty ∷ [], record { spelled = empty_range dialect.Npm; characters = rest_stands [] (inl (nothing, refl)) }, refl))
+    ([], (empty ∷ [], record { spelled = empty_range dialect.Npm; characters = refl }, refl))
 nothing_begins Fitting (Crate mode) = ([], (empty ∷ [], empty_range dialect.Crate, refl))
 
 pub text_begins : (reading : Reading) (t : Text) → IsTextAs reading t → BeginsAs reading t

@@ -91,7 +91,7 @@ impl Ending {
     }
 
     /// Whether npm may take no byte more of a number or an identifier: what it bounds are versions
-    /// and identifiers of 250 characters and more. `text` is the text, and `next` the byte after it.
+    /// and identifiers of 250 characters and more. `next` is the byte after the text.
     pub(crate) fn may_be_too_long(self, text: &[u8], next: u8) -> bool {
         let goes_on = match next {
             b'.' => !matches!(self.last, Some(b'.' | b'+')),

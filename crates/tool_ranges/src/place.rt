@@ -1,15 +1,14 @@
 //! The place of a range text's error: the end of the longest front that some range text begins
-//! with. It is found by asking the dialect itself what a front could be gone on with, so there is
-//! no second grammar.
+//! with, or, of a number that is too large, some text that gives a range. It is found by asking the
+//! dialect itself what a front could be gone on with, so there is no second grammar.
 
-ghost use Rattle.std.specs.Prelude.{◌≡◌, ◌<◌, ◌≤◌, ◌↔◌, ◌++◌, ℕ, IfOk, IsTrue, length};
+ghost use Rattle.std.specs.List.{Any};
+ghost use Rattle.std.specs.Prelude.{◌≡◌, ◌<◌, ◌≤◌, ◌↔◌, ◌++◌, ℕ, IfOk, IsTrue, length, map};
 ghost use Rattle.std.specs.Str.{IsCharBoundary};
-ghost use Rattle.tool_ranges.specs.Fronts.{BeginsAs, IsPlace};
+ghost use Rattle.tool_ranges.specs.Fronts.{BeginsAs, BeginsFitting, IsPlace};
 ghost use Rattle.tool_ranges.specs.Meanings.{reading_of};
-ghost use Rattle.tool_ranges.specs.Readings.{IsTextAs};
-ghost use Rattle.tool_ranges.specs.Steps.Places.{BeginsBy, GoesOnAs, GoesOnBy};
+ghost use Rattle.tool_ranges.specs.Steps.Places.{BeginsBy, GoesOnBy, IsWanted};
 
-use crate::limit::begins_fitting;
 use crate::meaning::{self, Meaning};
 use crate::reading::Reading;
 use semver_ranges::RangeError;
@@ -18,10 +17,22 @@ use version_sets::PreReleases;
 
 /// What a front is to begin: a range text, or one whose numbers fit.
 #[derive(Clone, Copy)]
-pub(crate) enum Wanted {
+enum Wanted {
     Any,
     Fitting,
 }
+
+/// What a front is gone on with. Nothing is missing after a number; a wildcard after a dot; a
+/// letter after a hyphen or a plus, and after digits with a leading zero; another bar after a bar;
+/// and a space and a number after an operator, a comma and the hyphen of a hyphen range.
+const RESTS: [&str; 5] = ["", "*", "a", "|", " 1"];
+
+/// What it is gone on with if numbers are to fit, too. The bound of `>18446744073709551615` doesn't
+/// fit, and with `.0` it does; that of Cargo's `18446744073709551615.0` does only with a wildcard.
+/// On the left of a hyphen range no bound is raised.
+const FITTING_RESTS: [&str; 13] = [
+    "", "*", "a", ".0", "0", ".*", "0.*", ".0.*", "|", " 1", " - 1", "* - 1", "a - 1",
+];
 
 // Answer: law answer_laws::ranges::one_error_place.
 /// Returns the place of the first error of a refused range text, in bytes: no range text of the
@@ -41,13 +52,20 @@ pub fn error_place(alloc: Global, reading: Reading, text: &str) -> Result<usize,
     longest(alloc, Wanted::Any, reading, text)
 }
 
+/// The place of the first byte of a text with a number that is too large after which no text of the
+/// dialect has numbers that fit: 20 in `=18446744073709551616`.
+///
+/// It takes time in n log n for n bytes, and allocates one buffer of n + 5 bytes. `Err` is out of
+/// memory.
+pub(crate) fn limit_place(alloc: Global, reading: Reading, text: &str) -> Result<usize, AllocError>
+    // Some text with a set begins with what is before the place, and none with a longer front.
+    ensures place { IfOk result (λ place. IsPlace (BeginsFitting reading) text.now place) }
+{
+    longest(alloc, Wanted::Fitting, reading, text)
+}
+
 /// The end of the longest front of a text that begins what is wanted.
-pub(crate) fn longest(
-    alloc: Global,
-    wanted: Wanted,
-    reading: Reading,
-    text: &str,
-) -> Result<usize, AllocError>
+fn longest(alloc: Global, wanted: Wanted, reading: Reading, text: &str) -> Result<usize, AllocError>
     ensures place { IfOk result (λ place. IsPlace (BeginsBy wanted reading) text.now place) }
 {
     let mut buffer = String::with_capacity(alloc, text.len().saturating_add(5))?;
@@ -101,65 +119,44 @@ fn begins(
     ensures { IfOk result (λ found. IsTrue found ↔ GoesOnBy wanted reading front.now) }
 {
     match wanted {
-        Wanted::Any => begins_any(reading, front, buffer),
-        Wanted::Fitting => begins_fitting(reading, front, buffer),
+        Wanted::Any => is_some_wanted(wanted, reading, front, &RESTS, buffer),
+        Wanted::Fitting => is_some_wanted(wanted, reading, front, &FITTING_RESTS, buffer),
     }
 }
 
-/// Whether a range text begins so. Nothing is missing after a number; a wildcard after a dot; a
-/// letter after a hyphen or a plus, and after digits with a leading zero; another bar after a bar;
-/// and a space and a number after an operator, a comma and the hyphen of a hyphen range.
-fn begins_any(reading: Reading, front: &str, buffer: &mut String) -> Result<bool, AllocError>
-    ensures { IfOk result (λ found. IsTrue found ↔ GoesOnAs reading front.now) }
-{
-    if goes_on(reading, front, "", buffer)? {
-        return Ok(true);
-    }
-    if goes_on(reading, front, "*", buffer)? {
-        return Ok(true);
-    }
-    if goes_on(reading, front, "a", buffer)? {
-        return Ok(true);
-    }
-    if goes_on(reading, front, "|", buffer)? {
-        return Ok(true);
-    }
-    goes_on(reading, front, " 1", buffer)
-}
-
-/// Whether a front with this rest is a range text.
-fn goes_on(
+/// Whether a front with one of the rests is what is wanted.
+fn is_some_wanted(
+    wanted: Wanted,
     reading: Reading,
     front: &str,
-    rest: &str,
+    rests: &[&str],
     buffer: &mut String,
 ) -> Result<bool, AllocError>
-    ensures { IfOk result (λ found. IsTrue found ↔ IsTextAs reading (front.now ++ rest.now)) }
+    ensures { IfOk result (λ found. IsTrue found
+        ↔ Any (λ rest. IsWanted wanted reading (front.now ++ rest))
+        (map (λ rest. rest.now) rests.now)) }
 {
-    buffer.clear();
-    buffer.push_str(front)?;
-    buffer.push_str(rest)?;
-    Ok(is_text(reading, buffer.as_str()))
+    for rest in rests {
+        buffer.clear();
+        buffer.push_str(front)?;
+        buffer.push_str(rest)?;
+        if is_wanted(wanted, reading, buffer.as_str()) {
+            return Ok(true);
+        }
+    }
+    Ok(false)
 }
 
-/// Whether a text is a range text, one with a number that is too large included.
-fn is_text(reading: Reading, text: &str) -> bool
-    ensures { IsTrue result ↔ IsTextAs reading text.now }
+/// Whether a text is what is wanted: a range text, one with a number that is too large included, or
+/// one that has a set.
+fn is_wanted(wanted: Wanted, reading: Reading, text: &str) -> bool
+    ensures { IsTrue result ↔ IsWanted wanted reading text.now }
 {
     match meaning::check(some_meaning(reading), text) {
         Ok(()) => true,
-        Err(refusal) => !is_none(refusal),
-    }
-}
-
-/// Whether a refusal is of what is no range text.
-fn is_none(refusal: RangeError) -> bool
-    ensures { IsTrue result ↔ (refusal ≡ RangeError.NotARange) }
-{
-    match refusal {
-        RangeError::NotARange => true,
-        RangeError::NumberTooLarge => false,
-        RangeError::OutOfMemory => false,
+        Err(RangeError::NumberTooLarge) => matches!(wanted, Wanted::Any),
+        Err(RangeError::NotARange) => false,
+        Err(RangeError::OutOfMemory) => false,
     }
 }
 

@@ -8,9 +8,8 @@ ghost use Rattle.tool_ranges.specs.Fronts.{BeginsAs, BeginsFitting, IsPlace};
 ghost use Rattle.tool_ranges.specs.Readings.{HasSetAs, IsTextAs, IsTooLargeAs};
 
 use crate::hints::{self, Hint};
-use crate::limit::limit_place;
 use crate::meaning;
-use crate::place::{error_place, some_meaning};
+use crate::place::{error_place, limit_place, some_meaning};
 use crate::reading::Reading;
 use semver_ranges::RangeError;
 use std::alloc::{AllocError, Global};

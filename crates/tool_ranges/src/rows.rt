@@ -87,7 +87,7 @@ impl Cell {
         }
     }
 
-    /// The comparators by themselves. For speed none of them is pushed where there might be no room.
+    /// The comparators by themselves. For speed none is pushed where there might be no room.
     #[inline(always)]
     pub(crate) fn to_vec(
         self,

@@ -3,6 +3,9 @@ use Rattle.std.proofs.Common.{◌≡◌, ℕ, ◌+◌, ◌≤◌, true, false, �
 use Rattle.std.proofs.Common.{arith, append-nil, append_assoc, length-append, subst}
 use Rattle.std.specs.Prelude.{not}
 use Rattle.std.proofs.lemmas.Bool.{and_parts, and_from}
+use Rattle.std.proofs.lemmas.List.Elements.{Contains-append_left}
+use Rattle.std.proofs.lemmas.List.Folds.{list_all-append}
+use Rattle.std.specs.List.{Contains}
 use Rattle.semver_texts.specs.Texts.{Text, is_empty}
 use Rattle.semver_texts.specs.declared.dialect.Dialect.{Dialect}
 use Rattle.semver_texts.specs.declared.dialect.Dialect.TheVariants.{Crate, Cargo, Npm}
@@ -10,7 +13,7 @@ use Rattle.semver_ranges.specs.RangeTree.{PartialTree, one, Simple, RangeTree, e
 use Rattle.semver_ranges.specs.RangeTree.{less, at_most, greater, at_least, tilde, caret, Role, behind_form, behind_hyphen, is_blank}
 use Rattle.semver_ranges.specs.RangeTree.{AreBlanks, AreSomeBlanks, SpellsPartial, SpellsWord, IsSignAndBlanks, SpellsForm, SpellsSimple}
 use Rattle.semver_ranges.specs.RangeTree.{SpellsSimples, SpellsRange, SpellsPadded, SpellsIn, is_word_of_npm}
-use Rattle.version_fronts.proofs.FrontPartials.{Rest, nothing, wildcard, rest_text, IsFrontOf, partial_goes_on}
+use Rattle.version_fronts.proofs.FrontPartials.{Rest, nothing, wildcard, letter, rest_text, IsFrontOf, partial_goes_on}
 use Rattle.version_fronts.proofs.FrontPartials.{cut_at}
 use Rattle.semver_ranges.specs.Terms.{left_side, right_side}
 use Rattle.version_fronts.proofs.FrontWords.{word_stays}
@@ -110,6 +113,14 @@ module _ (IsRest : Text → Type 0) (Right : PartialTree → Type 0) (star : IsR
 abbrev pub IsPlainRest : Text → Type 0
 IsPlainRest t = (more : Rest) × (t ≡ rest_text more)
 
+abbrev pub plain_texts : List Text
+plain_texts = codes "" ∷ codes "*" ∷ codes "a" ∷ []
+
+pub plain_text : (t : Text) → IsPlainRest t → Contains plain_texts t
+plain_text t (nothing, e) = rw e (0, omega arith, refl)
+plain_text t (wildcard, e) = rw e (1, omega arith, refl)
+plain_text t (letter, e) = rw e (2, omega arith, refl)
+
 pub npm_taken : (role : Role) (p tree : PartialTree) (front rest more : Text) → IsFrontOf tree p → length more ≤ length rest
     → SpellsPartial tree (front ++ more) → (v : ℕ) → v ≤ 1 → is_word_of_npm role p (v + length (front ++ rest)) ≡ true
     → is_word_of_npm role tree (v + length (front ++ more)) ≡ true
@@ -148,13 +159,11 @@ space_is_blank Cargo = refl
 space_is_blank Npm = refl
 
 module _ (d : Dialect) where
-  blanks_front : (x y : Text) → AreBlanks d (x ++ y) → AreBlanks d x
-  blanks_front [] y h = refl
-  blanks_front (b ∷ x) y h = let both = and_parts (is_blank d b) _ h in and_from _ _ both.0 (blanks_front x y both.1)
+  pub blanks_front : (x y : Text) → AreBlanks d (x ++ y) → AreBlanks d x
+  blanks_front x y h = (and_parts _ _ (sym (list_all-append (is_blank d) x y) ∙ h)).0
 
   pub one_space : (x : Text) → AreBlanks d x → AreBlanks d (x ++ codes " ")
-  one_space [] h = and_from _ _ (space_is_blank d) refl
-  one_space (b ∷ x) h = let both = and_parts (is_blank d b) _ h in and_from _ _ both.0 (one_space x both.1)
+  one_space x h = list_all-append (is_blank d) x (codes " ") ∙ and_from _ _ h (and_from _ _ (space_is_blank d) refl)
 
   pub some_space : (x : Text) → is_empty (x ++ codes " ") ≡ false
   some_space [] = refl
@@ -551,13 +560,16 @@ module _ (d : Dialect) (IsRest : Text → Type 0) (Right : Simple → Type 0) (r
 
 -- nothing, a wildcard, a letter, a bar, or a space and a number
 abbrev pub IsTextRest : Text → Type 0
-IsTextRest t = IsPlainRest t ⊎ (t ≡ codes "|") ⊎ (t ≡ codes " 1")
+IsTextRest t = Contains (plain_texts ++ (codes "|" ∷ codes " 1" ∷ [])) t
+
+pub text_rest : (t : Text) → IsPlainRest t → IsTextRest t
+text_rest t w = Contains-append_left plain_texts (codes "|" ∷ codes " 1" ∷ []) t (plain_text t w)
 
 pub plain_rests : (d : Dialect) → AreRests d IsTextRest (λ s. Unit {0})
 plain_rests d = record {
-  nothing = inl (nothing, refl);
-  bar = inr (inl refl);
-  number = inr (inr refl);
+  nothing = (0, omega arith, refl);
+  bar = (3, omega arith, refl);
+  number = (4, omega arith, refl);
   right_number = λ form. tt;
   word = λ form p front rest some h right. as_rest (behind_form form) front (goes (behind_form form) p front rest some h);
   right_word = λ p front rest some h right. as_rest behind_hyphen front (goes behind_hyphen p front rest some h);
@@ -567,7 +579,7 @@ plain_rests d = record {
     inner = front;
     after = blanks;
     more = [];
-    is_rest = inl (nothing, refl);
+    is_rest = (0, omega arith, refl);
     spelled = ([], front, refl, word, refl);
     are_blanks = are;
     text = append-nil (front ++ blanks);
@@ -581,7 +593,7 @@ plain_rests d = record {
 
     as_rest : (role : Role) (front : Text) → WordGoesOn IsPlainRest (λ tree. Unit {0}) d role front
         → WordGoesOn IsTextRest (λ tree. Unit {0}) d role front
-    as_rest role front w = record { tree = w.tree; more = w.more; is_rest = inl w.is_rest; spelled = w.spelled; right = tt }
+    as_rest role front w = record { tree = w.tree; more = w.more; is_rest = text_rest w.more w.is_rest; spelled = w.spelled; right = tt }
 
     left_cut : (front : Text) → WordGoesOn IsPlainRest (λ tree. Unit {0}) d (behind_form bare) front
         → RangeGoesOn d IsTextRest (λ s. Unit {0}) front
@@ -590,7 +602,7 @@ plain_rests d = record {
       inner = front ++ w.more;
       after = [];
       more = w.more;
-      is_rest = inl w.is_rest;
+      is_rest = text_rest w.more w.is_rest;
       spelled = ([], front ++ w.more, refl, w.spelled, refl);
       are_blanks = refl;
       text = sym (append-nil _);

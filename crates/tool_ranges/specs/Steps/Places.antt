@@ -1,44 +1,28 @@
 -- A means of proof, which no public clause cites: what the front of a range text is gone on with,
 -- as the search for the place of an error asks.
-use Rattle.std.specs.Prelude.{◌⊎◌, ◌++◌, codes}
+use Rattle.std.specs.List.{Any}
+use Rattle.std.specs.Prelude.{◌++◌, codes, List, [], ◌∷◌}
 use Rattle.semver_texts.specs.Texts.{Text}
 use Rattle.tool_ranges.specs.declared.place.Wanted.{Wanted}
 use Rattle.tool_ranges.specs.declared.place.Wanted.TheVariants as wanted
 use Rattle.tool_ranges.specs.declared.reading.Reading.{Reading}
-use Rattle.tool_ranges.specs.Fronts.{BeginsAs, BeginsFitting}
 use Rattle.tool_ranges.specs.Readings.{HasSetAs, IsTextAs}
 
--- a front that is a range text, or one with a wildcard, a letter, a bar, or a space and a number
-abbrev pub GoesOnAs : Reading → Text → Type 0
-GoesOnAs reading t = IsTextAs reading (t ++ codes "") ⊎ IsTextAs reading (t ++ codes "*")
-    ⊎ IsTextAs reading (t ++ codes "a") ⊎ IsTextAs reading (t ++ codes "|")
-    ⊎ IsTextAs reading (t ++ codes " 1")
+-- what is wanted of a text: to be a range text, or one that has a set
+abbrev pub IsWanted : Wanted → Reading → Text → Type 0
+IsWanted wanted.Any = IsTextAs
+IsWanted wanted.Fitting = HasSetAs
 
--- one that has a set so
-abbrev pub FitsSoon : Reading → Text → Type 0
-FitsSoon reading t = HasSetAs reading (t ++ codes "") ⊎ HasSetAs reading (t ++ codes "*")
-    ⊎ HasSetAs reading (t ++ codes "a") ⊎ HasSetAs reading (t ++ codes "|")
-    ⊎ HasSetAs reading (t ++ codes " 1")
+-- what a front is gone on with: nothing, a wildcard, a letter, a bar, or a space and a number
+abbrev pub rests : Wanted → List Text
+rests wanted.Any = codes "" ∷ codes "*" ∷ codes "a" ∷ codes "|" ∷ codes " 1" ∷ []
+-- also a number, a wildcard or both in the places after it, or the right side of a hyphen range
+rests wanted.Fitting = codes "" ∷ codes "*" ∷ codes "a" ∷ codes ".0" ∷ codes "0" ∷ codes ".*"
+    ∷ codes "0.*" ∷ codes ".0.*" ∷ codes "|" ∷ codes " 1" ∷ codes " - 1" ∷ codes "* - 1"
+    ∷ codes "a - 1" ∷ []
 
--- or with a number, a wildcard or both in the places after it
-abbrev pub FitsLower : Reading → Text → Type 0
-FitsLower reading t = HasSetAs reading (t ++ codes ".0") ⊎ HasSetAs reading (t ++ codes "0")
-    ⊎ HasSetAs reading (t ++ codes ".*") ⊎ HasSetAs reading (t ++ codes "0.*")
-    ⊎ HasSetAs reading (t ++ codes ".0.*")
-
--- or as the left side of a hyphen range
-abbrev pub FitsAtLeft : Reading → Text → Type 0
-FitsAtLeft reading t = HasSetAs reading (t ++ codes " - 1") ⊎ HasSetAs reading (t ++ codes "* - 1")
-    ⊎ HasSetAs reading (t ++ codes "a - 1")
-
-abbrev pub GoesOnFitting : Reading → Text → Type 0
-GoesOnFitting reading t = FitsSoon reading t ⊎ FitsLower reading t ⊎ FitsAtLeft reading t
-
--- what is wanted of the text that a front goes on as
 abbrev pub BeginsBy : Wanted → Reading → Text → Type 0
-BeginsBy wanted.Any reading t = BeginsAs reading t
-BeginsBy wanted.Fitting reading t = BeginsFitting reading t
+BeginsBy wanted reading t = (rest : Text) × IsWanted wanted reading (t ++ rest)
 
 abbrev pub GoesOnBy : Wanted → Reading → Text → Type 0
-GoesOnBy wanted.Any reading t = GoesOnAs reading t
-GoesOnBy wanted.Fitting reading t = GoesOnFitting reading t
+GoesOnBy wanted reading t = Any (λ rest. IsWanted wanted reading (t ++ rest)) (rests wanted)

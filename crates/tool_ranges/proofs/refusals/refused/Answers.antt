@@ -2,7 +2,7 @@ use Rattle.std.proofs.Common.{IfErr, Ok, Err, refl, subst}
 use Rattle.std.specs.Prelude.{Result}
 use Rattle.tool_ranges.specs.Meanings.{reading_of}
 use Rattle.tool_ranges.specs.Readings.{HasSetAs}
-use Rattle.tool_ranges.proofs.RangeErrors.{HasError, has_error}
+use Rattle.tool_ranges.proofs.RangeErrors.{HasError, error_as}
 use Rattle.tool_ranges.proofs.refusals.refused.Goals as goal
 
 pub returns-in_default-clause-range : goal.returns-in_default-clause-range
@@ -12,9 +12,8 @@ returns-in_default-clause-range c =
 pub returns-in_err-place-clause-out_of_memory : goal.returns-in_err-place-clause-out_of_memory
 returns-in_err-place-clause-out_of_memory c =
     let e = c.check.ensures in
-    let known = subst (λ r. HasError r c.args.text.now c.in-Err.error) c.some_meaning.ensures
-    (has_error (reading_of c.some_meaning.result) c.args.text.now c.check.result e.refusals e.no_memory c.in-Err.error c.in-Err.is) in
-    any_err c.from_residual.result known.no_set
+    any_err c.from_residual.result (error_as (reading_of c.some_meaning.result) c.args.reading c.args.text.now c.check.result
+    c.some_meaning.ensures e.refusals e.no_memory c.in-Err.error c.in-Err.is).no_set
   where
     any_err : {A B P : Type 0} (r : Result A B) → P → IfErr r (λ x. P)
     any_err (Ok x) p = tt
@@ -23,8 +22,8 @@ returns-in_err-place-clause-out_of_memory c =
 known : (c : goal.In_ok-place) → HasError c.args.reading c.args.text.now c.in-Err.error
 known c =
     let e = c.check.ensures in
-    subst (λ r. HasError r c.args.text.now c.in-Err.error) c.some_meaning.ensures
-    (has_error (reading_of c.some_meaning.result) c.args.text.now c.check.result e.refusals e.no_memory c.in-Err.error c.in-Err.is)
+    error_as (reading_of c.some_meaning.result) c.args.reading c.args.text.now c.check.result c.some_meaning.ensures
+    e.refusals e.no_memory c.in-Err.error c.in-Err.is
 
 pub returns-clause-range : goal.returns-clause-range
 returns-clause-range c = (λ h. cc, λ set. absurd ((known c).no_set set))
