@@ -1,11 +1,11 @@
 -- A front of a requirement's text, gone on with nothing, a wildcard, a letter, or a space and a number, is one too.
-use Rattle.std.proofs.Common.{◌≡◌, ℕ, ◌≤◌, Bool, true, false, ◌⊎◌, ⊎_elim, inl, inr, List, [], ◌∷◌, ◌++◌, codes, length, refl, sym, ap, ◌∙◌}
+use Rattle.std.proofs.Common.{◌≡◌, ℕ, ◌≤◌, Bool, true, false, ◌⊎◌, inl, inr, List, [], ◌∷◌, ◌++◌, codes, length, refl, sym, ap, ◌∙◌}
 use Rattle.std.proofs.Common.{arith, append-nil, append_assoc, one-add, subst}
 use Rattle.std.specs.Prelude.{◌==◌, ◌&&◌, ◌||◌, not, if◌then◌else◌, map, take_while}
 use Rattle.std.specs.List.{list_all, list_any}
-use Rattle.std.specs.Str.{all_ascii_digits}
 use Rattle.std.specs.Str.Parse.{digits_value}
-use Rattle.std.proofs.lemmas.Bool.{and_parts, and_from}
+use Rattle.std.proofs.lemmas.Bool.{and_parts, and_from, not-true, or_parts, or_right}
+use Rattle.semver_texts.specs.declared.dialect.Dialect.TheVariants.{Cargo}
 use Rattle.semver_texts.specs.Texts.{Text, has_no_leading_zero, is_empty, marked}
 use Rattle.semver_texts.proofs.Lists.{by_test}
 use Rattle.semver_ranges.specs.RangeTree.{Form, bare, equal, less, at_most, greater, at_least, tilde, caret}
@@ -13,9 +13,10 @@ use Rattle.semver_ranges.specs.RangeTree.{PartialTree, one, two, three, Simple, 
 use Rattle.semver_ranges.specs.Partials.{stated, states_nothing}
 use Rattle.tool_ranges.specs.CargoGrammar.{AreSpaces, SpellsComparator, SpellsComparators, SpellsRequirement, is_bare, is_every}
 use Rattle.tool_ranges.specs.CargoGrammar.{is_of_cargo, is_one, is_partial_of_cargo, sign, stands_alone, wildcards_are_last}
-use Rattle.version_fronts.proofs.FrontPartials.{AreFrontOfParts, IsFrontOf, IsFrontOfComponent, IsFrontOfEnd, IsFrontOfPart}
+use Rattle.version_fronts.proofs.FrontPartials.{AreFrontOfParts, IsFrontOf, IsFrontOfComponent, IsFrontOfEnd}
 use Rattle.version_fronts.proofs.FrontPartials.{cut_at, partial_goes_on, rest_text}
-use Rattle.version_fronts.proofs.FrontRanges.{IsTextRest, text_rest}
+use Rattle.version_fronts.proofs.FrontRanges.{IsTextRest, text_rest, blanks_front, one_space}
+use Rattle.version_fronts.proofs.FrontWords.{all_stay, zero_stays}
 
 -- ---- partials
 
@@ -47,54 +48,21 @@ one_last true = refl
 one_last false = refl
 
 two_last : (x y y' : Bool) → last_two x y ≡ true → (y' ≡ true) ⊎ (y' ≡ y) → last_two x y' ≡ true
-two_last false y y' e w = one_last y'
-two_last true y y' e w = ⊎_elim (λ t. rw t refl) (λ s. rw s e) w
+two_last x y y' e w = grind arith
 
 two_of_three : (x y z : Bool) → last_three x y z ≡ true → last_two x y ≡ true
-two_of_three false y z e = one_last y
-two_of_three true true z e = refl
-two_of_three true false z e = e
+two_of_three x y z e = grind arith
 
 three_last : (x y z z' : Bool) → last_three x y z ≡ true → (z' ≡ true) ⊎ (z' ≡ z) → last_three x y z' ≡ true
-three_last x y z z' e (inl t) = rw t (all_last x y z e)
-  where
-    all_last : (x y z : Bool) → last_three x y z ≡ true → last_three x y true ≡ true
-    all_last false false z e = refl
-    all_last false true z e = refl
-    all_last true true z e = refl
-    all_last true false z e = e
-three_last x y z z' e (inr s) = rw s e
+three_last x y z z' e w = grind arith
 
 wild_of : (c' c : Text) → IsFrontOfComponent c' c → (is_wildcard c' ≡ true) ⊎ (is_wildcard c' ≡ is_wildcard c)
 wild_of c' c (inl e) = inl (rw e refl)
 wild_of c' c (inr w) = inr w.2
 
--- no leading zero comes up
-letter_last : (x : Text) → all_ascii_digits (x ++ codes "a") ≡ false
-letter_last [] = refl
-letter_last (b ∷ x) = grind (arith, letter_last x)
-
-part_no_zero : (x' x : Text) → IsFrontOfPart x' x → has_no_leading_zero x ≡ true → has_no_leading_zero x' ≡ true
-part_no_zero x' x (inl e) h = rw e h
-part_no_zero x' x (inr (front, b, rest, text, inl w)) h = rw (w.0) w.2
-part_no_zero x' x (inr (front, b, rest, text, inr e)) h = rw (e, letter_last front) refl
-
-parts_no_zero : (xs' xs : List Text) → AreFrontOfParts xs' xs → list_all has_no_leading_zero xs ≡ true
-    → list_all has_no_leading_zero xs' ≡ true
-parts_no_zero [] xs w e = absurd w
-parts_no_zero (x' ∷ xs') [] w e = absurd w
-parts_no_zero (x' ∷ []) (x ∷ xs) w e = and_from _ _ (part_no_zero x' x w (and_parts _ _ e).0) refl
-parts_no_zero (x' ∷ y' ∷ ys') (x ∷ xs) w e =
-    let both = and_parts (has_no_leading_zero x) _ e in
-    and_from _ _ (rw (w.0) both.0) (parts_no_zero (y' ∷ ys') xs w.1 both.1)
-
 -- what a qualifier wants
 or_second : (x y : Bool) → x ≡ false → (x || y) ≡ true → y ≡ true
 or_second x y e h = rw e at h
-
-or_from : (x y : Bool) → y ≡ true → (x || y) ≡ true
-or_from true y e = refl
-or_from false y e = e
 
 some_pre : (xs' xs build : List Text) → AreFrontOfParts xs' xs → is_empty (marked (codes "-") xs ++ marked (codes "+") build) ≡ false
 some_pre [] xs build w = absurd w
@@ -122,14 +90,14 @@ module _ (a b c : Text) (pre build : List Text) (e : is_partial_of_cargo (three 
   })
   keeps_end c' pre' build' (inr (inl (same, shape, no_build))) = rw (same, no_build) (record {
     is_read = and_from _ _ all_of.0 (and_from _ _
-        (or_from _ _ (or_second _ _ (some_pre pre' pre build shape) all_of.1))
-        (parts_no_zero pre' pre shape all_of.2));
+        (or_right _ _ (or_second _ _ (some_pre pre' pre build shape) all_of.1))
+        (all_stay has_no_leading_zero zero_stays pre' pre shape all_of.2));
     states = refl;
     is_one = λ y. y;
   })
   keeps_end c' pre' build' (inr (inr (same, same_pre, shape))) = rw (same, same_pre) (record {
     is_read = and_from _ _ all_of.0 (and_from _ _
-        (or_from _ _ (or_second _ _ (some_build build' build pre shape) all_of.1)) all_of.2);
+        (or_right _ _ (or_second _ _ (some_build build' build pre shape) all_of.1)) all_of.2);
     states = refl;
     is_one = λ y. y;
   })
@@ -166,67 +134,45 @@ keeps_cargo (three a' b' c' pre' build') (three a b c pre build) w e =
 
 -- ---- comparators
 
--- spaces
-spaces_front : (x y : Text) → AreSpaces (x ++ y) → AreSpaces x
-spaces_front [] y e = refl
-spaces_front (b ∷ x) y e = let both = and_parts (b == 32) _ e in and_from _ _ both.0 (spaces_front x y both.1)
-
-one_more : (x : Text) → AreSpaces x → AreSpaces (x ++ codes " ")
-one_more [] e = refl
-one_more (b ∷ x) e = let both = and_parts (b == 32) _ e in and_from _ _ both.0 (one_more x both.1)
-
-spaces_back : (x y : Text) → AreSpaces (x ++ y) → AreSpaces y
-spaces_back [] y e = e
-spaces_back (b ∷ x) y e = spaces_back x y (and_parts (b == 32) _ e).1
-
 -- a number after an operator
 abbrev numbered : Form → Simple
 numbered f = record { form = f; partial = one (codes "1") }
 
 is_read_number : (f : Form) → is_of_cargo (numbered f) ≡ true
-is_read_number f = or_from (is_every (numbered f)) true refl
+is_read_number f = or_right (is_every (numbered f)) true refl
 
 -- a front of a sign is a sign
 record SignFront (t : Text) : Type 0 where
   form : Form
   is : t ≡ sign form
 
+one_byte : (f : Form) (s b : ℕ) (m r : Text) → sign f ≡ s ∷ [] → s ∷ [] ≡ (b ∷ m) ++ r → SignFront (b ∷ m)
+one_byte f s b [] r is e = record { form = f; is = (let h : b ≡ s = cc in ap (λ x. x ∷ []) h ∙ sym is) }
+one_byte f s b (c ∷ m) r is e = cc
+
+two_bytes : (f g : Form) (s t b : ℕ) (m r : Text) → sign f ≡ s ∷ t ∷ [] → sign g ≡ s ∷ [] → s ∷ t ∷ [] ≡ (b ∷ m) ++ r → SignFront (b ∷ m)
+two_bytes f g s t b [] r is is' e = record { form = g; is = (let h : b ≡ s = cc in ap (λ x. x ∷ []) h ∙ sym is') }
+two_bytes f g s t b (c ∷ []) r is is' e = record { form = f; is = cc }
+two_bytes f g s t b (c ∷ d ∷ m) r is is' e = cc
+
 sign_front : (f : Form) (b : ℕ) (m r : Text) → sign f ≡ (b ∷ m) ++ r → SignFront (b ∷ m)
 sign_front bare b m r e = cc
-sign_front equal b [] r e = record { form = equal; is = (let h : b ≡ 61 = cc in rw h refl) }
-sign_front equal b (c ∷ m) r e = cc
-sign_front less b [] r e = record { form = less; is = (let h : b ≡ 60 = cc in rw h refl) }
-sign_front less b (c ∷ m) r e = cc
-sign_front at_most b [] r e = record { form = less; is = (let h : b ≡ 60 = cc in rw h refl) }
-sign_front at_most b (c ∷ []) r e =
-    record { form = at_most; is = (let h : b ≡ 60 = cc in let g : c ≡ 61 = cc in rw (h, g) refl) }
-sign_front at_most b (c ∷ d ∷ m) r e = cc
-sign_front greater b [] r e = record { form = greater; is = (let h : b ≡ 62 = cc in rw h refl) }
-sign_front greater b (c ∷ m) r e = cc
-sign_front at_least b [] r e = record { form = greater; is = (let h : b ≡ 62 = cc in rw h refl) }
-sign_front at_least b (c ∷ []) r e =
-    record { form = at_least; is = (let h : b ≡ 62 = cc in let g : c ≡ 61 = cc in rw (h, g) refl) }
-sign_front at_least b (c ∷ d ∷ m) r e = cc
-sign_front tilde b [] r e = record { form = tilde; is = (let h : b ≡ 126 = cc in rw h refl) }
-sign_front tilde b (c ∷ m) r e = cc
-sign_front caret b [] r e = record { form = caret; is = (let h : b ≡ 94 = cc in rw h refl) }
-sign_front caret b (c ∷ m) r e = cc
+sign_front at_most b m r e = two_bytes at_most less 60 61 b m r refl refl e
+sign_front at_least b m r e = two_bytes at_least greater 62 61 b m r refl refl e
+sign_front equal b m r e = one_byte equal 61 b m r refl e
+sign_front less b m r e = one_byte less 60 b m r refl e
+sign_front greater b m r e = one_byte greater 62 b m r refl e
+sign_front tilde b m r e = one_byte tilde 126 b m r refl e
+sign_front caret b m r e = one_byte caret 94 b m r refl e
 
 -- Cargo reads a comparator whose partial is a front of another's
 every_kept : (x o o' s s' : Bool) → s' ≡ s → (o ≡ true → o' ≡ true) → ((x && (o && s)) || not s) ≡ true
     → ((x && (o' && s')) || not s') ≡ true
-every_kept x o o' false s' same keep e = rw same (or_from (x && (o' && false)) true refl)
-every_kept false o o' true s' same keep e = cc
-every_kept true false o' true s' same keep e = cc
-every_kept true true o' true s' same keep e = rw (same, keep refl) refl
+every_kept x o o' s s' same keep e = grind arith
 
 -- which of some comparators state nothing
 abbrev any_states_nothing : List Simple → Bool
 any_states_nothing ss = list_any (λ s. states_nothing s.partial) ss
-
-or_false : (x y : Bool) → (x || y) ≡ false → (x ≡ false) × (y ≡ false)
-or_false true y e = cc
-or_false false y e = (refl, e)
 
 none_of : (x y : Bool) → x ≡ false → y ≡ false → (x || y) ≡ false
 none_of x y e h = rw (e, h) refl
@@ -238,11 +184,7 @@ alone_still ss first [] few states alone = refl
 alone_still [] first (x ∷ xs) few states alone = absurd (omega (arith, few))
 alone_still (s ∷ []) first (x ∷ xs) few states alone = absurd (omega (arith, few))
 alone_still (s ∷ next ∷ others) first (x ∷ xs) few states alone =
-    rw (states (not_true (any_states_nothing (s ∷ next ∷ others)) alone)) refl
-  where
-    not_true : (b : Bool) → not b ≡ true → b ≡ false
-    not_true true e = cc
-    not_true false e = refl
+    rw (states (not-true (any_states_nothing (s ∷ next ∷ others)) alone)) refl
 
 -- ---- what has to be known of the fronts of partials, and of the rests with which they go on
 
@@ -283,7 +225,7 @@ module _ (IsRest : Text → Type 0) (Right : Simple → Type 0) (rests : AreCarg
       word = codes "1";
       after = [];
       before_is = spaces;
-      gap_is = one_more gap more;
+      gap_is = one_space Cargo gap more;
       after_is = refl;
       partial = (refl, tt, refl);
       is_read = is_read_number f;
@@ -306,7 +248,7 @@ module _ (IsRest : Text → Type 0) (Right : Simple → Type 0) (rests : AreCarg
         after = m;
         before_is = w.before_is;
         gap_is = w.gap_is;
-        after_is = spaces_front m rest (subst AreSpaces cut w.after_is);
+        after_is = blanks_front Cargo m rest (subst AreSpaces cut w.after_is);
         partial = w.partial;
         is_read = w.is_read;
         text = append-nil front ∙ text;
@@ -353,7 +295,7 @@ module _ (IsRest : Text → Type 0) (Right : Simple → Type 0) (rests : AreCarg
         → w.gap ++ (w.word ++ w.after) ≡ b ∷ (n ++ rest) → ComparatorGoesOn s front
     after_sign b n text cut = elim (cut_at w.gap (w.word ++ w.after) (b ∷ n) rest (sym cut)) [
       | inl c ↦ number_after s s.form front w.before (b ∷ n) w.before_is
-          (spaces_front (b ∷ n) c.0 (subst AreSpaces c.1 w.gap_is)) text
+          (blanks_front Cargo (b ∷ n) c.0 (subst AreSpaces c.1 w.gap_is)) text
       | inr c ↦ after_gap c.0 c.1 (text ∙ ap (λ x. w.before ++ (sign s.form ++ x)) c.2) c.3
     ]
 
@@ -369,7 +311,7 @@ module _ (IsRest : Text → Type 0) (Right : Simple → Type 0) (rests : AreCarg
   comparator_goes_on : (s : Simple) (front rest : Text) → SpellsComparator s (front ++ rest) → Right s → ComparatorGoesOn s front
   comparator_goes_on s front rest w right =
       elim (cut_at w.before (sign s.form ++ (w.gap ++ (w.word ++ w.after))) front rest w.text) [
-        | inl c ↦ number_after s bare front front [] (spaces_front front c.0 (subst AreSpaces c.1 w.before_is)) refl (sym (append-nil front))
+        | inl c ↦ number_after s bare front front [] (blanks_front Cargo front c.0 (subst AreSpaces c.1 w.before_is)) refl (sym (append-nil front))
         | inr c ↦ after_before s (front ++ rest) w right front rest c.0 c.1 c.2 c.3
       ]
 
@@ -398,7 +340,7 @@ module _ (IsRest : Text → Type 0) (Right : Simple → Type 0) (rests : AreCarg
     is_rest = w.is_rest;
     spelled = w.spelled;
     few = omega arith;
-    states = λ n. none_of _ _ (w.states (or_false _ _ n).0) refl;
+    states = λ n. none_of _ _ (w.states (or_parts _ _ n).0) refl;
     right = (w.right, tt);
   }
 
@@ -411,7 +353,7 @@ module _ (IsRest : Text → Type 0) (Right : Simple → Type 0) (rests : AreCarg
     is_rest = w.is_rest;
     spelled = (f, m ++ w.more, h, w.spelled, rw text (append_assoc f (44 ∷ m) w.more));
     few = omega (arith, w.few);
-    states = λ n. let both = or_false _ _ n in none_of _ _ both.0 (w.states both.1);
+    states = λ n. let both = or_parts _ _ n in none_of _ _ both.0 (w.states both.1);
     right = (right, w.right);
   }
 

@@ -1,7 +1,6 @@
 -- The place of a range text's error: whether a text is a range text, where its fronts go on, and the longest that does.
-use Rattle.std.proofs.Common.{◌≡◌, ℕ, ◌+◌, ◌<◌, ◌≤◌, Bool, true, false, ◌⊎◌, inl, inr, ⊎_elim, List, [], ◌∷◌, ◌++◌, codes, refl, sym}
-use Rattle.std.proofs.Common.{◌-◌, append-nil, ◌∙◌, subst, arith, below_more, get_or, length, take, drop, append_assoc}
-use Rattle.std.specs.Prelude.{◌↔◌, IsTrue}
+use Rattle.std.proofs.Common.{◌≡◌, ℕ, ◌<◌, ◌≤◌, ⊎_elim, [], ◌∷◌, ◌++◌, codes, refl, sym}
+use Rattle.std.proofs.Common.{append-nil, ◌∙◌, subst, arith, length, take, drop, append_assoc}
 use Rattle.std.specs.List.{Contains, slice_range}
 use Rattle.std.specs.Str.{IsUtf8, IsCharBoundary, chars}
 use Rattle.std.proofs.Math.Seq.{take-length}
@@ -39,14 +38,6 @@ wanted_refused Any reading t NotARange w h = absurd (w.not_a_range.0 refl h)
 wanted_refused Any reading t NumberTooLarge w h = (refl, refl)
 wanted_refused Any reading t OutOfMemory w h = absurd (w.kept refl)
 wanted_refused Fitting reading t e w h = absurd (w.no_set h)
-
-not_said : (said : Bool) (A : Type 0) → IsTrue said ↔ A → said ≡ false → A → ⊥
-not_said said A is e a = let h = is.1 a in cc
-
--- one more rest is asked
-pub none_more : (P : Text → Type 0) (xs : List Text) (i : ℕ) → ((k : ℕ) → k < i → ¬ (P (get_or xs k []))) → ¬ (P (get_or xs i []))
-    → (k : ℕ) → k < i + 1 → ¬ (P (get_or xs k []))
-none_more P xs i before here k within = below_more (λ k. ¬ (P (get_or xs k []))) i before here k within
 
 -- ---- fronts
 
@@ -137,13 +128,10 @@ module _ (wanted : Wanted) (reading : Reading) (t : Text) where
     no_longer = λ n longer boundary. absurd (omega (arith, boundary.0));
   }
 
-  pub no_front : (n : ℕ) → IsUtf8 t → IsCharBoundary t n → ¬ (GoesOnBy wanted reading (take n t)) → ¬ (BeginsBy wanted reading (take n t))
-  no_front n utf8 boundary goes begins = goes (goes_on wanted reading (take n t) (IsUtf8-take t n utf8 boundary) begins)
-
   pub no_whole : IsUtf8 t → ¬ (GoesOnBy wanted reading t) → ¬ (BeginsBy wanted reading (take (length t) t))
   no_whole utf8 goes begins = goes (goes_on wanted reading t utf8 (subst (BeginsBy wanted reading) (take-length t) begins))
 
-  -- what is known of the two places between which the search goes on, and of the next that is asked
+  -- what is known of the two places between which the search goes on
   pub record IsSearched (good bad : ℕ) : Type 0 where
     pub below : good ≤ bad
     pub within : bad ≤ length t
@@ -151,69 +139,48 @@ module _ (wanted : Wanted) (reading : Reading) (t : Text) where
     pub begins : BeginsBy wanted reading (take good t)
     pub ends : ¬ (BeginsBy wanted reading (take bad t))
 
-  pub record IsNext (good bad middle : ℕ) : Type 0 where
-    pub after : good ≤ middle
-    pub before : good < middle → middle < bad
-    pub boundary : good < middle → IsCharBoundary t middle
-    pub none : middle ≡ good → (k : ℕ) → good < k → k < bad → ¬ (IsCharBoundary t k)
-
-  pub first_searched : IsUtf8 t → (found : Bool) → IsTrue found ↔ GoesOnBy wanted reading t → found ≡ false → IsSearched 0 (length t)
-  first_searched utf8 found is ends = record {
+  pub first_searched : IsUtf8 t → ¬ (GoesOnBy wanted reading t) → IsSearched 0 (length t)
+  first_searched utf8 ends = record {
     below = omega arith;
     within = omega arith;
     boundary = IsCharBoundary-start t utf8;
     begins = nothing_begins wanted reading;
-    ends = no_whole utf8 (not_said found _ is ends);
+    ends = no_whole utf8 ends;
   }
 
-  -- one of the two places moves to the next
-  abbrev pub Moves : Bool → ℕ → ℕ → ℕ → ℕ → ℕ → Type 0
-  Moves found good bad middle good' bad' = ((found ≡ true) × (good' ≡ middle) × (bad' ≡ bad))
-      ⊎ ((found ≡ false) × (good' ≡ good) × (bad' ≡ middle))
+  -- one of them moves to a place between them
+  module _ (good bad middle : ℕ) (w : IsSearched good bad) (after : good < middle) (before : middle < bad)
+      (boundary : IsCharBoundary t middle) (front : Text) (is : front ≡ slice_range t 0 middle) where
+    taken : front ≡ take middle t
+    taken = is ∙ front_range t middle
 
-  good_moved : (good bad middle : ℕ) → IsSearched good bad → IsNext good bad middle → good < middle → GoesOnBy wanted reading (take middle t)
-      → IsSearched middle bad
-  good_moved good bad middle w next more goes = record {
-    below = omega (arith, next.before more);
-    within = w.within;
-    boundary = next.boundary more;
-    begins = begins_from wanted reading (take middle t) goes;
-    ends = w.ends;
-  }
+    pub good_moved : GoesOnBy wanted reading front → IsSearched middle bad
+    good_moved goes = record {
+      below = omega arith;
+      within = w.within;
+      boundary = boundary;
+      begins = begins_from wanted reading (take middle t) (subst (GoesOnBy wanted reading) taken goes);
+      ends = w.ends;
+    }
 
-  bad_moved : (good bad middle : ℕ) → IsUtf8 t → IsSearched good bad → IsNext good bad middle → good < middle
-      → ¬ (GoesOnBy wanted reading (take middle t)) → IsSearched good middle
-  bad_moved good bad middle utf8 w next more goes = record {
-    below = next.after;
-    within = omega (arith, next.before more, w.within);
-    boundary = w.boundary;
-    begins = w.begins;
-    ends = no_front middle utf8 (next.boundary more) goes;
-  }
+    pub bad_moved : IsUtf8 t → ¬ (GoesOnBy wanted reading front) → IsSearched good middle
+    bad_moved utf8 ends = record {
+      below = omega arith;
+      within = omega (arith, w.within);
+      boundary = w.boundary;
+      begins = w.begins;
+      ends = λ begins. ends (subst (GoesOnBy wanted reading) (sym taken)
+          (goes_on wanted reading (take middle t) (IsUtf8-take t middle utf8 boundary) begins));
+    }
 
-  pub still_searched : (found : Bool) (front : Text) (good bad middle good' bad' : ℕ) → IsUtf8 t → IsSearched good bad
-      → IsNext good bad middle → good < middle → front ≡ slice_range t 0 middle → IsTrue found ↔ GoesOnBy wanted reading front
-      → Moves found good bad middle good' bad' → IsSearched good' bad'
-  still_searched found front good bad middle good' bad' utf8 w next more text is (inl k) =
-      rw (k.1, k.2)
-      (good_moved good bad middle w next more (subst (GoesOnBy wanted reading) (text ∙ front_range t middle) (is.0 (k.0))))
-  still_searched found front good bad middle good' bad' utf8 w next more text is (inr k) =
-      rw (k.1, k.2) (bad_moved good bad middle utf8 w next more
-      (λ goes. not_said found _ is (k.0) (subst (GoesOnBy wanted reading) (sym (text ∙ front_range t middle)) goes)))
-
-  pub nearer : (found : Bool) (good bad middle good' bad' : ℕ) → IsNext good bad middle → good < middle
-      → Moves found good bad middle good' bad' → bad' - good' < bad - good
-  nearer found good bad middle good' bad' next more (inl k) = omega (arith, next.before more)
-  nearer found good bad middle good' bad' next more (inr k) = omega (arith, next.before more)
-
-  pub found_place : (good bad middle : ℕ) → IsSearched good bad → IsNext good bad middle → middle ≤ good
+  pub found_place : (good bad : ℕ) → IsSearched good bad → ((k : ℕ) → good < k → k < bad → ¬ (IsCharBoundary t k))
       → IsPlace (BeginsBy wanted reading) t good
-  found_place good bad middle w next last = record {
+  found_place good bad w none = record {
     within = omega (arith, w.below, w.within);
     boundary = w.boundary;
     front = w.begins;
     no_longer = λ n longer boundary front. ⊎_elim
-        (λ less. next.none (omega (arith, next.after)) n longer less boundary)
+        (λ less. none n longer less boundary)
         (λ more. w.ends (prefix_front wanted reading t bad n more front))
         (cases_lt n bad);
   }

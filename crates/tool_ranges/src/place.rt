@@ -74,16 +74,17 @@ fn longest(alloc: Global, wanted: Wanted, reading: Reading, text: &str) -> Resul
     }
     let mut good = 0;
     let mut bad = text.len();
-    let mut middle = between(text, good, bad);
-    while good < middle {
+    loop {
+        let middle = between(text, good, bad);
+        if middle == good {
+            return Ok(good);
+        }
         if begins(wanted, reading, &text[..middle], &mut buffer)? {
             good = middle;
         } else {
             bad = middle;
         }
-        middle = between(text, good, bad);
     }
-    Ok(good)
 }
 
 /// A place between two characters, after one place and before another, near to halfway between

@@ -1,7 +1,6 @@
-use Rattle.std.proofs.Common.{inl, inr}
-use Rattle.tool_ranges.proofs.Places.{Moves, whole_place, first_searched, still_searched, nearer, found_place}
+use Rattle.std.proofs.Common.{◌<◌, arith}
+use Rattle.tool_ranges.proofs.Places.{whole_place, first_searched, good_moved, bad_moved, found_place}
 use Rattle.tool_ranges.proofs.place.longest.Goals as goal
-use Rattle.tool_ranges.proofs.place.longest.Goals.{then-branch-2, else-branch-2}
 
 pub returns-then-branch : goal.returns-then-branch
 returns-then-branch c =
@@ -9,51 +8,28 @@ returns-then-branch c =
 
 pub loop-good-init : goal.loop-good-init
 loop-good-init c =
-    let e = c.between-middle.ensures in (
-      first_searched c.args.wanted c.args.reading c.args.text.now c.utf8.text _ c.in_ok-begins.ensures c.if-branch.false,
-      record { after = e.after; before = e.before; boundary = e.boundary; none = e.none },
-    )
+    first_searched c.args.wanted c.args.reading c.args.text.now c.utf8.text (λ goes. let h = c.in_ok-begins.ensures.1 goes in cc)
 
-pub range-requires-clause-end_boundary : goal.range-requires-clause-end_boundary
-range-requires-clause-end_boundary c = c.loop-good.invariant.1.boundary c.loop-good-test.true
+pub between-middle-requires : goal.between-middle-requires
+between-middle-requires c = c.loop-good.invariant.below
 
-pub between-middle-requires-in-loop-good : goal.between-middle-requires-in-loop-good
-between-middle-requires-in-loop-good c =
-    let w = c.loop-good.invariant in
-    let moves : Moves c.args.wanted c.args.reading c.args.text.now c.in_ok-begins-2.field-0 c.loop-good.good c.loop-good.bad c.loop-good.middle
-    c.if-branch-2.good c.if-branch-2.bad =
-    elim c.if-branch-2.branch [
-      | then-branch-2 v ↦ inl (v.if-branch-2.true, v.good-is, v.bad-is)
-      | else-branch-2 v ↦ inr (v.if-branch-2.false, v.good-is, v.bad-is)
-    ] in
-    (still_searched c.args.wanted c.args.reading c.args.text.now _ _ _ _ _ _ _ c.utf8.text w.0 w.1 c.loop-good-test.true c.range.ensures.value
-    c.in_ok-begins-2.ensures moves).below
+pub returns-then-middle-good : goal.returns-then-middle-good
+returns-then-middle-good c = record {
+  place = found_place c.args.wanted c.args.reading c.args.text.now c.loop-good.good c.loop-good.bad c.loop-good.invariant
+      (c.between-middle.ensures.none c.if-middle-good.true);
+}
 
-pub loop-good-smaller : goal.loop-good-smaller
-loop-good-smaller c =
-    let w = c.loop-good.invariant in
-    nearer c.args.wanted c.args.reading c.args.text.now c.in_ok-begins-2.field-0 _ _ _ _ _ w.1 c.loop-good-test.true
-    (elim c.if-branch-2.branch [
-      | then-branch-2 v ↦ inl (v.if-branch-2.true, v.good-is, v.bad-is)
-      | else-branch-2 v ↦ inr (v.if-branch-2.false, v.good-is, v.bad-is)
-    ])
+pub loop-good-preserved-then-branch-2 : goal.loop-good-preserved-then-branch-2
+loop-good-preserved-then-branch-2 c =
+    let e = c.between-middle.ensures in
+    let after : c.loop-good.good < c.between-middle.result = omega arith in
+    good_moved c.args.wanted c.args.reading c.args.text.now c.loop-good.good c.loop-good.bad c.between-middle.result c.loop-good.invariant
+    after (e.before after) (e.boundary after) c.range.result.now c.range.ensures.value (c.in_ok-begins-2.ensures.0 c.if-branch-2.true)
 
 pub loop-good-preserved : goal.loop-good-preserved
 loop-good-preserved c =
-    let w = c.loop-good.invariant in
-    let e = c.between-middle-in-loop-good.ensures in
-    let moves : Moves c.args.wanted c.args.reading c.args.text.now c.in_ok-begins-2.field-0 c.loop-good.good c.loop-good.bad c.loop-good.middle
-    c.if-branch-2.good c.if-branch-2.bad =
-    elim c.if-branch-2.branch [
-      | then-branch-2 v ↦ inl (v.if-branch-2.true, v.good-is, v.bad-is)
-      | else-branch-2 v ↦ inr (v.if-branch-2.false, v.good-is, v.bad-is)
-    ] in (
-      still_searched c.args.wanted c.args.reading c.args.text.now _ _ _ _ _ _ _ c.utf8.text w.0 w.1 c.loop-good-test.true c.range.ensures.value
-          c.in_ok-begins-2.ensures moves,
-      record { after = e.after; before = e.before; boundary = e.boundary; none = e.none },
-    )
-
-pub returns : goal.returns
-returns c =
-    let w = c.loop-good.invariant in
-    record { place = found_place c.args.wanted c.args.reading c.args.text.now _ _ _ w.0 w.1 c.loop-good-test.false }
+    let e = c.between-middle.ensures in
+    let after : c.loop-good.good < c.between-middle.result = omega arith in
+    bad_moved c.args.wanted c.args.reading c.args.text.now c.loop-good.good c.loop-good.bad c.between-middle.result c.loop-good.invariant
+    after (e.before after) (e.boundary after) c.range.result.now c.range.ensures.value c.utf8.text
+    (λ goes. let h = c.in_ok-begins-2.ensures.1 goes in cc)

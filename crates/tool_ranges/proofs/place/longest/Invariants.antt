@@ -1,10 +1,10 @@
 use Rattle.std.proofs.Common.{◌-◌}
-use Rattle.tool_ranges.proofs.Places.{IsNext, IsSearched}
+use Rattle.tool_ranges.proofs.Places.{IsSearched}
 use Rattle.tool_ranges.proofs.place.longest.Given as goal
 
--- the front up to `good` begins a range text, and that up to `bad` doesn't; `middle` is the next
+-- the front up to `good` begins what is wanted, and that up to `bad` doesn't
 abbrev pub invariant-loop-good : goal.invariant-loop-good
-invariant-loop-good l = IsSearched l.fn.wanted l.fn.reading l.fn.text l.good l.bad × IsNext l.fn.wanted l.fn.reading l.fn.text l.good l.bad l.middle
+invariant-loop-good l = IsSearched l.fn.wanted l.fn.reading l.fn.text l.good l.bad
 
 abbrev pub decreases-loop-good : goal.decreases-loop-good
 decreases-loop-good l = l.bad - l.good
