@@ -9,7 +9,7 @@ use Rattle.semver_texts.specs.declared.dialect.Dialect.TheVariants.{Cargo}
 use Rattle.semver_texts.specs.Texts.{Text, has_no_leading_zero, is_empty, marked}
 use Rattle.semver_texts.proofs.Lists.{by_test}
 use Rattle.semver_ranges.specs.RangeTree.{Form, bare, equal, less, at_most, greater, at_least, tilde, caret}
-use Rattle.semver_ranges.specs.RangeTree.{PartialTree, one, two, three, Simple, SpellsPartial, is_wildcard}
+use Rattle.semver_ranges.specs.RangeTree.{PartialTree, one, two, three, Simple, SpellsPartial, components, is_wildcard}
 use Rattle.semver_ranges.specs.Partials.{stated, states_nothing}
 use Rattle.tool_ranges.specs.CargoGrammar.{AreSpaces, SpellsComparator, SpellsComparators, SpellsRequirement, is_bare, is_every}
 use Rattle.tool_ranges.specs.CargoGrammar.{is_of_cargo, is_one, is_partial_of_cargo, sign, stands_alone, wildcards_are_last}
@@ -27,14 +27,23 @@ pub record KeepsCargo (p' p : PartialTree) : Type 0 where
   pub is_one : is_one p ≡ true → is_one p' ≡ true
 
 -- whether a partial states nothing depends on its first component
-pub none_stated : (a : Text) (cs : List Text)
-    → is_empty (map (digits_value 10) (take_while (λ c. not (is_wildcard c)) (a ∷ cs))) ≡ is_wildcard a
+abbrev pub nothing_in : List Text → Bool
+nothing_in cs = is_empty (map (digits_value 10) (take_while (λ c. not (is_wildcard c)) cs))
+
+pub none_stated : (a : Text) (cs : List Text) → nothing_in (a ∷ cs) ≡ is_wildcard a
 none_stated a cs = by_test (is_wildcard a) (λ y. rw y refl) (λ n. rw (n, one-add) refl)
 
-pub same_first : (a' a : Text) (cs' cs : List Text) → is_wildcard a' ≡ is_wildcard a
-    → is_empty (map (digits_value 10) (take_while (λ c. not (is_wildcard c)) (a' ∷ cs')))
-    ≡ is_empty (map (digits_value 10) (take_while (λ c. not (is_wildcard c)) (a ∷ cs)))
-same_first a' a cs' cs e = none_stated a' cs' ∙ e ∙ sym (none_stated a cs)
+-- a front states nothing exactly if the partial doesn't
+pub same_states : (p' p : PartialTree) (a' a : Text) (cs' cs : List Text) → components p' ≡ a' ∷ cs' → components p ≡ a ∷ cs
+    → is_wildcard a' ≡ is_wildcard a → states_nothing p' ≡ states_nothing p
+same_states p' p a' a cs' cs parts' parts e =
+    ap nothing_in parts' ∙ none_stated a' cs' ∙ e ∙ sym (none_stated a cs) ∙ ap nothing_in (sym parts)
+
+pub front_states : (p' p : PartialTree) → IsFrontOf p' p → states_nothing p' ≡ states_nothing p
+front_states (one a') p (a, cs, rest, parts, text, is, same) = same_states (one a') p a' a [] cs refl parts same
+front_states (two a' b') p (b, cs, parts, w) = same_states (two a' b') p a' a' (b' ∷ []) (b ∷ cs) refl parts refl
+front_states (three a b c' pre' build') p (c, pre, build, is, w) =
+    same_states (three a b c' pre' build') p a a (b ∷ c' ∷ []) (b ∷ c ∷ []) refl (ap components is) refl
 
 -- whether nothing but wildcards is after a wildcard, by which components are wildcards
 abbrev last_two : Bool → Bool → Bool
@@ -47,11 +56,8 @@ one_last : (x : Bool) → (if x then true else true) ≡ true
 one_last true = refl
 one_last false = refl
 
-two_last : (x y y' : Bool) → last_two x y ≡ true → (y' ≡ true) ⊎ (y' ≡ y) → last_two x y' ≡ true
-two_last x y y' e w = grind arith
-
-two_of_three : (x y z : Bool) → last_three x y z ≡ true → last_two x y ≡ true
-two_of_three x y z e = grind arith
+two_last : (x y y' z w : Bool) → (if x then (y && z) else (if y then z else w)) ≡ true → (y' ≡ true) ⊎ (y' ≡ y) → last_two x y' ≡ true
+two_last x y y' z w e is = grind arith
 
 three_last : (x y z z' : Bool) → last_three x y z ≡ true → (z' ≡ true) ⊎ (z' ≡ z) → last_three x y z' ≡ true
 three_last x y z z' e w = grind arith
@@ -85,7 +91,7 @@ module _ (a b c : Text) (pre build : List Text) (e : is_partial_of_cargo (three 
       → KeepsCargo (three a b c' pre' build') (three a b c pre build)
   keeps_end c' pre' build' (inl (shape, no_pre, no_build)) = rw (no_pre, no_build) (record {
     is_read = and_from _ _ (three_last (is_wildcard a) (is_wildcard b) (is_wildcard c) (is_wildcard c') all_of.0 (wild_of c' c shape)) refl;
-    states = same_first a a (b ∷ c' ∷ []) (b ∷ c ∷ []) refl;
+    states = same_states (three a b c' [] []) (three a b c pre build) a a (b ∷ c' ∷ []) (b ∷ c ∷ []) refl refl refl;
     is_one = λ y. y;
   })
   keeps_end c' pre' build' (inr (inl (same, shape, no_build))) = rw (same, no_build) (record {
@@ -102,35 +108,24 @@ module _ (a b c : Text) (pre build : List Text) (e : is_partial_of_cargo (three 
     is_one = λ y. y;
   })
 
-keeps_one : (a' a : Text) (cs : List Text) → is_wildcard a' ≡ is_wildcard a
-    → (is_partial_of_cargo (one a') ≡ true) × (states_nothing (one a')
-    ≡ is_empty (map (digits_value 10) (take_while (λ c. not (is_wildcard c)) (a ∷ cs))))
-keeps_one a' a cs e = (and_from _ _ (one_last (is_wildcard a')) refl, same_first a' a [] cs e)
+not_one : (p : PartialTree) (a b : Text) (cs : List Text) → components p ≡ a ∷ b ∷ cs → is_one p ≡ true → ⊥
+not_one (one x) a b cs e h = cc
+not_one _ a b cs e h = cc
 
 pub keeps_cargo : (p' p : PartialTree) → IsFrontOf p' p → is_partial_of_cargo p ≡ true → KeepsCargo p' p
-keeps_cargo (one a') (one a) w e =
-    let k = keeps_one a' a [] w.3 in record { is_read = k.0; states = k.1; is_one = λ y. refl }
-keeps_cargo (one a') (two a b) w e =
-    let k = keeps_one a' a (b ∷ []) w.3 in record { is_read = k.0; states = k.1; is_one = λ y. refl }
-keeps_cargo (one a') (three a b c pre build) w e =
-    let k = keeps_one a' a (b ∷ c ∷ []) w.3 in record { is_read = k.0; states = k.1; is_one = λ y. refl }
-keeps_cargo (two a' b') (one a) w e = absurd w
-keeps_cargo (two a' b') (two a b) w e = rw (w.0) (record {
-  is_read = and_from _ _ (two_last (is_wildcard a) (is_wildcard b) (is_wildcard b') (and_parts _ _ e).0 (wild_of b' b w.1)) refl;
-  states = same_first a a (b' ∷ []) (b ∷ []) refl;
-  is_one = λ y. y;
-})
-keeps_cargo (two a' b') (three a b c pre build) w e = rw (w.0) (record {
-  is_read = and_from _ _
-      (two_last (is_wildcard a) (is_wildcard b) (is_wildcard b')
-      (two_of_three (is_wildcard a) (is_wildcard b) (is_wildcard c) (and_parts _ _ e).0) (wild_of b' b w.1)) refl;
-  states = same_first a a (b' ∷ []) (b ∷ c ∷ []) refl;
-  is_one = λ y. y;
-})
-keeps_cargo (three a' b' c' pre' build') (one a) w e = absurd w
-keeps_cargo (three a' b' c' pre' build') (two a b) w e = absurd w
-keeps_cargo (three a' b' c' pre' build') (three a b c pre build) w e =
-    rw (w.0, w.1) (keeps_end a b c pre build e c' pre' build' w.2)
+keeps_cargo (one a') p w e = record {
+  is_read = and_from _ _ (one_last (is_wildcard a')) refl;
+  states = front_states (one a') p w;
+  is_one = λ y. refl;
+}
+keeps_cargo (two a b') p w e = record {
+  is_read = and_from _ _ (two_last (is_wildcard a) (is_wildcard w.0) (is_wildcard b') _ _
+      (subst (λ cs. wildcards_are_last cs ≡ true) w.2 (and_parts (wildcards_are_last (components p)) _ e).0) (wild_of b' w.0 w.3)) refl;
+  states = front_states (two a b') p w;
+  is_one = λ y. absurd (not_one p a w.0 w.1 w.2 y);
+}
+keeps_cargo (three a b c' pre' build') p (c, pre, build, is, w) e =
+    subst (KeepsCargo (three a b c' pre' build')) (sym is) (keeps_end a b c pre build (rw is at e) c' pre' build' w)
 
 -- ---- comparators
 
@@ -311,7 +306,8 @@ module _ (IsRest : Text → Type 0) (Right : Simple → Type 0) (rests : AreCarg
   comparator_goes_on : (s : Simple) (front rest : Text) → SpellsComparator s (front ++ rest) → Right s → ComparatorGoesOn s front
   comparator_goes_on s front rest w right =
       elim (cut_at w.before (sign s.form ++ (w.gap ++ (w.word ++ w.after))) front rest w.text) [
-        | inl c ↦ number_after s bare front front [] (blanks_front Cargo front c.0 (subst AreSpaces c.1 w.before_is)) refl (sym (append-nil front))
+        | inl c ↦ number_after s bare front front [] (blanks_front Cargo front c.0 (subst AreSpaces c.1 w.before_is)) refl
+            (sym (append-nil front))
         | inr c ↦ after_before s (front ++ rest) w right front rest c.0 c.1 c.2 c.3
       ]
 

@@ -12,15 +12,16 @@ use Rattle.semver_texts.proofs.Lists.{by_test, never}
 use Rattle.semver_ranges.specs.declared.range.Compat.{Compat}
 use Rattle.semver_ranges.specs.NpmLengths.{is_short_number}
 use Rattle.semver_ranges.specs.RangeTree.{PartialTree, one, two, three, SpellsPartial, components, is_component, is_wildcard}
-use Rattle.semver_ranges.specs.RangeTree.{Form, caret, Role, is_word_of_npm}
-use Rattle.semver_ranges.specs.Partials.{stated}
+use Rattle.semver_ranges.specs.RangeTree.{Form, caret, Role, has_no_leading_zeros, has_short_parts, is_word_of_npm}
+use Rattle.version_fronts.proofs.FrontWords.{short_head}
+use Rattle.semver_ranges.specs.Partials.{stated, states_nothing}
 use Rattle.version_fronts.proofs.FrontPartials.{Rest, rest_text, IsFrontOf, EndsIn, InFirst, EndGoesOn}
 use Rattle.version_fronts.proofs.FrontPartials.{after_numbers, cut_component, ends_in, value_front, value_less, partial_goes_on}
 use Rattle.version_fronts.proofs.FrontPartials.{IsFrontOfComponent, IsFrontOfEnd, AreAfter}
 use Rattle.version_fronts.proofs.FrontRanges.{plain_text, plain_texts, npm_taken}
 use Rattle.tool_ranges.specs.CargoGrammar.{is_one, is_partial_of_cargo}
 use Rattle.tool_ranges.specs.CargoMeaning.{has_wildcard}
-use Rattle.tool_ranges.proofs.CargoFronts.{KeepsCargo, keeps_cargo, same_first}
+use Rattle.tool_ranges.proofs.CargoFronts.{KeepsCargo, front_states, keeps_cargo, none_stated, same_states}
 use Rattle.tool_ranges.proofs.FittingSimples.{IsLimit, fits_for, none_fits, one_fits, two_fit, three_fit, stated_fit, caret_raised}
 
 -- ---- what a front goes on with
@@ -60,17 +61,10 @@ wild_npm : (role : Role) (a b : Text) (n : ℕ) → is_wildcard a ≡ false → 
     → is_short_number b ≡ true → is_word_of_npm role (wild a b) n ≡ true
 wild_npm role a b n x y s t = rw (x, y, s, t) refl
 
-short_first : (role : Role) (p : PartialTree) (a : Text) (cs : List Text) (n : ℕ) → components p ≡ a ∷ cs
-    → is_word_of_npm role p n ≡ true → is_short_number a ≡ true
-short_first role p a cs n e h =
-    let parts = (and_parts _ _ (and_parts _ _ (and_parts _ _ h).1).0).0 in
-    (and_parts (is_short_number a) _ (subst (λ l. list_all is_short_number l ≡ true) e parts)).0
-
-short_second : (role : Role) (p : PartialTree) (a b : Text) (cs : List Text) (n : ℕ) → components p ≡ a ∷ b ∷ cs
-    → is_word_of_npm role p n ≡ true → is_short_number b ≡ true
-short_second role p a b cs n e h =
-    let parts = (and_parts _ _ (and_parts _ _ (and_parts _ _ h).1).0).0 in
-    (and_parts (is_short_number b) _ (and_parts (is_short_number a) _ (subst (λ l. list_all is_short_number l ≡ true) e parts)).1).0
+short_word : (role : Role) (p : PartialTree) (a : Text) (cs : List Text) (n : ℕ) → components p ≡ a ∷ cs → is_word_of_npm role p n ≡ true
+    → (is_short_number a ≡ true) × (list_all is_short_number cs ≡ true)
+short_word role p a cs n e h =
+    short_head p a cs e (and_parts (has_short_parts p) _ (and_parts (has_no_leading_zeros p) _ h).1).0
 
 short_begun : (x y : Text) → is_short_number (x ++ y) ≡ true → is_short_number x ≡ true
 short_begun x y h = let k = length-append x y in grind (arith, nat_tests)
@@ -79,7 +73,7 @@ wild_cargo : (p : PartialTree) (a b a' : Text) (cs : List Text) → components p
     → is_wildcard a' ≡ false → is_one p ≡ false → KeepsCargo (wild a b) p
 wild_cargo p a b a' cs e x y x' others = record {
   is_read = rw (x, y) refl;
-  states = same_first a a' (b ∷ codes "*" ∷ []) cs (x ∙ sym x') ∙ ap (λ l. is_empty (before_wildcard l)) (sym e);
+  states = same_states (wild a b) p a a' (b ∷ codes "*" ∷ []) cs refl e (x ∙ sym x');
   is_one = λ h. absurd (never h others);
 }
 
@@ -150,7 +144,8 @@ module _ (f : ℕ → Bool) (limit : IsLimit f) (tool : Bool) (mode : Compat) (n
       → Fits form p → name true form ≡ caret → (val a == 0) ≡ false → f (val a + 1) ≡ true
   caret_first form p a cs e few n h named some =
       let is_caret = naming.wild form named in
-      let by_numbers = subst (λ l. fits_for f tool mode (name (has_wildcard p) form) l ≡ true) (ap before_wildcard e ∙ first_stated a cs n) h in
+      let by_numbers = subst (λ l. fits_for f tool mode (name (has_wildcard p) form) l ≡ true)
+      (ap before_wildcard e ∙ first_stated a cs n) h in
       let by_form = subst (λ g. fits_for f tool mode g (val a ∷ before_wildcard cs) ≡ true)
       (ap (name (has_wildcard p)) is_caret ∙ naming.caret_stays (has_wildcard p)) by_numbers in
       caret_raised f limit tool mode (val a) (before_wildcard cs) some (omega (arith, few_stated cs, few)) by_form
@@ -172,19 +167,18 @@ module _ (f : ℕ → Bool) (limit : IsLimit f) (tool : Bool) (mode : Compat) (n
     is_rest = is_rest;
     spelled = (and_from _ _ q (and_from _ _ r refl), (refl, refl), text ∙ sym (simp (append_assoc, append-nil)));
     right = wild_fits form p a b cs e few n m h raised;
-    npm = λ role v small word. wild_npm role a b _ n m (short_first role p a cs _ e word) (short role _ word);
+    npm = λ role v small word. wild_npm role a b _ n m (short_word role p a cs _ e word).0 (short role _ word);
     cargo = λ read. wild_cargo p a b a cs e n m n others;
   }
 
   -- ---- a front that ends within the first component
 
-  first_front : (form : Form) (p : PartialTree) (a front rest back : Text) → is_empty front ≡ false → is_component a ≡ true
-      → a ≡ front ++ back → (is_component front ≡ true → is_wildcard front ≡ is_wildcard a → IsFrontOf (one front) p)
-      → Fits form (one front) → PartialFits form p front rest
-  first_front form p a front rest back some e text shape right =
+  first_front : (form : Form) (p : PartialTree) (a : Text) (cs : List Text) (front rest back : Text) → components p ≡ a ∷ cs
+      → is_empty front ≡ false → is_component a ≡ true → a ≡ front ++ back → Fits form (one front) → PartialFits form p front rest
+  first_front form p a cs front rest back parts some e text right =
       let w = cut_component front back some (subst (λ t. is_component t ≡ true) text e) in
       kept form p (one front) front rest [] (0, omega arith, refl) ((and_from _ _ w.0 refl), tt, refl) (omega arith)
-      (shape w.0 (w.1 ∙ ap is_wildcard (sym text))) right
+      (a, cs, back, parts, text, w.0, w.1 ∙ ap is_wildcard (sym text)) right
 
   -- a number that can be raised, or the whole of it
   raised_or_whole : (front back : Text) → is_empty front ≡ false → is_component (front ++ back) ≡ true → f (val (front ++ back)) ≡ true
@@ -194,21 +188,16 @@ module _ (f : ℕ → Bool) (limit : IsLimit f) (tool : Bool) (mode : Compat) (n
   raised_or_whole (b ∷ x) (d ∷ back) some e h = inl (limit.below _ _ (value_less b x d back e) h)
 
   in_first : (form : Form) (p : PartialTree) (a : Text) (cs : List Text) (front rest : Text) → is_empty front ≡ false
-      → is_component a ≡ true → components p ≡ a ∷ cs → Fits form p → (w : InFirst a front)
-      → ((r : Text) → a ≡ front ++ r → is_component front ≡ true → is_wildcard front ≡ is_wildcard a → IsFrontOf (one front) p)
-      → (is_wildcard a ≡ false → front ≡ a → PartialFits form p front rest) → PartialFits form p front rest
-  in_first form p a cs front rest some e parts h w shape whole =
-      let cut = cut_component front w.back some (subst (λ t. is_component t ≡ true) w.text e) in
-      let same : is_wildcard front ≡ is_wildcard a = cut.1 ∙ ap is_wildcard (sym w.text) in
-      by_test (is_wildcard a)
-      (λ y. first_front form p a front rest w.back some e w.text (shape w.back w.text)
-      (rw (same, y) (none_fits f limit tool mode _)))
-      (λ n. elim (raised_or_whole front w.back some (subst (λ t. is_component t ≡ true) w.text e)
-      (subst (λ t. f (val t) ≡ true) w.text (first_fits form p a cs parts n h))) [
-        | inl more ↦ first_front form p a front rest w.back some e w.text (shape w.back w.text)
-            (rw (same, n) (one_fits f limit tool mode _ (val front) more))
-        | inr none ↦ whole n (sym (w.text ∙ ap (λ t. front ++ t) none ∙ append-nil front))
-      ])
+      → is_component a ≡ true → components p ≡ a ∷ cs → is_wildcard a ≡ false → Fits form p → (w : InFirst a front)
+      → (front ≡ a → PartialFits form p front rest) → PartialFits form p front rest
+  in_first form p a cs front rest some e parts n h w whole =
+      let component = subst (λ t. is_component t ≡ true) w.text e in
+      let same : is_wildcard front ≡ false = (cut_component front w.back some component).1 ∙ ap is_wildcard (sym w.text) ∙ n in
+      elim (raised_or_whole front w.back some component (subst (λ t. f (val t) ≡ true) w.text (first_fits form p a cs parts n h))) [
+        | inl more ↦ first_front form p a cs front rest w.back parts some e w.text
+            (rw same (one_fits f limit tool mode _ (val front) more))
+        | inr none ↦ whole (sym (w.text ∙ ap (λ t. front ++ t) none ∙ append-nil front))
+      ]
 
   -- the whole of it, where more is after it
   zero_on : (form : Form) (p : PartialTree) (a : Text) (cs : List Text) (front rest : Text) → components p ≡ a ∷ cs → length cs ≤ 2
@@ -219,32 +208,20 @@ module _ (f : ℕ → Bool) (limit : IsLimit f) (tool : Bool) (mode : Compat) (n
 
   -- ---- a partial that states nothing
 
-  abbrev begins_wild : PartialTree → Bool
-  begins_wild (one a) = is_wildcard a
-  begins_wild (two a b) = is_wildcard a
-  begins_wild (three a b c pre build) = is_wildcard a
-
-  wild_first : (a : Text) (cs : List Text) → is_wildcard a ≡ true → before_wildcard (a ∷ cs) ≡ []
-  wild_first a cs y = rw y refl
-
-  none_stated : (tree p : PartialTree) → IsFrontOf tree p → begins_wild p ≡ true → stated tree ≡ []
-  none_stated (one a') (one a) w y = wild_first a' [] (w.3 ∙ y)
-  none_stated (one a') (two a b) w y = wild_first a' [] (w.3 ∙ y)
-  none_stated (one a') (three a b c pre build) w y = wild_first a' [] (w.3 ∙ y)
-  none_stated (two a' b') (one a) w y = absurd w
-  none_stated (two a' b') (two a b) w y = wild_first a' (b' ∷ []) (ap is_wildcard (w.0) ∙ y)
-  none_stated (two a' b') (three a b c pre build) w y = wild_first a' (b' ∷ []) (ap is_wildcard (w.0) ∙ y)
-  none_stated (three a' b' c' pre' build') (one a) w y = absurd w
-  none_stated (three a' b' c' pre' build') (two a b) w y = absurd w
-  none_stated (three a' b' c' pre' build') (three a b c pre build) w y = wild_first a' (b' ∷ c' ∷ []) (ap is_wildcard (w.0) ∙ y)
+  pub nothing_fits : (form : Form) (p : PartialTree) → states_nothing p ≡ true → Fits form p
+  nothing_fits form p y = subst (λ l. fits_for f tool mode (name (has_wildcard p) form) l ≡ true) (sym (is_nothing (stated p) y))
+      (none_fits f limit tool mode _)
+    where
+      is_nothing : (l : List ℕ) → is_empty l ≡ true → l ≡ []
+      is_nothing [] e = refl
+      is_nothing (x ∷ l) e = cc
 
   of_nothing : (form : Form) (p : PartialTree) (front rest : Text) → is_empty front ≡ false → SpellsPartial p (front ++ rest)
-      → begins_wild p ≡ true → PartialFits form p front rest
+      → states_nothing p ≡ true → PartialFits form p front rest
   of_nothing form p front rest some spelled y =
       let w = partial_goes_on p front rest some spelled in
       kept form p w.tree front rest (rest_text w.more) (plain_rest w.more) w.spelled w.short w.shape
-      (subst (λ l. fits_for f tool mode (name (has_wildcard w.tree) form) l ≡ true) (sym (none_stated w.tree p w.shape y))
-      (none_fits f limit tool mode _))
+      (nothing_fits form w.tree (front_states w.tree p w.shape ∙ y))
 
   -- ---- a front that ends within the second
 
@@ -254,12 +231,11 @@ module _ (f : ℕ → Bool) (limit : IsLimit f) (tool : Bool) (mode : Compat) (n
   in_second : (form : Form) (p : PartialTree) (a b : Text) (cs : List Text) (front rest begun back : Text) → components p ≡ a ∷ b ∷ cs
       → length cs ≤ 1 → is_one p ≡ false → is_wildcard a ≡ false → is_component a ≡ true → is_component b ≡ true → Fits form p
       → front ≡ a ++ (46 ∷ begun) → b ≡ begun ++ back
-      → ((b' : Text) → IsFrontOfComponent b' b → IsFrontOf (two a b') p)
       → (is_wildcard b ≡ false → front ≡ a ++ (46 ∷ b) → PartialFits form p front rest) → PartialFits form p front rest
-  in_second form p a b cs front rest [] back e few others n q r h text cut shape whole =
+  in_second form p a b cs front rest [] back e few others n q r h text cut whole =
       wild_on form p a (codes "0") (b ∷ cs) front rest (codes "0.*") e (omega (arith, few)) others n refl q refl
       (λ role m word. refl) h limit.one (6, omega arith, refl) (rw text (append_assoc a _ _))
-  in_second form p a b cs front rest (d ∷ m) back e few others n q r h text cut shape whole =
+  in_second form p a b cs front rest (d ∷ m) back e few others n q r h text cut whole =
       let component = subst (λ t. is_component t ≡ true) cut r in
       let w = cut_component (d ∷ m) back refl component in
       let same : is_wildcard (d ∷ m) ≡ is_wildcard b = w.1 ∙ ap is_wildcard (sym cut) in
@@ -269,13 +245,14 @@ module _ (f : ℕ → Bool) (limit : IsLimit f) (tool : Bool) (mode : Compat) (n
       let h' = rw (n, y) at here in
       kept form p (two a (d ∷ m)) front rest [] (0, omega arith, refl)
       (and_from _ _ q (and_from _ _ w.0 refl), tt, rw text refl) (omega arith)
-      (shape (d ∷ m) (inr (rw (cut, length-append) (omega arith), w.0, same, rw cut (value_front (d ∷ m) back))))
+      (b, cs, e, inr (rw (cut, length-append) (omega arith), w.0, same, rw cut (value_front (d ∷ m) back)))
       (rw (n, same, y) h'))
       (λ k. elim (raised_or_whole (d ∷ m) back refl component
       (subst (λ t. f (val t) ≡ true) cut (second_fits form p a b cs e n k h))) [
         | inl more ↦ wild_on form p a (d ∷ m) (b ∷ cs) front rest (codes ".*") e (omega (arith, few)) others n (same ∙ k) q w.0
             (λ role len word. short_begun (d ∷ m) back
-            (subst (λ t. is_short_number t ≡ true) cut (short_second role p a b cs len e word))) h more
+            (subst (λ t. is_short_number t ≡ true) cut
+            (and_parts (is_short_number b) _ (short_word role p a (b ∷ cs) len e word).1).0)) h more
             (5, omega arith, refl) (rw text (append_assoc a _ _))
         | inr none ↦ whole k (text ∙ ap (λ t. a ++ (46 ∷ t)) (sym (cut ∙ ap (λ t. (d ∷ m) ++ t) none ∙ append-nil (d ∷ m))))
       ])
@@ -291,7 +268,7 @@ module _ (f : ℕ → Bool) (limit : IsLimit f) (tool : Bool) (mode : Compat) (n
       → front ≡ a ++ (46 ∷ b) → PartialFits form (two a b) front rest
   two_whole form a b front rest q r h text =
       kept form (two a b) (two a b) front rest [] (0, omega arith, refl) (and_from _ _ q (and_from _ _ r refl), tt, rw text refl)
-      (omega arith) (refl, itself b r) h
+      (omega arith) (b, [], refl, itself b r) h
 
   -- ---- a third component for nothing: a wildcard for one, 0 for a number
 
@@ -305,12 +282,12 @@ module _ (f : ℕ → Bool) (limit : IsLimit f) (tool : Bool) (mode : Compat) (n
     third_none front rest dot rests short text = by_test (is_wildcard c)
         (λ y. kept form (three a b c pre build) (three a b (codes "*") [] []) front rest (dot ++ codes "*") rests.0
         (and_from _ _ q (and_from _ _ r refl), (refl, refl), text (codes "*") ∙ sym (append-nil _))
-        (rw length-append (omega (arith, short))) (refl, refl, inl (inl refl, refl, refl))
+        (rw length-append (omega (arith, short))) (c, pre, build, refl, inl (inl refl, refl, refl))
         (three_fits form a b c (codes "*") pre build [] [] (sym y) (λ n. absurd (never y n)) h))
         (λ n. kept form (three a b c pre build) (three a b (codes "0") [] []) front rest (dot ++ codes "0") rests.1
         (and_from _ _ q (and_from _ _ r refl), (refl, refl), text (codes "0") ∙ sym (append-nil _))
         (rw length-append (omega (arith, short)))
-        (refl, refl, inl (inr (some_component c s, refl, sym n, omega arith), refl, refl))
+        (c, pre, build, refl, inl (inr (some_component c s, refl, sym n, omega arith), refl, refl))
         (three_fits form a b c (codes "0") pre build [] [] (sym n) (λ m. omega arith) h))
 
     second_whole : (front rest back after : Text) → rest ≡ back ++ (46 ∷ (c ++ after)) → front ≡ a ++ (46 ∷ b) → Whole front rest
@@ -332,13 +309,13 @@ module _ (f : ℕ → Bool) (limit : IsLimit f) (tool : Bool) (mode : Compat) (n
         let fewer : val (d ∷ m) ≤ val c = rw cut (value_front (d ∷ m) back) in
         kept form (three a b c pre build) (three a b (d ∷ m) [] []) front rest [] (0, omega arith, refl)
         (and_from _ _ q (and_from _ _ r (and_from _ _ w.0 refl)), (refl, refl), rw text refl) (omega arith)
-        (refl, refl, inl (inr (rw (cut, length-append) (omega arith), w.0, same, fewer), refl, refl))
+        (c, pre, build, refl, inl (inr (rw (cut, length-append) (omega arith), w.0, same, fewer), refl, refl))
         (three_fits form a b c (d ∷ m) pre build [] [] same (λ n. fewer) h)
 
     at_end : (front rest : Text) → EndGoesOn a b c pre build front rest → Whole front rest
     at_end front rest w =
         kept form (three a b c pre build) (three a b c w.pre' w.build') front rest (rest_text w.more) (plain_rest w.more) w.spelled
-        w.short (refl, refl, after w.shape) h
+        w.short (c, pre, build, refl, after w.shape) h
       where
         after : {pre' build' : List Text} → AreAfter pre' build' pre build → IsFrontOfEnd c pre' build' c pre build
         after (inl v) = inr (inl (refl, v.0, v.1))
@@ -347,31 +324,32 @@ module _ (f : ℕ → Bool) (limit : IsLimit f) (tool : Bool) (mode : Compat) (n
   -- ---- each
 
   ends_fit : (form : Form) (p : PartialTree) (front rest : Text) → is_empty front ≡ false → list_all is_component (components p) ≡ true
-      → begins_wild p ≡ false → Fits form p → EndsIn p front rest → PartialFits form p front rest
+      → states_nothing p ≡ false → Fits form p → EndsIn p front rest → PartialFits form p front rest
   ends_fit form (one a) front rest some e n h w =
       let q = (and_parts _ _ e).0 in
-      in_first form (one a) a [] front rest some q refl h w (λ r t k same. (r, t, k, same))
-      (λ m t. first_front form (one a) a front rest [] some q (sym (append-nil front ∙ t)) (λ k same. ([], sym (append-nil front ∙ t), k, same))
-      (subst (λ x. Fits form (one x)) (sym t) h))
-  ends_fit form (two a b) front rest some e n h w =
+      in_first form (one a) a [] front rest some q refl (sym (none_stated a []) ∙ n) h w
+      (λ t. first_front form (one a) a [] front rest [] refl some q (sym (append-nil front ∙ t)) (subst (λ x. Fits form (one x)) (sym t) h))
+  ends_fit form (two a b) front rest some e m h w =
       let both = and_parts (is_component a) _ e in
       let r : is_component b ≡ true = (and_parts (is_component b) _ both.1).0 in
+      let n : is_wildcard a ≡ false = sym (none_stated a (b ∷ [])) ∙ m in
       elim w [
-        | inl w ↦ in_first form (two a b) a (b ∷ []) front rest some both.0 refl h w (λ r t k same. (r, t, k, same))
-            (zero_on form (two a b) a (b ∷ []) front rest refl (omega arith) refl both.0 h)
+        | inl w ↦ in_first form (two a b) a (b ∷ []) front rest some both.0 refl n h w
+            (zero_on form (two a b) a (b ∷ []) front rest refl (omega arith) refl both.0 h n)
         | inr w ↦ in_second form (two a b) a b [] front rest w.begun w.back refl (omega arith) refl n both.0 r h w.front_is w.text
-            (λ b' shape. (refl, shape)) (λ k t. two_whole form a b front rest both.0 r h t)
+            (λ k t. two_whole form a b front rest both.0 r h t)
       ]
-  ends_fit form (three a b c pre build) front rest some e n h w =
+  ends_fit form (three a b c pre build) front rest some e m h w =
       let both = and_parts (is_component a) _ e in
       let others = and_parts (is_component b) _ both.1 in
       let s : is_component c ≡ true = (and_parts (is_component c) _ others.1).0 in
+      let n : is_wildcard a ≡ false = sym (none_stated a (b ∷ c ∷ [])) ∙ m in
       elim w [
-        | inl w ↦ in_first form (three a b c pre build) a (b ∷ c ∷ []) front rest some both.0 refl h w (λ r t k same. (r, t, k, same))
-            (zero_on form (three a b c pre build) a (b ∷ c ∷ []) front rest refl (omega arith) refl both.0 h)
+        | inl w ↦ in_first form (three a b c pre build) a (b ∷ c ∷ []) front rest some both.0 refl n h w
+            (zero_on form (three a b c pre build) a (b ∷ c ∷ []) front rest refl (omega arith) refl both.0 h n)
         | inr w ↦ elim w [
-          | inl w ↦ in_second form (three a b c pre build) a b (c ∷ []) front rest w.begun w.back refl (omega arith) refl n both.0 others.0 h
-              w.front_is w.text (λ b' shape. (refl, shape))
+          | inl w ↦ in_second form (three a b c pre build) a b (c ∷ []) front rest w.begun w.back refl (omega arith) refl n both.0 others.0
+              h w.front_is w.text
               (λ k t. second_whole form a b c pre build both.0 others.0 s h front rest w.back (after_numbers pre build) w.rest_is t)
           | inr w ↦ elim w [
             | inl w ↦ in_third form a b c pre build both.0 others.0 s h front rest w.begun w.back (after_numbers pre build) w.rest_is
@@ -384,6 +362,6 @@ module _ (f : ℕ → Bool) (limit : IsLimit f) (tool : Bool) (mode : Compat) (n
   -- a front of a partial whose numbers fit goes on as such a one
   pub partial_fits : (form : Form) (p : PartialTree) (front rest : Text) → is_empty front ≡ false → SpellsPartial p (front ++ rest)
       → Fits form p → PartialFits form p front rest
-  partial_fits form p front rest some spelled h = by_test (begins_wild p)
+  partial_fits form p front rest some spelled h = by_test (states_nothing p)
       (λ y. of_nothing form p front rest some spelled y)
       (λ n. ends_fit form p front rest some spelled.0 n h (ends_in p front rest spelled))

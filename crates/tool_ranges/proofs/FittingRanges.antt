@@ -9,7 +9,8 @@ use Rattle.semver_texts.specs.Texts.{Text, is_empty}
 use Rattle.semver_texts.specs.declared.dialect.Dialect.{Dialect}
 use Rattle.semver_texts.proofs.Lists.{by_test}
 use Rattle.semver_ranges.specs.declared.range.Compat.{Compat}
-use Rattle.semver_ranges.specs.RangeTree.{PartialTree, one, two, three, Simple, RangeTree, empty, hyphen, simples, SetTree, components, is_wildcard}
+use Rattle.semver_ranges.specs.RangeTree.{PartialTree, one, two, three, Simple, RangeTree, empty, hyphen, simples, SetTree}
+use Rattle.semver_ranges.specs.RangeTree.{components, is_wildcard}
 use Rattle.semver_ranges.specs.RangeTree.{Form, bare, at_most, at_least, behind_form, behind_hyphen, SpellsIn, SpellsWord, AreBlanks}
 use Rattle.semver_ranges.specs.RangeTree.{Role, SpellsPartial}
 use Rattle.semver_ranges.specs.Partials.{stated, states_nothing}
@@ -19,7 +20,8 @@ use Rattle.version_fronts.proofs.FrontPartials.{nothing, wildcard, letter, IsFro
 use Rattle.version_fronts.proofs.FrontRanges.{IsPlainRest, WordGoesOn, word_by, plain_word, PartialGoes, RangeGoesOn, AreRests}
 use Rattle.version_fronts.proofs.FrontRanges.{AreRight, IsRightRange, IsRightSet, set_goes_on, number_word, one_space, some_space}
 use Rattle.tool_ranges.proofs.FittingSimples.{IsLimit, fits_for, none_fits, at_least_fits, number_fits, stated_fit}
-use Rattle.tool_ranges.proofs.FittingPartials.{IsWordRest, word_rests, IsNaming, partial_fits, before_wildcard, val, few_stated, first_stated}
+use Rattle.tool_ranges.proofs.FittingPartials.{IsWordRest, word_rests, IsNaming, partial_fits, nothing_fits}
+use Rattle.tool_ranges.proofs.FittingPartials.{before_wildcard, val, few_stated, first_stated}
 
 -- what a front goes on with: what that of a word does, a bar, a space and a number, or that and the right side of a hyphen range
 abbrev others : List Text
@@ -84,18 +86,16 @@ module _ (f : ℕ → Bool) (limit : IsLimit f) (two_fits : f 2 ≡ true) (tool 
       → list_all f (before_wildcard (a ∷ cs)) ≡ true → list_all f (before_wildcard (a' ∷ cs')) ≡ true
   same_head a' a cs' cs e others h = heads a' a cs' cs (λ n. ap is_wildcard (sym e) ∙ n) (λ n. omega (arith, ap val e)) others h
 
+  heads_of : (p : PartialTree) (cs : List Text) → components p ≡ cs → list_all f (stated p) ≡ true → list_all f (before_wildcard cs) ≡ true
+  heads_of p cs e h = subst (λ l. list_all f (before_wildcard l) ≡ true) e h
+
   front_fits : (p' p : PartialTree) → IsFrontOf p' p → list_all f (stated p) ≡ true → list_all f (stated p') ≡ true
-  front_fits (one a') (one a) w h = head_alone a' a [] w.0 w.1 w.3 h
-  front_fits (one a') (two a b) w h = head_alone a' a (b ∷ []) w.0 w.1 w.3 h
-  front_fits (one a') (three a b c pre build) w h = head_alone a' a (b ∷ c ∷ []) w.0 w.1 w.3 h
-  front_fits (two a' b') (one a) w h = absurd w
-  front_fits (two a' b') (two a b) w h = same_head a' a (b' ∷ []) (b ∷ []) w.0 (component b' b [] w.1) h
-  front_fits (two a' b') (three a b c pre build) w h = same_head a' a (b' ∷ []) (b ∷ c ∷ []) w.0 (component b' b (c ∷ []) w.1) h
-  front_fits (three a' b' c' pre' build') (one a) w h = absurd w
-  front_fits (three a' b' c' pre' build') (two a b) w h = absurd w
-  front_fits (three a' b' c' pre' build') (three a b c pre build) w h =
-      same_head a' a (b' ∷ c' ∷ []) (b ∷ c ∷ []) w.0
-      (same_head b' b (c' ∷ []) (c ∷ []) w.1 (end_component c' pre' build' c pre build w.2)) h
+  front_fits (one a') p (a, cs, rest, parts, text, is, same) h = head_alone a' a cs rest text same (heads_of p (a ∷ cs) parts h)
+  front_fits (two a b') p (b, cs, parts, w) h =
+      same_head a a (b' ∷ []) (b ∷ cs) refl (component b' b cs w) (heads_of p (a ∷ b ∷ cs) parts h)
+  front_fits (three a b c' pre' build') p (c, pre, build, is, w) h =
+      same_head a a (b ∷ c' ∷ []) (b ∷ c ∷ []) refl (same_head b b (c' ∷ []) (c ∷ []) refl (end_component c' pre' build' c pre build w))
+      (rw is at h)
 
   -- ---- words
 
@@ -112,12 +112,7 @@ module _ (f : ℕ → Bool) (limit : IsLimit f) (two_fits : f 2 ≡ true) (tool 
   right_star form = from_fits (record { form = form; partial = one (codes "*") }) (none_fits f limit tool mode form)
 
   nothing_right : (form : Form) (p : PartialTree) → states_nothing p ≡ true → Right (record { form = form; partial = p })
-  nothing_right form p y = from_fits (record { form = form; partial = p })
-      (subst (λ l. fits_for f tool mode form l ≡ true) (sym (empty_is (stated p) y)) (none_fits f limit tool mode form))
-    where
-      empty_is : (l : List ℕ) → is_empty l ≡ true → l ≡ []
-      empty_is [] e = refl
-      empty_is (x ∷ l) e = cc
+  nothing_right form p y = from_fits (record { form = form; partial = p }) (nothing_fits f limit tool mode own_name own_naming form p y)
 
   fitting_goes : (form : Form) (role : Role) (p : PartialTree) → Right (record { form = form; partial = p }) → (front rest : Text)
       → is_empty front ≡ false → SpellsPartial p (front ++ rest)
@@ -146,8 +141,9 @@ module _ (f : ℕ → Bool) (limit : IsLimit f) (two_fits : f 2 ≡ true) (tool 
       (omega (arith, few_stated (components tree), at_most_three tree))
       (front_fits tree p shape (stated_fit f limit tool mode at_least (stated p) (to_fits (left_side p) right))))
 
-  left_plain : (d : Dialect) (p : PartialTree) (front rest : Text) → is_empty front ≡ false → SpellsWord d (behind_form bare) p (front ++ rest)
-      → Right (left_side p) → WordGoesOn IsPlainRest (λ tree. Right (left_side tree)) d (behind_form bare) front
+  left_plain : (d : Dialect) (p : PartialTree) (front rest : Text) → is_empty front ≡ false
+      → SpellsWord d (behind_form bare) p (front ++ rest) → Right (left_side p)
+      → WordGoesOn IsPlainRest (λ tree. Right (left_side tree)) d (behind_form bare) front
   left_plain d p front rest some h right =
       plain_word (λ tree. Right (left_side tree)) (right_star at_least) (behind_form bare) p (λ tree shape. left_kept p tree right shape)
       d front rest some h

@@ -113,7 +113,8 @@ text_begins reading t w = ([], subst (IsTextAs reading) (sym (append-nil t)) w)
 pub one_place : (Begins : Text → Type 0) (t : Text) (m n : ℕ) → IsPlace Begins t m → IsPlace Begins t n → m ≡ n
 one_place Begins t m n a b =
     ⊎_elim (λ e. e)
-    (λ other. ⊎_elim (λ less. absurd (a.no_longer n less b.boundary b.front)) (λ more. absurd (b.no_longer m more a.boundary a.front)) other)
+    (λ other. ⊎_elim (λ less. absurd (a.no_longer n less b.boundary b.front))
+    (λ more. absurd (b.no_longer m more a.boundary a.front)) other)
     (cases_order m n)
 
 front_range : (t : Text) (n : ℕ) → slice_range t 0 n ≡ take n t

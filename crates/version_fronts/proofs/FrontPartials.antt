@@ -47,19 +47,13 @@ IsFrontOfEnd c' pre' build' c pre build =
     ⊎ ((c' ≡ c) × AreFrontOfParts pre' pre × (build' ≡ []))
     ⊎ ((c' ≡ c) × (pre' ≡ pre) × AreFrontOfParts build' build)
 
--- of a partial; its first component isn't a wildcard for nothing
+-- of a partial: a front of its first component, which isn't a wildcard for nothing, or of its second, or of what is after two
 abbrev pub IsFrontOf : PartialTree → PartialTree → Type 0
-IsFrontOf (one a') (one a) = (rest : Text) × (a ≡ a' ++ rest) × (is_component a' ≡ true) × (is_wildcard a' ≡ is_wildcard a)
-IsFrontOf (one a') (two a b) = (rest : Text) × (a ≡ a' ++ rest) × (is_component a' ≡ true) × (is_wildcard a' ≡ is_wildcard a)
-IsFrontOf (one a') (three a b c pre build) =
-    (rest : Text) × (a ≡ a' ++ rest) × (is_component a' ≡ true) × (is_wildcard a' ≡ is_wildcard a)
-IsFrontOf (two a' b') (one a) = ⊥
-IsFrontOf (two a' b') (two a b) = (a' ≡ a) × IsFrontOfComponent b' b
-IsFrontOf (two a' b') (three a b c pre build) = (a' ≡ a) × IsFrontOfComponent b' b
-IsFrontOf (three a' b' c' pre' build') (one a) = ⊥
-IsFrontOf (three a' b' c' pre' build') (two a b) = ⊥
-IsFrontOf (three a' b' c' pre' build') (three a b c pre build) =
-    (a' ≡ a) × (b' ≡ b) × IsFrontOfEnd c' pre' build' c pre build
+IsFrontOf (one a') p = (a : Text) × (cs : List Text) × (rest : Text) × (components p ≡ a ∷ cs) × (a ≡ a' ++ rest)
+    × (is_component a' ≡ true) × (is_wildcard a' ≡ is_wildcard a)
+IsFrontOf (two a' b') p = (b : Text) × (cs : List Text) × (components p ≡ a' ∷ b ∷ cs) × IsFrontOfComponent b' b
+IsFrontOf (three a' b' c' pre' build') p =
+    (c : Text) × (pre : List Text) × (build : List Text) × (p ≡ three a' b' c pre build) × IsFrontOfEnd c' pre' build' c pre build
 
 -- the front goes on as another partial, by no more than the rest has
 pub record GoesOn (p : PartialTree) (front rest : Text) : Type 0 where
@@ -241,18 +235,14 @@ made : (p tree : PartialTree) (more : Rest) (front rest : Text) → Goes p tree 
 made p tree more front rest w = record { tree = tree; more = more; spelled = w.0; short = w.1; shape = w.2 }
 
 -- a front of the first component
-abbrev First : PartialTree → Text → Type 0
-First p a' = IsFrontOf (one a') p
-
-first_on : (p : PartialTree) (a front rest r : Text) → is_empty front ≡ false → is_component a ≡ true → a ≡ front ++ r
-    → ((rest : Text) × (a ≡ front ++ rest) × (is_component front ≡ true) × (is_wildcard front ≡ is_wildcard a) → First p front)
-    → GoesOn p front rest
-first_on p a front rest r some e text shape =
+first_on : (p : PartialTree) (a : Text) (cs : List Text) (front rest r : Text) → components p ≡ a ∷ cs → is_empty front ≡ false
+    → is_component a ≡ true → a ≡ front ++ r → GoesOn p front rest
+first_on p a cs front rest r parts some e text =
     let w = cut_component front r some (subst (λ t. is_component t ≡ true) text e) in
     made p (one front) nothing front rest (
       (and_from _ _ w.0 refl, tt, refl),
       omega arith,
-      shape (r, text, w.0, w.1 ∙ ap is_wildcard (sym text)),
+      (a, cs, r, parts, text, w.0, w.1 ∙ ap is_wildcard (sym text)),
     )
 
 -- a front of a component after a dot
@@ -284,16 +274,16 @@ next_on c (b ∷ front) rest e text =
       shape = inr (rw (text, length-append) (omega arith), w.0, w.1 ∙ ap is_wildcard (sym text), rw text (value_front (b ∷ front) rest));
     }
 
-two_on : (p : PartialTree) (a b front m rest r : Text) → is_component a ≡ true → front ≡ a ++ (46 ∷ m) → length r ≤ length rest
-    → ((b' : Text) → IsFrontOfComponent b' b → IsFrontOf (two a b') p) → ComponentGoesOn b m r → GoesOn p front rest
-two_on p a b front m rest r e text less shape w = made p (two a w.component) w.more front rest (
+two_on : (p : PartialTree) (a b : Text) (cs : List Text) (front m rest r : Text) → components p ≡ a ∷ b ∷ cs → is_component a ≡ true
+    → front ≡ a ++ (46 ∷ m) → length r ≤ length rest → ComponentGoesOn b m r → GoesOn p front rest
+two_on p a b cs front m rest r parts e text less w = made p (two a w.component) w.more front rest (
   (
     and_from _ _ e (and_from _ _ w.is_component refl),
     tt,
     rw text (append_assoc a _ _ ∙ ap (λ t. a ++ (46 ∷ t)) w.text ∙ sym (append-nil _)),
   ),
   omega (arith, w.short),
-  shape w.component w.shape,
+  (b, cs, parts, w.shape),
 )
 
 -- three components, and what is after them
@@ -330,7 +320,7 @@ module _ (a b c : Text) (pre build : List Text) where
   third_on front m rest r n text less w = made whole (three a b w.component [] []) w.more front rest (
     three_spelled w.component [] [] (rest_text w.more) front m n w.is_component refl refl text (w.text ∙ sym (append-nil _)),
     omega (arith, w.short),
-    (refl, refl, inl (w.shape, refl, refl)),
+    (c, pre, build, refl, inl (w.shape, refl, refl)),
   )
 
   pre_on : (front m rest r : Text) → numbers_are → is_component c ≡ true → front ≡ a ++ (46 ∷ (b ++ (46 ∷ (c ++ (45 ∷ m)))))
@@ -458,25 +448,27 @@ back_shorter r y rest e = omega (arith, length-append {A = ℕ}, ap length e)
 
 goes_from : (p : PartialTree) (front rest : Text) → is_empty front ≡ false → list_all is_component (components p) ≡ true
     → EndsIn p front rest → GoesOn p front rest
-goes_from (one a) front rest some e w = first_on (one a) a front rest w.back some (and_parts _ _ e).0 w.text (λ w. w)
-goes_from (two a b) front rest some e (inl w) = first_on (two a b) a front rest w.back some (and_parts (is_component a) _ e).0 w.text (λ w. w)
+goes_from (one a) front rest some e w = first_on (one a) a [] front rest w.back refl some (and_parts _ _ e).0 w.text
+goes_from (two a b) front rest some e (inl w) =
+    first_on (two a b) a (b ∷ []) front rest w.back refl some (and_parts (is_component a) _ e).0 w.text
 goes_from (two a b) front rest some e (inr w) =
     let both = and_parts (is_component a) _ e in
-    two_on (two a b) a b front w.begun rest w.back both.0 w.front_is (back_shorter w.back [] rest w.rest_is)
-    (λ b' shape. (refl, shape)) (next_on b w.begun w.back (and_parts _ _ both.1).0 w.text)
+    two_on (two a b) a b [] front w.begun rest w.back refl both.0 w.front_is (back_shorter w.back [] rest w.rest_is)
+    (next_on b w.begun w.back (and_parts _ _ both.1).0 w.text)
 goes_from (three a b c pre build) front rest some e (inl w) =
-    first_on (three a b c pre build) a front rest w.back some (and_parts (is_component a) _ e).0 w.text (λ w. w)
+    first_on (three a b c pre build) a (b ∷ c ∷ []) front rest w.back refl some (and_parts (is_component a) _ e).0 w.text
 goes_from (three a b c pre build) front rest some e (inr (inl w)) =
     let both = and_parts (is_component a) _ e in
-    two_on (three a b c pre build) a b front w.begun rest w.back both.0 w.front_is (back_shorter w.back _ rest w.rest_is)
-    (λ b' shape. (refl, shape)) (next_on b w.begun w.back (and_parts (is_component b) _ both.1).0 w.text)
+    two_on (three a b c pre build) a b (c ∷ []) front w.begun rest w.back refl both.0 w.front_is (back_shorter w.back _ rest w.rest_is)
+    (next_on b w.begun w.back (and_parts (is_component b) _ both.1).0 w.text)
 goes_from (three a b c pre build) front rest some e (inr (inr (inl w))) =
     let both = and_parts (is_component a) _ e in
     let others = and_parts (is_component b) _ both.1 in
     third_on a b c pre build front w.begun rest w.back (both.0, others.0) w.front_is (back_shorter w.back _ rest w.rest_is)
     (next_on c w.begun w.back (and_parts _ _ others.1).0 w.text)
 goes_from (three a b c pre build) front rest some e (inr (inr (inr w))) =
-    made (three a b c pre build) (three a b c w.pre' w.build') w.more front rest (w.spelled, w.short, (refl, refl, after_shape w.shape))
+    made (three a b c pre build) (three a b c w.pre' w.build') w.more front rest
+    (w.spelled, w.short, (c, pre, build, refl, after_shape w.shape))
   where
     after_shape : {pre' build' : List Text} → AreAfter pre' build' pre build → IsFrontOfEnd c pre' build' c pre build
     after_shape (inl w) = inr (inl (refl, w.0, w.1))

@@ -21,7 +21,8 @@ use Rattle.version_fronts.proofs.FrontWords.{word_stays}
 -- ---- words
 
 -- a word's partial goes on as another one that is right, and stays one that npm reads
-pub record PartialGoes (IsRest : Text → Type 0) (Right : PartialTree → Type 0) (role : Role) (p : PartialTree) (front rest : Text) : Type 0 where
+pub record PartialGoes (IsRest : Text → Type 0) (Right : PartialTree → Type 0) (role : Role) (p : PartialTree)
+    (front rest : Text) : Type 0 where
   pub tree : PartialTree
   pub more : Text
   pub is_rest : IsRest more
@@ -39,7 +40,8 @@ pub record WordGoesOn (IsRest : Text → Type 0) (Right : PartialTree → Type 0
 
 module _ (IsRest : Text → Type 0) (Right : PartialTree → Type 0) (star : IsRest (codes "*")) (right_star : Right (one (codes "*")))
     (role : Role) (p : PartialTree)
-    (goes : (front rest : Text) → is_empty front ≡ false → SpellsPartial p (front ++ rest) → PartialGoes IsRest Right role p front rest) where
+    (goes : (front rest : Text) → is_empty front ≡ false → SpellsPartial p (front ++ rest)
+    → PartialGoes IsRest Right role p front rest) where
   of_partial : (d : Dialect) (front rest : Text) → PartialGoes IsRest Right role p front rest
       → ((tree : PartialTree) (t : Text) → SpellsPartial tree t → SpellsWord d role tree t) → WordGoesOn IsRest Right d role front
   of_partial d front rest w word = record {
@@ -130,7 +132,8 @@ npm_taken role p tree front rest more shape short spelled v small h =
 
 module _ (Right : PartialTree → Type 0) (right_star : Right (one (codes "*"))) (role : Role) (p : PartialTree)
     (keep : (tree : PartialTree) → IsFrontOf tree p → Right tree) where
-  plain_goes : (front rest : Text) → is_empty front ≡ false → SpellsPartial p (front ++ rest) → PartialGoes IsPlainRest Right role p front rest
+  plain_goes : (front rest : Text) → is_empty front ≡ false → SpellsPartial p (front ++ rest)
+      → PartialGoes IsPlainRest Right role p front rest
   plain_goes front rest some spelled =
       let w = partial_goes_on p front rest some spelled in record {
         tree = w.tree;
@@ -546,7 +549,8 @@ module _ (d : Dialect) (IsRest : Text → Type 0) (Right : Simple → Type 0) (r
       let whole : f ++ (124 ∷ 124 ∷ k) ≡ front = cc in
       subst SetGoesOn whole (with_range range f k w.tree w.more w.is_rest h w.spelled right w.right)
 
-  pub set_goes_on : (tree : SetTree) (front rest : Text) → SpellsIn d tree (front ++ rest) → IsRightSet d IsRest Right tree → SetGoesOn front
+  pub set_goes_on : (tree : SetTree) (front rest : Text) → SpellsIn d tree (front ++ rest) → IsRightSet d IsRest Right tree
+      → SetGoesOn front
   set_goes_on [] front rest h right = absurd h
   set_goes_on (range ∷ []) front rest h right = one_range front (padded_goes_on range front rest h right.0)
   set_goes_on (range ∷ next ∷ others) front rest (f, back, first, spelled, text) right =

@@ -1,7 +1,7 @@
 -- Fronts of words: what npm asks of a word, that no part of it is too long and none has a leading zero, stays so.
 use Rattle.std.proofs.Common.{◌≡◌, ℕ, ◌+◌, ◌≤◌, Bool, true, false, ◌⊎◌, inl, inr, ⊎_elim, List, [], ◌∷◌, ◌++◌, codes, length}
 use Rattle.std.proofs.Common.{refl, sym, ap, ◌∙◌}
-use Rattle.std.proofs.Common.{arith, append-nil, length-append}
+use Rattle.std.proofs.Common.{arith, append-nil, length-append, subst}
 use Rattle.std.specs.Prelude.{◌&&◌, ◌||◌, ◌==◌, not, nat_le, if◌then◌else◌}
 use Rattle.std.specs.Char.{is_ascii_digit}
 use Rattle.std.specs.List.{list_all, join_with_byte}
@@ -146,9 +146,7 @@ end_zeros c' pre' build' c pre build (inr (inr w)) h = rw (w.1) h
 pub zeros_stay : (p' p : PartialTree) → IsFrontOf p' p → has_no_leading_zeros p ≡ true → has_no_leading_zeros p' ≡ true
 zeros_stay (one a') p w h = refl
 zeros_stay (two a' b') p w h = refl
-zeros_stay (three a' b' c' pre' build') (one a) w h = absurd w
-zeros_stay (three a' b' c' pre' build') (two a b) w h = absurd w
-zeros_stay (three a' b' c' pre' build') (three a b c pre build) w h = end_zeros c' pre' build' c pre build w.2 h
+zeros_stay (three a' b' c' pre' build') p (c, pre, build, is, w) h = end_zeros c' pre' build' c pre build w (rw is at h)
 
 -- no part is too long
 abbrev short_end : Text → List Text → List Text → Bool
@@ -176,21 +174,23 @@ short_one a' h = rw h refl
 short_two : (a b : Text) → is_short_number a ≡ true → is_short_number b ≡ true → has_short_parts (two a b) ≡ true
 short_two a b h k = rw (h, k) refl
 
+-- the first component of a partial isn't too long, nor is another
+pub short_head : (p : PartialTree) (a : Text) (cs : List Text) → components p ≡ a ∷ cs → has_short_parts p ≡ true
+    → (is_short_number a ≡ true) × (list_all is_short_number cs ≡ true)
+short_head p a cs e h =
+    and_parts (is_short_number a) _
+    (subst (λ l. list_all is_short_number l ≡ true) e (and_parts (list_all is_short_number (components p)) _ h).0)
+
 parts_stay : (p' p : PartialTree) → IsFrontOf p' p → has_short_parts p ≡ true → has_short_parts p' ≡ true
-parts_stay (one a') (one a) w h = short_one a' (short_front a' a w.0 w.1 (grind arith))
-parts_stay (one a') (two a b) w h = short_one a' (short_front a' a w.0 w.1 (grind arith))
-parts_stay (one a') (three a b c pre build) w h = short_one a' (short_front a' a w.0 w.1 (grind arith))
-parts_stay (two a' b') (one a) w h = absurd w
-parts_stay (two a' b') (two a b) w h = short_two a' b' (rw (w.0) (grind arith)) (short_component b' b w.1 (grind arith))
-parts_stay (two a' b') (three a b c pre build) w h = short_two a' b' (rw (w.0) (grind arith)) (short_component b' b w.1 (grind arith))
-parts_stay (three a' b' c' pre' build') (one a) w h = absurd w
-parts_stay (three a' b' c' pre' build') (two a b) w h = absurd w
-parts_stay (three a' b' c' pre' build') (three a b c pre build) w h =
-    let whole = sym (short_three a b c pre build) ∙ h in
+parts_stay (one a') p (a, cs, rest, parts, text, is, same) h = short_one a' (short_front a' a rest text (short_head p a cs parts h).0)
+parts_stay (two a' b') p (b, cs, parts, w) h =
+    let both = short_head p a' (b ∷ cs) parts h in
+    short_two a' b' both.0 (short_component b' b w (and_parts (is_short_number b) _ both.1).0)
+parts_stay (three a b c' pre' build') p (c, pre, build, is, w) h =
+    let whole = sym (short_three a b c pre build) ∙ (rw is at h) in
     let both = and_parts (is_short_number a) _ whole in
     let others = and_parts (is_short_number b) _ both.1 in
-    rw (w.0, w.1) (short_three a b c' pre' build' ∙ and_from _ _ both.0 (and_from _ _ others.0
-    (end_short c' pre' build' c pre build w.2 others.1)))
+    short_three a b c' pre' build' ∙ and_from _ _ both.0 (and_from _ _ others.0 (end_short c' pre' build' c pre build w others.1))
 
 -- ---- how long the version is that npm makes of a word
 
@@ -287,11 +287,8 @@ version_stays : (role : Role) (p' p : PartialTree) (v n n' : ℕ) → IsFrontOf 
     → has_short_version role p n ≡ true → has_short_version role p' n' ≡ true
 version_stays role (one a') p v n n' w small fewer is h = refl
 version_stays role (two a' b') p v n n' w small fewer is h = refl
-version_stays role (three a' b' c' pre' build') (one a) v n n' w small fewer is h = absurd w
-version_stays role (three a' b' c' pre' build') (two a b) v n n' w small fewer is h = absurd w
-version_stays role (three a' b' c' pre' build') (three a b c pre build) v n n' w small fewer is h =
-    three_short role a' b' c' pre' build' n' (λ k. end_stays role a' b' c' pre' build' c pre build v n n' w.2 small fewer is
-    (rw (w.0, w.1) h) k)
+version_stays role (three a b c' pre' build') p v n n' (c, pre, build, e, w) small fewer is h =
+    three_short role a b c' pre' build' n' (end_stays role a b c' pre' build' c pre build v n n' w small fewer is (rw e at h))
 
 pub word_stays : (role : Role) (p' p : PartialTree) (v n n' : ℕ) → IsFrontOf p' p → v ≤ 1 → n' ≤ n → n' ≡ word_length v p'
     → is_word_of_npm role p n ≡ true → is_word_of_npm role p' n' ≡ true
