@@ -1,7 +1,8 @@
 -- Fronts of range texts whose numbers fit: each goes on as a range text whose numbers fit.
 use Rattle.std.proofs.Common.{◌≡◌, ℕ, ◌≤◌, Bool, true, false, inl, inr, List, [], ◌∷◌, ◌++◌, codes, length, refl, sym, ap, ◌∙◌}
 use Rattle.std.proofs.Common.{arith, append-nil, append_assoc, subst}
-use Rattle.std.specs.Prelude.{not, map}
+use Rattle.std.specs.Prelude.{◌&&◌, not, map}
+use Rattle.std.proofs.Math.Bool.{and-true}
 use Rattle.std.specs.List.{Contains, list_all}
 use Rattle.std.proofs.lemmas.Bool.{and_parts, and_from}
 use Rattle.std.proofs.lemmas.List.Elements.{Contains-append_left}
@@ -221,28 +222,26 @@ module _ (f : ℕ → Bool) (limit : IsLimit f) (two_fits : f 2 ≡ true) (tool 
     all_fit [] h = refl
     all_fit (s ∷ ss) h = and_from _ _ h.0 (all_fit ss h.1)
 
+    -- a side that states nothing is right in any case
+    sides_fit : (left right : PartialTree) → list_all (term_fits_by fit) (terms (hyphen left right))
+        ≡ (fit (left_side left) && fit (right_side right))
+    sides_fit left right = by_test (states_nothing left)
+        (λ y. let l = nothing_right at_least left y in by_test (states_nothing right)
+        (λ z. let r = nothing_right at_most right z in rw (y, z, l, r) refl)
+        (λ m. rw (y, m, l) (and-true _)))
+        (λ n. by_test (states_nothing right)
+        (λ z. let r = nothing_right at_most right z in rw (n, z, r) refl)
+        (λ m. rw (n, m, and-true) refl))
+
     range_right : (range : RangeTree) → list_all (term_fits_by fit) (terms range) ≡ true → IsRightRange d IsFittingRest Right range
     range_right empty h = tt
     range_right (simples first others) h = let both = and_parts (fit first) _ h in (both.0, all_right others both.1)
-    range_right (hyphen left right) h = by_test (states_nothing left)
-        (λ y. by_test (states_nothing right)
-        (λ z. (nothing_right at_least left y, nothing_right at_most right z))
-        (λ m. let h' = rw (y, m) at h in (nothing_right at_least left y, (and_parts (fit (right_side right)) _ h').0)))
-        (λ n. by_test (states_nothing right)
-        (λ z. let h' = rw (n, z) at h in ((and_parts (fit (left_side left)) _ h').0, nothing_right at_most right z))
-        (λ m. let h' = rw (n, m) at h in let both = and_parts (fit (left_side left)) _ h' in
-        (both.0, (and_parts (fit (right_side right)) _ both.1).0)))
+    range_right (hyphen left right) h = let both = and_parts _ _ (sym (sides_fit left right) ∙ h) in (both.0, both.1)
 
     range_fits : (range : RangeTree) → IsRightRange d IsFittingRest Right range → list_all (term_fits_by fit) (terms range) ≡ true
     range_fits empty h = refl
     range_fits (simples first others) h = and_from _ _ h.0 (all_fit others h.1)
-    range_fits (hyphen left right) h = by_test (states_nothing left)
-        (λ y. by_test (states_nothing right)
-        (λ z. rw (y, z) (and_from _ _ h.0 (and_from _ _ h.1 refl)))
-        (λ m. rw (y, m) (and_from _ _ h.1 refl)))
-        (λ n. by_test (states_nothing right)
-        (λ z. rw (n, z) (and_from _ _ h.0 refl))
-        (λ m. rw (n, m) (and_from _ _ h.0 (and_from _ _ h.1 refl))))
+    range_fits (hyphen left right) h = sides_fit left right ∙ and_from _ _ h.0 h.1
 
     set_right : (tree : SetTree) → fits_by fit tree ≡ true → IsRightSet d IsFittingRest Right tree
     set_right [] h = tt

@@ -8,8 +8,7 @@ use Rattle.std.specs.Str.Parse.{digits_value, digits_value_after}
 use Rattle.std.proofs.lemmas.Bool.{and_parts, and_from}
 use Rattle.std.proofs.lemmas.Bool.Decides.{nat_tests}
 use Rattle.std.proofs.lemmas.List.Folds.{list_all-append}
-use Rattle.semver_texts.specs.Texts.{Text, has_no_leading_zero, is_empty, is_part, is_part_byte, marked}
-use Rattle.semver_texts.proofs.Lists.{by_test}
+use Rattle.semver_texts.specs.Texts.{Text, is_empty, is_part, is_part_byte, marked}
 use Rattle.semver_ranges.specs.RangeTree.{PartialTree, one, two, three, SpellsPartial, components, is_component, is_wildcard}
 
 -- ---- the shapes
@@ -28,10 +27,9 @@ abbrev pub IsFrontOfComponent : Text → Text → Type 0
 IsFrontOfComponent c' c = (c' ≡ codes "*") ⊎ ((length c' ≤ length c) × (is_component c' ≡ true) × (is_wildcard c' ≡ is_wildcard c)
     × (digits_value 10 c' ≤ digits_value 10 c))
 
--- of a part: the part, a front without a leading zero, or a front and a letter for something
+-- of a part: the part, or a front and a letter for something
 abbrev pub IsFrontOfPart : Text → Text → Type 0
-IsFrontOfPart x' x = (x' ≡ x) ⊎ ((front : Text) × (b : ℕ) × (rest : Text) × (x ≡ front ++ (b ∷ rest))
-    × (((x' ≡ front) × (is_empty front ≡ false) × (has_no_leading_zero front ≡ true)) ⊎ (x' ≡ front ++ codes "a")))
+IsFrontOfPart x' x = (x' ≡ x) ⊎ ((front : Text) × (b : ℕ) × (rest : Text) × (x ≡ front ++ (b ∷ rest)) × (x' ≡ front ++ codes "a"))
 
 -- of parts: the first ones, and a front of the next
 abbrev pub AreFrontOfParts : List Text → List Text → Type 0
@@ -138,26 +136,6 @@ record PartGoesOn (x front rest : Text) : Type 0 where
   is_part : is_part part ≡ true
   shape : IsFrontOfPart part x
 
-cut_begun : (x : Text) (d : ℕ) (front : Text) (b : ℕ) (rest : Text) → x ≡ (d ∷ front) ++ (b ∷ rest)
-    → list_all is_part_byte (d ∷ front) ≡ true → PartGoesOn x (d ∷ front) (b ∷ rest)
-cut_begun x d front b rest e bytes = by_test (has_no_leading_zero (d ∷ front))
-    (λ y. record {
-      part = d ∷ front;
-      more = nothing;
-      text = append-nil (d ∷ front);
-      short = omega arith;
-      is_part = bytes;
-      shape = inr (d ∷ front, b, rest, e, inl (refl, refl, y));
-    })
-    (λ n. record {
-      part = (d ∷ front) ++ codes "a";
-      more = letter;
-      text = refl;
-      short = omega arith;
-      is_part = letter_part (d ∷ front) bytes;
-      shape = inr (d ∷ front, b, rest, e, inr refl);
-    })
-
 cut_part : (x front rest : Text) → x ≡ front ++ rest → is_part x ≡ true → PartGoesOn x front rest
 cut_part x front [] e p = record {
   part = x;
@@ -167,18 +145,15 @@ cut_part x front [] e p = record {
   is_part = p;
   shape = inl refl;
 }
-cut_part x [] (b ∷ rest) e p = record {
-  part = codes "a";
+cut_part x front (b ∷ rest) e p = record {
+  part = front ++ codes "a";
   more = letter;
   text = refl;
   short = omega arith;
-  is_part = refl;
-  shape = inr ([], b, rest, e, inr refl);
+  is_part = letter_part front (and_parts _ _ (sym (list_all-append is_part_byte front (b ∷ rest)) ∙ ap (list_all is_part_byte) (sym e)
+      ∙ (and_parts _ _ p).1)).0;
+  shape = inr (front, b, rest, e, refl);
 }
-cut_part x (d ∷ front) (b ∷ rest) e p =
-    let bytes : list_all is_part_byte x ≡ true = (and_parts _ _ p).1 in
-    cut_begun x d front b rest e
-    (and_parts _ _ (sym (list_all-append is_part_byte (d ∷ front) (b ∷ rest)) ∙ ap (list_all is_part_byte) (sym e) ∙ bytes)).0
 
 -- parts, from a front of what they are joined to
 record PartsGoOn (xs : List Text) (front rest : Text) : Type 0 where

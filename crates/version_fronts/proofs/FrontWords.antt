@@ -1,13 +1,14 @@
 -- Fronts of words: what npm asks of a word, that no part of it is too long and none has a leading zero, stays so.
-use Rattle.std.proofs.Common.{◌≡◌, ℕ, ◌+◌, ◌≤◌, Bool, true, false, ◌⊎◌, inl, inr, ⊎_elim, List, [], ◌∷◌, ◌++◌, codes, length}
+use Rattle.std.proofs.Common.{◌≡◌, ℕ, ◌+◌, ◌≤◌, Bool, true, false, inl, inr, List, [], ◌∷◌, ◌++◌, codes, length}
 use Rattle.std.proofs.Common.{refl, sym, ap, ◌∙◌}
-use Rattle.std.proofs.Common.{arith, append-nil, length-append, subst}
+use Rattle.std.proofs.Common.{arith, cond, eqb, append-nil, length-append, subst}
 use Rattle.std.specs.Prelude.{◌&&◌, ◌||◌, ◌==◌, not, nat_le, if◌then◌else◌}
 use Rattle.std.specs.Char.{is_ascii_digit}
 use Rattle.std.specs.List.{list_all, join_with_byte}
 use Rattle.std.specs.Str.{all_ascii_digits}
-use Rattle.std.proofs.lemmas.Bool.{and_parts, and_from, eqb-true}
+use Rattle.std.proofs.lemmas.Bool.{and_parts, and_from}
 use Rattle.std.proofs.lemmas.Bool.Decides.{nat_tests}
+use Rattle.std.proofs.lemmas.List.Folds.{prefix_len-append}
 use Rattle.std.proofs.lemmas.List.Sums.{prefix_len-le-length}
 use Rattle.semver_texts.specs.Texts.{Text, has_no_leading_zero, is_empty, marked}
 use Rattle.semver_texts.proofs.Lists.{by_test}
@@ -27,65 +28,28 @@ no_digits (b ∷ x) = grind (arith, no_digits x)
 
 pub zero_stays : (x' x : Text) → IsFrontOfPart x' x → has_no_leading_zero x ≡ true → has_no_leading_zero x' ≡ true
 zero_stays x' x (inl e) h = rw e h
-zero_stays x' x (inr (front, b, rest, text, inl w)) h = rw (w.0) (w.2)
-zero_stays x' x (inr (front, b, rest, text, inr e)) h = rw (e, no_digits front) refl
+zero_stays x' x (inr (front, b, rest, text, e)) h = rw (e, no_digits front) refl
 
 pub length_stays : (x' x : Text) → IsFrontOfPart x' x → length x' ≤ length x
 length_stays x' x (inl e) = omega (arith, ap length e)
-length_stays x' x (inr (front, b, rest, text, inl w)) = rw (w.0, text, length-append) (omega arith)
-length_stays x' x (inr (front, b, rest, text, inr e)) = rw (e, text, length-append, length-append) (omega arith)
-
-leading_on : (x y : Text) → leading_digits x ≡ length x → leading_digits (x ++ y) ≡ length x + leading_digits y
-leading_on [] y e = omega arith
-leading_on (b ∷ x) y e = by_test (is_ascii_digit b)
-    (λ d. let e' : leading_digits x ≡ length x = omega (arith, rw d at e) in rw d (omega (arith, leading_on x y e')))
-    (λ d. absurd (omega (arith, rw d at e)))
-
-leading_stops : (x y : Text) → (leading_digits x == length x) ≡ false → leading_digits (x ++ y) ≡ leading_digits x
-leading_stops [] y e = cc
-leading_stops (b ∷ x) y e = by_test (is_ascii_digit b)
-    (λ d. let e' : (leading_digits x == length x) ≡ false = grind (arith, nat_tests, rw d at e) in
-    rw d (omega (arith, leading_stops x y e')))
-    (λ d. rw d refl)
+length_stays x' x (inr (front, b, rest, text, e)) = rw (e, text, length-append, length-append) (omega arith)
 
 -- the test by numbers: the digits at the front, and the length
 abbrev short_pre : ℕ → ℕ → Bool
 short_pre d n = if d == n then nat_le n 257 else nat_le d 256 && nat_le n (d + 251)
 
-front_short : (d n d' n' : ℕ) → n' ≤ n → (d' ≡ n') ⊎ (((d' == n') ≡ false) × (d ≡ d')) → d' ≤ d → d ≤ n → d' ≤ n'
-    → short_pre d n ≡ true → short_pre d' n' ≡ true
-front_short d n d' n' a (inl e) b c g h = grind (arith, nat_tests)
-front_short d n d' n' a (inr e) b c g h = grind (arith, nat_tests)
-
-letter_short : (d n d' n' : ℕ) → n' + 1 ≤ n → (d' ≡ n') ⊎ (((d' == n') ≡ false) × (d ≡ d')) → d' ≤ d → d ≤ n → d' ≤ n'
-    → short_pre d n ≡ true → short_pre d' (n' + 1) ≡ true
-letter_short d n d' n' a (inl e) b c g h = grind (arith, nat_tests)
-letter_short d n d' n' a (inr e) b c g h = grind (arith, nat_tests)
-
--- the digits of a front, and of what it begins
-leading_front : (x y : Text) → (leading_digits x ≡ length x)
-    ⊎ (((leading_digits x == length x) ≡ false) × (leading_digits (x ++ y) ≡ leading_digits x))
-leading_front x y = by_test (leading_digits x == length x)
-    (λ e. inl (eqb-true _ _ e))
-    (λ e. inr (e, leading_stops x y e))
-
-leading_less : (x y : Text) → leading_digits x ≤ leading_digits (x ++ y)
-leading_less x y = ⊎_elim (λ e. omega (arith, leading_on x y e)) (λ e. omega (arith, e.1)) (leading_front x y)
-
-leading_letter : (x : Text) → leading_digits (x ++ codes "a") ≡ leading_digits x
-leading_letter x = ⊎_elim (λ e. omega (arith, leading_on x (codes "a") e)) (λ e. e.1) (leading_front x (codes "a"))
+-- a front of so many digits and so long, and what was after it
+letter_short : (d n d' n' : ℕ) → d ≤ n → d' ≤ n' → 1 ≤ n' → short_pre (cond (eqb d n) (n + d') d) (n + n') ≡ true
+    → short_pre (cond (eqb d n) (n + 0) d) (n + 1) ≡ true
+letter_short d n d' n' a b c h = grind (arith, nat_tests)
 
 pub short_pre_stays : (x' x : Text) → IsFrontOfPart x' x → is_short_pre x ≡ true → is_short_pre x' ≡ true
 short_pre_stays x' x (inl e) h = rw e h
-short_pre_stays x' x (inr (front, b, rest, text, inl w)) h =
-    rw (w.0) (front_short (leading_digits (front ++ (b ∷ rest))) (length (front ++ (b ∷ rest))) (leading_digits front) (length front)
-    (rw length-append (omega arith)) (leading_front front (b ∷ rest)) (leading_less front (b ∷ rest))
-    (prefix_len-le-length is_ascii_digit (front ++ (b ∷ rest))) (prefix_len-le-length is_ascii_digit front) (rw text at h))
-short_pre_stays x' x (inr (front, b, rest, text, inr e)) h =
-    rw (e, leading_letter front, length-append)
-    (letter_short (leading_digits (front ++ (b ∷ rest))) (length (front ++ (b ∷ rest))) (leading_digits front) (length front)
-    (rw length-append (omega arith)) (leading_front front (b ∷ rest)) (leading_less front (b ∷ rest))
-    (prefix_len-le-length is_ascii_digit (front ++ (b ∷ rest))) (prefix_len-le-length is_ascii_digit front) (rw text at h))
+short_pre_stays x' x (inr (front, b, rest, text, e)) h =
+    rw (e, prefix_len-append is_ascii_digit front (codes "a"), length-append)
+    (letter_short (leading_digits front) (length front) (leading_digits (b ∷ rest)) (length (b ∷ rest))
+    (prefix_len-le-length is_ascii_digit front) (prefix_len-le-length is_ascii_digit (b ∷ rest)) (omega arith)
+    (rw (text, prefix_len-append is_ascii_digit front (b ∷ rest), length-append) at h))
 
 pub short_build_stays : (x' x : Text) → IsFrontOfPart x' x → is_short_build x ≡ true → is_short_build x' ≡ true
 short_build_stays x' x w h = let less = length_stays x' x w in grind (arith, nat_tests)
