@@ -62,11 +62,6 @@ holds_best Sorted (inr e) h g lines best is so = cc
 
 -- ---- lines with a line feed at their end
 
-pub ended_append : (xs ys : List KeptValue) → ended_text (xs ++ ys) ≡ ended_text xs ++ ended_text ys
-ended_append [] ys = refl
-ended_append (x ∷ xs) ys = ap (λ l. ended x.line ++ l) (ended_append xs ys) ∙ sym (append_assoc (ended x.line) (ended_text xs) (ended_text
-    ys))
-
 abbrev pub seen_lines : List (Bor KeptLine) → List KeptValue
 seen_lines lines = map (λ (line : Bor KeptLine). kept_value line.now) lines
 
@@ -101,13 +96,6 @@ pub stays_with : IsTotalOrder precedence → (w : Wanted) (best last : Option Ke
 stays_with total w best last k told is tells e =
     subst (λ (l : Option KeptLine). IsBest (order_of w) (best_list best ++ best_list l) (option_map kept_value best)) (sym is)
     (stays total w best (kept_value k) told tells e)
-
-pub replaced_with : (w : Wanted) (best last : Option KeptLine) (k : KeptLine) (told : Bool) → last ≡ Some k
-    → Tells w best (version_value k.version).plain told → told ≡ true
-    → IsBest (order_of w) (best_list best ++ best_list last) (option_map kept_value last)
-replaced_with w best last k told is tells e =
-    subst (λ (l : Option KeptLine). IsBest (order_of w) (best_list best ++ best_list l) (option_map kept_value l)) (sym is)
-    (replaces w best (kept_value k) told tells e)
 
 pub stays_alone : (w : Wanted) (best last : Option KeptLine) → last ≡ None
     → IsBest (order_of w) (best_list best ++ best_list last) (option_map kept_value best)

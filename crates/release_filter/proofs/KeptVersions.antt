@@ -54,9 +54,6 @@ some_item [] at inside = absurd (omega (arith, inside))
 some_item (x ∷ xs) at inside = x
 
 module _ {X : Type 0} (p : X → Bool) (xs : List X) where
-  pub none_in_front : (places : List ℕ) → length xs ≤ length places → AreInFront p xs places 0 0
-  none_in_front places long = record { few = omega arith; long = long; put = refl }
-
   pub in_front_more : (places : List ℕ) (count at n : ℕ) (passes : Bool) → at < length xs → ((x : X) → passes ≡ p (get_or xs at x))
       → n ≡ from_bool passes → AreInFront p xs places count at → AreInFront p xs (set places count at) (count + n) (at + 1)
   in_front_more places count at n passes inside e told before =
@@ -142,10 +139,6 @@ module _ {X B : Type 0} (p : X → Bool) (f : B → X) (xs : List X) where
       → IsJudgedUpTo p f xs rest kept → Any P some → Any P xs
   some_of_all P rest some others kept cut before any =
       subst (Any P) (sym (before.whole ∙ ap (λ l. before.front ++ l) cut)) (any_within P before.front some others any)
-
-  pub all_judged : (rest : List X) (kept : List B) → length rest ≡ 0 → IsJudgedUpTo p f xs rest kept → map f kept ≡ filter p xs
-  all_judged [] kept none before = before.keeps ∙ ap (filter p) (sym (before.whole ∙ append-nil before.front))
-  all_judged (x ∷ rest) kept none before = absurd (omega (arith, none))
 
 -- where a place is in front, something passes
 pub some_kept : {X : Type 0} (xs : List X) (places : List ℕ) (ys : List X) (i : ℕ) → i < length places

@@ -11,7 +11,7 @@ use Rattle.release_filter.specs.Steps.Taking.{without_version}
 use Rattle.release_filter.specs.Verdicts.{empty, invalid}
 use Rattle.release_filter.specs.declared.counts.Counts.{Counts}
 use Rattle.release_filter.specs.declared.counts.InvalidLine.{InvalidLine}
-use Rattle.release_filter.specs.declared.counts.Noted.TheVariants.{Empty, FirstInvalid, Invalid}
+use Rattle.release_filter.specs.declared.counts.Noted.TheVariants.{FirstInvalid, Invalid}
 use Rattle.release_filter.proofs.Passing.{not_both}
 
 pub empty_is : (text : Text) (b : Bool) → (length text == 0) ≡ b → is_empty text ≡ b
@@ -34,9 +34,6 @@ first_some (Some y) x some = refl
 module _ (c : Counts) (line text : Text) (is : text ≡ line_text line) where
   is_empty_as : (b : Bool) → (length text == 0) ≡ b → is_empty (line_text line) ≡ b
   is_empty_as b e = ap is_empty (sym is) ∙ empty_is text b e
-
-  pub noted_empty : (length text == 0) ≡ true → added (counts_value c) Empty ≡ counted_as (without_version line) (counts_value c) line
-  noted_empty e = ap (λ b. counted_as (cond b empty invalid) (counts_value c) line) (sym (is_empty_as true e))
 
   module _ (some : (length text == 0) ≡ false) where
     abbrev told : ℕ → InvalidValue

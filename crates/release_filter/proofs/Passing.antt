@@ -51,13 +51,6 @@ exactly_that dialect test text u some told v = (
 pub fit : (v : PlainVersion) → Fits v → numbers_fit v ≡ true
 fit v (major, minor, patch) = grind (arith, nat_tests)
 
-pub fit_back : (v : PlainVersion) → numbers_fit v ≡ true → Fits v
-fit_back v e = (
-  grind (arith, nat_tests),
-  grind (arith, nat_tests),
-  grind (arith, nat_tests),
-)
-
 -- of these the set decides
 pub passes_as_in : (filter : FilterValue) (v : VersionValue) → Fits v.plain → passes filter v ≡ has filter.set v.plain
 passes_as_in filter v fits = rw (fit v.plain fits) refl

@@ -1,6 +1,6 @@
 -- That lines have one stable sort by precedence.
-use Rattle.std.proofs.Common.{◌≡◌, ◌≢◌, ◌∙◌, ◌∷◌, ◌<◌, [], List, ℕ, suc, Bool, true, false, cond, refl, sym, ap, ap₂, arith}
-use Rattle.std.proofs.Common.{filter, get_or, length, Less, Equal, Greater}
+use Rattle.std.proofs.Common.{◌≡◌, ◌≢◌, ◌∙◌, ◌∷◌, [], List, suc, Bool, true, false, cond, refl, sym, ap, ap₂, arith}
+use Rattle.std.proofs.Common.{filter, Less, Equal, Greater}
 use Rattle.std.specs.Cmp.{IsTotalOrder}
 use Rattle.std.specs.List.{AllPairs}
 use Rattle.std.specs.Ordering.{is_eq, ordering_reverse}
@@ -21,11 +21,6 @@ Rises lines = AllPairs (λ (x y : KeptValue). precedence x.version y.version ≢
 
 rises_tail : (x : KeptValue) (xs : List KeptValue) → Rises (x ∷ xs) → Rises xs
 rises_tail x xs up = λ i j d before inside. up (suc i) (suc j) d (omega arith) (omega arith)
-
--- the first line is above none
-first_low : (x : KeptValue) (xs : List KeptValue) → Rises (x ∷ xs) → (k : ℕ) → k < length xs
-    → precedence x.version (get_or xs k x).version ≢ Greater
-first_low x xs up k inside = up 0 (suc k) x (omega arith) (omega arith)
 
 module _ (total : IsTotalOrder precedence) where
   itself : (v : PlainVersion) → precedence v v ≡ Equal

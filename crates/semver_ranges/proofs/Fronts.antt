@@ -1,8 +1,8 @@
 -- The longest front of a text whose bytes pass, as a loop over its places finds it.
 use Rattle.std.proofs.Common.{add-one}
-use Rattle.std.proofs.lemmas.List.{drop_all, drop_more}
-use Rattle.std.proofs.Common.{◌≡◌, ℕ, ◌+◌, ◌<◌, ◌≤◌, Bool, true, false, ◌++◌, length, get_or, take, drop}
-use Rattle.std.proofs.Common.{◌∙◌, append-nil, append_assoc}
+use Rattle.std.proofs.lemmas.List.{drop_more}
+use Rattle.std.proofs.Common.{◌≡◌, ℕ, ◌+◌, ◌<◌, Bool, true, ◌++◌, length, get_or, take, drop}
+use Rattle.std.proofs.Common.{◌∙◌, append_assoc}
 use Rattle.std.proofs.Math.Seq.{take-suc}
 use Rattle.semver_texts.specs.Texts.{Text}
 use Rattle.semver_ranges.specs.Steps.Reading.{front, back}
@@ -12,19 +12,7 @@ module _ (p : ℕ → Bool) (t : Text) (i : ℕ) where
   pub back_more : i < length t → p (get_or t i 0) ≡ true → back p (drop i t) ≡ back p (drop (i + 1) t)
   back_more within e = rw (drop_more t i 0 within, e)
 
-  pub back_stops : i < length t → p (get_or t i 0) ≡ false → back p (drop i t) ≡ drop i t
-  back_stops within e = rw (drop_more t i 0 within, e)
-
-  pub back_ends : length t ≤ i → back p (drop i t) ≡ drop i t
-  back_ends within = rw (drop_all i t within)
-
   -- the front so far, as a loop keeps it
   pub taken_more : i < length t → p (get_or t i 0) ≡ true → front p t ≡ take i t ++ front p (drop i t)
       → front p t ≡ take (i + 1) t ++ front p (drop (i + 1) t)
   taken_more within e so_far = so_far ∙ rw (drop_more t i 0 within, e, add-one, take-suc t i 0 within, append_assoc)
-
-  pub taken_stops : i < length t → p (get_or t i 0) ≡ false → front p t ≡ take i t ++ front p (drop i t) → front p t ≡ take i t
-  taken_stops within e so_far = so_far ∙ rw (drop_more t i 0 within, e, append-nil)
-
-  pub taken_ends : length t ≤ i → front p t ≡ take i t ++ front p (drop i t) → front p t ≡ take i t
-  taken_ends within so_far = so_far ∙ rw (drop_all i t within, append-nil)

@@ -222,9 +222,6 @@ module _ (p : PartialTree) (text rest : Text) (w : IsBefore Npm p text rest) whe
   found : Front text rest w.back
   found = word_front text rest w.back p w.spelled w.behind_is
 
-  pub rest_within : length rest ≤ length text
-  rest_within = let size = found.longer in omega (arith, size)
-
   pub back_within : length w.back ≤ length text - length rest
   back_within = let size = found.longer in omega (arith, size)
 

@@ -52,14 +52,6 @@ module _ (terms : Terms) (v : PlainVersion) (counts : Bool) where
       → (term_fits terms s ≡ true → t' ≡ taken terms v s t) → whole ≡ told (fit && f) t' left
   term_more whole fit f t t' s o left so_far first is same = so_far ∙ ap (told fit t) first ∙ one_more fit f t t' s left is same
 
-  next_one : (fit : Bool) (t : Tally) (left : Option (List Event)) → told fit t (put next_range left) ≡ told fit (ended counts t) left
-  next_one fit t None = refl
-  next_one fit t (Some es) = refl
-
-  pub range_more : (whole : Option (Option Tally)) (fit : Bool) (t : Tally) (o left : Option (List Event))
-      → whole ≡ told fit t o → o ≡ put next_range left → whole ≡ told fit (ended counts t) left
-  range_more whole fit t o left so_far first = so_far ∙ ap (told fit t) first ∙ next_one fit t left
-
   -- ---- the events of a set
 
   -- simples of one range

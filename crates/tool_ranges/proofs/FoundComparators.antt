@@ -1,5 +1,5 @@
 -- The steps of the reader of a comparator.
-use Rattle.std.proofs.Common.{◌≡◌, ◌-◌, ◌≤◌, Bool, true, false, ◌==◌, [], ◌∷◌, length, get_or, take, drop, Some, None}
+use Rattle.std.proofs.Common.{◌≡◌, ◌-◌, ◌≤◌, true, false, ◌==◌, [], ◌∷◌, length, get_or, take, drop, Some, None}
 use Rattle.std.proofs.Common.{refl, sym, ap, ◌∙◌, arith}
 use Rattle.semver_texts.specs.Texts.{Text}
 use Rattle.semver_texts.specs.declared.dialect.Dialect.TheVariants.{Cargo}
@@ -15,16 +15,6 @@ pub pieces_found : (t u v w : Text) (f : Form) (p : PartialTree) → u ≡ behin
 pieces_found t u v w f p e n sign found =
     let other : begins_with_tilde_greater u ≡ false = sym n in
     ap comparator_here (sym e) ∙ rw other (ap (λ o. with_operator o.0 (with_first (component o.1))) (sym sign) ∙ ap (with_operator f) found)
-
-pub tilde_found : (t u : Text) → u ≡ behind_blanks Cargo t → begins_with_tilde_greater u ≡ true → comparator_at t ≡ None
-tilde_found t u e y = ap comparator_here (sym e) ∙ rw y refl
-
-pub no_pieces : (t u v : Text) (f : Form) → u ≡ behind_blanks Cargo t → (f, v) ≡ operator Cargo u → with_first (component v) ≡ None
-    → comparator_at t ≡ None
-no_pieces t u v f e sign none = ap comparator_here (sym e) ∙ go (begins_with_tilde_greater u) refl where
-  go : (b : Bool) → begins_with_tilde_greater u ≡ b → comparator_here u ≡ None
-  go true y = rw y refl
-  go false n = rw n (ap (λ o. with_operator o.0 (with_first (component o.1))) (sym sign) ∙ ap (with_operator f) none)
 
 -- it isn't one that is read; it ends the text; a comma follows; something else does
 pub not_read : (s : Simple) (w : Text) → is_of_cargo s ≡ false → if_read s w ≡ None

@@ -1,7 +1,6 @@
 -- Numbers that are at most 2^53 - 1: they fit 64 bits, and the cell of a simple says whether its numbers are.
-use Rattle.std.proofs.Common.{◌≡◌, ℕ, ◌≤◌, ◌-◌, ◌^◌, true, false, ◌&&◌, List, length, refl, sym, ap, ◌∙◌, arith}
+use Rattle.std.proofs.Common.{◌≡◌, ℕ, true, false, ◌&&◌, List, refl, sym, ap, ◌∙◌, arith}
 use Rattle.std.proofs.Common.{Option, Some, None}
-use Rattle.std.specs.Prelude.{nat_lt}
 use Rattle.std.specs.List.{list_all}
 use Rattle.std.proofs.lemmas.Bool.{and_parts, and_from, and_left, both_ways}
 use Rattle.std.proofs.lemmas.Bool.Decides.{nat_tests}
@@ -9,15 +8,13 @@ use Rattle.semver_texts.proofs.Lists.{by_test}
 use Rattle.semver_texts.specs.Versions.{PlainVersion, numbers}
 use Rattle.semver_ranges.specs.declared.grammar.Simple as read
 use Rattle.semver_ranges.specs.declared.partial.Partial.{Partial}
-use Rattle.semver_ranges.specs.declared.partial.PartialKind.{PartialKind}
-use Rattle.semver_ranges.specs.declared.partial.PartialKind.TheVariants.{XRangeOnly, MajorOnly, MajorMinor, MajorMinorPatch}
 use Rattle.semver_ranges.specs.declared.partial.Place.{Place}
 use Rattle.semver_ranges.specs.declared.partial.Place.TheVariants.{Major, Minor, Patch}
 use Rattle.semver_ranges.specs.declared.range.Compat.TheVariants.{Npm}
 use Rattle.semver_ranges.specs.RangeTree.{Simple}
 use Rattle.semver_ranges.specs.Partials.{stated, fits_u64}
-use Rattle.semver_ranges.specs.RewritingTable.{up, bound_fits}
-use Rattle.semver_ranges.specs.Steps.PartialViews.{number_at, place_number, stated_at, stated_of}
+use Rattle.semver_ranges.specs.RewritingTable.{bound_fits}
+use Rattle.semver_ranges.specs.Steps.PartialViews.{number_at, stated_of}
 use Rattle.semver_ranges.specs.Steps.CursorViews.{IsSimpleOf}
 use Rattle.semver_ranges.proofs.Tests.{list_all-weaker}
 use Rattle.tool_ranges.specs.declared.rows.Cell.{Cell}
@@ -51,34 +48,11 @@ number_of Major a b c = a
 number_of Minor a b c = b
 number_of Patch a b c = c
 
-raised_safe : (kind : PartialKind) (place : Place) (a b c : ℕ) → place_number place ≤ length (stated_at kind a b c)
-    → list_all is_safe (stated_at kind a b c) ≡ true
-    → nat_lt (number_of place a b c) (2 ^ 53 - 1) ≡ is_safe_bound (Some (up (place_number place) (stated_at kind a b c)))
-unfolding number_of
-raised_safe XRangeOnly Major a b c within e = absurd (omega (arith, within))
-raised_safe XRangeOnly Minor a b c within e = absurd (omega (arith, within))
-raised_safe XRangeOnly Patch a b c within e = absurd (omega (arith, within))
-raised_safe MajorOnly Major a b c within e = grind (arith, nat_tests)
-raised_safe MajorOnly Minor a b c within e = absurd (omega (arith, within))
-raised_safe MajorOnly Patch a b c within e = absurd (omega (arith, within))
-raised_safe MajorMinor Major a b c within e = grind (arith, nat_tests)
-raised_safe MajorMinor Minor a b c within e = grind (arith, nat_tests)
-raised_safe MajorMinor Patch a b c within e = absurd (omega (arith, within))
-raised_safe MajorMinorPatch Major a b c within e = grind (arith, nat_tests)
-raised_safe MajorMinorPatch Minor a b c within e = grind (arith, nat_tests)
-raised_safe MajorMinorPatch Patch a b c within e = grind (arith, nat_tests)
-
 same_number : (place : Place) (p : Partial) → number_at place p ≡ number_of place p.major p.minor p.patch
 unfolding number_of
 same_number Major p = refl
 same_number Minor p = refl
 same_number Patch p = refl
-
-pub safe_where_raised : (place : Place) (p : Partial) → place_number place ≤ length (stated_of p)
-    → list_all is_safe (stated_of p) ≡ true
-    → nat_lt (number_at place p) (2 ^ 53 - 1) ≡ is_safe_bound (Some (up (place_number place) (stated_of p)))
-safe_where_raised place p within e =
-    ap (λ n. nat_lt n (2 ^ 53 - 1)) (same_number place p) ∙ raised_safe p.kind place p.major p.minor p.patch within e
 
 -- the cell of a simple that was read
 pub safe_cell : (s : Simple) (simple : read.Simple) (c : Cell) → IsSimpleOf s simple → IsCellOf Npm s simple.partial c

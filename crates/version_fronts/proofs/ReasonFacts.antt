@@ -4,8 +4,7 @@ use Rattle.std.proofs.Common.{min}
 use Rattle.std.specs.Prelude.{◌↔◌, ◌==◌, ◌&&◌, ◌||◌, not, if◌then◌else◌, IsTrue, Option, Some, None}
 use Rattle.std.specs.Char.{is_ascii_digit}
 use Rattle.std.proofs.lemmas.Bool.{and_parts, both_ways, not-false, not-true}
-use Rattle.std.proofs.lemmas.Bool.Decides.{nat_tests}
-use Rattle.semver_texts.specs.Texts.{Text, is_part_byte}
+use Rattle.semver_texts.specs.Texts.{Text}
 use Rattle.semver_texts.specs.ToolVersions.{IsVersionTextIn, characters}
 use Rattle.semver_texts.specs.declared.dialect.Dialect.{Dialect}
 use Rattle.semver_texts.proofs.Lists.{by_test}
@@ -60,9 +59,6 @@ not_blank (b ∷ t) e =
 -- ---- at the end of a text
 
 module _ (d : Dialect) (t : Text) (too_long : Bool) where
-  abbrev EndIs : State → Type 0
-  EndIs s = at_end s ≡ reason_by (accepts s) (letter_after d s) (zero_after d s) too_long t None
-
   numbers_end : (s : State) → is_blank t ≡ false → letter_after d s ≡ false → reason.NotThreeNumbers
       ≡ reason_by (accepts s) (letter_after d s) (zero_after d s) too_long t None
   numbers_end s blank letter = rw (blank, letter) refl
@@ -96,11 +92,6 @@ no_letter_behind d Minor n = refl
 no_letter_behind Crate Patch n = refl
 no_letter_behind Cargo Patch n = refl
 no_letter_behind Npm Patch n = refl
-
-no_letter_after : (d : Dialect) → letter_after d (After Complete) ≡ false
-no_letter_after Crate = refl
-no_letter_after Cargo = refl
-no_letter_after Npm = refl
 
 end_is : (d : Dialect) (s : State) (t : Text) (too_long : Bool) → EndsIn s t → is_refused s ≡ false → accepts s ≡ false → is_cut s ≡ false
     → at_end s ≡ reason_by (accepts s) (letter_after d s) (zero_after d s) too_long t None
@@ -163,9 +154,6 @@ module _ (d : Dialect) (t : Text) (b : ℕ) where
       → r ≡ (if not letter then (if has_no_digit t then reason.UnexpectedCharacter else reason.NotThreeNumbers)
       else (if zero then reason.EmptyIdentifier else reason.LeadingZero)) → if_separator r b ≡ Others false letter zero
   separated r letter zero e = by_test (is_separator b) (λ y. rw y e) (λ n. rw n refl)
-
-digit_no_white : (b : ℕ) → is_part_byte b ≡ true → is_ascii_white b ≡ false
-digit_no_white b e = grind (arith, nat_tests)
 
 digit_is_part : (t : Text) → ends_in_digit t ≡ true → ends_in_part t ≡ true
 digit_is_part t e = rw e refl

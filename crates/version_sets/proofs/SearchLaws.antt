@@ -75,15 +75,9 @@ turns : (known s below : Bool) (r : Ordering) → below ≡ is_lt r → (r ≡ L
 turns known s below r told after = grind arith
 
 module _ {T : Type 0} (cmp : T → T → Ordering) (o : IsTotalOrder cmp) (v : T) (all : List T) where
-  pub turns_begin : IsIncreasing cmp all → IsTurned cmp v all all false
-  turns_begin increase = record { increase = increase; turned = refl }
-
   -- the next switch is above it, and so are those after, or it isn't
   pub turn_next : (b : T) (left : List T) (known below : Bool) → below ≡ is_lt (cmp v b) → IsTurned cmp v all (b ∷ left) known
       → IsTurned cmp v all left (differ known (not below))
   turn_next b left known below told w =
       let after = λ (l : cmp v b ≡ Less). switched-below cmp v left (below-first cmp o v b left l w.increase.0) in
       record { increase = w.increase.1; turned = w.turned ∙ turns known _ below (cmp v b) told after }
-
-  pub turns_end : (known : Bool) → IsTurned cmp v all [] known → known ≡ switched cmp all v
-  turns_end known w = grind (arith, w.turned)

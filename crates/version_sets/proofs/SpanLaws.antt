@@ -1,5 +1,5 @@
 -- The switches of ascending spans increase, and switch what is in some span.
-use Rattle.std.proofs.Common.{arith, ◌≡◌, Bool, true, false, not, ◌&&◌, ◌||◌, cond, List, [], ◌∷◌, ◌++◌, refl, sym, ap, ◌∙◌, subst}
+use Rattle.std.proofs.Common.{arith, ◌≡◌, Bool, true, false, ◌&&◌, ◌||◌, cond, List, [], ◌∷◌, ◌++◌, refl, sym, ap, ◌∙◌, subst}
 use Rattle.std.proofs.Common.{map, add-one, get_or, suc, Bor}
 use Rattle.std.proofs.lemmas.Fn.{always_returns_same}
 use Rattle.std.proofs.lemmas.List.Sorted.{list_any-IsPermutation, IsPermutation-map}
@@ -25,11 +25,6 @@ use Rattle.version_sets.specs.Steps.SpanViews.{span_value}
 use Rattle.version_sets.specs.Switches.{switched, IsBelowFirst, IsIncreasing}
 use Rattle.version_sets.specs.declared.spans.Span.{Span}
 use Rattle.version_sets.proofs.SwitchLaws.{switched-below}
-
--- from a on and below c, or from b on and below d, where b is at or above a, and c at or above b
-one_span : (a b c d : Bool) → (a ≡ false → b ≡ false) → (b ≡ false → c ≡ false)
-    → (a && not (c && d)) ≡ ((a && not c) || (b && not d))
-one_span a b c d f g = grind arith
 
 module _ {T : Type 0} (cmp : T → T → Ordering) (o : IsTotalOrder cmp) where
   -- what isn't at or above a isn't at or above b, where this isn't below a
