@@ -1,5 +1,5 @@
 -- The events of a range set: they fit as it does, and tell its ranges.
-use Rattle.std.proofs.Common.{◌≡◌, Bool, ◌&&◌, List, [], ◌∷◌, length, refl, sym, arith}
+use Rattle.std.proofs.Common.{◌≡◌, Bool, ◌&&◌, List, [], ◌∷◌, refl, sym, arith}
 use Rattle.std.specs.List.{list_all, flat_map}
 use Rattle.std.proofs.lemmas.List.Folds.{list_all-map}
 use Rattle.semver_ranges.specs.declared.partial.LowerBounds.{LowerBounds}
@@ -9,9 +9,8 @@ use Rattle.semver_ranges.specs.RangeTree.{Simple, RangeTree, empty, hyphen, simp
 use Rattle.semver_ranges.specs.Partials.{stated, states_nothing}
 use Rattle.semver_ranges.specs.Terms.{of_simple, terms}
 use Rattle.semver_ranges.specs.RewritingTable.{PlainComparator, term_fits_by, range_by, fits_by}
-use Rattle.semver_ranges.specs.Steps.RangeEvents.{Event, yielded, in_front, events_of, range_simples, range_others, bars}
-use Rattle.semver_ranges.specs.Steps.RangeEvents.{event_fits}
-use Rattle.semver_ranges.specs.Steps.BoundsViews.{range_of_simples, range_for}
+use Rattle.semver_ranges.specs.Steps.RangeEvents.{Event, yielded, in_front, events_of, event_fits}
+use Rattle.semver_ranges.specs.Steps.BoundsViews.{range_of_simples}
 use Rattle.semver_ranges.proofs.Tables.{IsTable, nothing_is}
 use Rattle.semver_texts.proofs.Lists.{by_test}
 
@@ -25,7 +24,8 @@ module _ {fit : Simple → Bool} {written : Simple → List PlainComparator} (ta
   made_of (hyphen l r) = grind (arith, nothing_is (stated l), nothing_is (stated r), table.fits r, table.left l)
   made_of (simples first others) = (sym (list_all-map (term_fits_by fit) of_simple (first ∷ others)), refl)
 
-  pub range_made : (mode : Compat) (r : RangeTree) → range_of_simples written mode (yielded Stated r) ≡ range_for written mode r
+  pub range_made : (mode : Compat) (r : RangeTree)
+      → range_of_simples written mode (yielded Stated r) ≡ record { comparators = range_by written r; compat = mode }
   range_made mode r = rw (made_of r).1
 
   -- it fits so too where its left side begins otherwise
@@ -42,37 +42,10 @@ front_fits : (fit : Simple → Bool) (ss : List Simple) (es : List Event)
 front_fits fit [] es = refl
 front_fits fit (s ∷ ss) es = grind (arith, front_fits fit ss es)
 
-front_bars : (ss : List Simple) (es : List Event) → bars (in_front ss es) ≡ bars es
-front_bars [] es = refl
-front_bars (s ∷ ss) es = front_bars ss es
-
-front_simples : (ss : List Simple) (es : List Event) → range_simples es ≡ [] → range_simples (in_front ss es) ≡ ss
-front_simples [] es e = e
-front_simples (s ∷ ss) es e = rw (front_simples ss es e)
-
-front_others : (ss : List Simple) (es : List Event) → range_others (in_front ss es) ≡ range_others es
-front_others [] es = refl
-front_others (s ∷ ss) es = front_others ss es
-
--- the first range of a set, and the others
-pub first_simples : (lower : LowerBounds) (r : RangeTree) (others : SetTree)
-    → range_simples (events_of lower (r ∷ others)) ≡ yielded lower r
-first_simples lower r [] = front_simples _ [] refl
-first_simples lower r (next ∷ others) = front_simples _ _ refl
-
-pub first_others : (lower : LowerBounds) (r : RangeTree) (others : SetTree)
-    → range_others (events_of lower (r ∷ others)) ≡ events_of lower others
-first_others lower r [] = front_others (yielded lower r) []
-first_others lower r (next ∷ others) = front_others (yielded lower r) _
-
--- a set fits as its events, and has one range more than they have bars
+-- a set fits as its events
 pub set_fits : {fit : Simple → Bool} {written : Simple → List PlainComparator} (table : IsTable fit written) (lower : LowerBounds)
     (tree : SetTree) → list_all (event_fits fit) (events_of lower tree) ≡ fits_by fit tree
 set_fits table lower [] = refl
 set_fits table lower (r ∷ []) = rw (front_fits, begun_fits table lower r, (made_of table r).0)
 set_fits table lower (r ∷ next ∷ others) =
     rw (front_fits, begun_fits table lower r, (made_of table r).0, set_fits table lower (next ∷ others))
-
-pub set_bars : (r : RangeTree) (others : SetTree) → bars (events_of Stated (r ∷ others)) ≡ length others
-set_bars r [] = front_bars (yielded Stated r) []
-set_bars r (next ∷ others) = rw front_bars (omega (arith, set_bars next others))

@@ -1,77 +1,99 @@
--- What the loops over the events of a text keep.
-use Rattle.semver_texts.proofs.DottedParts.{found_same}
+-- What the loops over the events of a text keep, and what they answer of its tree.
+use Rattle.std.proofs.Common.{◌≡◌, Bool, true, false, ◌&&◌, List, [], ◌∷◌, ◌++◌, Option, Some, None, refl, sym, ap, ◌∙◌, arith}
+use Rattle.std.proofs.Common.{append-nil, append_assoc, Result, Ok, Err}
 use Rattle.std.proofs.Math.Bool.{and-true}
-use Rattle.std.proofs.Common.{◌≡◌, ℕ, ◌+◌, ◌<◌, Bool, true, ◌&&◌, List, [], ◌∷◌, ◌++◌, Option, Some, None, length, refl, sym}
-use Rattle.std.proofs.Common.{ap, ◌∙◌, arith, append_assoc}
 use Rattle.std.specs.Prelude.{map}
-use Rattle.std.specs.List.{list_all}
-use Rattle.std.proofs.lemmas.Bool.{and_parts}
+use Rattle.std.specs.List.{list_all, flat_map}
 use Rattle.semver_texts.specs.declared.dialect.Dialect.{Dialect}
 use Rattle.semver_ranges.specs.declared.partial.LowerBounds.{LowerBounds}
-use Rattle.semver_ranges.specs.declared.partial.LowerBounds.TheVariants.{Stated}
 use Rattle.semver_ranges.specs.declared.range.Compat.{Compat}
+use Rattle.semver_ranges.specs.declared.range_set.RangeSet.{RangeSet}
+use Rattle.semver_ranges.specs.declared.range_set.RangeError.TheVariants.{NotARange, NumberTooLarge, OutOfMemory}
+use Rattle.semver_ranges.specs.declared.range_set.RangeError.{RangeError}
+use Rattle.semver_ranges.specs.declared.events.Event.TheVariants as event
 use Rattle.semver_ranges.specs.declared.events.Events.{Events}
 use Rattle.semver_ranges.specs.RangeTree.{Simple, RangeTree, SetTree}
 use Rattle.semver_texts.specs.Texts.{Text}
-use Rattle.semver_ranges.specs.RewritingTable.{PlainComparator, PlainRange, fits_by}
-use Rattle.semver_ranges.specs.Steps.BoundsViews.{range_of_simples}
+use Rattle.semver_ranges.specs.RewritingTable.{PlainComparator, PlainRange, PlainSet, fits_by}
+use Rattle.semver_ranges.specs.Steps.Answers.{IsAnswerBy, IsAnswerOf}
+use Rattle.semver_ranges.specs.Steps.BoundsViews.{range_of_simples, ranges_by}
+use Rattle.semver_ranges.specs.Steps.CursorViews.{HasLeft, IsFirst}
 use Rattle.semver_ranges.specs.Steps.Reading.{read}
-use Rattle.semver_ranges.specs.Steps.RangeEvents.{Event, one_simple, put, yielded, events_of, range_simples, range_others, bars}
-use Rattle.semver_ranges.specs.Steps.RangeEvents.{event_fits, set_events, events}
-use Rattle.semver_ranges.specs.Steps.CursorViews.{HasLeft}
+use Rattle.semver_ranges.specs.Steps.RangeEvents.{Event, one_simple, next_range, put, in_front, yielded, events_of}
+use Rattle.semver_ranges.specs.Steps.RangeEvents.{event_fits, set_events}
 use Rattle.semver_ranges.proofs.ReadingSound.{read_sound}
 use Rattle.semver_ranges.proofs.Tables.{IsTable}
-use Rattle.semver_ranges.proofs.EventLists.{first_simples, first_others, set_fits, set_bars}
+use Rattle.semver_ranges.proofs.EventLists.{set_fits}
 
--- whether events fit, and how many bars are among them, with what went before
-abbrev pub summed : (Simple → Bool) → Bool → ℕ → Option (List Event) → Option (Bool × ℕ)
-summed fits fit ended None = None
-summed fits fit ended (Some es) = Some (fit && list_all (event_fits fits) es, ended + bars es)
+-- whether events fit, with what went before
+abbrev pub fitted : (Simple → Bool) → Bool → Option (List Event) → Option Bool
+fitted fits fit None = None
+fitted fits fit (Some es) = Some (fit && list_all (event_fits fits) es)
 
--- one simple more
-sum_simple : (fits : Simple → Bool) (fit : Bool) (ended : ℕ) (s : Simple) (o : Option (List Event))
-    → summed fits fit ended (put (one_simple s) o) ≡ summed fits (fit && fits s) ended o
-sum_simple fits fit ended s None = refl
-sum_simple fits fit ended s (Some es) = grind arith
+-- one simple more, and the next range
+fit_simple : (fits : Simple → Bool) (fit : Bool) (s : Simple) (o : Option (List Event))
+    → fitted fits fit (put (one_simple s) o) ≡ fitted fits (fit && fits s) o
+fit_simple fits fit s None = refl
+fit_simple fits fit s (Some es) = grind arith
 
-pub sum_more : (fits : Simple → Bool) (whole : Option (Bool × ℕ)) (fit here : Bool) (ended : ℕ) (o left : Option (List Event)) (s : Simple)
-    → whole ≡ summed fits fit ended o → o ≡ put (one_simple s) left → here ≡ fits s
-    → whole ≡ summed fits (fit && here) ended left
-sum_more fits whole fit here ended o left s so_far first is =
-    rw (so_far, first, is) (sum_simple fits fit ended s left)
+pub fit_more : (fits : Simple → Bool) (whole : Option Bool) (fit here : Bool) (o left : Option (List Event)) (s : Simple)
+    → whole ≡ fitted fits fit o → o ≡ put (one_simple s) left → here ≡ fits s → whole ≡ fitted fits (fit && here) left
+fit_more fits whole fit here o left s so_far first is = rw (so_far, first, is) (fit_simple fits fit s left)
+
+fit_bars : (fits : Simple → Bool) (fit : Bool) (o : Option (List Event)) → fitted fits fit (put next_range o) ≡ fitted fits fit o
+fit_bars fits fit None = refl
+fit_bars fits fit (Some es) = refl
+
+pub fit_next : (d : Dialect) (fits : Simple → Bool) (whole : Option Bool) (fit : Bool) (o : Option (List Event)) (cursor : Events)
+    → whole ≡ fitted fits fit o → IsFirst d o event.NextRange cursor
+    → (left : Option (List Event)) × HasLeft d cursor left × (whole ≡ fitted fits fit left)
+fit_next d fits whole fit o cursor so_far (one_simple s, left, is, has, e) = absurd is
+fit_next d fits whole fit o cursor so_far (next_range, left, is, has, e) =
+    (left, has, so_far ∙ ap (fitted fits fit) e ∙ fit_bars fits fit left)
 
 -- at the end of a text
-abbrev IsSummed : Dialect → (Simple → Bool) → Text → Bool → ℕ → Type 0
-IsSummed d fits t fit ended = (tree : SetTree) × (read d t ≡ Some tree) × (fits_by fits tree ≡ fit) × (length tree ≡ ended + 1)
+pub fit_end : (fits : Simple → Bool) (o : Option (List Event)) (fit : Bool) → fitted fits true o ≡ fitted fits fit (Some [])
+    → (es : List Event) × (o ≡ Some es) × (list_all (event_fits fits) es ≡ fit)
+fit_end fits None fit e = cc
+fit_end fits (Some es) fit e = (es, refl, let same : list_all (event_fits fits) es ≡ (fit && true) = cc in same ∙ and-true fit)
 
-pub sum_end : (d : Dialect) {fits : Simple → Bool} {written : Simple → List PlainComparator} (table : IsTable fits written) (t : Text)
-    (fit : Bool) (ended : ℕ) → summed fits true 0 (events d Stated t) ≡ summed fits fit ended (Some []) → IsSummed d fits t fit ended
-sum_end d {fits = fits} table t fit ended e = at (read d t) refl e where
-  at : (o : Option SetTree) → read d t ≡ o → summed fits true 0 (set_events Stated o) ≡ summed fits fit ended (Some [])
-      → IsSummed d fits t fit ended
-  at None is e = cc
-  at (Some []) is e = absurd (read_sound d t [] is)
-  at (Some (r ∷ others)) is e =
-      let sums = found_same e in
-      (r ∷ others, is, sym (set_fits table Stated (r ∷ others)) ∙ sums.0 ∙ and-true fit, omega (arith, sums.1, set_bars r others))
+-- the ranges of a set, from its events
+module _ (written : Simple → List PlainComparator) (mode : Compat) (lower : LowerBounds) where
+  abbrev made_by : RangeTree → PlainRange
+  made_by r = range_of_simples written mode (yielded lower r)
 
--- one range more of a set, and what is left after it
-pub one_range_more : (d : Dialect) (lower : LowerBounds) (fits : Simple → Bool) (written : Simple → List PlainComparator)
-    (mode : Compat) (made : RangeTree → PlainRange) → ((x : RangeTree) → range_of_simples written mode (yielded lower x) ≡ made x)
-    → (tree left : SetTree) (before : List PlainRange) (r : PlainRange) (cursor : Events) (at : ℕ)
-    → fits_by fits left ≡ true → at + length left ≡ length tree → at < length tree
-    → before ++ map made left ≡ map made tree
-    → r ≡ range_of_simples written mode (range_simples (events_of lower left))
-    → HasLeft d cursor (Some (range_others (events_of lower left)))
-    → (others : SetTree) × (fits_by fits others ≡ true) × (at + 1 + length others ≡ length tree)
-    × HasLeft d cursor (Some (events_of lower others))
-    × ((before ++ r ∷ []) ++ map made others ≡ map made tree)
-one_range_more d lower fits written mode made is_made tree [] before r cursor at fit count within whole is has =
-    absurd (omega (arith, count, within))
-one_range_more d lower fits written mode made is_made tree (x ∷ others) before r cursor at fit count within whole is has = (
-  others,
-  (and_parts _ _ fit).1,
-  omega (arith, count),
-  rw (first_others lower x others) at has,
-  rw (append_assoc, is ∙ ap (range_of_simples written mode) (first_simples lower x others) ∙ is_made x) whole,
-)
+  front_made : (ss : List Simple) (cs : List PlainComparator) (es : List Event)
+      → ranges_by written mode cs (in_front ss es) ≡ ranges_by written mode (cs ++ flat_map written ss) es
+  front_made [] cs es = rw append-nil refl
+  front_made (s ∷ ss) cs es = front_made ss (cs ++ written s) es ∙ rw append_assoc refl
+
+  set_made : (r : RangeTree) (others : SetTree) → ranges_by written mode [] (events_of lower (r ∷ others)) ≡ map made_by (r ∷ others)
+  set_made r [] = front_made (yielded lower r) [] []
+  set_made r (next ∷ others) = front_made (yielded lower r) [] _ ∙ ap (λ l. made_by r ∷ l) (set_made next others)
+
+  -- what is answered by the events of a text is answered by its tree
+  module _ {fit : Simple → Bool} {listed : Simple → List PlainComparator} (table : IsTable fit listed) where
+    tree_fits : (tree : SetTree) (es : List Event) (b : Bool) → Some (events_of lower tree) ≡ Some es → list_all (event_fits fit) es ≡ b
+        → fits_by fit tree ≡ b
+    tree_fits tree es b e f = let same : es ≡ events_of lower tree = cc in sym (set_fits table lower tree) ∙ rw same at f
+
+    pub answered_by : (made : SetTree → PlainSet) → ((tree : SetTree) → record { ranges = map made_by tree; compat = mode } ≡ made tree)
+        → (d : Dialect) (t : Text) (o : Option SetTree) (r : Result RangeSet RangeError) → read d t ≡ o
+        → IsAnswerBy (set_events lower o) fit written mode r → IsAnswerOf o fit made r
+    answered_by made same d t None (Ok set) is (es, e, fits, has) = cc
+    answered_by made same d t None (Err NotARange) is e = refl
+    answered_by made same d t None (Err NumberTooLarge) is (es, e, fits) = cc
+    answered_by made same d t None (Err OutOfMemory) is (es, e, fits) = cc
+    answered_by made same d t (Some []) r is h = absurd (read_sound d t [] is)
+    answered_by made same d t (Some (x ∷ others)) (Ok set) is (es, e, fits, has) =
+        let same_events : es ≡ events_of lower (x ∷ others) = cc in (
+          x ∷ others,
+          refl,
+          tree_fits (x ∷ others) es true e fits,
+          has ∙ rw (same_events, set_made x others) (same (x ∷ others)),
+        )
+    answered_by made same d t (Some (x ∷ others)) (Err NotARange) is e = cc
+    answered_by made same d t (Some (x ∷ others)) (Err NumberTooLarge) is (es, e, fits) =
+        (x ∷ others, refl, tree_fits (x ∷ others) es false e fits)
+    answered_by made same d t (Some (x ∷ others)) (Err OutOfMemory) is (es, e, fits) =
+        (x ∷ others, refl, tree_fits (x ∷ others) es true e fits)

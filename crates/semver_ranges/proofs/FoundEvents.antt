@@ -1,14 +1,12 @@
 -- What is found first is the first of the events that are left.
-use Rattle.std.proofs.Common.{◌≡◌, ◌≤◌, Bool, true, false, arith, List, [], ◌∷◌, Option, Some, None, Result, Ok, Err, refl}
+use Rattle.std.proofs.Common.{◌≡◌, ◌≤◌, Bool, true, false, arith, List, [], ◌∷◌, Option, Some, None, refl}
 use Rattle.semver_texts.specs.declared.dialect.Dialect.{Dialect}
 use Rattle.semver_ranges.specs.declared.events.Events.{Events}
 use Rattle.semver_ranges.specs.declared.grammar.Simple as read
-use Rattle.semver_ranges.specs.declared.events.Event.{Event as Given}
 use Rattle.semver_ranges.specs.declared.events.Event.TheVariants as event
-use Rattle.semver_ranges.specs.declared.range_set.RangeError.{RangeError}
 use Rattle.semver_ranges.specs.RangeTree.{Simple}
-use Rattle.semver_ranges.specs.Steps.RangeEvents.{Event, one_simple, next_range, put, put_simples, range_simples, range_others}
-use Rattle.semver_ranges.specs.Steps.CursorViews.{IsSimpleOf, AreSides, IsEventOf, HasBehind, HasLeft, IsFirst, Gives, flag}
+use Rattle.semver_ranges.specs.Steps.RangeEvents.{Event, one_simple, next_range, put, put_simples}
+use Rattle.semver_ranges.specs.Steps.CursorViews.{IsSimpleOf, AreSides, IsEventOf, HasBehind, HasLeft, IsFirst, flag}
 
 -- the sides of a hyphen range
 pub sides_first : (xs : List Simple) (lower : read.Simple) (upper : Option read.Simple) (o : Option (List Event)) → AreSides xs lower upper
@@ -52,18 +50,9 @@ module _ (d : Dialect) where
   next_simple es simple cursor (one_simple s, Some behind, is, has, e) = record { s = s; behind = behind; is = is; has = has; whole = cc }
   next_simple es simple cursor (next_range, left, is, has, e) = absurd is
 
-  -- no simple comes first: the range is at its end, and after it are the others
-  pub record RangeEnd (es : List Event) (cursor : Events) : Type 0 where
-    pub simples : range_simples es ≡ []
-    pub has : HasLeft d cursor (Some (range_others es))
-
-  pub range_end : (es : List Event) (given : Option (Result Given RangeError)) (cursor : Events)
-      → ((simple : read.Simple) → given ≡ Some (Ok (event.Simple simple)) → ⊥) → Gives d (Some es) given cursor → RangeEnd es cursor
-  range_end [] None cursor other gives = record { simples = refl; has = gives.1 }
-  range_end (x ∷ es) None cursor other gives = let wrong = gives.0 in cc
-  range_end es (Some (Err e)) cursor other gives = let wrong = gives.0 in cc
-  range_end es (Some (Ok (event.Simple simple))) cursor other gives = absurd (other simple refl)
-  range_end es (Some (Ok event.NextRange)) cursor other (one_simple s, left, is, has, e) = absurd is
-  range_end es (Some (Ok event.NextRange)) cursor other (next_range, None, is, has, e) = cc
-  range_end es (Some (Ok event.NextRange)) cursor other (next_range, Some behind, is, has, e) =
-      let whole : es ≡ next_range ∷ behind = cc in record { simples = rw whole; has = rw whole has }
+  -- two bars that come first
+  pub next_bars : (es : List Event) (cursor : Events) → IsFirst d (Some es) event.NextRange cursor
+      → (behind : List Event) × HasLeft d cursor (Some behind) × (es ≡ next_range ∷ behind)
+  next_bars es cursor (one_simple s, left, is, has, e) = absurd is
+  next_bars es cursor (next_range, None, is, has, e) = cc
+  next_bars es cursor (next_range, Some behind, is, has, e) = (behind, has, cc)

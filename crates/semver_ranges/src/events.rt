@@ -7,7 +7,6 @@ ghost use Rattle.std.specs.Prelude.{IfSome};
 ghost use Rattle.semver_ranges.specs.RangeTree.{Simple as SimpleTree, PartialTree, hyphen};
 ghost use Rattle.semver_ranges.specs.Steps.Reading.{ends_range, simple, right_side};
 ghost use Rattle.semver_ranges.specs.Steps.Reading.{with_right};
-ghost use Rattle.semver_ranges.specs.declared.partial.LowerBounds.TheVariants as lower;
 ghost use Rattle.semver_ranges.specs.Steps.PartialViews.{IsPartialOf};
 ghost use Rattle.semver_ranges.specs.Steps.RangeEvents.{yielded, events};
 ghost use Rattle.semver_ranges.specs.Steps.CursorViews.{AreSides, FindsSides, TakesEvent, HasLeft};
@@ -42,19 +41,10 @@ pub struct Events<'input> {
 
 impl<'input> Events<'input> {
     // Answer: equation.
-    /// The events of a text by a dialect.
+    /// The events of a text by a dialect, where the bound of a left side of three numbers is
+    /// written so.
     #[inline(always)]
-    pub fn new(text: &'input [u8], dialect: Dialect) -> Events<'input>
-        ensures all { HasLeft dialect result (events dialect lower.Stated text.now) }
-        ensures short { length result.rest.now ≤ length text.now }
-    {
-        Events::with_lower(text, dialect, LowerBounds::Stated)
-    }
-
-    // Answer: equation.
-    /// The same, where the bound of a left side of three numbers is written so.
-    #[inline(always)]
-    pub fn with_lower(text: &'input [u8], dialect: Dialect, lower: LowerBounds) -> Events<'input>
+    pub fn new(text: &'input [u8], dialect: Dialect, lower: LowerBounds) -> Events<'input>
         ensures all { HasLeft dialect result (events dialect lower text.now) }
         ensures short { length result.rest.now ≤ length text.now }
     {
@@ -162,24 +152,6 @@ impl<'input> Events<'input> {
         self.rest = rest;
         self.upper = upper;
         Some(Event::Simple(lower))
-    }
-}
-
-// Answer: equation.
-impl<'input> Iterator for Events<'input> {
-    ghost use Rattle.std.specs.Iterator.{at_most};
-    ghost use Rattle.semver_texts.specs.declared.dialect.Dialect.TheVariants.{Crate};
-
-    type Item = Result<Event<'input>, RangeError>;
-
-    ghost next_gives = { NextGives Crate };
-
-    ghost remaining = { λ e. at_most (size_left e) };
-
-    /// The next event by the crate's dialect.
-    #[inline(always)]
-    fn next(&mut self) -> Option<Result<Event<'input>, RangeError>> {
-        self.next_in(Dialect::Crate)
     }
 }
 

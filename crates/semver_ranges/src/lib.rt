@@ -4,7 +4,7 @@
 //! loop, so that what is read goes through registers. Without the hints of one of `grammar`,
 //! `partial`, `rewriting` and `events` range sets took 13 to 27 % more instructions, and simples up
 //! to 20 %. `inline(never)` is what few texts need, and would make those copies larger: reading
-//! pre-releases and counting ahead, 1 % each. Other hints brought nothing, and there are none.
+//! pre-releases, 1 %. Other hints brought nothing, and there are none.
 #![tactic(auto)]
 
 pub mod events;
@@ -15,6 +15,7 @@ pub mod partial;
 mod range;
 mod range_set;
 pub mod rewriting;
+pub mod table;
 
 pub use range::{Comparator, Compat, Identifier, Op, Range};
 pub use range_set::{RangeError, RangeSet};

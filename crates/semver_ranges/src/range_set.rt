@@ -1,11 +1,9 @@
 //! Range sets: the ranges of a text in one of two modes, and their printed text.
 
-ghost use Rattle.std.specs.Prelude.{Some, ◌≡◌, ◌⊎◌, ◌∷◌, true, [], List, length, map, IsTrue};
-ghost use Rattle.std.specs.Prelude.{IfOk, IfSome, IsOkAnd, MatchResult};
-ghost use Rattle.std.specs.List.{list_all};
+ghost use Rattle.std.specs.Prelude.{Some, ◌≡◌, ◌⊎◌, ◌∷◌, true, [], IsTrue};
+ghost use Rattle.std.specs.Prelude.{IfOk, IfSome, IsOkAnd};
 ghost use Rattle.semver_texts.specs.declared.dialect.Dialect.TheVariants.{Crate};
 ghost use Rattle.semver_ranges.specs.RangeTree.{Simple as SimpleTree, SetTree, Spells, simples};
-ghost use Rattle.semver_texts.specs.Texts.{Text};
 ghost use Rattle.semver_texts.specs.Versions.{PlainVersion};
 ghost use Rattle.semver_ranges.specs.OwnMeaning.{meets_tree};
 ghost use Rattle.semver_ranges.specs.RewritingTable.{PlainSet, fits, rewritten, simple_fits};
@@ -15,22 +13,18 @@ ghost use Rattle.semver_ranges.specs.ParsedSets.{IsParsed};
 ghost use Rattle.semver_ranges.specs.ExactBounds.{rewritten_exactly};
 ghost use Rattle.semver_ranges.specs.Meeting.{meets_set, meets_tree_or_bounds};
 ghost use Rattle.semver_ranges.specs.PrintedRanges.{IsPrintableSet, set_text};
-ghost use Rattle.semver_ranges.specs.RangeViews.{range_of, set_of};
+ghost use Rattle.semver_ranges.specs.RangeViews.{set_of};
 ghost use Rattle.semver_ranges.specs.Steps.Reading.{read};
-ghost use Rattle.semver_ranges.specs.Steps.Answers.{IsAnswer, IsRefusal};
-ghost use Rattle.semver_ranges.specs.Steps.RangeEvents.{Event as EventTree};
-ghost use Rattle.semver_ranges.specs.Steps.RangeEvents.{event_fits, range_simples, range_others};
-ghost use Rattle.semver_ranges.specs.Steps.CursorViews.{HasLeft};
+ghost use Rattle.semver_ranges.specs.Steps.Answers.{IsAnswer};
 ghost use Rattle.semver_ranges.specs.Steps.PartialViews.{pre_of};
-ghost use Rattle.semver_ranges.specs.Steps.BoundsViews.{comparators_of, bounds_fit};
-ghost use Rattle.semver_ranges.specs.Steps.BoundsViews.{range_of_simples, range_for, IsBuildable};
+ghost use Rattle.semver_ranges.specs.Steps.BoundsViews.{comparators_of, bounds_fit, IsBuildable};
 ghost use Rattle.semver_ranges.specs.Steps.BoundsViews.{IsRow};
 
-use crate::events::{Event, Events};
-use crate::grammar::read_simple;
-use crate::partial::{Partial, RaisedBounds};
-use crate::range::{Compat, Range};
+use crate::grammar::{Simple, read_simple};
+use crate::partial::{LowerBounds, Partial, RaisedBounds};
+use crate::range::{Comparator, Compat, Range};
 use crate::rewriting::{Bounds, rewritten};
+use crate::table::{Table, read_by};
 use semver_texts::dialect::Dialect;
 use semver_texts::printing::write_joined;
 use std::alloc::{AllocError, Global};
@@ -189,8 +183,9 @@ fn parse_with(
     ensures { IsAnswer (pre_of raised) input.now compat result }
 {
     let text = input.as_bytes();
+    let rows = Rows { compat, raised };
     let Some((partial, bounds)) = read_only_simple(text, compat) else {
-        return read_ranges(alloc, text, compat, raised);
+        return read_by(alloc, text, compat, LowerBounds::Stated, &rows);
     };
     match build_only_simple(alloc, &partial, bounds, compat, raised) {
         Ok(set) => Ok(set),
@@ -248,125 +243,37 @@ fn build_only_simple(
     Ok(RangeSet { ranges, compat })
 }
 
-/// The range set of a text in two runs over its events: the first surveys all of it, and the second
-/// builds.
-fn read_ranges(
-    alloc: Global,
-    text: &[u8],
-    compat: Compat,
-    raised: RaisedBounds,
-) -> Result<RangeSet, RangeError>
-    ensures { IsAnswer (pre_of raised) text.now compat result }
-{
-    let sizes = survey(text, compat)?;
-    match build(alloc, text, &sizes, compat, raised) {
-        Ok(ranges) => Ok(RangeSet { ranges, compat }),
-        Err(_) => Err(RangeError::OutOfMemory),
-    }
-}
-
-/// For speed: of so many ranges the survey remembers how many comparators they have. Those of
-/// further ranges are counted again.
-const REMEMBERED: usize = 8;
-
-/// How many ranges a text has, and how many comparators the first of them have.
+/// The crate's tables.
 #[derive(Clone, Copy)]
-struct Sizes {
-    ranges: usize,
-    comparators: [usize; REMEMBERED],
-}
-
-/// The sizes of a text, or why there is no set of it.
-fn survey(text: &[u8], compat: Compat) -> Result<Sizes, RangeError>
-    ensures { MatchResult result
-        (λ sizes. (tree : SetTree) × (read Crate text.now ≡ Some tree) × IsTrue (fits compat tree)
-        × (sizes.ranges ≡ length tree))
-        (λ e. IsRefusal text.now compat e) }
-{
-    let mut comparators = [0usize; REMEMBERED];
-    let mut ended = 0usize;
-    let mut fit = true;
-    for event in Events::new(text, Dialect::Crate) {
-        match event? {
-            Event::Simple(simple) => {
-                let bounds = rewritten(&simple, compat);
-                fit &= bounds.fits(&simple.partial);
-                if let Some(count) = comparators.get_mut(ended) {
-                    *count = count.saturating_add(bounds.count());
-                }
-            }
-            Event::NextRange => ended += 1,
-        }
-    }
-    if !fit {
-        return Err(RangeError::NumberTooLarge);
-    }
-    Ok(Sizes {
-        ranges: ended + 1,
-        comparators,
-    })
-}
-
-/// The ranges of a text that was surveyed.
-fn build(
-    alloc: Global,
-    text: &[u8],
-    sizes: &Sizes,
+struct Rows {
     compat: Compat,
     raised: RaisedBounds,
-) -> Result<Vec<Range>, AllocError>
-    requires { (tree : SetTree) × (read Crate text.now ≡ Some tree) × IsTrue (fits compat tree)
-        × (sizes.now.ranges ≡ length tree) }
-    ensures { IfOk result (λ ranges. (tree : SetTree) → read Crate text.now ≡ Some tree →
-        map range_of ranges.items
-        ≡ map (range_for (written_simple (pre_of raised) compat) compat) tree) }
-{
-    let mut events = Events::new(text, Dialect::Crate);
-    let mut ranges = Vec::with_capacity(alloc, sizes.ranges)?;
-    for at in 0..sizes.ranges {
-        let count = match sizes.comparators.get(at) {
-            Some(count) => *count,
-            None => count_ahead(events, compat),
-        };
-        ranges.push(build_range(alloc, &mut events, count, compat, raised)?)?;
-    }
-    Ok(ranges)
 }
 
-/// The range up to the next one, its comparators in a vector of their number.
-fn build_range(
-    alloc: Global,
-    events: &mut Events<'_>,
-    count: usize,
-    compat: Compat,
-    raised: RaisedBounds,
-) -> Result<Range, AllocError>
-    requires { (es : List EventTree) × HasLeft Crate events.old (Some es)
-        × IsTrue (list_all (event_fits (simple_fits compat)) es) }
-    ensures { IfOk result (λ range. (es : List EventTree) → HasLeft Crate events.old (Some es)
-        → IsTrue (list_all (event_fits (simple_fits compat)) es) →
-        (range_of range ≡ range_of_simples (written_simple (pre_of raised) compat)
-        compat (range_simples es))
-        × HasLeft Crate events.new (Some (range_others es))) }
-{
-    let mut comparator_set = Vec::with_capacity(alloc, count)?;
-    while let Some(Ok(Event::Simple(simple))) = events.next() {
-        rewritten(&simple, compat).push(alloc, &simple.partial, &mut comparator_set, raised)?;
-    }
-    Ok(Range {
-        comparator_set,
-        compat,
-    })
-}
+impl Table for Rows {
+    ghost DIALECT = { Crate };
 
-/// How many comparators there are up to the next range.
-#[inline(never)]
-fn count_ahead(mut events: Events<'_>, compat: Compat) -> usize {
-    let mut count = 0usize;
-    while let Some(Ok(Event::Simple(simple))) = events.next() {
-        count = count.saturating_add(rewritten(&simple, compat).count());
+    ghost fit = { λ rows s. simple_fits rows.compat s };
+
+    ghost written = { λ rows s. written_simple (pre_of rows.raised) rows.compat s };
+
+    const DIALECT: Dialect = Dialect::Crate;
+
+    #[inline(always)]
+    fn size(&self, simple: &Simple<'_>) -> (bool, usize) {
+        let bounds = rewritten(simple, self.compat);
+        (bounds.fits(&simple.partial), bounds.count())
     }
-    count
+
+    #[inline(always)]
+    fn push(
+        &self,
+        alloc: Global,
+        simple: &Simple<'_>,
+        comparators: &mut Vec<Comparator>,
+    ) -> Result<(), AllocError> {
+        rewritten(simple, self.compat).push(alloc, &simple.partial, comparators, self.raised)
+    }
 }
 
 // Answer: equation.

@@ -3,6 +3,7 @@ use Rattle.std.proofs.Common.{◌≡◌, Bool, true, false, ◌&&◌, ◌||◌, 
 use Rattle.std.proofs.Math.Bool.{and-true}
 use Rattle.std.specs.List.{list_all, list_any}
 use Rattle.std.proofs.lemmas.List.Folds.{list_all-map}
+use Rattle.semver_texts.specs.declared.dialect.Dialect.TheVariants as dialect
 use Rattle.semver_texts.specs.Texts.{Text, is_empty}
 use Rattle.semver_texts.specs.Versions.{PlainVersion}
 use Rattle.semver_texts.proofs.Lists.{by_test}
@@ -24,7 +25,9 @@ use Rattle.tool_ranges.specs.NpmMeaning as npm
 use Rattle.tool_ranges.specs.declared.tally.Terms.TheVariants.{Npm, NpmAll, Crate}
 use Rattle.semver_ranges.specs.declared.range_set.RangeError.{RangeError}
 use Rattle.semver_ranges.specs.declared.range_set.RangeError.TheVariants.{NotARange, NumberTooLarge, OutOfMemory}
-use Rattle.tool_ranges.specs.Steps.NpmReading.{IsNpmRefusal}
+use Rattle.tool_ranges.specs.NpmTable.{is_safe_simple}
+use Rattle.semver_ranges.specs.Steps.Answers.{IsRefusalOf}
+use Rattle.semver_ranges.specs.Steps.Reading.{read}
 use Rattle.tool_ranges.specs.Steps.Asking.{Refuses, range_every, range_met, term_met}
 use Rattle.tool_ranges.proofs.AllMeanings.{left_meets, none_met}
 
@@ -112,7 +115,7 @@ module _ (v : PlainVersion) where
         (λ r. and-true _ ∙ crate_terms r) tree
 
 -- ---- what is refused of a text of npm
-pub npm_refusal : (t : Text) (e : RangeError) → Refuses Npm t e → IsNpmRefusal t e
+pub npm_refusal : (t : Text) (e : RangeError) → Refuses Npm t e → IsRefusalOf (read dialect.Npm t) is_safe_simple e
 npm_refusal t NotARange h = h
 npm_refusal t NumberTooLarge h = h
 npm_refusal t OutOfMemory h = absurd h

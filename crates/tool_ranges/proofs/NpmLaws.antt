@@ -1,24 +1,28 @@
 -- What the reader finds of a range text of npm says what a call refuses and answers.
-use Rattle.std.proofs.Common.{◌≡◌, ℕ, length, true, false, refl, sym, ap, ◌∙◌, Some, None}
+use Rattle.std.proofs.Common.{◌≡◌, true, refl, sym, ap, ◌∙◌, Some, None}
 use Rattle.std.proofs.lemmas.Bool.{both_ways}
-use Rattle.std.specs.Prelude.{Ok, Err}
+use Rattle.std.specs.Prelude.{IfOk, Result, Ok, Err}
 use Rattle.std.specs.List.{list_all}
 use Rattle.std.specs.Str.{chars}
 use Rattle.semver_texts.specs.Texts.{Text}
 use Rattle.semver_texts.specs.declared.dialect.Dialect.TheVariants.{Npm}
+use Rattle.semver_ranges.specs.declared.partial.LowerBounds.{LowerBounds}
 use Rattle.semver_ranges.specs.declared.range.Compat.TheVariants as compat
+use Rattle.semver_ranges.specs.declared.range_set.RangeSet.{RangeSet}
 use Rattle.semver_ranges.specs.declared.range_set.RangeError.{RangeError}
 use Rattle.semver_ranges.specs.declared.range_set.RangeError.TheVariants.{NotARange, NumberTooLarge, OutOfMemory}
 use Rattle.semver_ranges.specs.RangeTree.{SetTree}
 use Rattle.semver_ranges.specs.PrintedRanges.{IsPrintableSet}
+use Rattle.semver_ranges.specs.RangeViews.{set_of}
+use Rattle.semver_ranges.specs.Steps.Answers.{IsAnswerOf, IsRefusalOf}
 use Rattle.semver_ranges.specs.Steps.Reading.{read}
 use Rattle.semver_ranges.proofs.ReadingSound.{read_sound}
 use Rattle.semver_ranges.proofs.ReadingComplete.{tree_read}
 use Rattle.semver_ranges.proofs.AnsweredLaws.{set_printable}
 use Rattle.tool_ranges.specs.NpmGrammar.{may_stand, SpellsNpm}
-use Rattle.tool_ranges.specs.NpmTable.{npm_fits, rewritten_npm}
+use Rattle.tool_ranges.specs.NpmTable.{is_safe_simple, npm_fits, rewritten_npm}
 use Rattle.tool_ranges.specs.NpmTexts.{HasNpmSet, IsNpmTooLarge, RefusesNpm}
-use Rattle.tool_ranges.specs.Steps.NpmReading.{HasRanges, IsNpmRefusal}
+use Rattle.tool_ranges.specs.Steps.LowerBounds.{set_begun}
 use Rattle.tool_ranges.proofs.ToolRows.{npm_prints}
 
 -- what is read is the one tree
@@ -34,27 +38,19 @@ none_read t tree e h = let same : None ≡ Some tree = sym e ∙ npm_read t tree
 unfit : (t : Text) (tree : SetTree) → read Npm t ≡ Some tree → npm_fits tree ≡ true → IsNpmTooLarge t → ⊥
 unfit t tree e f (tree', s, large) = both_ways _ large (sym (ap npm_fits (read_one t tree tree' e s)) ∙ f)
 
-pub refused_characters : {A : Type 0} (t : Text) → list_all may_stand (chars t) ≡ false → RefusesNpm {A = A} t (Err NotARange)
-refused_characters t e = record {
-  accepted = tt;
-  not_a_range = (λ e' (tree, h). both_ways _ e h.characters, λ _. refl);
-  too_large = (λ e'. cc, λ (tree, h, large). absurd (both_ways _ e h.characters));
-  out_of_memory = λ e'. cc;
-}
-
 module _ (t : Text) (stand : list_all may_stand (chars t) ≡ true) where
   spelled : (tree : SetTree) → read Npm t ≡ Some tree → SpellsNpm tree t
   spelled tree e = record { spelled = read_sound Npm t tree e; characters = stand }
 
-  pub answered : {A : Type 0} (x : A) (count : ℕ) → HasRanges t count → RefusesNpm t (Ok x)
-  answered x count (tree, e, fit, counted) = record {
+  pub answered : {A : Type 0} (x : A) (tree : SetTree) → read Npm t ≡ Some tree → npm_fits tree ≡ true → RefusesNpm t (Ok x)
+  answered x tree e fit = record {
     accepted = (tree, spelled tree e, fit);
     not_a_range = (λ e'. cc, λ none. absurd (none (tree, spelled tree e)));
     too_large = (λ e'. cc, λ large. absurd (unfit t tree e fit large));
     out_of_memory = λ e'. cc;
   }
 
-  pub refused : {A : Type 0} (e : RangeError) → IsNpmRefusal t e → RefusesNpm {A = A} t (Err e)
+  pub refused : {A : Type 0} (e : RangeError) → IsRefusalOf (read Npm t) is_safe_simple e → RefusesNpm {A = A} t (Err e)
   refused NotARange none = record {
     accepted = tt;
     not_a_range = (λ e (tree, h). none_read t tree none h, λ _. refl);
@@ -74,9 +70,23 @@ module _ (t : Text) (stand : list_all may_stand (chars t) ≡ true) where
     out_of_memory = λ e. (tree, spelled tree is, fit);
   }
 
+-- what is answered by the table
+abbrev pub IsAnswer : LowerBounds → Text → Result RangeSet RangeError → Type 0
+IsAnswer lower t r = IsAnswerOf (read Npm t) is_safe_simple (set_begun lower) r
+
+pub refuses : (lower : LowerBounds) (t : Text) → list_all may_stand (chars t) ≡ true → (r : Result RangeSet RangeError) → IsAnswer lower t r
+    → RefusesNpm t r
+refuses lower t stand (Ok set) (tree, e, fit, same) = answered t stand set tree e fit
+refuses lower t stand (Err e) is = refused t stand e is
+
+pub begun : (lower : LowerBounds) (t : Text) (r : Result RangeSet RangeError) → IsAnswer lower t r
+    → IfOk r (λ set. (tree : SetTree) → SpellsNpm tree t → set_of set ≡ set_begun lower tree)
+begun lower t (Ok set) (tree, e, fit, same) = λ tree' h. same ∙ ap (set_begun lower) (read_one t tree tree' e h)
+begun lower t (Err e) is = tt
+
 -- a text of which there is a set
 pub set_of_text : {A : Type 0} (t : Text) (x : A) → HasNpmSet t → RefusesNpm t (Ok x)
-set_of_text t x (tree, h, fit) = answered t h.characters x (length tree) (tree, npm_read t tree h, fit, refl)
+set_of_text t x (tree, h, fit) = answered t h.characters x tree (npm_read t tree h) fit
 
 -- what it is rewritten to is printable
 pub npm_printable : (t : Text) (tree : SetTree) → read Npm t ≡ Some tree → npm_fits tree ≡ true → IsPrintableSet (rewritten_npm tree)

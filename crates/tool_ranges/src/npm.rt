@@ -1,28 +1,21 @@
 //! Range texts as npm reads them: `>1.2` is `>=1.3.0`, and `v1` is a range.
 
-ghost use Rattle.std.specs.Prelude.{◌≡◌, [], ℕ, Some, List, length, map, true, IsTrue, ◌||◌};
-ghost use Rattle.std.specs.Prelude.{IfOk, MatchResult};
+ghost use Rattle.std.specs.Prelude.{◌≡◌, [], IsTrue, IfOk};
 ghost use Rattle.std.specs.List.{list_all};
 ghost use Rattle.std.specs.Str.{chars};
 ghost use Rattle.semver_texts.specs.Versions.{PlainVersion};
 ghost use Rattle.semver_texts.specs.declared.dialect.Dialect.TheVariants as dialect;
 ghost use Rattle.semver_ranges.specs.declared.range.Compat.TheVariants.{Npm};
 ghost use Rattle.semver_ranges.specs.RangeTree.{SetTree, Spells};
-ghost use Rattle.semver_ranges.specs.RangeViews.{range_of, set_of};
+ghost use Rattle.semver_ranges.specs.RangeViews.{set_of};
 ghost use Rattle.semver_ranges.specs.Meeting.{meets_set};
 ghost use Rattle.semver_ranges.specs.PrintedRanges.{IsPrintableSet, set_text};
 ghost use Rattle.semver_ranges.specs.RewritingTable.{fits, rewritten};
-ghost use Rattle.semver_ranges.specs.Steps.Reading.{read};
-ghost use Rattle.semver_ranges.specs.Steps.RangeEvents.{Event as EventTree};
-ghost use Rattle.semver_ranges.specs.Steps.RangeEvents.{event_fits, range_simples, range_others};
-ghost use Rattle.semver_ranges.specs.Steps.CursorViews.{HasLeft};
-ghost use Rattle.semver_ranges.specs.Steps.BoundsViews.{range_of_simples};
-ghost use Rattle.tool_ranges.specs.Steps.LowerBounds.{range_begun, set_begun, written_for};
+ghost use Rattle.tool_ranges.specs.Steps.LowerBounds.{set_begun, written_for};
 ghost use Rattle.tool_ranges.specs.NpmGrammar.{is_white_space, may_stand, SpellsNpm};
 ghost use Rattle.tool_ranges.specs.NpmMeaning.{meets_npm};
 ghost use Rattle.tool_ranges.specs.NpmTable.{is_safe_simple, rewritten_npm};
 ghost use Rattle.tool_ranges.specs.NpmTexts.{RefusesNpm};
-ghost use Rattle.tool_ranges.specs.Steps.NpmReading.{HasRanges, IsNpmRefusal};
 
 mod asking;
 mod reading;
@@ -31,9 +24,10 @@ use crate::rows;
 pub(crate) use asking::{ask, ask_with_all};
 pub use reading::read;
 pub(crate) use reading::read_with_all;
-use semver_ranges::events::{Event, Events};
+use semver_ranges::grammar::Simple;
 use semver_ranges::partial::LowerBounds;
-use semver_ranges::{Compat, Range, RangeError, RangeSet};
+use semver_ranges::table::{Table, read_by};
+use semver_ranges::{Comparator, Compat, RangeError, RangeSet};
 use semver_texts::dialect::Dialect;
 use std::alloc::{AllocError, Global};
 
@@ -87,18 +81,7 @@ fn rewritten(alloc: Global, range: &str, lower: LowerBounds) -> Result<RangeSet,
     if !may_stand(range) {
         return Err(RangeError::NotARange);
     }
-    let text = range.as_bytes();
-    let count = match survey(text) {
-        Ok(count) => count,
-        Err(refusal) => return Err(refusal),
-    };
-    match build(alloc, text, count, lower) {
-        Ok(ranges) => Ok(RangeSet {
-            ranges,
-            compat: Compat::Npm,
-        }),
-        Err(_) => Err(RangeError::OutOfMemory),
-    }
+    read_by(alloc, range.as_bytes(), Compat::Npm, lower, &Rows { lower })
 }
 
 /// Whether each character beyond ASCII is white space to JavaScript.
@@ -125,78 +108,34 @@ fn is_white_space(character: char) -> bool
     )
 }
 
-/// How many ranges a text has, or why there is no set of it.
-fn survey(text: &[u8]) -> Result<usize, RangeError>
-    ensures { MatchResult result (λ count. HasRanges text.now count)
-        (λ e. IsNpmRefusal text.now e) }
-{
-    let mut events = Events::new(text, Dialect::Npm);
-    let mut ended = 0usize;
-    let mut fit = true;
-    while let Some(event) = events.next_in(Dialect::Npm) {
-        match event? {
-            Event::Simple(simple) => {
-                fit &= rows::cell_of(&simple, Compat::Npm).is_safe(&simple.partial);
-            }
-            Event::NextRange => ended += 1,
-        }
-    }
-    if !fit {
-        return Err(RangeError::NumberTooLarge);
-    }
-    Ok(ended + 1)
-}
-
-/// The ranges of a text that was surveyed.
-fn build(
-    alloc: Global,
-    text: &[u8],
-    count: usize,
+/// npm's table, with lower bounds as they are asked for.
+#[derive(Clone, Copy)]
+struct Rows {
     lower: LowerBounds,
-) -> Result<Vec<Range>, AllocError>
-    requires { HasRanges text.now count }
-    ensures { IfOk result (λ ranges. (tree : SetTree) → read dialect.Npm text.now ≡ Some tree →
-        map range_of ranges.items ≡ map (range_begun lower) tree) }
-{
-    let mut events = Events::with_lower(text, Dialect::Npm, lower);
-    let mut ranges = Vec::with_capacity(alloc, count)?;
-    for at in 0..count {
-        let comparators = count_ahead(events);
-        ranges.push(build_range(alloc, &mut events, comparators, lower)?)?;
-    }
-    Ok(ranges)
 }
 
-/// The range up to the next one, its comparators in a vector of their number.
-fn build_range(
-    alloc: Global,
-    events: &mut Events<'_>,
-    count: usize,
-    lower: LowerBounds,
-) -> Result<Range, AllocError>
-    requires { (es : List EventTree) × HasLeft dialect.Npm events.old (Some es)
-        × IsTrue (list_all (event_fits is_safe_simple) es) }
-    ensures { IfOk result (λ range. (es : List EventTree)
-        → HasLeft dialect.Npm events.old (Some es)
-        → IsTrue (list_all (event_fits is_safe_simple) es) →
-        (range_of range ≡ range_of_simples (written_for lower Npm) Npm (range_simples es))
-        × HasLeft dialect.Npm events.new (Some (range_others es))) }
-{
-    let mut comparator_set = Vec::with_capacity(alloc, count)?;
-    while let Some(Ok(Event::Simple(simple))) = events.next_in(Dialect::Npm) {
-        rows::push(alloc, &simple, Compat::Npm, lower, &mut comparator_set)?;
-    }
-    Ok(Range {
-        comparator_set,
-        compat: Compat::Npm,
-    })
-}
+impl Table for Rows {
+    ghost DIALECT = { dialect.Npm };
 
-/// How many comparators there are up to the next range.
-fn count_ahead(mut events: Events<'_>) -> usize {
-    let mut count = 0usize;
-    while let Some(Ok(Event::Simple(simple))) = events.next_in(Dialect::Npm) {
-        count = count.saturating_add(rows::cell_of(&simple, Compat::Npm).count());
+    ghost fit = { λ _ s. is_safe_simple s };
+
+    ghost written = { λ rows s. written_for rows.lower Npm s };
+
+    const DIALECT: Dialect = Dialect::Npm;
+
+    #[inline(always)]
+    fn size(&self, simple: &Simple<'_>) -> (bool, usize) {
+        let cell = rows::cell_of(simple, Compat::Npm);
+        (cell.is_safe(&simple.partial), cell.count())
     }
-    count
+
+    #[inline(always)]
+    fn push(
+        &self,
+        alloc: Global,
+        simple: &Simple<'_>,
+        comparators: &mut Vec<Comparator>,
+    ) -> Result<(), AllocError> {
+        rows::push(alloc, simple, Compat::Npm, self.lower, comparators)
+    }
 }

@@ -155,7 +155,7 @@ pub(crate) fn ask(
         (λ e. Refuses terms text.now e) }
 {
     let dialect = terms.dialect();
-    let mut events = Events::with_lower(text, dialect, terms.lower());
+    let mut events = Events::new(text, dialect, terms.lower());
     let mut fit = true;
     let mut tally = Tally::new(counts);
     while let Some(event) = events.next_in(dialect) {

@@ -1,30 +1,54 @@
--- A means of proof, which no public clause cites: what a parse answers, by the reader.
-use Rattle.std.specs.Prelude.{List, ◌≡◌, false, IsTrue, Result, Ok, Err, Some, None}
+-- A means of proof, which no public clause cites: what a text is read to, by the reader.
+use Rattle.std.specs.Prelude.{List, [], ◌≡◌, Bool, false, IsTrue, Result, Ok, Err, Option, Some}
+use Rattle.std.specs.Prelude.{None}
+use Rattle.std.specs.List.{list_all}
 use Rattle.semver_texts.specs.declared.dialect.Dialect.TheVariants.{Crate}
 use Rattle.semver_ranges.specs.declared.range.Compat.{Compat}
 use Rattle.semver_ranges.specs.declared.range_set.RangeSet.{RangeSet}
 use Rattle.semver_ranges.specs.declared.range_set.RangeError.{RangeError}
 use Rattle.semver_ranges.specs.declared.range_set.RangeError.TheVariants.{NotARange, NumberTooLarge}
 use Rattle.semver_ranges.specs.declared.range_set.RangeError.TheVariants.{OutOfMemory}
-use Rattle.semver_ranges.specs.RangeTree.{SetTree}
+use Rattle.semver_ranges.specs.RangeTree.{Simple, SetTree}
 use Rattle.semver_texts.specs.Texts.{Text}
 use Rattle.semver_texts.specs.Versions.{IdentifierValue}
-use Rattle.semver_ranges.specs.RewritingTable.{fits, written_set}
+use Rattle.semver_ranges.specs.RewritingTable.{PlainComparator, PlainSet, fits_by, simple_fits}
+use Rattle.semver_ranges.specs.RewritingTable.{written_set}
+use Rattle.semver_ranges.specs.Steps.BoundsViews.{ranges_by}
+use Rattle.semver_ranges.specs.Steps.RangeEvents.{Event, event_fits}
 use Rattle.semver_ranges.specs.Steps.Reading.{read}
 use Rattle.semver_ranges.specs.RangeViews.{set_of}
 
--- why there is no set of a text: memory may run out for a tree that fits alone
-abbrev pub IsRefusal : Text → Compat → RangeError → Type 0
-IsRefusal t mode NotARange = read Crate t ≡ None
-IsRefusal t mode NumberTooLarge = (tree : SetTree) × (read Crate t ≡ Some tree)
-    × (fits mode tree ≡ false)
-IsRefusal t mode OutOfMemory = (tree : SetTree) × (read Crate t ≡ Some tree)
-    × IsTrue (fits mode tree)
+-- why there is no set of events that are read, if they are: memory may run out where they fit alone
+abbrev pub IsRefusalBy : Option (List Event) → (Simple → Bool) → RangeError → Type 0
+IsRefusalBy o fit NotARange = o ≡ None
+IsRefusalBy o fit NumberTooLarge =
+    (es : List Event) × (o ≡ Some es) × (list_all (event_fits fit) es ≡ false)
+IsRefusalBy o fit OutOfMemory =
+    (es : List Event) × (o ≡ Some es) × IsTrue (list_all (event_fits fit) es)
 
--- a set of a tree that is read and fits, with its raised bounds written so, or why there is none
-abbrev pub IsAnswer : List IdentifierValue → Text → Compat → Result RangeSet RangeError
-    → Type 0
-IsAnswer bound_pre t mode (Ok set) =
-    (tree : SetTree) × (read Crate t ≡ Some tree) × IsTrue (fits mode tree)
-    × (set_of set ≡ written_set bound_pre mode tree)
-IsAnswer bound_pre t mode (Err e) = IsRefusal t mode e
+-- their set by a table, or why there is none
+abbrev pub IsAnswerBy : Option (List Event) → (Simple → Bool) → (Simple → List PlainComparator)
+    → Compat → Result RangeSet RangeError → Type 0
+IsAnswerBy o fit written mode (Ok set) =
+    (es : List Event) × (o ≡ Some es) × IsTrue (list_all (event_fits fit) es)
+    × (set_of set ≡ record { ranges = ranges_by written mode [] es; compat = mode })
+IsAnswerBy o fit written mode (Err e) = IsRefusalBy o fit e
+
+-- the same of a tree
+abbrev pub IsRefusalOf : Option SetTree → (Simple → Bool) → RangeError → Type 0
+IsRefusalOf o fit NotARange = o ≡ None
+IsRefusalOf o fit NumberTooLarge =
+    (tree : SetTree) × (o ≡ Some tree) × (fits_by fit tree ≡ false)
+IsRefusalOf o fit OutOfMemory =
+    (tree : SetTree) × (o ≡ Some tree) × IsTrue (fits_by fit tree)
+
+abbrev pub IsAnswerOf : Option SetTree → (Simple → Bool) → (SetTree → PlainSet)
+    → Result RangeSet RangeError → Type 0
+IsAnswerOf o fit made (Ok set) = (tree : SetTree) × (o ≡ Some tree)
+    × IsTrue (fits_by fit tree) × (set_of set ≡ made tree)
+IsAnswerOf o fit made (Err e) = IsRefusalOf o fit e
+
+-- that of a text of the crate, with its raised bounds written so
+abbrev pub IsAnswer : List IdentifierValue → Text → Compat → Result RangeSet RangeError → Type 0
+IsAnswer bound_pre t mode r =
+    IsAnswerOf (read Crate t) (simple_fits mode) (written_set bound_pre mode) r

@@ -11,15 +11,16 @@ use Rattle.semver_ranges.specs.declared.range.Op.{Op}
 use Rattle.semver_ranges.specs.declared.range.Op.TheVariants.{Lt, Gte}
 use Rattle.semver_ranges.specs.declared.rewriting.Bounds.{Bounds}
 use Rattle.semver_ranges.specs.declared.rewriting.Bounds.TheVariants.{Against, Below, Between}
-use Rattle.semver_ranges.specs.RangeTree.{Simple, RangeTree}
+use Rattle.semver_ranges.specs.RangeTree.{Simple}
 use Rattle.semver_texts.specs.Versions.{PlainVersion}
 use Rattle.semver_ranges.specs.RewritingTable.{PlainComparator, PlainRange, comparator, up_with}
 use Rattle.semver_ranges.specs.RewritingTable.{Cell, from_zero, below_zero, against, below, between}
 use Rattle.semver_ranges.specs.RewritingTable.{cell_raised, bound_fits, written_simple}
-use Rattle.semver_ranges.specs.RewritingTable.{raised_bound, range_by, simple_fits}
+use Rattle.semver_ranges.specs.RewritingTable.{raised_bound, simple_fits}
 use Rattle.semver_ranges.specs.Terms.{of_simple}
 use Rattle.semver_ranges.specs.Steps.PartialViews.{stated_of, version_of, place_number, pre_of}
 use Rattle.semver_ranges.specs.Steps.PartialViews.{PartsPass}
+use Rattle.semver_ranges.specs.Steps.RangeEvents.{Event, one_simple, next_range}
 
 -- the cell of the table
 abbrev pub cell_of : Bounds → Cell
@@ -81,10 +82,15 @@ IsRow mode s p b = IsBuildable b p × (bounds_fit b p ≡ simple_fits mode s)
     → comparators_of raised b p ≡ written_simple (pre_of raised) mode s)
     × (p.fits ≡ true → cell_raised (cell_of b) (stated_of p) ≡ raised_bound mode (of_simple s))
 
--- simples and a range in a mode, as they are rewritten by a table
+-- simples in a mode, as they are rewritten by a table
 abbrev pub range_of_simples : (Simple → List PlainComparator) → Compat → List Simple → PlainRange
 range_of_simples written mode ss =
     record { comparators = flat_map written ss; compat = mode }
 
-abbrev pub range_for : (Simple → List PlainComparator) → Compat → RangeTree → PlainRange
-range_for written mode r = record { comparators = range_by written r; compat = mode }
+-- the ranges of events, of which the first has some comparators already
+abbrev pub ranges_by : (Simple → List PlainComparator) → Compat → List PlainComparator
+    → List Event → List PlainRange
+ranges_by written mode cs [] = record { comparators = cs; compat = mode } ∷ []
+ranges_by written mode cs (one_simple s ∷ es) = ranges_by written mode (cs ++ written s) es
+ranges_by written mode cs (next_range ∷ es) =
+    record { comparators = cs; compat = mode } ∷ ranges_by written mode [] es

@@ -1,7 +1,7 @@
 -- A means of proof, which no public clause cites: the events of a range text, from the left to the
 -- right.
-use Rattle.std.specs.Prelude.{ℕ, ◌+◌, Bool, true, false, if◌then◌else◌, Option, Some, None, List}
-use Rattle.std.specs.Prelude.{[], ◌∷◌, codes}
+use Rattle.std.specs.Prelude.{Bool, true, false, if◌then◌else◌, Option, Some, None, List, []}
+use Rattle.std.specs.Prelude.{◌∷◌, codes}
 use Rattle.semver_texts.specs.declared.dialect.Dialect.{Dialect}
 use Rattle.semver_ranges.specs.declared.partial.LowerBounds.{LowerBounds}
 use Rattle.semver_ranges.specs.RangeTree.{bare, one, Simple, RangeTree, empty, hyphen, simples}
@@ -44,23 +44,6 @@ events_of lower [] = []
 events_of lower (r ∷ []) = in_front (yielded lower r) []
 events_of lower (r ∷ next ∷ others) =
     in_front (yielded lower r) (next_range ∷ events_of lower (next ∷ others))
-
--- the simples of the range that events are in, and the events after the next bars
-abbrev pub range_simples : List Event → List Simple
-range_simples [] = []
-range_simples (one_simple s ∷ es) = s ∷ range_simples es
-range_simples (next_range ∷ es) = []
-
-abbrev pub range_others : List Event → List Event
-range_others [] = []
-range_others (one_simple s ∷ es) = range_others es
-range_others (next_range ∷ es) = es
-
--- how many times two bars are among events
-abbrev pub bars : List Event → ℕ
-bars [] = 0
-bars (one_simple s ∷ es) = bars es
-bars (next_range ∷ es) = bars es + 1
 
 -- whether an event fits, by its simple
 abbrev pub event_fits : (Simple → Bool) → Event → Bool

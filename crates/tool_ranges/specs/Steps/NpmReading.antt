@@ -1,36 +1,14 @@
--- A means of proof, which no public clause cites: what the reader of npm's range texts finds, and
--- which versions its comparators mean.
-use Rattle.std.specs.Prelude.{◌≡◌, ℕ, Bool, true, false, not, ◌&&◌, if◌then◌else◌, Some, None}
-use Rattle.std.specs.Prelude.{IsTrue, length, map}
+-- A means of proof, which no public clause cites: which versions npm's comparators mean.
+use Rattle.std.specs.Prelude.{Bool, true, false, not, ◌&&◌, if◌then◌else◌, map}
 use Rattle.std.specs.List.{filter, list_all, list_any}
-use Rattle.semver_texts.specs.declared.dialect.Dialect.TheVariants.{Npm}
 use Rattle.semver_ranges.specs.declared.range.Op.{Op}
 use Rattle.semver_ranges.specs.declared.range.Op.TheVariants.{Gte}
-use Rattle.semver_ranges.specs.declared.range_set.RangeError.{RangeError}
-use Rattle.semver_ranges.specs.declared.range_set.RangeError.TheVariants.{NotARange, NumberTooLarge}
-use Rattle.semver_ranges.specs.declared.range_set.RangeError.TheVariants.{OutOfMemory}
-use Rattle.semver_texts.specs.Texts.{Text, is_empty}
+use Rattle.semver_texts.specs.Texts.{is_empty}
 use Rattle.semver_texts.specs.Versions.{PlainVersion}
-use Rattle.semver_ranges.specs.RangeTree.{SetTree}
 use Rattle.semver_ranges.specs.RewritingTable.{PlainComparator, PlainRange, PlainSet}
 use Rattle.semver_ranges.specs.Meeting.{meets_set}
 use Rattle.semver_ranges.specs.StatedPreReleases.{meets_set_as_stated}
-use Rattle.semver_ranges.specs.Steps.Reading.{read}
 use Rattle.tool_ranges.specs.NpmMeaning.{is_zero}
-use Rattle.tool_ranges.specs.NpmTable.{npm_fits}
-
--- a text that is read, fits, and has so many ranges
-abbrev pub HasRanges : Text → ℕ → Type 0
-HasRanges t count =
-    (tree : SetTree) × (read Npm t ≡ Some tree) × IsTrue (npm_fits tree) × (count ≡ length tree)
-
--- why there is no set of a text
-abbrev pub IsNpmRefusal : Text → RangeError → Type 0
-IsNpmRefusal t NotARange = read Npm t ≡ None
-IsNpmRefusal t NumberTooLarge =
-    (tree : SetTree) × (read Npm t ≡ Some tree) × (npm_fits tree ≡ false)
-IsNpmRefusal t OutOfMemory =
-    (tree : SetTree) × (read Npm t ≡ Some tree) × IsTrue (npm_fits tree)
 
 -- whether a comparator is `>=0.0.0`, by which npm asks nothing
 abbrev pub is_at_least : Op → Bool

@@ -1,5 +1,13 @@
-use Rattle.std.proofs.Common.{◌∷◌, [], ◌∙◌}
+use Rattle.std.proofs.Common.{◌∷◌, [], ◌∙◌, map, refl, subst}
+use Rattle.semver_texts.specs.declared.dialect.Dialect.TheVariants.{Crate}
+use Rattle.semver_ranges.specs.declared.partial.LowerBounds.TheVariants.{Stated}
 use Rattle.semver_ranges.specs.RangeTree.{simples}
+use Rattle.semver_ranges.specs.RewritingTable.{written_set, written_simple}
+use Rattle.semver_ranges.specs.Steps.Answers.{IsAnswer}
+use Rattle.semver_ranges.specs.Steps.PartialViews.{pre_of}
+use Rattle.semver_ranges.proofs.EventLists.{range_made}
+use Rattle.semver_ranges.proofs.EventSums.{answered_by}
+use Rattle.semver_ranges.proofs.Tables.{port_table}
 use Rattle.semver_ranges.proofs.OnlySimples.{one_fits, one_made}
 use Rattle.semver_ranges.proofs.range_set.parse_with.Goals as goal
 
@@ -18,3 +26,12 @@ pub returns-in-Err : goal.returns-in-Err
 returns-in-Err c =
     let found = c.in-Some.ensures in
     (simples found.0 [] ∷ [], rw (← c.as_bytes-text.ensures.value) found.1, one_fits c.args.compat found.0 found.3)
+
+pub returns-in_default : goal.returns-in_default
+returns-in_default c =
+    let pre = pre_of c.args.raised in
+    let mode = c.args.compat in
+    subst (λ t. IsAnswer pre t mode c.read_by.result) c.as_bytes-text.ensures.value
+    (answered_by (written_simple pre mode) mode Stated (port_table pre mode) (written_set pre mode)
+    (λ tree i. record { ranges = map (λ r. range_made (port_table pre mode) mode r i) tree; compat = mode })
+    Crate c.as_bytes-text.result.now _ c.read_by.result refl c.read_by.ensures)

@@ -1,4 +1,4 @@
-use Rattle.std.proofs.Common.{◌≡◌, true, length, refl, sym, ap, ◌∙◌, if◌then◌else◌}
+use Rattle.std.proofs.Common.{◌≡◌, true, sym, ap, ◌∙◌, if◌then◌else◌}
 use Rattle.std.specs.List.{list_all, list_any}
 use Rattle.std.specs.Str.{chars}
 use Rattle.semver_texts.specs.Texts.{is_empty}
@@ -18,7 +18,7 @@ said : (c : After-says) → Says Npm (asked_of c.args.version.now) c.is_release-
 said c = rw c.as_bytes.ensures.value at c.in-Ok.ensures
 
 pub returns-in-Ok-clause-refusals : goal.returns-in-Ok-clause-refusals
-returns-in-Ok-clause-refusals c = let s = said c in answered c.args.range.now (stand c) _ (length s.0) (s.0, s.1, s.2, refl)
+returns-in-Ok-clause-refusals c = let s = said c in answered c.args.range.now (stand c) _ s.0 s.1 s.2
 
 pub returns-in-Ok-clause-meaning : goal.returns-in-Ok-clause-meaning
 returns-in-Ok-clause-meaning c = λ tree spelled.

@@ -1,4 +1,4 @@
-use Rattle.std.proofs.Common.{◌≡◌, true, length, refl, sym, ap, ◌∙◌}
+use Rattle.std.proofs.Common.{◌≡◌, true, sym, ap, ◌∙◌}
 use Rattle.std.specs.List.{list_all}
 use Rattle.std.specs.Str.{chars}
 use Rattle.tool_ranges.specs.AllPreReleases.{meets_npm_with_all}
@@ -17,7 +17,7 @@ says : (c : In-Ok) → Says NpmAll (asked_of c.args.version.now) true c.args.ran
 says c = rw c.as_bytes.ensures.value at c.in-Ok.ensures
 
 pub returns-in-Ok-clause-refusals : goal.returns-in-Ok-clause-refusals
-returns-in-Ok-clause-refusals c = let s = says c in answered c.args.range.now (stand c) _ (length s.0) (s.0, s.1, s.2, refl)
+returns-in-Ok-clause-refusals c = let s = says c in answered c.args.range.now (stand c) _ s.0 s.1 s.2
 
 pub returns-in-Ok-clause-meaning : goal.returns-in-Ok-clause-meaning
 returns-in-Ok-clause-meaning c = λ tree spelled.

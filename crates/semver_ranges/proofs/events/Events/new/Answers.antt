@@ -1,6 +1,6 @@
 use Rattle.semver_ranges.proofs.ReadingSteps.{back_shorter}
 use Rattle.semver_ranges.proofs.EventSteps.{begin_left}
-use Rattle.semver_ranges.proofs.events.Events.with_lower.Goals as goal
+use Rattle.semver_ranges.proofs.events.Events.new.Goals as goal
 
 pub returns-clause-all : goal.returns-clause-all
 returns-clause-all c = begin_left c.args.dialect c.args.lower c.args.text.now c.behind_blanks.result.now c.behind_blanks.ensures
