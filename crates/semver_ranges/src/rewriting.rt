@@ -139,10 +139,9 @@ impl Bounds {
     }
 }
 
-// Answer: equation.
 /// A vector of one comparator.
 #[inline(always)]
-pub fn singleton(alloc: Global, comparator: Comparator) -> Result<Vec<Comparator>, AllocError>
+fn singleton(alloc: Global, comparator: Comparator) -> Result<Vec<Comparator>, AllocError>
     ensures { IfOk result (λ comparators. comparators.items ≡ comparator ∷ []) }
 {
     let mut comparators = Vec::with_capacity(alloc, 1)?;

@@ -16,10 +16,10 @@ use Rattle.tool_ranges.specs.AllPreReleases.{meets_requirement_with_all}
 use Rattle.tool_ranges.specs.CargoGrammar.{SpellsRequirement}
 use Rattle.tool_ranges.specs.CargoMeaning.{as_read}
 use Rattle.tool_ranges.specs.CargoTexts.{RefusesRequirement}
-use Rattle.tool_ranges.specs.Steps.Asking.{EndsSaying, RefusesRequired, SaysRequired, comparator_met, requirement_met}
-use Rattle.tool_ranges.specs.Steps.CargoReading.{comparator_at}
+use Rattle.tool_ranges.specs.Steps.Asking.{RefusesRequired, SaysRequired, comparator_met, requirement_met}
+use Rattle.tool_ranges.specs.Steps.CargoReading.{comparator_at, EndsAs}
 use Rattle.tool_ranges.proofs.RequirementLaws.{answered, refused, same_comparators}
-use Rattle.tool_ranges.proofs.RequirementSteps.{IsSurveyed, at_last, read_fits, states_number, surveyed_end, surveyed_next, surveyed_start}
+use Rattle.tool_ranges.proofs.RequirementSteps.{IsSurveyed, read_fits, states_number, surveyed_end, surveyed_next, surveyed_start}
 
 module _ (takes_all : Bool) (v : PlainVersion) (counts : Bool) where
   abbrev one_met : Simple → Bool
@@ -72,20 +72,19 @@ module _ (takes_all : Bool) (v : PlainVersion) (counts : Bool) where
 
     module _ (e : comparator_at rest ≡ Some (s, None)) (few : at < 32) where
       pub asked_end : (r : Result Bool RangeError)
-          → EndsSaying ((states_all && n) || (at == 0)) (fit && f) ((met && m) && (stated || p)) r
+          → EndsAs ((states_all && n) || (at == 0)) (fit && f) ((met && m) && (stated || p)) r
           → MatchResult r (λ said. SaysRequired takes_all v counts text said) (λ e'. RefusesRequired text e')
       asked_end (Ok said) h =
-          let found = surveyed_end text done rest at states_all fit n f s is.surveyed e few number fits (Ok 0) (h.0, h.1) in
-          let same : found.0 ≡ done ++ s ∷ [] = (at_last text done rest s is.surveyed.place e).1 found.0 found.1.comparators in (
+          let found = surveyed_end text done rest at states_all fit n f s is.surveyed e few number fits _ (Ok said) h in (
+            done ++ s ∷ [],
             found.0,
             found.1,
-            found.2,
-            h.2 ∙ (λ i. met_all h.1 i && stated_all h.1 i) ∙ ap (requirement_met takes_all v counts) (sym same),
+            found.2 ∙ (λ i. met_all h.1 i && stated_all h.1 i),
           )
       asked_end (Err NotARange) h =
-          surveyed_end text done rest at states_all fit n f s is.surveyed e few number fits (Err NotARange) h
+          surveyed_end text done rest at states_all fit n f s is.surveyed e few number fits ((met && m) && (stated || p)) (Err NotARange) h
       asked_end (Err NumberTooLarge) h =
-          surveyed_end text done rest at states_all fit n f s is.surveyed e few number fits (Err NumberTooLarge) h
+          surveyed_end text done rest at states_all fit n f s is.surveyed e few number fits ((met && m) && (stated || p)) (Err NumberTooLarge) h
       asked_end (Err OutOfMemory) h = absurd h
 
 -- ---- what a requirement says

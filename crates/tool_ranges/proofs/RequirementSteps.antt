@@ -21,7 +21,8 @@ use Rattle.tool_ranges.specs.CargoMeaning.{as_read}
 use Rattle.tool_ranges.specs.CargoTable.{requirement_fits}
 use Rattle.tool_ranges.specs.ToolTable.{fits_in}
 use Rattle.semver_texts.proofs.Lists.{by_test}
-use Rattle.tool_ranges.specs.Steps.CargoReading.{comparator_at, EndsAs, IsRefusal}
+use Rattle.tool_ranges.specs.Steps.CargoReading.{comparator_at, EndsAs, FindsComparator, IsRefusal, IsSurveyedAs}
+use Rattle.tool_ranges.specs.declared.cargo.Surveyed.{Surveyed}
 use Rattle.tool_ranges.proofs.ComparatorReading.{ComparatorAt, Follows, comparator_sound, ended_read, parted_read}
 
 -- where `done` were read, and `rest` is left: whatever is spelled there goes on with them, and nothing else does
@@ -200,27 +201,64 @@ module _ (text : Text) (done : List Simple) (rest : Text) (at : ℕ) (states_all
       many : length (done ++ s ∷ []) ≡ at + 1 → (at == 0) ≡ false → 2 ≤ length (done ++ s ∷ [])
       many count other = grind (arith, nat_tests)
 
-  pub surveyed_end : (r : Result ℕ RangeError) → EndsAs ((states_all && n) || (at == 0)) (fit && f) r
-      → MatchResult r (λ count. (tree : List Simple) × SpellsRequirement tree text × IsTrue (requirement_fits tree)) (λ e. IsRefusal text e)
-  surveyed_end (Ok count) h =
+  pub surveyed_end : {A : Type 0} (x : A) (r : Result A RangeError) → EndsAs ((states_all && n) || (at == 0)) (fit && f) x r
+      → MatchResult r (λ answer. SpellsRequirement (done ++ s ∷ []) text × IsTrue (requirement_fits (done ++ s ∷ [])) × (answer ≡ x))
+      (λ e. IsRefusal text e)
+  surveyed_end x (Ok answer) h = (spelled h.0, sym (more read_fits done s fit f is.fitting fits) ∙ h.1, h.2)
+  surveyed_end x (Err NotARange) h = not_alone h
+  surveyed_end x (Err NumberTooLarge) h =
       (done ++ s ∷ [], spelled h.0, sym (more read_fits done s fit f is.fitting fits) ∙ h.1)
-  surveyed_end (Err NotARange) h = not_alone h
-  surveyed_end (Err NumberTooLarge) h =
-      (done ++ s ∷ [], spelled h.0, sym (more read_fits done s fit f is.fitting fits) ∙ h.1)
-  surveyed_end (Err OutOfMemory) h = absurd h
+  surveyed_end x (Err OutOfMemory) h = absurd h
 
--- ---- building: what is found fits, and its comparators come after those of what was read
+  pub surveyed_as : (x : Surveyed) → FindsComparator (comparator_at text) (Some (x.first, x.behind)) → (r : Result Surveyed RangeError)
+      → EndsAs ((states_all && n) || (at == 0)) (fit && f) x r
+      → MatchResult r (λ surveyed. (tree : List Simple) × IsSurveyedAs text tree surveyed) (λ e. IsRefusal text e)
+  surveyed_as x finds (Ok surveyed) h = let end = surveyed_end x (Ok surveyed) h in (
+    done ++ s ∷ [],
+    (end.0, end.1, subst (λ (y : Surveyed). FindsComparator (comparator_at text) (Some (y.first, y.behind))) (sym end.2) finds),
+  )
+  surveyed_as x finds (Err e) h = surveyed_end x (Err e) h
 
-pub next_fits : (text : Text) (done : List Simple) (rest : Text) (s : Simple) (behind : Option Text) (tree : List Simple)
-    → IsAt text done rest → comparator_at rest ≡ Some (s, behind) → SpellsRequirement tree text → requirement_fits tree ≡ true
-    → read_fits s ≡ true
-next_fits text done rest s behind tree at e h fit =
-    let l = at.whole tree h.comparators in
-    let first = first_left s rest behind l.0 e l.2 in
-    let all : (list_all read_fits done && (read_fits s && list_all read_fits first.0)) ≡ true =
-    sym (list_all-append read_fits done (s ∷ first.0)) ∙ ap (list_all read_fits) (sym (l.1 ∙ ap (λ x. done ++ x) first.1)) ∙ fit in
-    (and_parts (read_fits s) (list_all read_fits first.0) (and_parts (list_all read_fits done)
-    (read_fits s && list_all read_fits first.0) all).1).0
+-- ---- building: a comparator of a tree is at hand, and what follows it is left
+
+pub record IsHeld (tree done : List Simple) (s : Simple) (behind : Option Text) : Type 0 where
+  pub others : List Simple
+  pub whole : tree ≡ done ++ s ∷ others
+  pub left : Left others behind
+
+pub held_first : (t : Text) (tree : List Simple) (s : Simple) (behind : Option Text) → SpellsComparators tree t
+    → comparator_at t ≡ Some (s, behind) → IsHeld tree [] s behind
+held_first t tree s behind h e =
+    let first = first_left s t behind tree e h in record { others = first.0; whole = first.1; left = first.2 }
+
+module _ (tree done : List Simple) (s : Simple) where
+  pub held_next : (u : Text) (next : Simple) (behind : Option Text) → IsHeld tree done s (Some u) → comparator_at u ≡ Some (next, behind)
+      → IsHeld tree (done ++ s ∷ []) next behind
+  held_next u next behind held e =
+      let first = first_left next u behind held.others e held.left in
+      record {
+        others = first.0;
+        whole = held.whole ∙ ap (λ x. done ++ s ∷ x) first.1 ∙ sym (one_more s done (next ∷ first.0));
+        left = first.2;
+      }
+
+  pub held_last : IsHeld tree done s None → tree ≡ done ++ s ∷ []
+  held_last held = held.whole ∙ ap (λ x. done ++ s ∷ x) held.left
+
+  pub held_none : (u : Text) → IsHeld tree done s (Some u) → comparator_at u ≡ None → ⊥
+  held_none u held e = none_left u held.others e held.left
+
+  pub held_few : (behind : Option Text) → IsHeld tree done s behind → length tree ≤ 32 → 32 ≤ length done → ⊥
+  held_few behind held few many =
+      let all : length tree ≡ length done + length (s ∷ held.others) = ap length held.whole ∙ length-append done (s ∷ held.others) in
+      omega (arith, few, many)
+
+  pub held_fits : (behind : Option Text) → IsHeld tree done s behind → requirement_fits tree ≡ true → read_fits s ≡ true
+  held_fits behind held fit =
+      let all : (list_all read_fits done && (read_fits s && list_all read_fits held.others)) ≡ true =
+      sym (list_all-append read_fits done (s ∷ held.others)) ∙ ap (list_all read_fits) (sym held.whole) ∙ fit in
+      (and_parts (read_fits s) (list_all read_fits held.others) (and_parts (list_all read_fits done)
+      (read_fits s && list_all read_fits held.others) all).1).0
 
 pub written_more : {B : Type 0} (f : Simple → List B) (done : List Simple) (s : Simple)
     → flat_map f (done ++ s ∷ []) ≡ flat_map f done ++ f s

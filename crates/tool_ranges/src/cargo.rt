@@ -1,25 +1,21 @@
 //! Requirements as Cargo reads them: `1.2` is `>=1.2.0 <2.0.0`, and commas separate comparators.
 
-ghost use Rattle.std.specs.Prelude.{◌≡◌, [], ◌∷◌, List, length, map, true, false, IsTrue};
+ghost use Rattle.std.specs.Prelude.{◌≡◌, [], List, map, true, IsTrue};
 ghost use Rattle.std.specs.Prelude.{IfOk, MatchResult};
 ghost use Rattle.std.specs.List.{flat_map};
 ghost use Rattle.semver_ranges.specs.RangeTree.{Simple as SimpleTree, SetTree, Spells};
+ghost use Rattle.semver_texts.specs.Texts.{Text};
 ghost use Rattle.semver_texts.specs.Versions.{PlainVersion};
 ghost use Rattle.semver_ranges.specs.RangeViews.{comparator_of, range_of, set_of};
 ghost use Rattle.semver_ranges.specs.declared.range.Compat.TheVariants.{Cargo};
 ghost use Rattle.semver_ranges.specs.Meeting.{meets_set};
-ghost use Rattle.semver_ranges.specs.Steps.CursorViews.{IsSimpleOf};
 ghost use Rattle.semver_ranges.specs.PrintedRanges.{IsPrintableSet, set_text};
 ghost use Rattle.semver_ranges.specs.RewritingTable.{fits, rewritten};
 ghost use Rattle.tool_ranges.specs.CargoGrammar.{SpellsRequirement};
 ghost use Rattle.tool_ranges.specs.CargoMeaning.{meets_requirement};
-ghost use Rattle.tool_ranges.specs.CargoTable.{requirement_fits, rewritten_requirement};
+ghost use Rattle.tool_ranges.specs.CargoTable.{rewritten_requirement};
 ghost use Rattle.tool_ranges.specs.CargoTexts.{RefusesRequirement};
-ghost use Rattle.tool_ranges.specs.Steps.Cells.{cell_fits, cell_written, IsBuildableAt};
-ghost use Rattle.tool_ranges.specs.Steps.CargoReading.{EndsAs, IsRefusal};
-ghost use Rattle.tool_ranges.specs.Steps.CargoReading.{in_one_range, set_with, IsRewritten};
-ghost use Rattle.tool_ranges.specs.Steps.CargoReading.{IsSetOf};
-ghost use Rattle.tool_ranges.specs.Steps.CargoReading.{IsRewrittenOne};
+ghost use Rattle.tool_ranges.specs.Steps.CargoReading.{EndsAs, IsRefusal, IsRewritten, IsSurveyedAs};
 ghost use Rattle.tool_ranges.specs.Steps.CargoPreReleases.{counting_one, judging, judging_one};
 
 mod asking;
@@ -28,14 +24,13 @@ mod judging;
 mod pre_releases;
 mod reading;
 
-use crate::rows::{self, Cell};
+use crate::rows;
 pub(crate) use asking::{ask, ask_with_all};
 use grammar::read_comparator;
 use judging::{JudgedVersions, push_judging};
 pub use reading::read;
 pub(crate) use reading::read_with_all;
 use semver_ranges::grammar::Simple;
-use semver_ranges::partial::Partial;
 use semver_ranges::{Comparator, Compat, Range, RangeError, RangeSet};
 use std::alloc::{AllocError, Global};
 
@@ -81,113 +76,66 @@ pub fn rewrite(alloc: Global, requirement: &str) -> Result<RangeSet, RangeError>
     rewritten(alloc, requirement.as_bytes())
 }
 
-/// The set of a requirement. For speed, one comparator is read once, and what two runs answer is
-/// ranges alone: so the set of one isn't copied from where theirs might be.
+/// The set of a requirement.
 fn rewritten(alloc: Global, text: &[u8]) -> Result<RangeSet, RangeError>
     ensures { IsRewritten text.now result }
 {
-    let Some((simple, None)) = read_comparator(text) else {
-        return match rewritten_all(alloc, text) {
-            Ok(ranges) => Ok(RangeSet {
-                ranges,
-                compat: Compat::Cargo,
-            }),
-            Err(refusal) => Err(refusal),
-        };
-    };
-    rewritten_one(alloc, &simple)
-}
-
-/// The range of a requirement in two runs: the first surveys all of it, and the second builds. For
-/// speed it is a function of its own: that of one comparator stays small.
-#[inline(never)]
-fn rewritten_all(alloc: Global, text: &[u8]) -> Result<Vec<Range>, RangeError>
-    ensures { MatchResult result (λ ranges. IsSetOf text.now (set_with ranges.items))
-        (λ e. IsRefusal text.now e) }
-{
-    let count = match survey(text) {
-        Ok(count) => count,
-        Err(refusal) => return Err(refusal),
-    };
-    match build(alloc, text, count, JudgedVersions::Releases) {
-        Ok(ranges) => Ok(ranges),
+    let surveyed = survey(text)?;
+    match build(alloc, &surveyed, JudgedVersions::Releases, false) {
+        Ok((set, _)) => Ok(set),
         Err(_) => Err(RangeError::OutOfMemory),
     }
 }
 
-/// The set of one comparator, as it is read.
-fn rewritten_one(alloc: Global, simple: &Simple<'_>) -> Result<RangeSet, RangeError>
-    requires { (s : SimpleTree) × IsSimpleOf s simple.now }
-    ensures { (s : SimpleTree) → IsSimpleOf s simple.now → IsRewrittenOne s result }
-{
-    let cell = rows::cell_of(simple, Compat::Cargo);
-    if !cell.fits(&simple.partial) {
-        return Err(RangeError::NumberTooLarge);
-    }
-    match build_one(alloc, &simple.partial, cell) {
-        Ok(ranges) => Ok(RangeSet {
-            ranges,
-            compat: Compat::Cargo,
-        }),
-        Err(_) => Err(RangeError::OutOfMemory),
-    }
+/// A requirement that was surveyed: its first comparator, what follows the comma after it, and how
+/// many comparators stand for all. For speed the first is kept: so one alone is read once.
+#[derive(Clone, Copy)]
+struct Surveyed<'t> {
+    first: Simple<'t>,
+    behind: Option<&'t [u8]>,
+    count: usize,
 }
 
-/// The range of one cell that fits.
-fn build_one(alloc: Global, partial: &Partial<'_>, cell: Cell) -> Result<Vec<Range>, AllocError>
-    requires buildable { IsBuildableAt cell partial.now }
-    requires fits { cell_fits cell partial.now ≡ true }
-    ensures { IfOk result (λ ranges. set_with ranges.items
-        ≡ in_one_range (cell_written cell partial.now)) }
-{
-    in_one_range(alloc, cell.to_vec(alloc, partial)?)
-}
-
-/// The one range that has the comparators.
-#[inline(always)]
-fn in_one_range(alloc: Global, comparator_set: Vec<Comparator>) -> Result<Vec<Range>, AllocError>
-    ensures { IfOk result (λ ranges. set_with ranges.items
-        ≡ in_one_range (map comparator_of comparator_set.items)) }
-{
-    let mut ranges = Vec::with_capacity(alloc, 1)?;
-    ranges.push_reserved(Range {
-        comparator_set,
-        compat: Compat::Cargo,
-    });
-    Ok(ranges)
-}
-
-/// How many comparators stand for a requirement, or why there is no set of it.
-fn survey(text: &[u8]) -> Result<usize, RangeError>
+/// Surveys a requirement, or says why there is no set of it.
+fn survey(text: &[u8]) -> Result<Surveyed<'_>, RangeError>
     ensures { MatchResult result
-        (λ count. (tree : List SimpleTree) × SpellsRequirement tree text.now
-        × IsTrue (requirement_fits tree))
+        (λ surveyed. (tree : List SimpleTree) × IsSurveyedAs text.now tree surveyed)
         (λ e. IsRefusal text.now e) }
 {
-    let mut rest = text;
+    let Some((first, after_first)) = read_comparator(text) else {
+        return Err(RangeError::NotARange);
+    };
+    let mut simple = first;
+    let mut behind = after_first;
     let mut count = 0usize;
     let mut states_all = true;
     let mut fit = true;
     for at in 0..MOST_COMPARATORS {
-        let Some((simple, behind)) = read_comparator(rest) else {
-            return Err(RangeError::NotARange);
-        };
         states_all &= !simple.partial.states_nothing();
         let cell = rows::cell_of(&simple, Compat::Cargo);
         fit &= cell.fits(&simple.partial);
         count = count.saturating_add(cell.count());
-        if let Some(behind) = behind {
-            rest = behind;
-            continue;
-        }
-        return ended(states_all | (at == 0), fit, count);
+        let Some(rest) = behind else {
+            let surveyed = Surveyed {
+                first,
+                behind: after_first,
+                count,
+            };
+            return ended(states_all | (at == 0), fit, surveyed);
+        };
+        let Some(next) = read_comparator(rest) else {
+            return Err(RangeError::NotARange);
+        };
+        simple = next.0;
+        behind = next.1;
     }
     Err(RangeError::NotARange)
 }
 
-/// What a survey answers at the end of the text.
-fn ended(stands_alone: bool, fit: bool, count: usize) -> Result<usize, RangeError>
-    ensures { EndsAs stands_alone fit result }
+/// What is answered at the end of the text.
+#[inline(always)]
+fn ended<T: Copy>(stands_alone: bool, fit: bool, answer: T) -> Result<T, RangeError>
+    ensures { EndsAs stands_alone fit answer result }
 {
     if !stands_alone {
         return Err(RangeError::NotARange);
@@ -195,71 +143,63 @@ fn ended(stands_alone: bool, fit: bool, count: usize) -> Result<usize, RangeErro
     if !fit {
         return Err(RangeError::NumberTooLarge);
     }
-    Ok(count)
+    Ok(answer)
 }
 
-/// The range of a requirement that was surveyed, by which some versions are judged.
+/// The set of a requirement, by which some versions are judged, and the ranges of the pre-releases
+/// that count, if these are asked for.
 fn build(
     alloc: Global,
-    text: &[u8],
-    count: usize,
+    surveyed: &Surveyed<'_>,
     judged: JudgedVersions,
-) -> Result<Vec<Range>, AllocError>
-    requires { (tree : List SimpleTree) × SpellsRequirement tree text.now
-        × IsTrue (requirement_fits tree) }
-    ensures { IfOk result (λ ranges. (tree : List SimpleTree) → SpellsRequirement tree text.now
-        → set_with ranges.items ≡ judging judged tree) }
+    counts: bool,
+) -> Result<(RangeSet, Vec<Range>), AllocError>
+    requires { (t : Text) × (tree : List SimpleTree) × IsSurveyedAs t tree surveyed.now }
+    ensures { IfOk result (λ built. (t : Text) (tree : List SimpleTree)
+        → IsSurveyedAs t tree surveyed.now → (set_of built.0 ≡ judging judged tree)
+        × (counts ≡ true → map range_of built.1.items ≡ flat_map counting_one tree)) }
 {
-    in_one_range(alloc, build_comparators(alloc, text, count, judged)?)
+    let (comparator_set, counting) = build_comparators(alloc, surveyed, judged, counts)?;
+    let mut ranges = Vec::with_capacity(alloc, 1)?;
+    ranges.push_reserved(Range {
+        comparator_set,
+        compat: Compat::Cargo,
+    });
+    let set = RangeSet {
+        ranges,
+        compat: Compat::Cargo,
+    };
+    Ok((set, counting))
 }
 
-/// The comparators of a requirement that was surveyed, in a vector that has room for so many.
+/// The comparators of that set, and those ranges.
 fn build_comparators(
     alloc: Global,
-    text: &[u8],
-    count: usize,
+    surveyed: &Surveyed<'_>,
     judged: JudgedVersions,
-) -> Result<Vec<Comparator>, AllocError>
-    requires { (tree : List SimpleTree) × SpellsRequirement tree text.now
-        × IsTrue (requirement_fits tree) }
-    ensures { IfOk result (λ comparators. (tree : List SimpleTree)
-        → SpellsRequirement tree text.now
-        → map comparator_of comparators.items ≡ flat_map (judging_one judged) tree) }
+    counts: bool,
+) -> Result<(Vec<Comparator>, Vec<Range>), AllocError>
+    requires { (t : Text) × (tree : List SimpleTree) × IsSurveyedAs t tree surveyed.now }
+    ensures { IfOk result (λ built. (t : Text) (tree : List SimpleTree)
+        → IsSurveyedAs t tree surveyed.now
+        → (map comparator_of built.0.items ≡ flat_map (judging_one judged) tree)
+        × (counts ≡ true → map range_of built.1.items ≡ flat_map counting_one tree)) }
 {
-    let mut comparators = Vec::with_capacity(alloc, count)?;
-    let mut rest = text;
+    let mut comparators = Vec::with_capacity(alloc, surveyed.count)?;
+    let mut counting = Vec::new(alloc);
+    let mut simple = surveyed.first;
+    let mut behind = surveyed.behind;
     for _ in 0..MOST_COMPARATORS {
-        let Some((simple, behind)) = read_comparator(rest) else {
-            return Ok(comparators);
-        };
         push_judging(alloc, judged, &simple, &mut comparators)?;
-        let Some(behind) = behind else {
-            return Ok(comparators);
+        pre_releases::push_counting(alloc, counts, &simple.partial, &mut counting)?;
+        let Some(rest) = behind else {
+            return Ok((comparators, counting));
         };
-        rest = behind;
+        let Some(next) = read_comparator(rest) else {
+            return Ok((comparators, counting));
+        };
+        simple = next.0;
+        behind = next.1;
     }
-    Ok(comparators)
-}
-
-/// The ranges of the pre-releases that count: one for each comparator that states a pre-release.
-fn build_counting(alloc: Global, text: &[u8]) -> Result<Vec<Range>, AllocError>
-    requires { (tree : List SimpleTree) × SpellsRequirement tree text.now
-        × IsTrue (requirement_fits tree) }
-    ensures { IfOk result (λ ranges. (tree : List SimpleTree)
-        → SpellsRequirement tree text.now
-        → map range_of ranges.items ≡ flat_map counting_one tree) }
-{
-    let mut ranges = Vec::new(alloc);
-    let mut rest = text;
-    for _ in 0..MOST_COMPARATORS {
-        let Some((simple, behind)) = read_comparator(rest) else {
-            return Ok(ranges);
-        };
-        pre_releases::push_counting(alloc, &simple.partial, &mut ranges)?;
-        let Some(behind) = behind else {
-            return Ok(ranges);
-        };
-        rest = behind;
-    }
-    Ok(ranges)
+    Ok((comparators, counting))
 }

@@ -1,5 +1,5 @@
 //! The cells of the tables of Cargo and npm that have the comparators of a simple. Nothing here
-//! takes memory but `made` and `push`, which come once all is known to fit.
+//! takes memory but `push`, which come once all is known to fit.
 
 ghost use Rattle.std.specs.Prelude.{◌≡◌, ◌≤◌, ◌++◌, ◌&&◌, ◌∷◌, true, false, [], Some, length, map};
 ghost use Rattle.std.specs.Prelude.{IfOk, MatchOption};
@@ -21,7 +21,7 @@ ghost use Rattle.semver_ranges.specs.Steps.BoundsViews.{comparators_of};
 
 use semver_ranges::grammar::{Form, Simple};
 use semver_ranges::partial::{LowerBounds, Partial, PartialKind, Place, RaisedBounds};
-use semver_ranges::rewriting::{Bounds, rewritten, singleton};
+use semver_ranges::rewriting::{Bounds, rewritten};
 use semver_ranges::{Comparator, Compat, Identifier, Op};
 use std::alloc::{AllocError, Global};
 
@@ -84,30 +84,6 @@ impl Cell {
         match self {
             Cell::Above(_) | Cell::BelowAll => 1,
             Cell::Shared(bounds) => bounds.count(),
-        }
-    }
-
-    /// The comparators by themselves. For speed none is pushed where there might be no room.
-    #[inline(always)]
-    pub(crate) fn to_vec(
-        self,
-        alloc: Global,
-        partial: &Partial<'_>,
-    ) -> Result<Vec<Comparator>, AllocError>
-        requires buildable { IsBuildableAt self partial.now }
-        requires fits { cell_fits self partial.now ≡ true }
-        ensures { IfOk result (λ comparators. map comparator_of comparators.items
-            ≡ cell_written self partial.now) }
-    {
-        match self {
-            Cell::Above(place) => {
-                singleton(
-                    alloc,
-                    from_raised(alloc, partial, place, LowerBounds::Stated)?,
-                )
-            }
-            Cell::BelowAll => singleton(alloc, lowest_below(alloc, partial)?),
-            Cell::Shared(bounds) => bounds.to_vec(alloc, partial, RaisedBounds::Exact),
         }
     }
 

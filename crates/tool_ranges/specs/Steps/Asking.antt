@@ -152,13 +152,6 @@ RefusesRequired t NumberTooLarge =
     (tree : List Simple) × SpellsRequirement tree t × (requirement_fits tree ≡ false)
 RefusesRequired t OutOfMemory = ⊥
 
--- what is said at the end of a requirement
-abbrev pub EndsSaying : Bool → Bool → Bool → Result Bool RangeError → Type 0
-EndsSaying alone fit met (Ok said) = (alone ≡ true) × (fit ≡ true) × (said ≡ met)
-EndsSaying alone fit met (Err NotARange) = alone ≡ false
-EndsSaying alone fit met (Err NumberTooLarge) = (alone ≡ true) × (fit ≡ false)
-EndsSaying alone fit met (Err OutOfMemory) = ⊥
-
 -- what was answered, of a release
 abbrev pub of_releases : PlainVersion → Result Bool RangeError → Result Bool RangeError
 of_releases v (Ok met) = Ok (is_empty v.pre && met)

@@ -8,12 +8,12 @@ ghost use Rattle.tool_ranges.specs.AllPreReleases.{meets_requirement_with_all};
 ghost use Rattle.tool_ranges.specs.CargoGrammar.{SpellsRequirement};
 ghost use Rattle.tool_ranges.specs.CargoMeaning.{meets_requirement};
 ghost use Rattle.tool_ranges.specs.CargoTexts.{RefusesRequirement};
-ghost use Rattle.tool_ranges.specs.Steps.Asking.{EndsSaying, RefusesRequired, SaysRequired};
+ghost use Rattle.tool_ranges.specs.Steps.Asking.{RefusesRequired, SaysRequired};
 ghost use Rattle.tool_ranges.specs.Steps.Asking.{asked_of, comparator_met};
 ghost use Rattle.tool_ranges.specs.ToolTable.{fits_in};
 
-use super::MOST_COMPARATORS;
 use super::grammar::read_comparator;
+use super::{MOST_COMPARATORS, ended};
 use crate::asked::Asked;
 use crate::asking::{meets_all, meets_cargo};
 use crate::rows;
@@ -74,7 +74,7 @@ fn ask_comparators(
             rest = behind;
             continue;
         }
-        return said(states_all | (at == 0), fit, met & stated);
+        return ended(states_all | (at == 0), fit, met & stated);
     }
     Err(RangeError::NotARange)
 }
@@ -90,18 +90,4 @@ fn meets(simple: &Simple<'_>, version: &Asked<'_>, takes_all: bool) -> bool
     } else {
         meets_cargo(simple, version)
     }
-}
-
-/// What is said at the end of the text.
-#[inline(always)]
-fn said(stands_alone: bool, fit: bool, met: bool) -> Result<bool, RangeError>
-    ensures { EndsSaying stands_alone fit met result }
-{
-    if !stands_alone {
-        return Err(RangeError::NotARange);
-    }
-    if !fit {
-        return Err(RangeError::NumberTooLarge);
-    }
-    Ok(met)
 }

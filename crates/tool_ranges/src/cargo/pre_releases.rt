@@ -146,21 +146,24 @@ fn lowest_identifiers(alloc: Global) -> Result<Vec<Identifier>, AllocError>
     Ok(pre)
 }
 
-/// Adds the range of the pre-releases that count beside a partial, if it has a pre-release.
+/// Adds the range of the pre-releases that count beside a partial, if it has a pre-release, and if
+/// such ranges are asked for.
+#[inline(always)]
 pub(crate) fn push_counting(
     alloc: Global,
+    counts: bool,
     partial: &Partial<'_>,
     ranges: &mut Vec<Range>,
 ) -> Result<(), AllocError>
     requires { PartsPass partial.now }
     ensures { IfOk result (λ _. (p : PartialTree) → IsPartialOf p partial.now
-        → partial.now.fits ≡ true → map range_of ranges.new.items
+        → partial.now.fits ≡ true → counts ≡ true → map range_of ranges.new.items
         ≡ map range_of ranges.old.items ++ counting_beside p) }
 {
-    let of = partial.as_comparator(alloc, Op::Lt)?;
-    if of.pre.is_empty() {
+    if !counts || !partial.has_pre_release() {
         return Ok(());
     }
+    let of = partial.as_comparator(alloc, Op::Lt)?;
     ranges.push(pre_releases_of(alloc, of)?)?;
     Ok(())
 }

@@ -1,22 +1,23 @@
 //! Requirements as sets of versions: what Cargo takes, with its pre-releases.
 
-ghost use Rattle.std.specs.Prelude.{◌≡◌, ◌&&◌, false, List, map, IsTrue, IfOk};
+ghost use Rattle.std.specs.Prelude.{◌≡◌, ◌&&◌, List, map, IfOk};
 ghost use Rattle.std.specs.List.{flat_map};
 ghost use Rattle.semver_ranges.specs.RangeTree.{Simple as SimpleTree};
+ghost use Rattle.semver_texts.specs.Texts.{Text};
 ghost use Rattle.semver_texts.specs.Versions.{PlainVersion};
 ghost use Rattle.semver_ranges.specs.Meeting.{meets_set};
-ghost use Rattle.semver_ranges.specs.RangeViews.{range_of, set_of};
+ghost use Rattle.semver_ranges.specs.RangeViews.{range_of};
 ghost use Rattle.version_sets.specs.VersionSets.{has, Fits};
 ghost use Rattle.tool_ranges.specs.CargoGrammar.{SpellsRequirement};
 ghost use Rattle.tool_ranges.specs.AllPreReleases.{meets_requirement_with_all};
 ghost use Rattle.tool_ranges.specs.CargoMeaning.{meets_requirement};
-ghost use Rattle.tool_ranges.specs.CargoTable.{requirement_fits, rewritten_requirement};
 ghost use Rattle.tool_ranges.specs.CargoTexts.{RefusesRequirement};
 ghost use Rattle.tool_ranges.specs.declared.cargo.judging.JudgedVersions.TheVariants as judged;
 ghost use Rattle.tool_ranges.specs.Steps.CargoPreReleases.{counting, counting_one, judging};
+ghost use Rattle.tool_ranges.specs.Steps.CargoReading.{IsSurveyedAs};
 
 use crate::cargo::judging::JudgedVersions;
-use crate::cargo::{build, build_counting, rewrite, survey};
+use crate::cargo::{Surveyed, build, survey};
 use semver_ranges::{Compat, Range, RangeError, RangeSet};
 use std::alloc::{AllocError, Global};
 use version_sets::{PreReleases, VersionSet};
@@ -43,11 +44,11 @@ pub fn read(alloc: Global, requirement: &str) -> Result<VersionSet, RangeError>
         → SpellsRequirement tree requirement.now → Fits v
         → has set v ≡ meets_requirement tree v) }
 {
-    let rewritten = match rewrite(alloc, requirement) {
-        Ok(rewritten) => rewritten,
+    let surveyed = match survey(requirement.as_bytes()) {
+        Ok(surveyed) => surveyed,
         Err(refusal) => return Err(refusal),
     };
-    match meant(alloc, requirement.as_bytes(), &rewritten) {
+    match meant(alloc, &surveyed) {
         Ok(set) => Ok(set),
         Err(_) => Err(RangeError::OutOfMemory),
     }
@@ -60,76 +61,56 @@ pub(crate) fn read_with_all(alloc: Global, requirement: &str) -> Result<VersionS
         → SpellsRequirement tree requirement.now → Fits v
         → has set v ≡ meets_requirement_with_all tree v) }
 {
-    let text = requirement.as_bytes();
-    let count = match survey(text) {
-        Ok(count) => count,
+    let surveyed = match survey(requirement.as_bytes()) {
+        Ok(surveyed) => surveyed,
         Err(refusal) => return Err(refusal),
     };
-    match judged(alloc, text, count, JudgedVersions::All) {
+    match judged(alloc, &surveyed, JudgedVersions::All) {
         Ok(set) => Ok(set),
         Err(_) => Err(RangeError::OutOfMemory),
     }
 }
 
-/// The versions that meet the comparators by which some are judged: there is room for so many.
+/// The versions that meet the comparators by which some are judged.
 fn judged(
     alloc: Global,
-    text: &[u8],
-    count: usize,
+    surveyed: &Surveyed<'_>,
     judged: JudgedVersions,
 ) -> Result<VersionSet, AllocError>
-    requires { (tree : List SimpleTree) × SpellsRequirement tree text.now
-        × IsTrue (requirement_fits tree) }
-    ensures { IfOk result (λ set. (tree : List SimpleTree) (v : PlainVersion)
-        → SpellsRequirement tree text.now → Fits v
+    requires { (t : Text) × (tree : List SimpleTree) × IsSurveyedAs t tree surveyed.now }
+    ensures { IfOk result (λ set. (t : Text) (tree : List SimpleTree) (v : PlainVersion)
+        → IsSurveyedAs t tree surveyed.now → Fits v
         → has set v ≡ meets_set v (judging judged tree)) }
 {
-    let judging = RangeSet {
-        ranges: build(alloc, text, count, judged)?,
-        compat: Compat::Cargo,
-    };
+    let (judging, _) = build(alloc, surveyed, judged, false)?;
     VersionSet::of_set(alloc, &judging, PreReleases::Included)
 }
 
-/// What a requirement means, of which the set that it is rewritten to tells the releases.
-fn meant(alloc: Global, text: &[u8], rewritten: &RangeSet) -> Result<VersionSet, AllocError>
-    requires fits { (tree : List SimpleTree) × SpellsRequirement tree text.now
-        × IsTrue (requirement_fits tree) }
-    requires rewritten { (tree : List SimpleTree) → SpellsRequirement tree text.now
-        → set_of rewritten.now ≡ rewritten_requirement tree }
-    ensures { IfOk result (λ set. (tree : List SimpleTree) (v : PlainVersion)
-        → SpellsRequirement tree text.now → Fits v → has set v ≡ meets_requirement tree v) }
+/// What a requirement means.
+fn meant(alloc: Global, surveyed: &Surveyed<'_>) -> Result<VersionSet, AllocError>
+    requires { (t : Text) × (tree : List SimpleTree) × IsSurveyedAs t tree surveyed.now }
+    ensures { IfOk result (λ set. (t : Text) (tree : List SimpleTree) (v : PlainVersion)
+        → IsSurveyedAs t tree surveyed.now → Fits v → has set v ≡ meets_requirement tree v) }
 {
-    let releases = VersionSet::of_set(alloc, rewritten, PreReleases::Excluded)?;
-    let ranges = build_counting(alloc, text)?;
-    if ranges.is_empty() {
+    let (rewritten, counting) = build(alloc, surveyed, JudgedVersions::Releases, true)?;
+    let releases = VersionSet::of_set(alloc, &rewritten, PreReleases::Excluded)?;
+    if counting.is_empty() {
         return Ok(releases);
     }
-    let count = comparators_of(rewritten);
-    releases.union(alloc, &counted(alloc, text, count, ranges)?)
+    releases.union(alloc, &counted(alloc, surveyed, counting)?)
 }
 
-/// How many comparators a requirement is rewritten to. Those that judge pre-releases are no more.
-fn comparators_of(rewritten: &RangeSet) -> usize {
-    match rewritten.ranges.first() {
-        Some(range) => range.comparator_set.len(),
-        None => 0,
-    }
-}
-
-/// The pre-releases that count, and meet each comparator: there is room for so many.
+/// The pre-releases that count, and meet each comparator.
 fn counted(
     alloc: Global,
-    text: &[u8],
-    count: usize,
+    surveyed: &Surveyed<'_>,
     ranges: Vec<Range>,
 ) -> Result<VersionSet, AllocError>
-    requires fits { (tree : List SimpleTree) × SpellsRequirement tree text.now
-        × IsTrue (requirement_fits tree) }
-    requires ranges { (tree : List SimpleTree) → SpellsRequirement tree text.now
+    requires surveyed { (t : Text) × (tree : List SimpleTree) × IsSurveyedAs t tree surveyed.now }
+    requires ranges { (t : Text) (tree : List SimpleTree) → IsSurveyedAs t tree surveyed.now
         → map range_of ranges.items ≡ flat_map counting_one tree }
-    ensures { IfOk result (λ set. (tree : List SimpleTree) (v : PlainVersion)
-        → SpellsRequirement tree text.now → Fits v
+    ensures { IfOk result (λ set. (t : Text) (tree : List SimpleTree) (v : PlainVersion)
+        → IsSurveyedAs t tree surveyed.now → Fits v
         → has set v ≡ (meets_set v (judging judged.PreReleases tree)
         && meets_set v (counting tree))) }
 {
@@ -137,7 +118,7 @@ fn counted(
         ranges,
         compat: Compat::Cargo,
     };
-    let judged = judged(alloc, text, count, JudgedVersions::PreReleases)?;
+    let judged = judged(alloc, surveyed, JudgedVersions::PreReleases)?;
     judged.intersection(
         alloc,
         &VersionSet::of_set(alloc, &counting, PreReleases::Included)?,

@@ -1,34 +1,50 @@
-use Rattle.std.proofs.Common.{Some, ap, sym, ◌∙◌, not, ◌∷◌, ◌++◌, []}
+use Rattle.std.proofs.Common.{ap, sym, ◌∙◌, not, ◌∷◌, ◌++◌, [], Some}
 use Rattle.semver_ranges.proofs.StatedNumbers.{states_kind}
 use Rattle.tool_ranges.specs.CargoMeaning.{as_read}
 use Rattle.tool_ranges.specs.Steps.CargoReading.{behind_comma}
-use Rattle.tool_ranges.proofs.RequirementSteps.{at_none, surveyed_next, surveyed_end}
+use Rattle.tool_ranges.proofs.RequirementSteps.{at_next, at_none, at_start, surveyed_as, surveyed_next, surveyed_start}
 use Rattle.tool_ranges.proofs.cargo.survey.Goals as goal
 
 pub returns-in_default : goal.returns-in_default
-returns-in_default c = let seen = c.loop-at.invariant in at_none c.args.text.now seen.0 c.loop-at.rest.now seen.1.place c.in_default.ensures
+returns-in_default c = at_none c.args.text.now [] c.args.text.now (at_start c.args.text.now) c.in_default.ensures
+
+pub loop-at-init : goal.loop-at-init
+loop-at-init c =
+    let found = c.in-Some.ensures in
+    ([], c.args.text.now, found.0, surveyed_start c.args.text.now, found.1, found.2)
+
+pub fits-fit-requires : goal.fits-fit-requires
+fits-fit-requires c = let seen = c.loop-at.invariant in (c.cell_of-cell.ensures (as_read seen.2) seen.5).0
+
+pub returns-in_default-behind : goal.returns-in_default-behind
+returns-in_default-behind c =
+    let seen = c.loop-at.invariant in
+    let s = seen.2 in
+    surveyed_as c.args.text.now seen.0 seen.1 c.loop-at.at c.loop-at.states_all c.loop-at.fit (not c.states_nothing.result)
+    c.fits-fit.result s seen.3 (seen.4 ∙ ap (λ b. Some (s, behind_comma b)) c.in_default-behind.is) c.loop-at-test.true
+    (ap not (c.states_nothing.ensures ∙ sym (states_kind s.partial c.loop-at.simple.partial seen.5.1)))
+    (c.fits-fit.ensures ∙ (c.cell_of-cell.ensures (as_read s) seen.5).1) _ c.in-Some.ensures c.ended.result c.ended.ensures
+
+pub returns-in_default-read_comparator : goal.returns-in_default-read_comparator
+returns-in_default-read_comparator c =
+    let seen = c.loop-at.invariant in
+    at_none c.args.text.now (seen.0 ++ seen.2 ∷ []) c.in-Some-behind.rest.now
+    (at_next c.args.text.now seen.0 seen.1 seen.2 c.in-Some-behind.rest.now seen.3.place
+    (seen.4 ∙ ap (λ b. Some (seen.2, behind_comma b)) c.in-Some-behind.is))
+    c.in_default-read_comparator.ensures
 
 pub loop-at-preserved : goal.loop-at-preserved
 loop-at-preserved c =
     let seen = c.loop-at.invariant in
-    let found = c.in-Some.ensures in
-    let s = found.0 in (
+    let s = seen.2 in
+    let found = c.in-Some-read_comparator.ensures in (
       seen.0 ++ s ∷ [],
-      surveyed_next c.args.text.now seen.0 c.loop-at.rest.now c.loop-at.at c.loop-at.states_all c.loop-at.fit (not c.states_nothing.result)
-          c.fits-fit.result s c.in-Some-behind.behind.now seen.1 (found.1 ∙ ap (λ b. Some (s, behind_comma b)) c.in-Some-behind.is)
-          (ap not (c.states_nothing.ensures ∙ sym (states_kind s.partial c.in-Some.simple.partial found.2.1)))
-          (c.fits-fit.ensures ∙ (c.cell_of-cell.ensures (as_read s) found.2).1),
+      c.in-Some-behind.rest.now,
+      found.0,
+      surveyed_next c.args.text.now seen.0 seen.1 c.loop-at.at c.loop-at.states_all c.loop-at.fit (not c.states_nothing.result)
+          c.fits-fit.result s c.in-Some-behind.rest.now seen.3 (seen.4 ∙ ap (λ b. Some (s, behind_comma b)) c.in-Some-behind.is)
+          (ap not (c.states_nothing.ensures ∙ sym (states_kind s.partial c.loop-at.simple.partial seen.5.1)))
+          (c.fits-fit.ensures ∙ (c.cell_of-cell.ensures (as_read s) seen.5).1),
+      found.1,
+      found.2,
     )
-
-pub returns-in-loop-at : goal.returns-in-loop-at
-returns-in-loop-at c =
-    let seen = c.loop-at.invariant in
-    let found = c.in-Some.ensures in
-    let s = found.0 in
-    surveyed_end c.args.text.now seen.0 c.loop-at.rest.now c.loop-at.at c.loop-at.states_all c.loop-at.fit (not c.states_nothing.result)
-    c.fits-fit.result s seen.1 (found.1 ∙ ap (λ b. Some (s, behind_comma b)) c.in_default-behind.is) c.loop-at-test.true
-    (ap not (c.states_nothing.ensures ∙ sym (states_kind s.partial c.in-Some.simple.partial found.2.1)))
-    (c.fits-fit.ensures ∙ (c.cell_of-cell.ensures (as_read s) found.2).1) c.ended.result c.ended.ensures
-
-pub fits-fit-requires : goal.fits-fit-requires
-fits-fit-requires c = let found = c.in-Some.ensures in (c.cell_of-cell.ensures (as_read found.0) found.2).0

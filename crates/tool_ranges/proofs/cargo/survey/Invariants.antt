@@ -1,7 +1,12 @@
-use Rattle.std.proofs.Common.{List}
+use Rattle.std.proofs.Common.{◌≡◌, List, Some}
+use Rattle.semver_texts.specs.Texts.{Text}
 use Rattle.semver_ranges.specs.RangeTree.{Simple}
+use Rattle.semver_ranges.specs.Steps.CursorViews.{IsSimpleOf}
+use Rattle.tool_ranges.specs.CargoMeaning.{as_read}
+use Rattle.tool_ranges.specs.Steps.CargoReading.{behind_comma, comparator_at}
 use Rattle.tool_ranges.proofs.RequirementSteps.{IsSurveyed}
 use Rattle.tool_ranges.proofs.cargo.survey.Given as goal
 
 abbrev pub invariant-loop-at : goal.invariant-loop-at
-invariant-loop-at l = (done : List Simple) × IsSurveyed l.fn.text done l.rest l.at l.states_all l.fit
+invariant-loop-at l = (done : List Simple) × (rest : Text) × (s : Simple) × IsSurveyed l.fn.text done rest l.at l.states_all l.fit
+    × (comparator_at rest ≡ Some (s, behind_comma l.behind)) × IsSimpleOf (as_read s) l.simple

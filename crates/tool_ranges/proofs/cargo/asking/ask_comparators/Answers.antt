@@ -51,7 +51,7 @@ returns-in-loop-at c =
     (c.meets-met.ensures (as_read s) found.2)
     (λ fit. stated_at (as_read s) c.in-Some.simple found.2 (numbers_fit Cargo (as_read s) fit) v c.is_stated_by-stated.result
     c.is_stated_by-stated.ensures)
-    (found.1 ∙ ap (λ b. Some (s, behind_comma b)) c.in_default-behind.is) c.loop-at-test.true c.said.result c.said.ensures
+    (found.1 ∙ ap (λ b. Some (s, behind_comma b)) c.in_default-behind.is) c.loop-at-test.true c.ended.result c.ended.ensures
 
 pub returns : goal.returns
 returns c =

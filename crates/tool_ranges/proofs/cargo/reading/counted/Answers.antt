@@ -11,8 +11,8 @@ set_with ranges = record { ranges = ranges; compat = Cargo }
 pub returns : goal.returns
 returns c =
     if_ok c.intersection-2.result
-    (λ set is tree v h small. is v
-    ∙ (λ i. c.in_ok-judged.ensures tree v h small i
+    (λ set is t tree v h small. is v
+    ∙ (λ i. c.in_ok-judged.ensures t tree v h small i
     && (c.in_ok-of_set.ensures.meaning (record { plain = v; build = [] }) small
-    ∙ ap (λ ranges. meets_set v (set_with ranges)) (c.requires.ranges tree h)) i))
+    ∙ ap (λ ranges. meets_set v (set_with ranges)) (c.requires.ranges t tree h)) i))
     c.intersection-2.ensures.has
