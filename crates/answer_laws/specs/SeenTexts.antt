@@ -1,7 +1,9 @@
--- What is seen of texts that calls return: their bytes.
+-- What is seen of texts and refusals that calls return: the bytes, and all but the hint.
 use Rattle.std.specs.Prelude.{ℕ}
 use Rattle.std.specs.Borrow.{Bor}
 use Rattle.semver_texts.specs.Texts.{Text}
+use Rattle.semver_parser.specs.declared.RangeError.{RangeError}
+use Rattle.tool_ranges.specs.declared.refusals.Refusal.{Refusal}
 
 -- the bytes of a text, wherever it is in memory
 abbrev pub seen_text : Bor Text → Text
@@ -10,3 +12,7 @@ seen_text t = t.now
 -- three numbers, and the bytes of what follows them
 abbrev pub seen_numbers : ℕ × ℕ × ℕ × Bor Text → ℕ × ℕ × ℕ × Text
 seen_numbers r = (r.0, r.1, r.2, r.3.now)
+
+-- the error of a range text and its place, without the hint
+abbrev pub seen_refusal : Refusal → RangeError × ℕ
+seen_refusal r = (r.error, r.place)

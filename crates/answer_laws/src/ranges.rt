@@ -1,14 +1,16 @@
 //! The calls that read a range text into comparators, and the place of its error.
 
-ghost use Rattle.std.specs.Prelude.{alloc_error};
+ghost use Rattle.std.specs.Prelude.{alloc_error, option_map};
 ghost use Rattle.semver_parser.specs.RangeViews.{set_of};
 ghost use Rattle.answer_laws.specs.OneAnswer.{AreOne, itself};
+ghost use Rattle.answer_laws.specs.SeenTexts.{seen_refusal};
 
 use semver_parser::{Compat, RangeError, RangeSet};
 use std::alloc::{AllocError, Global};
-use tool_ranges::laws::one_place;
+use tool_ranges::laws::{one_limit_place, one_place};
 use tool_ranges::place::error_place;
 use tool_ranges::reading::{self, Reading};
+use tool_ranges::refusals::{Refusal, refused};
 use tool_ranges::{cargo, npm};
 
 /// Two answers of `RangeSet::parse`, or of a call below, on the same inputs.
@@ -84,4 +86,20 @@ pub fn one_error_place(
         error_place(alloc, reading, text),
         error_place(alloc, reading, text),
     )
+}
+
+/// `refusals::refused` has one error and one place. Which hint it has is free.
+pub fn one_refusal(
+    alloc: Global,
+    reading: Reading,
+    text: &str,
+) -> (
+    Result<Option<Refusal>, AllocError>,
+    Result<Option<Refusal>, AllocError>,
+)
+    ensures one { AreOne alloc_error (option_map seen_refusal) result.0 result.1 }
+{
+    one_place();
+    one_limit_place();
+    (refused(alloc, reading, text), refused(alloc, reading, text))
 }

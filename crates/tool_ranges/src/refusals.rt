@@ -27,7 +27,7 @@ pub struct Refusal {
     pub hint: Option<Hint>,
 }
 
-// Answer: free, the hint: ../replayed_cases/stdin.
+// Answer: free, the hint (else law answer_laws::ranges::one_refusal): ../replayed_cases/stdin.
 /// Returns where and why a text gives no range by a dialect, or `None` if it gives one.
 ///
 /// `1.2 || 3` by Cargo's is `NotARange` at 4, with the hint that Cargo takes no `||`.
