@@ -9,26 +9,27 @@
  * pointer and capacity. If a length or capacity is 0, the pointer may be null. Otherwise it must be
  * valid.
  *
- * THE CALLER MUST pass strings, arrays and buffers of the given size, and not change them during the
- * call; pointers to write to that overlap with no other argument, are aligned and, for a single
+ * THE CALLER MUST pass strings, arrays and buffers of the given size, and not change them during
+ * the call; pointers to write to that overlap with no other argument, are aligned and, for a single
  * object, not null; bools of 0 or 1; and must not call from a signal handler, nor in the forked
- * child of a process with several threads. Threads may call at the same time.
+ * child of a process with several threads. Threads may call concurrently.
  *
- * RESULTS. A function returns SEMVER_PARSER_OK (0) or the number of an error. After an error nothing
- * was written, but for what is said of SEMVER_PARSER_NO_ROOM, `in_other`, `place` and `hint`. Errors
- * come in this order, each exactly if it applies:
+ * RESULTS. A function returns SEMVER_PARSER_OK (0) or the number of an error. After an error
+ * nothing was written, but for what is said of SEMVER_PARSER_NO_ROOM, `in_other`, `place` and
+ * `hint`. Errors come in this order, each exactly if it applies:
  * - SEMVER_PARSER_NO_SUCH_READING, _NO_SUCH_RULE, _NO_SUCH_OPERATION, then _NOT_A_SET;
  * - of a range: SEMVER_PARSER_RANGE_NOT_UTF8, _NOT_A_RANGE, _NUMBER_TOO_LARGE;
  * - of a version: SEMVER_PARSER_VERSION_NOT_UTF8; then by Cargo's and npm's dialects
- *   SEMVER_PARSER_NOT_A_VERSION, and by the crate's SEMVER_PARSER_UNEXPECTED_END, _UNEXPECTED_TOKEN,
- *   _UNEXPECTED_CHAR or _MORE_INPUT;
+ *   SEMVER_PARSER_NOT_A_VERSION, and by the crate's SEMVER_PARSER_UNEXPECTED_END,
+ *   _UNEXPECTED_TOKEN, _UNEXPECTED_CHAR or _MORE_INPUT;
  * - out of memory (SEMVER_PARSER_RANGE_OUT_OF_MEMORY, _VERSION_OUT_OF_MEMORY,
  *   _NEW_RANGE_OUT_OF_MEMORY): in place of a success, or of one of the last four.
  * - SEMVER_PARSER_NO_ROOM if a buffer is too small: then the lengths say what is needed, and the
  *   buffers are unchanged. So a call with capacity 0 asks for the length.
  *
- * MEMORY. Nothing is kept between calls, and there is nothing to free. Allocations are by `malloc`.
- * Time is linear in the texts, and n log n for n comparators if a range is made into a set.
+ * MEMORY. Nothing is kept between calls or has to be freed. Allocations are by `malloc`. Add 1,000
+ * bytes to the figures below. Time is linear in the texts, and n log n for n comparators if a range
+ * is made into a set.
  *
  * Compile with `pkg-config --cflags --libs semver_parser`, or cc program.c c/calls.c c/heap.c
  * out/libsemver_parser_c.a
@@ -290,7 +291,7 @@ int32_t semver_parser_meets(const uint8_t *range, size_t range_length, int32_t r
 
 /* The same for `count` versions. Each byte of `answers` is SEMVER_PARSER_MEETS,
  * SEMVER_PARSER_DOES_NOT_MEET, or the error of that version. If an empty string is null, the array
- * is copied. With 4 or more, allocates up to 74 bytes for each byte of the range, and its set. */
+ * is copied. With 4 or more, allocates up to 290 bytes for each byte of the range. */
 int32_t semver_parser_meets_each(const uint8_t *range, size_t range_length, int32_t reading,
                                  int32_t pre_releases, const semver_parser_text *versions,
                                  size_t count, uint8_t *answers);
