@@ -84,11 +84,13 @@ fn rewritten(alloc: Global, range: &str, lower: LowerBounds) -> Result<RangeSet,
     read_by(alloc, range.as_bytes(), Compat::Npm, lower, &Rows { lower })
 }
 
-/// Whether each character beyond ASCII is white space to JavaScript.
+/// Whether each character beyond ASCII is white space to JavaScript. For speed it is asked first
+/// whether there is one.
 fn may_stand(range: &str) -> bool
     ensures { result ≡ list_all may_stand (chars range.now) }
 {
-    range.chars().all(|character| character.is_ascii() || is_white_space(character))
+    range.is_ascii()
+        || range.chars().all(|character| character.is_ascii() || is_white_space(character))
 }
 
 /// Whether a character beyond ASCII is white space to JavaScript.
