@@ -1,5 +1,5 @@
 -- What is refused of a range text without memory that ran out: it has one error, and no set.
-use Rattle.std.proofs.Common.{◌≡◌, ◌≢◌, Err, ◌↔◌, true, false, sym, ◌∙◌, ap, subst}
+use Rattle.std.proofs.Common.{◌≡◌, ◌≢◌, Err, ◌↔◌, true, false, sym, ◌∙◌, ap}
 use Rattle.std.specs.Prelude.{Result}
 use Rattle.semver_texts.specs.Texts.{Text}
 use Rattle.semver_ranges.specs.declared.range_set.RangeError.{RangeError}
@@ -37,8 +37,3 @@ module _ {A : Type 0} (reading : Reading) (t : Text) (r : Result A RangeError) (
     where
       one_error : {e f : RangeError} → r ≡ Err e → r ≡ Err f → e ≡ f
       one_error h k = cc
-
--- the error of another reading's name
-pub error_as : {A : Type 0} (asked reading : Reading) (t : Text) (r : Result A RangeError) → asked ≡ reading → RefusesAs asked t r
-    → (r ≡ Err OutOfMemory → ⊥) → (e : RangeError) → r ≡ Err e → HasError reading t e
-error_as asked reading t r same refuses kept e is = subst (λ x. HasError x t e) same (has_error asked t r refuses kept e is)

@@ -3,10 +3,11 @@
 //! dialect itself what a front could be gone on with, so there is no second grammar.
 
 ghost use Rattle.std.specs.List.{Any};
-ghost use Rattle.std.specs.Prelude.{◌≡◌, ◌<◌, ◌≤◌, ◌↔◌, ◌++◌, ℕ, IfOk, IsTrue, length, map};
+ghost use Rattle.std.specs.Prelude.{◌≡◌, ◌≢◌, ◌<◌, ◌≤◌, ◌↔◌, ◌++◌, ℕ, IfOk, IsTrue, length, map};
 ghost use Rattle.std.specs.Str.{IsCharBoundary};
 ghost use Rattle.tool_ranges.specs.Fronts.{BeginsAs, BeginsFitting, IsPlace};
 ghost use Rattle.tool_ranges.specs.Meanings.{reading_of};
+ghost use Rattle.tool_ranges.specs.Readings.{RefusesAs};
 ghost use Rattle.tool_ranges.specs.Steps.Places.{BeginsBy, GoesOnBy, IsWanted};
 
 use crate::meaning::{self, Meaning};
@@ -153,7 +154,7 @@ fn is_some_wanted(
 fn is_wanted(wanted: Wanted, reading: Reading, text: &str) -> bool
     ensures { IsTrue result ↔ IsWanted wanted reading text.now }
 {
-    match meaning::check(some_meaning(reading), text) {
+    match check(reading, text) {
         Ok(()) => true,
         Err(RangeError::NumberTooLarge) => matches!(wanted, Wanted::Any),
         Err(RangeError::NotARange) => false,
@@ -161,8 +162,16 @@ fn is_wanted(wanted: Wanted, reading: Reading, text: &str) -> bool
     }
 }
 
+/// What a dialect refuses of a text.
+pub(crate) fn check(reading: Reading, text: &str) -> Result<(), RangeError>
+    ensures refusals { RefusesAs reading text.now result }
+    ensures no_memory { result ≢ Err RangeError.OutOfMemory }
+{
+    meaning::check(some_meaning(reading), text)
+}
+
 /// A meaning by a dialect.
-pub(crate) fn some_meaning(reading: Reading) -> Meaning
+fn some_meaning(reading: Reading) -> Meaning
     ensures { reading_of result ≡ reading }
 {
     match reading {

@@ -8,8 +8,7 @@ ghost use Rattle.tool_ranges.specs.Fronts.{BeginsAs, BeginsFitting, IsPlace};
 ghost use Rattle.tool_ranges.specs.Readings.{HasSetAs, IsTextAs, IsTooLargeAs};
 
 use crate::hints::{self, Hint};
-use crate::meaning;
-use crate::place::{error_place, limit_place, some_meaning};
+use crate::place::{check, error_place, limit_place};
 use crate::reading::Reading;
 use semver_ranges::RangeError;
 use std::alloc::{AllocError, Global};
@@ -53,7 +52,7 @@ pub fn refused(alloc: Global, reading: Reading, text: &str) -> Result<Option<Ref
     // Memory runs out only in place of an error.
     ensures out_of_memory { IfErr result (λ _. ¬ (HasSetAs reading text.now)) }
 {
-    let Err(error) = meaning::check(some_meaning(reading), text) else {
+    let Err(error) = check(reading, text) else {
         return Ok(None);
     };
     let (place, hint) = explained(alloc, reading, text, &error)?;

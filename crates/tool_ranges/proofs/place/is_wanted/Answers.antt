@@ -1,38 +1,27 @@
 use Rattle.std.proofs.Common.{refl, subst, sym}
-use Rattle.tool_ranges.specs.Meanings.{reading_of}
-use Rattle.tool_ranges.specs.Readings.{HasSetAs, IsTextAs}
 use Rattle.tool_ranges.specs.Steps.Places.{IsWanted}
 use Rattle.tool_ranges.proofs.Places.{wanted_fits, wanted_refused}
-use Rattle.tool_ranges.proofs.RangeErrors.{HasError, error_as}
+use Rattle.tool_ranges.proofs.RangeErrors.{has_error}
 use Rattle.tool_ranges.proofs.place.is_wanted.Goals as goal
 
 pub returns-in-Ok : goal.returns-in-Ok
-returns-in-Ok c =
-    let set = subst (λ r. HasSetAs r c.args.text.now) c.some_meaning.ensures c.in-Ok.ensures.refusals.accepted in
-    (λ h. wanted_fits c.args.wanted c.args.reading c.args.text.now set, λ h. refl)
+returns-in-Ok c = (λ h. wanted_fits c.args.wanted c.args.reading c.args.text.now c.in-Ok.ensures.refusals.accepted, λ h. refl)
 
 pub returns-in-Any : goal.returns-in-Any
 returns-in-Any c =
     let large = c.in-Err-NumberTooLarge.ensures.refusals.too_large.0 cc in
-    let text = subst (λ r. IsTextAs r c.args.text.now) c.some_meaning.ensures (large.0, large.1) in
-    (λ h. subst (λ w. IsWanted w c.args.reading c.args.text.now) (sym c.in-Any.is) text, λ h. refl)
+    (λ h. subst (λ w. IsWanted w c.args.reading c.args.text.now) (sym c.in-Any.is) (large.0, large.1), λ h. refl)
 
 pub returns-in_default : goal.returns-in_default
 returns-in_default c =
     let k = c.in-Err-NumberTooLarge in
-    let e = c.check.ensures in
-    let w : HasError c.args.reading c.args.text.now k.field-0 =
-    error_as (reading_of c.some_meaning.result) c.args.reading c.args.text.now c.check.result c.some_meaning.ensures
-    e.refusals e.no_memory k.field-0 k.is in
+    let w = has_error c.args.reading c.args.text.now c.check.result c.check.ensures.refusals c.check.ensures.no_memory k.field-0 k.is in
     (λ h. cc, λ h. absurd (c.in_default.not-Any (wanted_refused c.args.wanted c.args.reading c.args.text.now k.field-0 w h).1))
 
 pub returns-in-Err-NotARange : goal.returns-in-Err-NotARange
 returns-in-Err-NotARange c =
     let k = c.in-Err-NotARange in
-    let e = c.check.ensures in
-    let w : HasError c.args.reading c.args.text.now k.field-0 =
-    error_as (reading_of c.some_meaning.result) c.args.reading c.args.text.now c.check.result c.some_meaning.ensures
-    e.refusals e.no_memory k.field-0 k.is in
+    let w = has_error c.args.reading c.args.text.now c.check.result c.check.ensures.refusals c.check.ensures.no_memory k.field-0 k.is in
     (λ h. cc, λ h. absurd (let bad = (wanted_refused c.args.wanted c.args.reading c.args.text.now k.field-0 w h).0 in cc))
 
 pub returns-in-Err-OutOfMemory : goal.returns-in-Err-OutOfMemory

@@ -1,19 +1,16 @@
-use Rattle.std.proofs.Common.{IfErr, Ok, Err, refl, subst}
+use Rattle.std.proofs.Common.{IfErr, Ok, Err, refl}
 use Rattle.std.specs.Prelude.{Result}
-use Rattle.tool_ranges.specs.Meanings.{reading_of}
-use Rattle.tool_ranges.specs.Readings.{HasSetAs}
-use Rattle.tool_ranges.proofs.RangeErrors.{HasError, error_as}
+use Rattle.tool_ranges.proofs.RangeErrors.{HasError, has_error}
 use Rattle.tool_ranges.proofs.refusals.refused.Goals as goal
 
 pub returns-in_default-clause-range : goal.returns-in_default-clause-range
 returns-in_default-clause-range c =
-    (λ h. subst (λ r. HasSetAs r c.args.text.now) c.some_meaning.ensures c.in_default.ensures.refusals.accepted, λ h. refl)
+    (λ h. c.in_default.ensures.refusals.accepted, λ h. refl)
 
 pub returns-in_err-place-clause-out_of_memory : goal.returns-in_err-place-clause-out_of_memory
-returns-in_err-place-clause-out_of_memory c =
-    let e = c.check.ensures in
-    any_err c.from_residual.result (error_as (reading_of c.some_meaning.result) c.args.reading c.args.text.now c.check.result
-    c.some_meaning.ensures e.refusals e.no_memory c.in-Err.error c.in-Err.is).no_set
+returns-in_err-place-clause-out_of_memory c = any_err c.from_residual.result
+    (has_error c.args.reading c.args.text.now c.check.result c.check.ensures.refusals c.check.ensures.no_memory c.in-Err.error
+    c.in-Err.is).no_set
   where
     any_err : {A B P : Type 0} (r : Result A B) → P → IfErr r (λ x. P)
     any_err (Ok x) p = tt
@@ -21,9 +18,7 @@ returns-in_err-place-clause-out_of_memory c =
 
 known : (c : goal.In_ok-place) → HasError c.args.reading c.args.text.now c.in-Err.error
 known c =
-    let e = c.check.ensures in
-    error_as (reading_of c.some_meaning.result) c.args.reading c.args.text.now c.check.result c.some_meaning.ensures
-    e.refusals e.no_memory c.in-Err.error c.in-Err.is
+    has_error c.args.reading c.args.text.now c.check.result c.check.ensures.refusals c.check.ensures.no_memory c.in-Err.error c.in-Err.is
 
 pub returns-clause-range : goal.returns-clause-range
 returns-clause-range c = (λ h. cc, λ set. absurd ((known c).no_set set))
