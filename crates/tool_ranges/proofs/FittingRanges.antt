@@ -19,7 +19,7 @@ use Rattle.semver_ranges.specs.Terms.{of_simple, left_side, right_side, terms}
 use Rattle.semver_ranges.specs.RewritingTable.{fits_by, term_fits_by}
 use Rattle.version_fronts.proofs.FrontPartials.{nothing, wildcard, letter, IsFrontOf, IsFrontOfComponent, IsFrontOfEnd, value_front}
 use Rattle.version_fronts.proofs.FrontRanges.{IsPlainRest, WordGoesOn, word_by, plain_word, PartialGoes, RangeGoesOn, AreRests}
-use Rattle.version_fronts.proofs.FrontRanges.{AreRight, IsRightRange, IsRightSet, set_goes_on, number_word, one_space, some_space}
+use Rattle.version_fronts.proofs.FrontRanges.{AreRight, IsRightRange, IsRightSet, set_goes_on, one_right, one_space, some_space}
 use Rattle.tool_ranges.proofs.FittingSimples.{IsLimit, fits_for, none_fits, at_least_fits, number_fits, stated_fit}
 use Rattle.tool_ranges.proofs.FittingPartials.{IsWordRest, word_rests, IsNaming, partial_fits, nothing_fits}
 use Rattle.tool_ranges.proofs.FittingPartials.{before_wildcard, val, few_stated, first_stated}
@@ -159,17 +159,7 @@ module _ (f : ℕ → Bool) (limit : IsLimit f) (two_fits : f 2 ≡ true) (tool 
     after = [];
     more = w.more ++ codes " - 1";
     is_rest = left_rest w.more w.is_rest;
-    spelled = (
-      front ++ w.more,
-      codes " ",
-      codes " ",
-      codes "1",
-      w.spelled,
-      (refl, one_space d [] refl),
-      (refl, one_space d [] refl),
-      number_word d behind_hyphen,
-      simp append_assoc,
-    );
+    spelled = one_right d w.tree (front ++ w.more) (codes " ") [] w.spelled (refl, one_space d [] refl) refl;
     are_blanks = refl;
     text = simp (append_assoc, append-nil);
     right = (w.right, right_one at_most);
@@ -183,17 +173,7 @@ module _ (f : ℕ → Bool) (limit : IsLimit f) (two_fits : f 2 ≡ true) (tool 
     after = [];
     more = codes " - 1";
     is_rest = (10, omega arith, refl);
-    spelled = (
-      front,
-      blanks ++ codes " ",
-      codes " ",
-      codes "1",
-      word,
-      (ap not (some_space d blanks), one_space d blanks are),
-      (refl, one_space d [] refl),
-      number_word d behind_hyphen,
-      simp append_assoc,
-    );
+    spelled = one_right d p front (blanks ++ codes " ") [] word (ap not (some_space d blanks), one_space d blanks are) refl;
     are_blanks = refl;
     text = simp (append_assoc, append-nil);
     right = (right, right_one at_most);

@@ -210,6 +210,21 @@ module _ (d : Dialect) where
     | inr w ↦ (at_least, w)
   ]
 
+  -- a hyphen range whose right side is `1`
+  pub one_right : (left : PartialTree) (f gap k : Text) → SpellsWord d (behind_form bare) left f → AreSomeBlanks d gap → AreBlanks d k
+      → SpellsRange d (hyphen left (one (codes "1"))) (f ++ (gap ++ (45 ∷ ((k ++ codes " ") ++ codes "1"))))
+  one_right left f gap k word blanks are = (
+    f,
+    gap,
+    k ++ codes " ",
+    codes "1",
+    word,
+    blanks,
+    (ap not (some_space k), one_space k are),
+    number_word d behind_hyphen,
+    simp append_assoc,
+  )
+
 -- ---- what has to be known of the fronts of words, and of the rests with which they go on
 
 module _ (d : Dialect) (IsRest : Text → Type 0) (Right : Simple → Type 0) where
@@ -381,17 +396,7 @@ module _ (d : Dialect) (IsRest : Text → Type 0) (Right : Simple → Type 0) (r
       after = [];
       more = codes " 1";
       is_rest = rests.number;
-      spelled = (
-        f,
-        gap,
-        k ++ codes " ",
-        codes "1",
-        word,
-        blanks,
-        (ap not (some_space d k), one_space d k are),
-        number_word d behind_hyphen,
-        simp append_assoc,
-      );
+      spelled = one_right d left f gap k word blanks are;
       are_blanks = refl;
       text = simp (append_assoc, append-nil);
       right = (left_right, rests.right_number at_most);
