@@ -87,26 +87,15 @@ module _ (a b c : Text) (pre build : List Text) (e : is_partial_of_cargo (three 
       × (list_all has_no_leading_zero pre ≡ true)
   all_of = let both = and_parts _ _ e in let others = and_parts _ _ both.1 in (both.0, others.0, others.1)
 
-  keeps_end : (c' : Text) (pre' build' : List Text) → IsFrontOfEnd c' pre' build' c pre build
-      → KeepsCargo (three a b c' pre' build') (three a b c pre build)
-  keeps_end c' pre' build' (inl (shape, no_pre, no_build)) = rw (no_pre, no_build) (record {
-    is_read = and_from _ _ (three_last (is_wildcard a) (is_wildcard b) (is_wildcard c) (is_wildcard c') all_of.0 (wild_of c' c shape)) refl;
-    states = same_states (three a b c' [] []) (three a b c pre build) a a (b ∷ c' ∷ []) (b ∷ c ∷ []) refl refl refl;
-    is_one = λ y. y;
-  })
-  keeps_end c' pre' build' (inr (inl (same, shape, no_build))) = rw (same, no_build) (record {
-    is_read = and_from _ _ all_of.0 (and_from _ _
-        (or_right _ _ (or_second _ _ (some_pre pre' pre build shape) all_of.1))
-        (all_stay has_no_leading_zero zero_stays pre' pre shape all_of.2));
-    states = refl;
-    is_one = λ y. y;
-  })
-  keeps_end c' pre' build' (inr (inr (same, same_pre, shape))) = rw (same, same_pre) (record {
-    is_read = and_from _ _ all_of.0 (and_from _ _
-        (or_right _ _ (or_second _ _ (some_build build' build pre shape) all_of.1)) all_of.2);
-    states = refl;
-    is_one = λ y. y;
-  })
+  end_read : (c' : Text) (pre' build' : List Text) → IsFrontOfEnd c' pre' build' c pre build
+      → is_partial_of_cargo (three a b c' pre' build') ≡ true
+  end_read c' pre' build' (inl (shape, no_pre, no_build)) = rw (no_pre, no_build)
+      (and_from _ _ (three_last (is_wildcard a) (is_wildcard b) (is_wildcard c) (is_wildcard c') all_of.0 (wild_of c' c shape)) refl)
+  end_read c' pre' build' (inr (inl (same, shape, no_build))) = rw (same, no_build) (and_from _ _ all_of.0 (and_from _ _
+      (or_right _ _ (or_second _ _ (some_pre pre' pre build shape) all_of.1))
+      (all_stay has_no_leading_zero zero_stays pre' pre shape all_of.2)))
+  end_read c' pre' build' (inr (inr (same, same_pre, shape))) = rw (same, same_pre) (and_from _ _ all_of.0 (and_from _ _
+      (or_right _ _ (or_second _ _ (some_build build' build pre shape) all_of.1)) all_of.2))
 
 not_one : (p : PartialTree) (a b : Text) (cs : List Text) → components p ≡ a ∷ b ∷ cs → is_one p ≡ true → ⊥
 not_one (one x) a b cs e h = cc
@@ -124,8 +113,11 @@ keeps_cargo (two a b') p w e = record {
   states = front_states (two a b') p w;
   is_one = λ y. absurd (not_one p a w.0 w.1 w.2 y);
 }
-keeps_cargo (three a b c' pre' build') p (c, pre, build, is, w) e =
-    subst (KeepsCargo (three a b c' pre' build')) (sym is) (keeps_end a b c pre build (rw is at e) c' pre' build' w)
+keeps_cargo (three a b c' pre' build') p w e = record {
+  is_read = end_read a b w.0 w.1 w.2 (subst (λ q. is_partial_of_cargo q ≡ true) w.3 e) c' pre' build' w.4;
+  states = front_states (three a b c' pre' build') p w;
+  is_one = λ y. absurd (not_one p a b (w.0 ∷ []) (ap components w.3) y);
+}
 
 -- ---- comparators
 

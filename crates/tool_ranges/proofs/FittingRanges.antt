@@ -82,10 +82,9 @@ module _ (f : ℕ → Bool) (limit : IsLimit f) (two_fits : f 2 ≡ true) (tool 
   end_component c' pre' build' c pre build (inr (inl w)) h = rw (w.0) h
   end_component c' pre' build' c pre build (inr (inr w)) h = rw (w.0) h
 
-  same_head : (a' a : Text) (cs' cs : List Text) → a' ≡ a
-      → (list_all f (before_wildcard cs) ≡ true → list_all f (before_wildcard cs') ≡ true)
-      → list_all f (before_wildcard (a ∷ cs)) ≡ true → list_all f (before_wildcard (a' ∷ cs')) ≡ true
-  same_head a' a cs' cs e others h = heads a' a cs' cs (λ n. ap is_wildcard (sym e) ∙ n) (λ n. omega (arith, ap val e)) others h
+  same_head : (a : Text) (cs' cs : List Text) → (list_all f (before_wildcard cs) ≡ true → list_all f (before_wildcard cs') ≡ true)
+      → list_all f (before_wildcard (a ∷ cs)) ≡ true → list_all f (before_wildcard (a ∷ cs')) ≡ true
+  same_head a cs' cs others h = heads a a cs' cs (λ n. n) (λ n. omega arith) others h
 
   heads_of : (p : PartialTree) (cs : List Text) → components p ≡ cs → list_all f (stated p) ≡ true → list_all f (before_wildcard cs) ≡ true
   heads_of p cs e h = subst (λ l. list_all f (before_wildcard l) ≡ true) e h
@@ -93,9 +92,9 @@ module _ (f : ℕ → Bool) (limit : IsLimit f) (two_fits : f 2 ≡ true) (tool 
   front_fits : (p' p : PartialTree) → IsFrontOf p' p → list_all f (stated p) ≡ true → list_all f (stated p') ≡ true
   front_fits (one a') p (a, cs, rest, parts, text, is, same) h = head_alone a' a cs rest text same (heads_of p (a ∷ cs) parts h)
   front_fits (two a b') p (b, cs, parts, w) h =
-      same_head a a (b' ∷ []) (b ∷ cs) refl (component b' b cs w) (heads_of p (a ∷ b ∷ cs) parts h)
+      same_head a (b' ∷ []) (b ∷ cs) (component b' b cs w) (heads_of p (a ∷ b ∷ cs) parts h)
   front_fits (three a b c' pre' build') p (c, pre, build, is, w) h =
-      same_head a a (b ∷ c' ∷ []) (b ∷ c ∷ []) refl (same_head b b (c' ∷ []) (c ∷ []) refl (end_component c' pre' build' c pre build w))
+      same_head a (b ∷ c' ∷ []) (b ∷ c ∷ []) (same_head b (c' ∷ []) (c ∷ []) (end_component c' pre' build' c pre build w))
       (rw is at h)
 
   -- ---- words
