@@ -17,7 +17,7 @@ use Rattle.version_fronts.proofs.FrontWords.{short_head}
 use Rattle.semver_ranges.specs.Partials.{stated, states_nothing}
 use Rattle.version_fronts.proofs.FrontPartials.{Rest, rest_text, IsFrontOf, EndsIn, InFirst, EndGoesOn}
 use Rattle.version_fronts.proofs.FrontPartials.{after_numbers, cut_component, ends_in, value_front, value_less, partial_goes_on}
-use Rattle.version_fronts.proofs.FrontPartials.{IsFrontOfComponent, IsFrontOfEnd, AreAfter}
+use Rattle.version_fronts.proofs.FrontPartials.{IsFrontOfComponent}
 use Rattle.version_fronts.proofs.FrontRanges.{plain_text, plain_texts, npm_taken}
 use Rattle.tool_ranges.specs.CargoGrammar.{is_one, is_partial_of_cargo}
 use Rattle.tool_ranges.specs.CargoMeaning.{has_wildcard}
@@ -315,11 +315,7 @@ module _ (f : ℕ → Bool) (limit : IsLimit f) (tool : Bool) (mode : Compat) (n
     at_end : (front rest : Text) → EndGoesOn a b c pre build front rest → Whole front rest
     at_end front rest w =
         kept form (three a b c pre build) (three a b c w.pre' w.build') front rest (rest_text w.more) (plain_rest w.more) w.spelled
-        w.short (c, pre, build, refl, after w.shape) h
-      where
-        after : {pre' build' : List Text} → AreAfter pre' build' pre build → IsFrontOfEnd c pre' build' c pre build
-        after (inl v) = inr (inl (refl, v.0, v.1))
-        after (inr v) = inr (inr (refl, v.0, v.1))
+        w.short (c, pre, build, refl, w.shape) h
 
   -- ---- each
 

@@ -262,9 +262,6 @@ two_on p a b cs front m rest r parts e text less w = made p (two a w.component) 
 )
 
 -- three components, and what is after them
-abbrev pub AreAfter : List Text → List Text → List Text → List Text → Type 0
-AreAfter pre' build' pre build = (AreFrontOfParts pre' pre × (build' ≡ [])) ⊎ ((pre' ≡ pre) × AreFrontOfParts build' build)
-
 module _ (a b c : Text) (pre build : List Text) where
   abbrev whole : PartialTree
   whole = three a b c pre build
@@ -279,7 +276,7 @@ module _ (a b c : Text) (pre build : List Text) where
     pub more : Rest
     pub spelled : SpellsPartial (three a b c pre' build') (front ++ rest_text more)
     pub short : length (rest_text more) ≤ length rest
-    pub shape : AreAfter pre' build' pre build
+    pub shape : IsFrontOfEnd c pre' build' c pre build
 
   three_spelled : (c' : Text) (pre' build' : List Text) (more front m : Text) → numbers_are → is_component c' ≡ true
       → list_all is_part pre' ≡ true → list_all is_part build' ≡ true → front ≡ a ++ (46 ∷ (b ++ (46 ∷ m)))
@@ -307,7 +304,7 @@ module _ (a b c : Text) (pre build : List Text) where
     spelled = three_spelled c (w.first ∷ w.others) [] (rest_text w.more) front (c ++ (45 ∷ m)) n e w.are_parts refl text
         (append_assoc c _ _ ∙ ap (λ t. c ++ (45 ∷ t)) (w.text ∙ sym (append-nil _)));
     short = omega (arith, w.short);
-    shape = inl (w.shape, refl);
+    shape = inr (inl (refl, w.shape, refl));
   }
 
   build_on : (front m rest : Text) → numbers_are → is_component c ≡ true → list_all is_part pre ≡ true
@@ -319,7 +316,7 @@ module _ (a b c : Text) (pre build : List Text) where
     spelled = three_spelled c pre (w.first ∷ w.others) (rest_text w.more) front (c ++ (marked (codes "-") pre ++ (43 ∷ m))) n e p
         w.are_parts text (rw (append_assoc, append_assoc) (ap (λ t. c ++ (marked (codes "-") pre ++ (43 ∷ t))) w.text));
     short = w.short;
-    shape = inr (refl, w.shape);
+    shape = inr (inr (refl, refl, w.shape));
   }
 
 after_build : (a b c : Text) (pre build : List Text) (front m rest : Text) (d : ℕ) → numbers_are a b c pre build → is_component c ≡ true
@@ -443,11 +440,7 @@ goes_from (three a b c pre build) front rest some e (inr (inr (inl w))) =
     (next_on c w.begun w.back (and_parts _ _ others.1).0 w.text)
 goes_from (three a b c pre build) front rest some e (inr (inr (inr w))) =
     made (three a b c pre build) (three a b c w.pre' w.build') w.more front rest
-    (w.spelled, w.short, (c, pre, build, refl, after_shape w.shape))
-  where
-    after_shape : {pre' build' : List Text} → AreAfter pre' build' pre build → IsFrontOfEnd c pre' build' c pre build
-    after_shape (inl w) = inr (inl (refl, w.0, w.1))
-    after_shape (inr w) = inr (inr (refl, w.0, w.1))
+    (w.spelled, w.short, (c, pre, build, refl, w.shape))
 
 pub partial_goes_on : (p : PartialTree) (front rest : Text) → is_empty front ≡ false → SpellsPartial p (front ++ rest)
     → GoesOn p front rest
