@@ -26,10 +26,11 @@ use Rattle.tool_ranges.proofs.FittingSimples.{IsLimit, fits_for, none_fits, one_
 
 -- ---- what a front goes on with
 
--- what it goes on with anyway, or one number more, or two, the last of them a wildcard
+-- one number more, or two, the last of them a wildcard
 abbrev numbers_more : List Text
 numbers_more = codes ".0" ∷ codes "0" ∷ codes ".*" ∷ codes "0.*" ∷ codes ".0.*" ∷ []
 
+-- what it goes on with anyway, or these
 abbrev pub word_rests : List Text
 word_rests = plain_texts ++ numbers_more
 

@@ -24,10 +24,11 @@ use Rattle.tool_ranges.proofs.FittingSimples.{IsLimit, fits_for, none_fits, at_l
 use Rattle.tool_ranges.proofs.FittingPartials.{IsWordRest, word_rests, IsNaming, partial_fits, nothing_fits}
 use Rattle.tool_ranges.proofs.FittingPartials.{before_wildcard, val, few_stated, first_stated}
 
--- what a front goes on with: what that of a word does, a bar, a space and a number, or that and the right side of a hyphen range
+-- a bar, a space and a number, and what a left side goes on with as one of a hyphen range
 abbrev others : List Text
 others = codes "|" ∷ codes " 1" ∷ codes " - 1" ∷ codes "* - 1" ∷ codes "a - 1" ∷ []
 
+-- what a front goes on with: what that of a word does, or these
 abbrev pub IsFittingRest : Text → Type 0
 IsFittingRest t = Contains (word_rests ++ others) t
 

@@ -90,7 +90,7 @@ fn longest(alloc: Global, wanted: Wanted, reading: Reading, text: &str) -> Resul
 
 /// A place between two characters, after one place and before another, near to halfway between
 /// them; the first of the two if there is none.
-pub(crate) fn between(text: &str, good: usize, bad: usize) -> usize
+fn between(text: &str, good: usize, bad: usize) -> usize
     requires { good ≤ bad }
     ensures after { good ≤ result }
     ensures before { good < result → result < bad }
