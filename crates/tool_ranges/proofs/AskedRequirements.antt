@@ -82,9 +82,9 @@ module _ (takes_all : Bool) (v : PlainVersion) (counts : Bool) where
             found.2 ∙ (λ i. met_all h.1 i && stated_all h.1 i),
           )
       asked_end (Err NotARange) h =
-          surveyed_end text done rest at states_all fit n f s is.surveyed e few number fits ((met && m) && (stated || p)) (Err NotARange) h
+          surveyed_end text done rest at states_all fit n f s is.surveyed e few number fits true (Err NotARange) h
       asked_end (Err NumberTooLarge) h =
-          surveyed_end text done rest at states_all fit n f s is.surveyed e few number fits ((met && m) && (stated || p)) (Err NumberTooLarge) h
+          surveyed_end text done rest at states_all fit n f s is.surveyed e few number fits true (Err NumberTooLarge) h
       asked_end (Err OutOfMemory) h = absurd h
 
 -- ---- what a requirement says

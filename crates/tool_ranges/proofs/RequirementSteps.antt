@@ -54,7 +54,7 @@ first_left s rest behind (s' ∷ next ∷ others) e (front, back, h, more, text)
     (next ∷ others, ap (λ x. x ∷ next ∷ others) (sym same.0), subst (Left (next ∷ others)) (sym same.1) more)
 
 -- one more that is followed by a comma
-one_more : (s : Simple) (done left : List Simple) → (done ++ s ∷ []) ++ left ≡ done ++ (s ∷ left)
+pub one_more : (s : Simple) (done left : List Simple) → (done ++ s ∷ []) ++ left ≡ done ++ (s ∷ left)
 one_more s done left = append_assoc done (s ∷ []) left
 
 goes_on : (s : Simple) (front rest u : Text) (left : List Simple) → SpellsComparator s front → rest ≡ front ++ (44 ∷ u)
@@ -95,7 +95,7 @@ at_last text done rest s at e =
 not_both : (found : Simple × Option Text) → None ≡ Some found → ⊥
 not_both found e = cc
 
-none_left : (rest : Text) (left : List Simple) → comparator_at rest ≡ None → SpellsComparators left rest → ⊥
+pub none_left : (rest : Text) (left : List Simple) → comparator_at rest ≡ None → SpellsComparators left rest → ⊥
 none_left rest [] e h = h
 none_left rest (s ∷ []) e h = not_both (s, None) (sym e ∙ ended_read s rest h)
 none_left rest (s ∷ next ∷ others) e (front, back, h, more, text) =
@@ -174,9 +174,6 @@ stands_with_others (s ∷ next ∷ ss) some many e = both_ways _ some (sym (all_
 module _ (text : Text) (done : List Simple) (rest : Text) (at : ℕ) (states_all fit n f : Bool) (s : Simple)
     (is : IsSurveyed text done rest at states_all fit) (e : comparator_at rest ≡ Some (s, None)) (few : at < 32)
     (number : n ≡ states_number s) (fits : f ≡ read_fits s) where
-  all : List Simple
-  all = done ++ s ∷ []
-
   abbrev Alone : Bool → Type 0
   Alone b = ((states_all && n) || (at == 0)) ≡ b
 
@@ -219,46 +216,14 @@ module _ (text : Text) (done : List Simple) (rest : Text) (at : ℕ) (states_all
   )
   surveyed_as x finds (Err e) h = surveyed_end x (Err e) h
 
--- ---- building: a comparator of a tree is at hand, and what follows it is left
+-- ---- building: one that is at hand fits, and what stands for it comes after what stands for those before it
 
-pub record IsHeld (tree done : List Simple) (s : Simple) (behind : Option Text) : Type 0 where
-  pub others : List Simple
-  pub whole : tree ≡ done ++ s ∷ others
-  pub left : Left others behind
-
-pub held_first : (t : Text) (tree : List Simple) (s : Simple) (behind : Option Text) → SpellsComparators tree t
-    → comparator_at t ≡ Some (s, behind) → IsHeld tree [] s behind
-held_first t tree s behind h e =
-    let first = first_left s t behind tree e h in record { others = first.0; whole = first.1; left = first.2 }
-
-module _ (tree done : List Simple) (s : Simple) where
-  pub held_next : (u : Text) (next : Simple) (behind : Option Text) → IsHeld tree done s (Some u) → comparator_at u ≡ Some (next, behind)
-      → IsHeld tree (done ++ s ∷ []) next behind
-  held_next u next behind held e =
-      let first = first_left next u behind held.others e held.left in
-      record {
-        others = first.0;
-        whole = held.whole ∙ ap (λ x. done ++ s ∷ x) first.1 ∙ sym (one_more s done (next ∷ first.0));
-        left = first.2;
-      }
-
-  pub held_last : IsHeld tree done s None → tree ≡ done ++ s ∷ []
-  held_last held = held.whole ∙ ap (λ x. done ++ s ∷ x) held.left
-
-  pub held_none : (u : Text) → IsHeld tree done s (Some u) → comparator_at u ≡ None → ⊥
-  held_none u held e = none_left u held.others e held.left
-
-  pub held_few : (behind : Option Text) → IsHeld tree done s behind → length tree ≤ 32 → 32 ≤ length done → ⊥
-  held_few behind held few many =
-      let all : length tree ≡ length done + length (s ∷ held.others) = ap length held.whole ∙ length-append done (s ∷ held.others) in
-      omega (arith, few, many)
-
-  pub held_fits : (behind : Option Text) → IsHeld tree done s behind → requirement_fits tree ≡ true → read_fits s ≡ true
-  held_fits behind held fit =
-      let all : (list_all read_fits done && (read_fits s && list_all read_fits held.others)) ≡ true =
-      sym (list_all-append read_fits done (s ∷ held.others)) ∙ ap (list_all read_fits) (sym held.whole) ∙ fit in
-      (and_parts (read_fits s) (list_all read_fits held.others) (and_parts (list_all read_fits done)
-      (read_fits s && list_all read_fits held.others) all).1).0
+pub held_fits : (tree done others : List Simple) (s : Simple) → tree ≡ done ++ s ∷ others → requirement_fits tree ≡ true → read_fits s ≡ true
+held_fits tree done others s whole fit =
+    let all : (list_all read_fits done && (read_fits s && list_all read_fits others)) ≡ true =
+    sym (list_all-append read_fits done (s ∷ others)) ∙ ap (list_all read_fits) (sym whole) ∙ fit in
+    (and_parts (read_fits s) (list_all read_fits others) (and_parts (list_all read_fits done)
+    (read_fits s && list_all read_fits others) all).1).0
 
 pub written_more : {B : Type 0} (f : Simple → List B) (done : List Simple) (s : Simple)
     → flat_map f (done ++ s ∷ []) ≡ flat_map f done ++ f s

@@ -15,7 +15,8 @@ ghost use Rattle.tool_ranges.specs.CargoGrammar.{SpellsRequirement};
 ghost use Rattle.tool_ranges.specs.CargoMeaning.{meets_requirement};
 ghost use Rattle.tool_ranges.specs.CargoTable.{rewritten_requirement};
 ghost use Rattle.tool_ranges.specs.CargoTexts.{RefusesRequirement};
-ghost use Rattle.tool_ranges.specs.Steps.CargoReading.{EndsAs, IsRefusal, IsRewritten, IsSurveyedAs};
+ghost use Rattle.tool_ranges.specs.Steps.CargoReading.{EndsAs, IsRefusal, IsRewritten};
+ghost use Rattle.tool_ranges.specs.Steps.CargoReading.{IsSurveyedAs};
 ghost use Rattle.tool_ranges.specs.Steps.CargoPreReleases.{counting_one, judging, judging_one};
 
 mod asking;
@@ -73,14 +74,14 @@ pub fn rewrite(alloc: Global, requirement: &str) -> Result<RangeSet, RangeError>
         × Spells tree (set_text (set_of set)) × IsTrue (fits Cargo tree)
         × (rewritten Cargo tree ≡ set_of set)) }
 {
-    rewritten(alloc, requirement.as_bytes())
+    rewritten(alloc, requirement)
 }
 
 /// The set of a requirement.
-fn rewritten(alloc: Global, text: &[u8]) -> Result<RangeSet, RangeError>
-    ensures { IsRewritten text.now result }
+fn rewritten(alloc: Global, requirement: &str) -> Result<RangeSet, RangeError>
+    ensures { IsRewritten requirement.now result }
 {
-    let surveyed = survey(text)?;
+    let surveyed = survey(requirement)?;
     match build(alloc, &surveyed, JudgedVersions::Releases, false) {
         Ok((set, _)) => Ok(set),
         Err(_) => Err(RangeError::OutOfMemory),
@@ -97,12 +98,12 @@ struct Surveyed<'t> {
 }
 
 /// Surveys a requirement, or says why there is no set of it.
-fn survey(text: &[u8]) -> Result<Surveyed<'_>, RangeError>
+fn survey(requirement: &str) -> Result<Surveyed<'_>, RangeError>
     ensures { MatchResult result
-        (λ surveyed. (tree : List SimpleTree) × IsSurveyedAs text.now tree surveyed)
-        (λ e. IsRefusal text.now e) }
+        (λ surveyed. (tree : List SimpleTree) × IsSurveyedAs requirement.now tree surveyed)
+        (λ e. IsRefusal requirement.now e) }
 {
-    let Some((first, after_first)) = read_comparator(text) else {
+    let Some((first, after_first)) = read_comparator(requirement.as_bytes()) else {
         return Err(RangeError::NotARange);
     };
     let mut simple = first;

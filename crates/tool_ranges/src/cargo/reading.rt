@@ -44,7 +44,7 @@ pub fn read(alloc: Global, requirement: &str) -> Result<VersionSet, RangeError>
         → SpellsRequirement tree requirement.now → Fits v
         → has set v ≡ meets_requirement tree v) }
 {
-    let surveyed = match survey(requirement.as_bytes()) {
+    let surveyed = match survey(requirement) {
         Ok(surveyed) => surveyed,
         Err(refusal) => return Err(refusal),
     };
@@ -61,7 +61,7 @@ pub(crate) fn read_with_all(alloc: Global, requirement: &str) -> Result<VersionS
         → SpellsRequirement tree requirement.now → Fits v
         → has set v ≡ meets_requirement_with_all tree v) }
 {
-    let surveyed = match survey(requirement.as_bytes()) {
+    let surveyed = match survey(requirement) {
         Ok(surveyed) => surveyed,
         Err(refusal) => return Err(refusal),
     };

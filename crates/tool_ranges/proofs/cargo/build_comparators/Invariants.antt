@@ -1,4 +1,4 @@
-use Rattle.std.proofs.Common.{◌≡◌, true, List, length, map}
+use Rattle.std.proofs.Common.{◌≡◌, ◌∷◌, ◌++◌, true, List, length, map}
 use Rattle.std.specs.List.{flat_map}
 use Rattle.semver_texts.specs.Texts.{Text}
 use Rattle.semver_ranges.specs.RangeTree.{Simple}
@@ -7,11 +7,12 @@ use Rattle.semver_ranges.specs.Steps.CursorViews.{IsSimpleOf}
 use Rattle.tool_ranges.specs.CargoMeaning.{as_read}
 use Rattle.tool_ranges.specs.Steps.CargoPreReleases.{counting_one, judging_one}
 use Rattle.tool_ranges.specs.Steps.CargoReading.{behind_comma, IsSurveyedAs}
-use Rattle.tool_ranges.proofs.RequirementSteps.{IsHeld}
+use Rattle.tool_ranges.proofs.RequirementSteps.{Left}
 use Rattle.tool_ranges.proofs.cargo.build_comparators.Given as goal
 
 abbrev pub invariant-loop : goal.invariant-loop
 invariant-loop l = (t : Text) (tree : List Simple) → IsSurveyedAs t tree l.surveyed
-    → (done : List Simple) × (s : Simple) × IsHeld tree done s (behind_comma l.behind) × IsSimpleOf (as_read s) l.simple
-    × (length done ≡ l.counter) × (map comparator_of l.comparators.items ≡ flat_map (judging_one l.judged) done)
+    → (done : List Simple) × (s : Simple) × (others : List Simple) × (tree ≡ done ++ s ∷ others) × Left others (behind_comma l.behind)
+    × IsSimpleOf (as_read s) l.simple × (length done ≡ l.counter)
+    × (map comparator_of l.comparators.items ≡ flat_map (judging_one l.judged) done)
     × (l.counts ≡ true → map range_of l.counting.items ≡ flat_map counting_one done)

@@ -48,22 +48,16 @@ reads_it_back t (Ok set) (tree, h, fit, same) = reads_back Cargo (set_of set)
 reads_it_back t (Err e) none = tt
 
 pub returns-clause-refusals : goal.returns-clause-refusals
-returns-clause-refusals c =
-    refuses c.args.requirement.now c.rewritten.result
-    (subst (λ t. IsRewritten t c.rewritten.result) c.as_bytes.ensures.value c.rewritten.ensures)
+returns-clause-refusals c = refuses c.args.requirement.now c.rewritten.result c.rewritten.ensures
 
 pub returns-clause-as_rewritten : goal.returns-clause-as_rewritten
-returns-clause-as_rewritten c = as_rewritten c.args.requirement.now c.rewritten.result
-    (subst (λ t. IsRewritten t c.rewritten.result) c.as_bytes.ensures.value c.rewritten.ensures)
+returns-clause-as_rewritten c = as_rewritten c.args.requirement.now c.rewritten.result c.rewritten.ensures
 
 pub returns-clause-releases : goal.returns-clause-releases
-returns-clause-releases c = releases c.args.requirement.now c.rewritten.result
-    (subst (λ t. IsRewritten t c.rewritten.result) c.as_bytes.ensures.value c.rewritten.ensures)
+returns-clause-releases c = releases c.args.requirement.now c.rewritten.result c.rewritten.ensures
 
 pub returns-clause-printable : goal.returns-clause-printable
-returns-clause-printable c = printable c.args.requirement.now c.rewritten.result
-    (subst (λ t. IsRewritten t c.rewritten.result) c.as_bytes.ensures.value c.rewritten.ensures)
+returns-clause-printable c = printable c.args.requirement.now c.rewritten.result c.rewritten.ensures
 
 pub returns-clause-reads_back : goal.returns-clause-reads_back
-returns-clause-reads_back c = reads_it_back c.args.requirement.now c.rewritten.result
-    (subst (λ t. IsRewritten t c.rewritten.result) c.as_bytes.ensures.value c.rewritten.ensures)
+returns-clause-reads_back c = reads_it_back c.args.requirement.now c.rewritten.result c.rewritten.ensures

@@ -8,5 +8,5 @@ use Rattle.tool_ranges.proofs.RequirementSteps.{IsSurveyed}
 use Rattle.tool_ranges.proofs.cargo.survey.Given as goal
 
 abbrev pub invariant-loop-at : goal.invariant-loop-at
-invariant-loop-at l = (done : List Simple) × (rest : Text) × (s : Simple) × IsSurveyed l.fn.text done rest l.at l.states_all l.fit
+invariant-loop-at l = (done : List Simple) × (rest : Text) × (s : Simple) × IsSurveyed l.fn.requirement done rest l.at l.states_all l.fit
     × (comparator_at rest ≡ Some (s, behind_comma l.behind)) × IsSimpleOf (as_read s) l.simple
