@@ -94,10 +94,7 @@ fn survey<T: Table>(text: &[u8], lower: LowerBounds, table: &T) -> Result<Sizes,
     let mut ended = 0usize;
     let mut fit = true;
     while let Some(event) = events.next_in(dialect) {
-        let Ok(event) = event else {
-            return Err(RangeError::NotARange);
-        };
-        match event {
+        match event? {
             Event::Simple(simple) => {
                 let (fits, count) = table.size(&simple);
                 fit &= fits;

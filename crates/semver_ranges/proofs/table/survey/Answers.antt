@@ -7,14 +7,14 @@ pub size-fits-requires : goal.size-fits-requires
 size-fits-requires g c =
     let so_far = c.loop-event.invariant in
     let first = first_simple _ so_far.0 c.in-Simple.simple c.next_in.new.self
-    (rw (c.in-Ok.is, c.in-Simple.is) at (c.in-Some.ensures.gives.0 so_far.0 so_far.1)) in
+    (rw (c.in_ok-simple.was, c.in-Simple.is) at (c.in-Some.ensures.gives.0 so_far.0 so_far.1)) in
     (first.s, first.is)
 
 pub loop-event-preserved-in-Simple : goal.loop-event-preserved-in-Simple
 loop-event-preserved-in-Simple g c =
     let so_far = c.loop-event.invariant in
     let first = first_simple _ so_far.0 c.in-Simple.simple c.next_in.new.self
-    (rw (c.in-Ok.is, c.in-Simple.is) at (c.in-Some.ensures.gives.0 so_far.0 so_far.1)) in (
+    (rw (c.in_ok-simple.was, c.in-Simple.is) at (c.in-Some.ensures.gives.0 so_far.0 so_far.1)) in (
       first.left,
       first.has,
       fit_more _ _ c.loop-event.fit c.size-fits.result.0 so_far.0 first.left first.s so_far.2 first.whole
@@ -25,7 +25,7 @@ pub loop-event-preserved : goal.loop-event-preserved
 loop-event-preserved g c =
     let so_far = c.loop-event.invariant in
     fit_next _ _ _ c.loop-event.fit so_far.0 c.next_in.new.self so_far.2
-    (rw (c.in-Ok.is, c.in-NextRange.is) at (c.in-Some.ensures.gives.0 so_far.0 so_far.1))
+    (rw (c.in_ok-simple.was, c.in-NextRange.is) at (c.in-Some.ensures.gives.0 so_far.0 so_far.1))
 
 pub returns : goal.returns
 returns g c =
