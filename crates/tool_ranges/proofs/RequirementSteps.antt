@@ -218,7 +218,8 @@ module _ (text : Text) (done : List Simple) (rest : Text) (at : ℕ) (states_all
 
 -- ---- building: one that is at hand fits, and what stands for it comes after what stands for those before it
 
-pub held_fits : (tree done others : List Simple) (s : Simple) → tree ≡ done ++ s ∷ others → requirement_fits tree ≡ true → read_fits s ≡ true
+pub held_fits : (tree done others : List Simple) (s : Simple) → tree ≡ done ++ s ∷ others → requirement_fits tree ≡ true
+    → read_fits s ≡ true
 held_fits tree done others s whole fit =
     let all : (list_all read_fits done && (read_fits s && list_all read_fits others)) ≡ true =
     sym (list_all-append read_fits done (s ∷ others)) ∙ ap (list_all read_fits) (sym whole) ∙ fit in

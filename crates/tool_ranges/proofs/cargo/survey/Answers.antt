@@ -26,7 +26,8 @@ returns-in_default-behind c =
     c.fits-fit.result s seen.3 (seen.4 ∙ ap (λ b. Some (s, behind_comma b)) c.in_default-behind.is) c.loop-at-test.true
     (ap not (c.states_nothing.ensures ∙ sym (states_kind s.partial c.loop-at.simple.partial seen.5.1)))
     (c.fits-fit.ensures ∙ (c.cell_of-cell.ensures (as_read s) seen.5).1) _
-    (let found = c.in-Some.ensures in (found.0, ap comparator_at (sym c.as_bytes.ensures.value) ∙ found.1, found.2)) c.ended.result c.ended.ensures
+    (let found = c.in-Some.ensures in (found.0, ap comparator_at (sym c.as_bytes.ensures.value) ∙ found.1, found.2))
+    c.ended.result c.ended.ensures
 
 pub returns-in_default-read_comparator : goal.returns-in_default-read_comparator
 returns-in_default-read_comparator c =
