@@ -20,7 +20,7 @@ use crate::range_set::{RangeError, RangeSet};
 use semver_texts::dialect::Dialect;
 use std::alloc::{AllocError, Global};
 
-/// A table of simples.
+/// A table: which simples fit, and which comparators stand for each.
 pub trait Table {
     ghost DIALECT: { DialectView };
 
@@ -51,8 +51,8 @@ pub trait Table {
 }
 
 // Answer: equation.
-/// The range set of a text in two runs over its events: the first surveys all of it, and the second
-/// builds. The left side of a hyphen range begins so.
+/// The range set of a text by a table, in two runs over its events: the first surveys all of it,
+/// and the second builds. `lower` says how the left side of a hyphen range begins.
 pub fn read_by<T: Table>(
     alloc: Global,
     text: &[u8],

@@ -1,5 +1,5 @@
 //! The cells of the tables of Cargo and npm that have the comparators of a simple. Nothing here
-//! takes memory but `push`, which come once all is known to fit.
+//! takes memory but `push`, which comes once all is known to fit.
 
 ghost use Rattle.std.specs.Prelude.{◌≡◌, ◌≤◌, ◌++◌, ◌&&◌, ◌∷◌, true, false, [], Some, length, map};
 ghost use Rattle.std.specs.Prelude.{IfOk, MatchOption};
