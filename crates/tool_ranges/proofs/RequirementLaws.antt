@@ -1,7 +1,10 @@
 -- What is said of a requirement's text: it has one tree, and what a call refuses of it.
 use Rattle.std.proofs.Common.{◌≡◌, true, false, List, [], ◌∷◌, refl, ap, ◌∙◌}
-use Rattle.std.proofs.Common.{Some, None, sym, subst}
-use Rattle.std.specs.Prelude.{Ok, Err}
+use Rattle.std.proofs.Common.{Some, None, sym, subst, append-nil, arith}
+use Rattle.std.specs.Prelude.{Result, Ok, Err}
+use Rattle.std.proofs.Math.Bool.{and-true}
+use Rattle.semver_ranges.specs.declared.range_set.RangeSet.{RangeSet}
+use Rattle.tool_ranges.specs.CargoMeaning.{as_read}
 use Rattle.std.proofs.lemmas.Bool.{both_ways}
 use Rattle.semver_texts.specs.Texts.{Text}
 use Rattle.tool_ranges.specs.declared.cargo.Surveyed.{Surveyed}
@@ -9,11 +12,11 @@ use Rattle.semver_ranges.specs.declared.range_set.RangeError.{RangeError}
 use Rattle.semver_ranges.specs.declared.range_set.RangeError.TheVariants.{NotARange, NumberTooLarge, OutOfMemory}
 use Rattle.semver_ranges.specs.RangeTree.{Simple}
 use Rattle.tool_ranges.specs.CargoGrammar.{SpellsComparators, SpellsRequirement}
-use Rattle.tool_ranges.specs.CargoTable.{requirement_fits}
+use Rattle.tool_ranges.specs.CargoTable.{requirement_fits, written_one}
 use Rattle.tool_ranges.specs.CargoTexts.{RefusesRequirement}
-use Rattle.tool_ranges.specs.Steps.CargoReading.{comparator_at, IsRefusal, IsSurveyedAs}
+use Rattle.tool_ranges.specs.Steps.CargoReading.{comparator_at, in_one_range, IsRefusal, IsRewritten, IsRewrittenOne, IsSurveyedAs}
 use Rattle.tool_ranges.proofs.ComparatorReading.{ended_read, parted_read}
-use Rattle.tool_ranges.proofs.RequirementSteps.{first_left}
+use Rattle.tool_ranges.proofs.RequirementSteps.{at_last, at_start, first_left}
 
 -- ---- one tree
 
@@ -66,3 +69,17 @@ refused t OutOfMemory (tree, h, fit) = record {
   too_large = (λ e. cc, λ (tree', h', large). absurd (same_fit tree tree' t h h' fit large));
   out_of_memory = λ e. (tree, h, fit);
 }
+
+-- ---- one comparator
+
+pub one_rewritten : (t : Text) (s : Simple) (r : Result RangeSet RangeError) → comparator_at t ≡ Some (s, None)
+    → IsRewrittenOne (as_read s) r → IsRewritten t r
+one_rewritten t s r e = rewritten_so r where
+  spelled : SpellsRequirement (s ∷ []) t
+  spelled = record { comparators = (at_last t [] t s (at_start t) e).0; alone = refl; few = omega arith }
+
+  rewritten_so : (r : Result RangeSet RangeError) → IsRewrittenOne (as_read s) r → IsRewritten t r
+  rewritten_so (Ok set) (fit, same) = (s ∷ [], spelled, and-true _ ∙ fit, same ∙ ap in_one_range (sym (append-nil (written_one s))))
+  rewritten_so (Err NotARange) is = absurd is
+  rewritten_so (Err NumberTooLarge) large = (s ∷ [], spelled, and-true _ ∙ large)
+  rewritten_so (Err OutOfMemory) fit = (s ∷ [], spelled, and-true _ ∙ fit)

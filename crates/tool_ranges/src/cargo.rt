@@ -16,7 +16,10 @@ ghost use Rattle.tool_ranges.specs.CargoMeaning.{meets_requirement};
 ghost use Rattle.tool_ranges.specs.CargoTable.{rewritten_requirement};
 ghost use Rattle.tool_ranges.specs.CargoTexts.{RefusesRequirement};
 ghost use Rattle.tool_ranges.specs.Steps.CargoReading.{EndsAs, IsRefusal, IsRewritten};
+ghost use Rattle.tool_ranges.specs.Steps.CargoReading.{in_one_range, set_with, IsRewrittenOne};
 ghost use Rattle.tool_ranges.specs.Steps.CargoReading.{IsSurveyedAs};
+ghost use Rattle.tool_ranges.specs.Steps.Cells.{cell_fits, cell_written, IsBuildableAt};
+ghost use Rattle.semver_ranges.specs.Steps.CursorViews.{IsSimpleOf};
 ghost use Rattle.tool_ranges.specs.Steps.CargoPreReleases.{counting_one, judging, judging_one};
 
 mod asking;
@@ -25,13 +28,14 @@ mod judging;
 mod pre_releases;
 mod reading;
 
-use crate::rows;
+use crate::rows::{self, Cell};
 pub(crate) use asking::{ask, ask_with_all};
 use grammar::read_comparator;
 use judging::{JudgedVersions, push_judging};
 pub use reading::read;
 pub(crate) use reading::read_with_all;
 use semver_ranges::grammar::Simple;
+use semver_ranges::partial::{LowerBounds, Partial, RaisedBounds};
 use semver_ranges::{Comparator, Compat, Range, RangeError, RangeSet};
 use std::alloc::{AllocError, Global};
 
@@ -77,8 +81,20 @@ pub fn rewrite(alloc: Global, requirement: &str) -> Result<RangeSet, RangeError>
     rewritten(alloc, requirement)
 }
 
-/// The set of a requirement.
+/// The set of a requirement. For speed, one comparator alone is rewritten as it is read.
 fn rewritten(alloc: Global, requirement: &str) -> Result<RangeSet, RangeError>
+    ensures { IsRewritten requirement.now result }
+{
+    let Some((simple, None)) = read_comparator(requirement.as_bytes()) else {
+        return rewritten_all(alloc, requirement);
+    };
+    rewritten_one(alloc, &simple)
+}
+
+/// The set of a requirement in two runs: the first surveys all of it, and the second builds. For
+/// speed it is a function of its own: that of one comparator stays small.
+#[inline(never)]
+fn rewritten_all(alloc: Global, requirement: &str) -> Result<RangeSet, RangeError>
     ensures { IsRewritten requirement.now result }
 {
     let surveyed = survey(requirement)?;
@@ -86,6 +102,53 @@ fn rewritten(alloc: Global, requirement: &str) -> Result<RangeSet, RangeError>
         Ok((set, _)) => Ok(set),
         Err(_) => Err(RangeError::OutOfMemory),
     }
+}
+
+/// The set of one comparator, as it is read.
+fn rewritten_one(alloc: Global, simple: &Simple<'_>) -> Result<RangeSet, RangeError>
+    requires { (s : SimpleTree) × IsSimpleOf s simple.now }
+    ensures { (s : SimpleTree) → IsSimpleOf s simple.now → IsRewrittenOne s result }
+{
+    let cell = rows::cell_of(simple, Compat::Cargo);
+    if !cell.fits(&simple.partial) {
+        return Err(RangeError::NumberTooLarge);
+    }
+    match build_one(alloc, &simple.partial, cell) {
+        Ok(ranges) => Ok(RangeSet {
+            ranges,
+            compat: Compat::Cargo,
+        }),
+        Err(_) => Err(RangeError::OutOfMemory),
+    }
+}
+
+/// The range of one cell that fits. For speed the most frequent comparators aren't pushed.
+fn build_one(alloc: Global, partial: &Partial<'_>, cell: Cell) -> Result<Vec<Range>, AllocError>
+    requires buildable { IsBuildableAt cell partial.now }
+    requires fits { cell_fits cell partial.now ≡ true }
+    ensures { IfOk result (λ ranges. set_with ranges.items
+        ≡ in_one_range (cell_written cell partial.now)) }
+{
+    if let Cell::Shared(bounds) = cell {
+        return in_one_range(alloc, bounds.to_vec(alloc, partial, RaisedBounds::Exact)?);
+    }
+    let mut comparators = Vec::with_capacity(alloc, 1)?;
+    cell.push(alloc, partial, LowerBounds::Stated, &mut comparators)?;
+    in_one_range(alloc, comparators)
+}
+
+/// The one range that has the comparators.
+#[inline(always)]
+fn in_one_range(alloc: Global, comparator_set: Vec<Comparator>) -> Result<Vec<Range>, AllocError>
+    ensures { IfOk result (λ ranges. set_with ranges.items
+        ≡ in_one_range (map comparator_of comparator_set.items)) }
+{
+    let mut ranges = Vec::with_capacity(alloc, 1)?;
+    ranges.push_reserved(Range {
+        comparator_set,
+        compat: Compat::Cargo,
+    });
+    Ok(ranges)
 }
 
 /// A requirement that was surveyed: its first comparator, what follows the comma after it, and how
@@ -161,13 +224,8 @@ fn build(
         × (counts ≡ true → map range_of built.1.items ≡ flat_map counting_one tree)) }
 {
     let (comparator_set, counting) = build_comparators(alloc, surveyed, judged, counts)?;
-    let mut ranges = Vec::with_capacity(alloc, 1)?;
-    ranges.push_reserved(Range {
-        comparator_set,
-        compat: Compat::Cargo,
-    });
     let set = RangeSet {
-        ranges,
+        ranges: in_one_range(alloc, comparator_set)?,
         compat: Compat::Cargo,
     };
     Ok((set, counting))

@@ -2,7 +2,7 @@
 -- requirements follows, and what private contracts see of what it finds.
 use Prim.Native.Char.{code}
 use Rattle.std.specs.Prelude.{◌≡◌, Bool, true, false, ◌&&◌, ◌==◌, if◌then◌else◌, Option, Some}
-use Rattle.std.specs.Prelude.{None, List, [], ◌∷◌, IsTrue, Result, Ok, Err}
+use Rattle.std.specs.Prelude.{None, List, [], ◌∷◌, map, IsTrue, Result, Ok, Err}
 use Rattle.std.specs.Borrow.{Bor}
 use Rattle.semver_texts.specs.declared.dialect.Dialect.TheVariants as dialect
 use Rattle.semver_ranges.specs.declared.range_set.RangeSet.{RangeSet}
@@ -13,12 +13,16 @@ use Rattle.semver_ranges.specs.declared.grammar.Simple as read
 use Rattle.semver_texts.specs.Texts.{Text}
 use Rattle.semver_ranges.specs.RangeTree.{Form, PartialTree, Simple}
 use Rattle.semver_ranges.specs.Steps.Reading.{behind_blanks, operator, with_first, component}
-use Rattle.semver_ranges.specs.RangeViews.{set_of}
+use Rattle.semver_ranges.specs.declared.range.Compat.TheVariants.{Cargo}
+use Rattle.semver_ranges.specs.declared.range.Range.{Range}
+use Rattle.semver_ranges.specs.RangeViews.{range_of, set_of}
+use Rattle.semver_ranges.specs.RewritingTable.{PlainComparator, PlainSet}
 use Rattle.semver_ranges.specs.Steps.CursorViews.{IsSimpleOf}
 use Rattle.tool_ranges.specs.declared.cargo.Surveyed.{Surveyed}
 use Rattle.tool_ranges.specs.CargoGrammar.{is_of_cargo, SpellsRequirement}
 use Rattle.tool_ranges.specs.CargoMeaning.{as_read}
 use Rattle.tool_ranges.specs.CargoTable.{requirement_fits, rewritten_requirement}
+use Rattle.tool_ranges.specs.ToolTable.{fits_in, written_in}
 
 -- whether a text begins with `~>`
 abbrev pub begins_with_tilde_greater : Text → Bool
@@ -76,6 +80,23 @@ abbrev pub IsRewritten : Text → Result RangeSet RangeError → Type 0
 IsRewritten t (Ok set) = (tree : List Simple) × SpellsRequirement tree t
     × IsTrue (requirement_fits tree) × (set_of set ≡ rewritten_requirement tree)
 IsRewritten t (Err e) = IsRefusal t e
+
+-- a set of one range, in Cargo mode
+abbrev pub in_one_range : List PlainComparator → PlainSet
+in_one_range cs =
+    record { ranges = record { comparators = cs; compat = Cargo } ∷ []; compat = Cargo }
+
+-- the set of ranges that are built, in Cargo mode
+abbrev pub set_with : List Range → PlainSet
+set_with ranges = record { ranges = map range_of ranges; compat = Cargo }
+
+-- the set that one comparator is rewritten to, as it is read
+abbrev pub IsRewrittenOne : Simple → Result RangeSet RangeError → Type 0
+IsRewrittenOne s (Ok set) =
+    (fits_in Cargo s ≡ true) × (set_of set ≡ in_one_range (written_in Cargo s))
+IsRewrittenOne s (Err NotARange) = ⊥
+IsRewrittenOne s (Err NumberTooLarge) = fits_in Cargo s ≡ false
+IsRewrittenOne s (Err OutOfMemory) = fits_in Cargo s ≡ true
 
 -- the result at the end of a text, where a wildcard is alone or not, and all fits or not
 abbrev pub EndsAs : {A : Type 0} → Bool → Bool → A → Result A RangeError → Type 0

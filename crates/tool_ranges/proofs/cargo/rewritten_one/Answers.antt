@@ -1,0 +1,24 @@
+use Rattle.std.proofs.Common.{sym, ap, ◌∙◌}
+use Rattle.tool_ranges.specs.Steps.CargoReading.{in_one_range}
+use Rattle.tool_ranges.proofs.cargo.rewritten_one.Goals as goal
+
+pub fits-requires : goal.fits-requires
+fits-requires c = (c.cell_of-cell.ensures c.requires.0 c.requires.1).0
+
+pub returns-then-not-fits : goal.returns-then-not-fits
+returns-then-not-fits c = λ s is. sym (c.cell_of-cell.ensures s is).1 ∙ sym c.fits.ensures ∙ c.if-not-fits.true
+
+pub build_one-requires-clause-buildable : goal.build_one-requires-clause-buildable
+build_one-requires-clause-buildable c = (c.cell_of-cell.ensures c.requires.0 c.requires.1).0
+
+pub build_one-requires-clause-fits : goal.build_one-requires-clause-fits
+build_one-requires-clause-fits c = sym c.fits.ensures ∙ c.if-not-fits.false
+
+pub returns-in-Ok : goal.returns-in-Ok
+returns-in-Ok c = λ s is.
+    let has = c.cell_of-cell.ensures s is in
+    let fit = sym c.fits.ensures ∙ c.if-not-fits.false in
+    (sym has.1 ∙ fit, c.in-Ok.ensures ∙ ap in_one_range (has.2 fit))
+
+pub returns-in-Err : goal.returns-in-Err
+returns-in-Err c = λ s is. sym (c.cell_of-cell.ensures s is).1 ∙ sym c.fits.ensures ∙ c.if-not-fits.false
