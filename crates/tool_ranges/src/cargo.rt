@@ -17,7 +17,7 @@ ghost use Rattle.tool_ranges.specs.CargoTable.{rewritten_requirement};
 ghost use Rattle.tool_ranges.specs.CargoTexts.{RefusesRequirement};
 ghost use Rattle.tool_ranges.specs.Steps.CargoReading.{EndsAs, IsRefusal, IsRewritten};
 ghost use Rattle.tool_ranges.specs.Steps.CargoReading.{in_one_range, set_with, IsRewrittenOne};
-ghost use Rattle.tool_ranges.specs.Steps.CargoReading.{IsSurveyedAs};
+ghost use Rattle.tool_ranges.specs.Steps.CargoReading.{IsSetOf, IsSurveyedAs};
 ghost use Rattle.tool_ranges.specs.Steps.Cells.{cell_fits, cell_written, IsBuildableAt};
 ghost use Rattle.semver_ranges.specs.Steps.CursorViews.{IsSimpleOf};
 ghost use Rattle.tool_ranges.specs.Steps.CargoPreReleases.{counting_one, judging, judging_one};
@@ -81,25 +81,33 @@ pub fn rewrite(alloc: Global, requirement: &str) -> Result<RangeSet, RangeError>
     rewritten(alloc, requirement)
 }
 
-/// The set of a requirement. For speed, one comparator alone is rewritten as it is read.
+/// The set of a requirement. For speed, one comparator alone is rewritten as it is read, and what
+/// two runs give is ranges alone: so the set of one isn't copied from where theirs might be.
 fn rewritten(alloc: Global, requirement: &str) -> Result<RangeSet, RangeError>
     ensures { IsRewritten requirement.now result }
 {
     let Some((simple, None)) = read_comparator(requirement.as_bytes()) else {
-        return rewritten_all(alloc, requirement);
+        return match rewritten_all(alloc, requirement) {
+            Ok(ranges) => Ok(RangeSet {
+                ranges,
+                compat: Compat::Cargo,
+            }),
+            Err(refusal) => Err(refusal),
+        };
     };
     rewritten_one(alloc, &simple)
 }
 
-/// The set of a requirement in two runs: the first surveys all of it, and the second builds. For
+/// The range of a requirement in two runs: the first surveys all of it, and the second builds. For
 /// speed it is a function of its own: that of one comparator stays small.
 #[inline(never)]
-fn rewritten_all(alloc: Global, requirement: &str) -> Result<RangeSet, RangeError>
-    ensures { IsRewritten requirement.now result }
+fn rewritten_all(alloc: Global, requirement: &str) -> Result<Vec<Range>, RangeError>
+    ensures { MatchResult result (λ ranges. IsSetOf requirement.now (set_with ranges.items))
+        (λ e. IsRefusal requirement.now e) }
 {
     let surveyed = survey(requirement)?;
     match build(alloc, &surveyed, JudgedVersions::Releases, false) {
-        Ok((set, _)) => Ok(set),
+        Ok((ranges, _)) => Ok(ranges),
         Err(_) => Err(RangeError::OutOfMemory),
     }
 }
@@ -210,25 +218,21 @@ fn ended<T: Copy>(stands_alone: bool, fit: bool, answer: T) -> Result<T, RangeEr
     Ok(answer)
 }
 
-/// The set of a requirement, by which some versions are judged, and the ranges of the pre-releases
+/// The range of a requirement, by which some versions are judged, and the ranges of the pre-releases
 /// that count, if these are asked for.
 fn build(
     alloc: Global,
     surveyed: &Surveyed<'_>,
     judged: JudgedVersions,
     counts: bool,
-) -> Result<(RangeSet, Vec<Range>), AllocError>
+) -> Result<(Vec<Range>, Vec<Range>), AllocError>
     requires { (t : Text) × (tree : List SimpleTree) × IsSurveyedAs t tree surveyed.now }
     ensures { IfOk result (λ built. (t : Text) (tree : List SimpleTree)
-        → IsSurveyedAs t tree surveyed.now → (set_of built.0 ≡ judging judged tree)
+        → IsSurveyedAs t tree surveyed.now → (set_with built.0.items ≡ judging judged tree)
         × (counts ≡ true → map range_of built.1.items ≡ flat_map counting_one tree)) }
 {
     let (comparator_set, counting) = build_comparators(alloc, surveyed, judged, counts)?;
-    let set = RangeSet {
-        ranges: in_one_range(alloc, comparator_set)?,
-        compat: Compat::Cargo,
-    };
-    Ok((set, counting))
+    Ok((in_one_range(alloc, comparator_set)?, counting))
 }
 
 /// The comparators of that set, and those ranges.

@@ -75,10 +75,14 @@ abbrev pub IsSurveyedAs : Text → List Simple → Surveyed → Type 0
 IsSurveyedAs t tree surveyed = SpellsRequirement tree t × IsTrue (requirement_fits tree)
     × FindsComparator (comparator_at t) (Some (surveyed.first, surveyed.behind))
 
--- the set that a text is rewritten to, or why there is none
+-- the set that a text is rewritten to
+abbrev pub IsSetOf : Text → PlainSet → Type 0
+IsSetOf t set = (tree : List Simple) × SpellsRequirement tree t
+    × IsTrue (requirement_fits tree) × (set ≡ rewritten_requirement tree)
+
+-- that set, or why there is none
 abbrev pub IsRewritten : Text → Result RangeSet RangeError → Type 0
-IsRewritten t (Ok set) = (tree : List Simple) × SpellsRequirement tree t
-    × IsTrue (requirement_fits tree) × (set_of set ≡ rewritten_requirement tree)
+IsRewritten t (Ok set) = IsSetOf t (set_of set)
 IsRewritten t (Err e) = IsRefusal t e
 
 -- a set of one range, in Cargo mode

@@ -82,7 +82,11 @@ fn judged(
         → IsSurveyedAs t tree surveyed.now → Fits v
         → has set v ≡ meets_set v (judging judged tree)) }
 {
-    let (judging, _) = build(alloc, surveyed, judged, false)?;
+    let (ranges, _) = build(alloc, surveyed, judged, false)?;
+    let judging = RangeSet {
+        ranges,
+        compat: Compat::Cargo,
+    };
     VersionSet::of_set(alloc, &judging, PreReleases::Included)
 }
 
@@ -92,7 +96,11 @@ fn meant(alloc: Global, surveyed: &Surveyed<'_>) -> Result<VersionSet, AllocErro
     ensures { IfOk result (λ set. (t : Text) (tree : List SimpleTree) (v : PlainVersion)
         → IsSurveyedAs t tree surveyed.now → Fits v → has set v ≡ meets_requirement tree v) }
 {
-    let (rewritten, counting) = build(alloc, surveyed, JudgedVersions::Releases, true)?;
+    let (ranges, counting) = build(alloc, surveyed, JudgedVersions::Releases, true)?;
+    let rewritten = RangeSet {
+        ranges,
+        compat: Compat::Cargo,
+    };
     let releases = VersionSet::of_set(alloc, &rewritten, PreReleases::Excluded)?;
     if counting.is_empty() {
         return Ok(releases);

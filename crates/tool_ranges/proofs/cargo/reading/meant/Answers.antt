@@ -8,19 +8,19 @@ use Rattle.tool_ranges.proofs.cargo.reading.meant.Goals as goal
 
 pub returns-then-is_empty : goal.returns-then-is_empty
 returns-then-is_empty c = λ t tree v h small.
-    let built = c.in_ok-rewritten.ensures t tree h in
+    let built = c.in_ok-ranges.ensures t tree h in
     c.in_ok-releases.ensures.meaning (record { plain = v; build = [] }) small
     ∙ ap (λ set. is_empty v.pre && meets_set v set) built.0
     ∙ releases_meant v tree t small h.0.comparators
     (sym (built.1 refl)
-    ∙ none_made range_of c.in_ok-rewritten.counting.items _ _ c.is_empty.ensures (search rules) c.if-is_empty.true)
+    ∙ none_made range_of c.in_ok-ranges.counting.items _ _ c.is_empty.ensures (search rules) c.if-is_empty.true)
 
 pub returns : goal.returns
 returns c =
     if_ok c.union-2.result
     (λ set is t tree v h small. is v
     ∙ (λ i. (c.in_ok-releases.ensures.meaning (record { plain = v; build = [] }) small
-    ∙ ap (λ set. is_empty v.pre && meets_set v set) (c.in_ok-rewritten.ensures t tree h).0) i
+    ∙ ap (λ set. is_empty v.pre && meets_set v set) (c.in_ok-ranges.ensures t tree h).0) i
     || c.in_ok-counted.ensures t tree v h small i)
     ∙ all_meant v tree t small h.0.comparators)
     c.union-2.ensures.has
