@@ -1,9 +1,9 @@
 //! Tests of the library that need more than data. On what its calls return: what is read of texts,
 //! sets of versions, the derived orders and precedence, and values made by hand. On what they write
 //! and append: printed values, whole writes and the report, at writers that fail, and the lines of
-//! a text in pieces. Then it runs the example of README.md, and calls what allocates. It writes what
-//! it found. What that has to be is in the file beside this crate: it comes from the written rules
-//! and from the declarations of the Rust crate.
+//! a text in pieces. Then it runs the example of README.md, and calls what allocates. It writes
+//! what it found. What that has to be is in the file beside this crate: it comes from the written
+//! rules and from the declarations of the Rust crate.
 //!
 //! If standard input has a number, it only makes so many requests for memory, and then calls what
 //! allocates (`./test`, `requests`).

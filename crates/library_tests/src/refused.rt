@@ -1,6 +1,6 @@
-//! Calls what allocates, and checks that each call returns in full or out of memory, and leaves what
-//! it promises. With ample memory every call has to return in full; else the one request that is
-//! refused has to be met by exactly one call, which is named.
+//! Calls what allocates, and checks that each call returns in full or out of memory, and leaves
+//! what it promises. With ample memory every call has to return in full; else the one request that
+//! is refused has to be met by exactly one call, which is named.
 
 mod filters;
 mod fixed;

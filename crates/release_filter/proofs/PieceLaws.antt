@@ -211,7 +211,8 @@ module _ (same : OneVersion) (total : IsTotalOrder precedence) where
   module _ (s t u : LinesValue) (piece : Text) (js ks : List JudgedLine) (x y : JudgedLine) (old mid other new : Text) (a b : ℕ)
       (first : TakesAll s (take a piece) (js ++ x ∷ []) t old mid) (is : x.verdict ≡ invalid) (ended : t.unended ≡ []) where
     -- where a piece stops at its first invalid line, it stops at one place
-    pub not_later : a ≤ b → b ≤ length piece → TakesAll s (take b piece) (ks ++ y ∷ []) u other new → has_invalid ks ≡ false → u.unended ≡ []
+    pub not_later : a ≤ b → b ≤ length piece → TakesAll s (take b piece) (ks ++ y ∷ []) u other new → has_invalid ks ≡ false
+        → u.unended ≡ []
         → a ≡ b
     not_later before within second valid ended' =
         let more = take (b - a) (drop a piece) in

@@ -1,5 +1,6 @@
 -- Lines that are skipped: none has a version, and what is counted of one shows in its first bytes.
-use Rattle.std.proofs.Common.{◌≡◌, ◌≢◌, ◌∙◌, ◌++◌, ◌∷◌, ◌<◌, ◌≤◌, ◌+◌, ◌-◌, ◌&&◌, ◌==◌, [], List, ◌⊎◌, ℕ, Bool, true, false, refl, sym, subst, ap, ap₂, inl, inr}
+use Rattle.std.proofs.Common.{◌≡◌, ◌≢◌, ◌∙◌, ◌++◌, ◌∷◌, ◌<◌, ◌≤◌, ◌+◌, ◌-◌, ◌&&◌, ◌==◌, [], List, ◌⊎◌, ℕ, Bool, true, false, refl}
+use Rattle.std.proofs.Common.{sym, subst, ap, ap₂, inl, inr}
 use Rattle.std.proofs.Common.{append_assoc, append-nil, arith, cond, drop, length, length-append, length-take, ne_eqb, take}
 use Rattle.std.specs.Io.BufRead.{ends_with_byte, strip_last}
 use Rattle.std.proofs.lemmas.Bool.{cases_lt}
@@ -118,7 +119,8 @@ module _ (filter : FilterValue) (prefixes : List Text) (at_front : Bool) (front 
     enough = omega (arith, long, marked_length at_front front, strip_length 13 (after_mark at_front front))
 
     has_none : (more : Text) → HasNoVersion filter.dialect prefixes (line_with more)
-    has_none more = λ v has. let text = text_is more in isnt (has_front filter.dialect (asked prefixes) (line_with more) seen text.0 v text.1 has)
+    has_none more = λ v has. let text = text_is more in isnt
+        (has_front filter.dialect (asked prefixes) (line_with more) seen text.0 v text.1 has)
 
     has_text : (more : Text) → is_empty (line_text (line_with more)) ≡ false
     has_text more =

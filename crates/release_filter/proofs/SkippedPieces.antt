@@ -70,7 +70,8 @@ module _ (t : LinesValue) (front dropped : Text) (long : length front ≡ 4096) 
         (is_skipped t.filter t.prefixes t.at_front front long none isnt (dropped ++ end))
 
     count_one : (end : Text) (c : CountsValue)
-        → counted_as invalid c (after_mark t.at_front (front ++ end)) ≡ counted_as invalid c (after_mark t.at_front ((front ++ dropped) ++ end))
+        → counted_as invalid c (after_mark t.at_front (front ++ end)) ≡ counted_as invalid c
+            (after_mark t.at_front ((front ++ dropped) ++ end))
     count_one end c =
         counted_alike t.filter t.prefixes t.at_front front long none isnt end (dropped ++ end) c
         ∙ ap (λ l. counted_as invalid c (after_mark t.at_front l)) (sym (append_assoc front dropped end))
@@ -90,7 +91,8 @@ module _ (t : LinesValue) (front dropped : Text) (long : length front ≡ 4096) 
         × (u.at_front ≡ t.at_front)
     took_on u q ks old new b nothing =
         let rest : front ++ q ≡ u.unended = b.cut.whole ∙ ap (λ l. concat l ++ u.unended) nothing in
-        let more = subst NoEnd (ap (drop (length front)) (sym rest) ∙ dropped_front front q) (All-drop (λ x. x ≢ 10) (length front) u.unended
+        let more = subst NoEnd (ap (drop (length front)) (sym rest) ∙ dropped_front front q)
+            (All-drop (λ x. x ≢ 10) (length front) u.unended
         b.cut.no_end) in
         let front_is = ap (λ l. t.at_front && is_empty l) nothing ∙ and-true t.at_front in (
           record {
@@ -129,7 +131,8 @@ module _ (t : LinesValue) (front dropped : Text) (long : length front ≡ 4096) 
         let whole = b.cut.whole ∙ ap (λ l. concat l ++ u.unended) some ∙ append_assoc y (concat ys) u.unended in
         let end = line_after front y q (concat ys ++ u.unended) none each.0 whole in
         let all = b.judges.all ∙ ap (marked_off t.at_front) some in
-        let line : k.line ≡ after_mark t.at_front (front ++ end.0) = ap (λ (l : List Text). first_of l k.line) all ∙ ap (after_mark t.at_front) end.1 in
+        let line : k.line ≡ after_mark t.at_front (front ++ end.0) = ap (λ (l : List Text). first_of l k.line) all
+            ∙ ap (after_mark t.at_front) end.1 in
         let verdict = must_be end.0 k.verdict (subst (λ l. IsVerdictOn t.filter t.prefixes l k.verdict) line b.judges.each.0) in (
           line_as end.0 ∷ ks,
           (inr (verdict, refl), alike ks),
@@ -234,7 +237,8 @@ module _ (t u : LinesValue) (whole q : Text) (ks : List JudgedLine) (mid new : T
     where
       by_lines : (lines : List Text) → b.all.lines ≡ lines → Next (record t { unended = front ++ dropped })
       by_lines [] nothing =
-          let on = took_on t front dropped long none_front none_dropped isnt (record u { unended = b.unended }) q ks mid new b.all nothing in
+          let on = took_on t front dropped long none_front none_dropped isnt (record u { unended = b.unended }) q ks mid new b.all
+              nothing in
           let there = subst (λ r. IsLeft t.filter.dialect t.prefixes u.at_front r u.unended) on.1 b.left in
           let here = subst (λ f. IsLeft t.filter.dialect t.prefixes f (front ++ q) u.unended) on.2 there in
           let left = front_left t.filter.dialect t.prefixes t.at_front front q u.unended long isnt here in
@@ -247,12 +251,14 @@ module _ (t u : LinesValue) (whole q : Text) (ks : List JudgedLine) (mid new : T
               left = inr (
                 left ∙ sym first,
                 subst (λ f. ¬ MayHaveVersion t.filter.dialect t.prefixes f ((front ++ dropped) ++ q)) (sym on.2)
-                    (subst (λ l. ¬ BeginsAfterOne t.filter.dialect (asked t.prefixes) (strip_last 13 (after_mark t.at_front l))) (sym first) isnt),
+                    (subst (λ l. ¬ BeginsAfterOne t.filter.dialect (asked t.prefixes) (strip_last 13 (after_mark t.at_front l)))
+                        (sym first) isnt),
               );
             },
           )
       by_lines (y ∷ ys) some =
-          let end = took_end t front dropped long none_front none_dropped isnt (record u { unended = b.unended }) q y ys ks mid new b.all some in
+          let end = took_end t front dropped long none_front none_dropped isnt (record u { unended = b.unended }) q y ys ks mid new
+              b.all some in
           (end.0, end.1, record { unended = b.unended; all = end.2; left = b.left })
 
   next : IsLeft t.filter.dialect t.prefixes t.at_front whole t.unended → Takes t q ks u mid new → Next (record t { unended = whole })
@@ -264,7 +270,8 @@ module _ (t u : LinesValue) (whole q : Text) (ks : List JudgedLine) (mid new : T
       by_length (inl longer) =
           let cut = subst (λ r. Takes (record t { unended = r }) q ks u mid new) is b in
           subst (λ r. Next (record t { unended = r })) (take-append-drop 4096 whole)
-          (by_lines (take 4096 whole) (drop 4096 whole) (omega (arith, length-take 4096 whole, longer)) (All-take (λ x. x ≢ 10) 4096 whole none)
+          (by_lines (take 4096 whole) (drop 4096 whole) (omega (arith, length-take 4096 whole, longer))
+              (All-take (λ x. x ≢ 10) 4096 whole none)
           (All-drop (λ x. x ≢ 10) 4096 whole none) isnt cut cut.all.lines refl)
 
 module _ (total : IsTotalOrder precedence) where
@@ -325,6 +332,7 @@ module _ (total : IsTotalOrder precedence) where
           by_length (inl longer) =
               subst (λ r. Last (record t { unended = r })) (take-append-drop 4096 a.unended)
               (took_last t (take 4096 a.unended) (drop 4096 a.unended) (omega (arith, length-take 4096 a.unended, longer))
-              (All-take (λ x. x ≢ 10) 4096 a.unended a.all.cut.no_end) (All-drop (λ x. x ≢ 10) 4096 a.unended a.all.cut.no_end) isnt u ks mid
+              (All-take (λ x. x ≢ 10) 4096 a.unended a.all.cut.no_end) (All-drop (λ x. x ≢ 10) 4096 a.unended a.all.cut.no_end) isnt u
+                  ks mid
               new
               (subst (λ r. Finishes (record t { unended = r }) ks u mid new) is b))

@@ -83,7 +83,8 @@ begun s = record s { at_front = true; unended = []; held = emptied s.held }
 -- a piece was taken up to an error. The memory ran out; or the last line that was taken is the
 -- first one that has a text and no version, and this is its number
 abbrev pub StopsAs : LinesError → LinesValue → Text → LinesValue → Text → Text → Type 0
-StopsAs OutOfMemory s piece t old new = (judged : List JudgedLine) × TakesAll s piece judged t old new
+StopsAs OutOfMemory s piece t old new =
+    (judged : List JudgedLine) × TakesAll s piece judged t old new
     × (IsTrue s.is_strict → has_invalid judged ≡ false)
 StopsAs (NoVersion number) s piece t old new =
     IsTrue s.is_strict × (judged : List JudgedLine) × (last : JudgedLine)

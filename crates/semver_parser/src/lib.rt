@@ -1,8 +1,8 @@
 //! Version texts and range texts as plain data: tokens, a `Version` that prints again, and a
 //! `RangeSet` of plain comparators.
 //!
-//! Its parts are in crates below it: tokens and the steps of a parser, versions, and ranges. Here is
-//! their whole surface.
+//! Its parts are in crates below it: tokens and the steps of a parser, versions, and ranges. Here
+//! is their whole surface.
 #![tactic(auto)]
 
 pub mod laws;

@@ -1,5 +1,6 @@
 -- A version text of any dialect is UTF-8.
-use Rattle.std.proofs.Common.{◌≡◌, ◌⊎◌, ℕ, ◌^◌, ◌<◌, Bool, true, List, [], ◌∷◌, ◌++◌, codes, decimal, map, refl, sym, subst, arith, ⊎_elim, append_assoc, ◌∙◌, inl, inr}
+use Rattle.std.proofs.Common.{◌≡◌, ◌⊎◌, ℕ, ◌^◌, ◌<◌, Bool, true, List, [], ◌∷◌, ◌++◌, codes, decimal, map, refl, sym, subst}
+use Rattle.std.proofs.Common.{arith, ⊎_elim, append_assoc, ◌∙◌, inl, inr}
 use Rattle.std.specs.Prelude.{IsTrue, IsUtf8, ◌||◌, ◌==◌}
 use Rattle.std.specs.Str.{is_utf8, chars}
 use lib.Utf8.{encode}
@@ -145,7 +146,8 @@ crate_utf8 : (v : VersionValue) (text : Text) → SpellsVersion v text → IsUtf
 crate_utf8 v text w =
     let s = w.spells in
     let three : Text = join_with_byte 46 (map decimal (numbers v.plain)) in
-    let core : IsUtf8 w.core = subst IsUtf8 (sym (s.spelled ∙ (λ i. three ++ s.pre.joined i ++ s.build.joined i) ∙ append_assoc three _ _)) (ascii_utf8 _ (core_ascii v s.pre.texts s.build.texts s.major
+    let core : IsUtf8 w.core = subst IsUtf8 (sym (s.spelled ∙ (λ i. three ++ s.pre.joined i ++ s.build.joined i)
+        ∙ append_assoc three _ _)) (ascii_utf8 _ (core_ascii v s.pre.texts s.build.texts s.major
     s.minor s.patch (spelled_kept_all v.plain.pre s.pre.texts s.pre.each) (spelled_kept_all v.build s.build.texts s.build.each))) in
     subst IsUtf8 (sym w.whole) (IsUtf8-append (w.before ++ w.core) w.after
     (IsUtf8-append w.before w.core (spaces_utf8 w.before w.spaces_before) core) (spaces_utf8 w.after w.spaces_after))

@@ -7,8 +7,8 @@ use Rattle.semver_parser_c.specs.Numbers as number
 use Rattle.semver_parser_c.specs.Faults.{IsOneOf}
 use Rattle.semver_parser_c.specs.Readings.{IsReading, reading_number}
 
--- the number says whether a text gives a range by a reading, or why not; memory may run out in place
--- of the last two errors
+-- the number says whether a text gives a range by a reading, or why not; memory may run out in
+-- place of the last two errors
 pub record ExplainsBy (reading : Reading) (text : Text) (n : ℤ) : Type 0 where
   pub ok : (n ≡ number.ok) ↔ (IsUtf8 text × HasSetAs reading text)
   pub not_utf8 : (n ≡ number.range_not_utf8) ↔ ¬ (IsUtf8 text)

@@ -1,5 +1,6 @@
 -- Words that are too long to npm: what their bytes say of their numbers and identifiers, and that no word of up to 250 bytes is one.
-use Rattle.std.proofs.Common.{◌≡◌, ℕ, ◌+◌, ◌-◌, ◌≤◌, Bool, true, false, ◌&&◌, ◌||◌, not, List, [], ◌∷◌, ◌++◌, codes, length, take, refl, sym, ap, ◌∙◌}
+use Rattle.std.proofs.Common.{◌≡◌, ℕ, ◌+◌, ◌-◌, ◌≤◌, Bool, true, false, ◌&&◌, ◌||◌, not, List, [], ◌∷◌, ◌++◌, codes, length, take}
+use Rattle.std.proofs.Common.{refl, sym, ap, ◌∙◌}
 use Rattle.std.proofs.Common.{All, Some, None, arith, length-append, subst, append-nil}
 use Rattle.std.specs.Prelude.{nat_le, if◌then◌else◌, ◌==◌}
 use Rattle.std.specs.Char.{is_ascii_digit}
@@ -13,7 +14,8 @@ use Rattle.std.proofs.lemmas.List.Sums.{prefix_len-le-length}
 use Rattle.semver_texts.specs.Texts.{Text, cut_at_dots, is_dot, is_empty, marked}
 use Rattle.semver_texts.proofs.Lists.{by_test}
 use Rattle.semver_ranges.specs.declared.partial.Components.{Components}
-use Rattle.semver_ranges.specs.RangeTree.{PartialTree, one, two, three, Role, SpellsPartial, is_component, components, pre_parts, build_parts}
+use Rattle.semver_ranges.specs.RangeTree.{PartialTree, one, two, three, Role, SpellsPartial, is_component, components, pre_parts}
+use Rattle.semver_ranges.specs.RangeTree.{build_parts}
 use Rattle.semver_ranges.specs.RangeTree.{qualifier, has_short_parts, states_three, is_taken_whole, numbers_and_pre, is_short_word}
 use Rattle.semver_ranges.specs.NpmLengths.{is_short_number, is_short_pre, is_short_build, is_short_version, leading_digits}
 use Rattle.semver_texts.specs.declared.dialect.Dialect.{Dialect}
@@ -173,11 +175,13 @@ short_word role p t n h less small =
     let pre = marked (codes "-") (pre_parts p) in
     let build = marked (codes "+") (build_parts p) in
     let whole : length t ≡ length (numbers_of p) + (length pre + length build) =
-    ap length (spelled_parts p t h) ∙ length-append (numbers_of p) (pre ++ build) ∙ ap (λ k. length (numbers_of p) + k) (length-append pre build) in
+    ap length (spelled_parts p t h) ∙ length-append (numbers_of p) (pre ++ build)
+        ∙ ap (λ k. length (numbers_of p) + k) (length-append pre build) in
     let parts : has_short_parts p ≡ true = and_from _ _ (components_short p (omega (arith, whole)))
     (and_from _ _ (marked_short is_short_pre 250 short_pre 45 (pre_parts p) (omega (arith, whole)))
     (marked_short is_short_build 250 (λ t e. within (length t) 250 e) 43 (build_parts p) (omega (arith, whole)))) in
-    let version : is_short_version (if is_taken_whole role p then n else length (numbers_and_pre p)) ≡ true = by_test (is_taken_whole role p)
+    let version : is_short_version (if is_taken_whole role p then n else length (numbers_and_pre p)) ≡ true = by_test
+        (is_taken_whole role p)
     (λ y. rw y (within n 256 (omega arith)))
     (λ no. rw no (within (length (numbers_of p ++ pre)) 256 (omega (arith, whole, length-append (numbers_of p) pre)))) in
     and_from _ _ parts (rw version (or_true (not (states_three p)))) where

@@ -4,8 +4,9 @@
 //! read is `None`.
 
 ghost use Rattle.semver_texts.specs.Texts.{is_dot};
-ghost use Rattle.std.specs.Prelude.{◌≡◌, ◌||◌, ◌<◌, ◌≤◌, ◌+◌, ◌-◌, ◌*◌, ◌++◌, ℕ, Some, None, [], ◌∷◌};
-ghost use Rattle.std.specs.Prelude.{length, take, drop, codes, false, true, List, MatchOption};
+ghost use Rattle.std.specs.Prelude.{◌≡◌, ◌||◌, ◌<◌, ◌≤◌, ◌+◌, ◌-◌, ◌*◌, ◌++◌, ℕ, Some, None, []};
+ghost use Rattle.std.specs.Prelude.{◌∷◌, length, take, drop, codes, false, true, List};
+ghost use Rattle.std.specs.Prelude.{MatchOption};
 ghost use Rattle.std.specs.Prelude.{IfSome};
 ghost use Rattle.std.specs.List.{list_all, slice_split};
 ghost use Rattle.std.specs.Str.Parse.{digits_value};

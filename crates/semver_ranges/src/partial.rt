@@ -13,7 +13,8 @@ ghost use Rattle.semver_ranges.specs.ExactBounds.{exact_bound};
 ghost use Rattle.semver_ranges.specs.RangeViews.{comparator_of, identifier_of};
 ghost use Rattle.semver_ranges.specs.Steps.PartialViews.{states_none, stated_of};
 ghost use Rattle.semver_texts.specs.Texts.{cut_at_dots};
-ghost use Rattle.semver_ranges.specs.Steps.PartialViews.{number_at, place_number, pre_of, version_of};
+ghost use Rattle.semver_ranges.specs.Steps.PartialViews.{number_at, place_number, pre_of};
+ghost use Rattle.semver_ranges.specs.Steps.PartialViews.{version_of};
 ghost use Rattle.semver_ranges.specs.Steps.PartialViews.{AreComponentsOf, IsPartialOf};
 ghost use Rattle.semver_ranges.specs.Steps.PartialViews.{PartsPass, begun_as};
 

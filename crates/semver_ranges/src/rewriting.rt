@@ -88,7 +88,7 @@ impl Bounds {
     }
 
     // Answer: equation.
-    /// The comparators by themselves. For speed none of them is pushed where there might be no room.
+    /// The comparators by themselves. For speed none is pushed where there might be no room.
     #[inline(always)]
     pub fn to_vec(
         self,

@@ -101,7 +101,8 @@ module _ (v : PlainVersion) where
 
   -- ---- the crate
   module _ (compat : Compat) where
-    crate_terms : (r : RangeTree) → list_all (term_met (Crate compat) v) (yielded Stated r) ≡ list_all (λ t. meets_term compat t v) (terms r)
+    crate_terms : (r : RangeTree) → list_all (term_met (Crate compat) v) (yielded Stated r) ≡ list_all (λ t. meets_term compat t v)
+        (terms r)
     crate_terms r = all_terms (λ t. meets_term compat t v) refl (λ l r' a b. rw (a, b) refl) r
 
     pub stated_said : (tree : SetTree) → list_any (range_met (Crate compat) v (is_empty v.pre)) tree

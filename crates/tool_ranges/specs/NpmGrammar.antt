@@ -1,5 +1,5 @@
 -- A range text as npm reads it, and the trees that spell it: the port's trees in npm's dialect,
--- which has the bounds of node-semver 7 on lengths, where each character beyond ASCII is white space
+-- which has the bounds of node-semver 7 on lengths, where each non-ASCII character is white space
 -- to JavaScript.
 use Rattle.std.specs.Prelude.{ℕ, Bool, ◌||◌, ◌==◌, IsTrue}
 use Rattle.std.specs.Int.{is_in_range}

@@ -218,8 +218,8 @@ fn ended<T: Copy>(stands_alone: bool, fit: bool, answer: T) -> Result<T, RangeEr
     Ok(answer)
 }
 
-/// The range of a requirement, by which some versions are judged, and the ranges of the pre-releases
-/// that count, if these are asked for.
+/// The range of a requirement, by which some versions are judged, and the ranges of the
+/// pre-releases that count, if these are asked for.
 fn build(
     alloc: Global,
     surveyed: &Surveyed<'_>,

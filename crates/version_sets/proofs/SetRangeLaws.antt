@@ -5,7 +5,8 @@ use Rattle.semver_parser.specs.Versions.{PlainVersion}
 use Rattle.semver_parser.specs.Meeting.{meets_set}
 use Rattle.semver_parser.specs.PrintedRanges.{is_printable_version}
 use Rattle.version_sets.specs.VersionSets.{SetValue, has, IsIn, IsRelease, IsPreRelease, IsNormal}
-use Rattle.version_sets.specs.SetRanges.{next_release, next_pre_release, release_ranges, pre_release_ranges, is_whole, ranges_text, ReadsBack}
+use Rattle.version_sets.specs.SetRanges.{next_release, next_pre_release, release_ranges, pre_release_ranges, is_whole}
+use Rattle.version_sets.specs.SetRanges.{ranges_text, ReadsBack}
 use Rattle.std.specs.Prelude.{slice_get}
 use Rattle.version_sets.proofs.FirstSwitches.{TellsPlain, first_release, first_pre_release}
 use Rattle.version_sets.proofs.IntervalLaws.{intervals_meet}

@@ -93,7 +93,10 @@ impl VersionSet {
 
 /// Ranges as a set in npm mode.
 fn in_npm_mode(ranges: Vec<Range>) -> SetRanges
-    ensures { set_of result.range_set ≡ record { ranges = map range_of ranges.items; compat = Npm } }
+    ensures { set_of result.range_set ≡ record {
+      ranges = map range_of ranges.items;
+      compat = Npm;
+    } }
 {
     SetRanges {
         range_set: RangeSet {

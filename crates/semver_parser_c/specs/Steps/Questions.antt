@@ -1,5 +1,5 @@
--- A means of proof, which no public clause cites: a range that is asked of versions, by its set or as
--- its text, and what is said of a version.
+-- A means of proof, which no public clause cites: a range that is asked of versions, by its set or
+-- as its text, and what is said of a version.
 use Rattle.std.specs.Prelude.{ℤ, Bool, Result, Ok, Err, ◌≡◌}
 use Rattle.semver_parser.specs.Texts.{Text}
 use Rattle.semver_parser.specs.Versions.{VersionValue}

@@ -70,7 +70,8 @@ lower_of (Crate mode) = lower.Stated
 abbrev pub term_met : Terms → PlainVersion → Simple → Bool
 term_met Npm v s = npm.meets_by_count s.form (stated s.partial) (zero_filled s.partial) v
 term_met NpmAll v s = all.meets_one mode.Npm s v
-term_met (Crate compat) v s = meets_stated compat s.form (stated s.partial) (zero_filled s.partial) v
+term_met (Crate compat) v s =
+    meets_stated compat s.form (stated s.partial) (zero_filled s.partial) v
 
 -- whether its numbers fit, and those of its raised bound
 abbrev pub term_fits : Terms → Simple → Bool
@@ -110,7 +111,8 @@ after terms v counts t (next_range ∷ es) = after terms v counts (ended counts 
 -- whether a range is met by each of the simples that it is yielded as, and the version counts in it
 abbrev pub range_met : Terms → PlainVersion → Bool → RangeTree → Bool
 range_met terms v counts r = list_all (term_met terms v) (yielded (lower_of terms) r)
-    && (counts || list_any (λ s. states_pre_release_at (of_simple s) v) (yielded (lower_of terms) r))
+    && (counts
+    || list_any (λ s. states_pre_release_at (of_simple s) v) (yielded (lower_of terms) r))
 
 -- whether a range asks nothing
 abbrev pub range_every : Terms → RangeTree → Bool
@@ -139,7 +141,8 @@ comparator_met takes_all v s = if takes_all then all.meets_one mode.Cargo s v
 
 -- each comparator, and it counts
 abbrev pub requirement_met : Bool → PlainVersion → Bool → List Simple → Bool
-requirement_met takes_all v counts tree = list_all (λ s. comparator_met takes_all v (as_read s)) tree
+requirement_met takes_all v counts tree =
+    list_all (λ s. comparator_met takes_all v (as_read s)) tree
     && (counts || list_any (λ s. states_pre_release_at (of_simple s) v) tree)
 
 abbrev pub SaysRequired : Bool → PlainVersion → Bool → Text → Bool → Type 0

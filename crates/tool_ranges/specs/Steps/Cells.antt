@@ -48,7 +48,8 @@ bound_at (Some place) p = Some (up (place_number place) (stated_of p))
 
 -- whether the numbers and the raised bound are at most 2^53 - 1
 abbrev pub is_safe_cell : Cell → Partial → Bool
-is_safe_cell c p = (p.fits && list_all is_safe (stated_of p)) && is_safe_bound (bound_at (cell_place c) p)
+is_safe_cell c p =
+    (p.fits && list_all is_safe (stated_of p)) && is_safe_bound (bound_at (cell_place c) p)
 
 -- the comparators
 abbrev pub cell_written : Cell → Partial → List PlainComparator

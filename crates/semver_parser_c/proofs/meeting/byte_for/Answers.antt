@@ -33,10 +33,12 @@ of_met m range version met (read, means) = record {
 }
 
 pub returns-in-Ok-true : goal.returns-in-Ok-true
-returns-in-Ok-true c = λ m range asked. of_met m range _ true (rw (c.in-Ok-true.is, c.in-Ok-true.field-0-test) at (c.judge.ensures m range asked))
+returns-in-Ok-true c = λ m range asked. of_met m range _ true
+    (rw (c.in-Ok-true.is, c.in-Ok-true.field-0-test) at (c.judge.ensures m range asked))
 
 pub returns-in-Ok-false : goal.returns-in-Ok-false
-returns-in-Ok-false c = λ m range asked. of_met m range _ false (rw (c.in-Ok-false.is, c.in-Ok-false.field-0-test) at (c.judge.ensures m range asked))
+returns-in-Ok-false c = λ m range asked. of_met m range _ false
+    (rw (c.in-Ok-false.is, c.in-Ok-false.field-0-test) at (c.judge.ensures m range asked))
 
 pub returns-in-Err : goal.returns-in-Err
 returns-in-Err c = λ m range asked.

@@ -9,7 +9,8 @@ use Rattle.semver_ranges.proofs.limits.is_short_word.Goals.{In-Some}
 written : (c : In-Some) (p : PartialTree) → SpellsPartial p c.behind_v-partial.result.now → AreWritten p c.in-Some.written
 written c p h =
     let found = c.in-Some.ensures in
-    subst (λ q. AreWritten q c.in-Some.written) (reads_same p found.0 c.behind_v-partial.result.now c.in-Some.field-0-1.now h found.1) found.2
+    subst (λ q. AreWritten q c.in-Some.written) (reads_same p found.0 c.behind_v-partial.result.now c.in-Some.field-0-1.now h found.1)
+        found.2
 
 pub is_short_partial-requires : goal.is_short_partial-requires
 is_short_partial-requires c =

@@ -6,7 +6,8 @@ pub returns-in-Some : goal.returns-in-Some
 returns-in-Some c = λ s is. above_cell c.args.compat s c.args.simple.now is c.in-Some.place c.in-Some.ensures.0 c.in-Some.ensures.1
 
 pub returns-in-None : goal.returns-in-None
-returns-in-None c = λ s is. below_cell c.args.compat s c.args.simple.now is c.in-None.ensures (sym c.ends_below.ensures ∙ c.if-ends_below.true)
+returns-in-None c = λ s is. below_cell c.args.compat s c.args.simple.now is c.in-None.ensures
+    (sym c.ends_below.ensures ∙ c.if-ends_below.true)
 
 pub returns-in-None-2 : goal.returns-in-None-2
 returns-in-None-2 c = λ s is. shared_cell c.args.compat s c.args.simple.now is c.rewritten.result c.in-None.ensures

@@ -17,4 +17,5 @@ pub returns-clause-no_memory : goal.returns-clause-no_memory
 returns-clause-no_memory c = (found c).no_memory
 
 pub returns-clause-meaning : goal.returns-clause-meaning
-returns-clause-meaning c = if_ok c.ask_comparators.result (λ said says tree spelled. says tree spelled ∙ ap (λ counts. requirement_met false (asked_of c.args.version.now) counts tree) c.is_release.ensures) (found c).says
+returns-clause-meaning c = if_ok c.ask_comparators.result (λ said says tree spelled. says tree spelled
+    ∙ ap (λ counts. requirement_met false (asked_of c.args.version.now) counts tree) c.is_release.ensures) (found c).says
