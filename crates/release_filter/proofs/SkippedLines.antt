@@ -4,7 +4,8 @@ use Rattle.std.proofs.Common.{sym, subst, ap, ap₂, inl, inr}
 use Rattle.std.proofs.Common.{append_assoc, append-nil, arith, cond, drop, length, length-append, length-take, ne_eqb, take}
 use Rattle.std.specs.Io.BufRead.{ends_with_byte, strip_last}
 use Rattle.std.proofs.lemmas.Bool.{cases_lt}
-use Rattle.std.proofs.lemmas.List.{take_all, take-append-drop, take-append-le}
+use Rattle.std.proofs.Math.Seq.{take-append_seam}
+use Rattle.std.proofs.lemmas.List.{take-append-drop, take-append-le}
 use Rattle.std.proofs.lemmas.List.Elements.{All-head, All-tail}
 use Rattle.semver_parser.specs.Texts.{Text, is_empty}
 use Rattle.semver_parser.specs.Versions.{VersionValue}
@@ -13,9 +14,10 @@ use Rattle.semver_parser.specs.declared.version.Dialect.{Dialect}
 use Rattle.release_filter.specs.Counting.{CountsValue, counted_as, first_of, one_more}
 use Rattle.release_filter.specs.Filters.{FilterValue}
 use Rattle.release_filter.specs.LineTexts.{after_mark, line_text}
-use Rattle.release_filter.specs.Skipping.{BeginsAfter, BeginsAfterOne, IsLeft, MayHaveVersion}
+use Rattle.release_filter.specs.Skipping.{BeginsAfter, BeginsAfterOne, IsLeft, MayHaveVersion, MayUpTo, ShowsNone}
 use Rattle.release_filter.specs.Verdicts.{HasNoVersion, HasVersion, IsVerdictOn, Verdict, asked, dropped, empty, invalid, kept}
 use Rattle.semver_texts.proofs.Lists.{by_test}
+use Rattle.release_filter.proofs.Looks.{looked_least, may_longer}
 use Rattle.release_filter.proofs.NumberedLines.{strip_behind}
 use Rattle.release_filter.proofs.Passing.{not_both}
 use Rattle.release_filter.proofs.TakenPieces.{NoEnd, no_end_marked}
@@ -101,9 +103,12 @@ strip_length byte xs =
 
 -- ---- lines that begin with this front, which are skipped
 
-module _ (filter : FilterValue) (prefixes : List Text) (at_front : Bool) (front : Text) (long : length front ≡ 4096) (none : NoEnd front)
-    (isnt : ¬ BeginsAfterOne filter.dialect (asked prefixes) (strip_last 13 (after_mark at_front front)))
+module _ (filter : FilterValue) (prefixes : List Text) (at_front : Bool) (front : Text) (none : NoEnd front)
+    (shows : ShowsNone filter.dialect prefixes at_front front)
   where
+    long : 4096 ≤ length front
+    long = looked_least (length front) shows.looked_at
+
     abbrev line_with : Text → Text
     line_with more = after_mark at_front (front ++ more)
 
@@ -119,7 +124,7 @@ module _ (filter : FilterValue) (prefixes : List Text) (at_front : Bool) (front 
     enough = omega (arith, long, marked_length at_front front, strip_length 13 (after_mark at_front front))
 
     has_none : (more : Text) → HasNoVersion filter.dialect prefixes (line_with more)
-    has_none more = λ v has. let text = text_is more in isnt
+    has_none more = λ v has. let text = text_is more in shows.none
         (has_front filter.dialect (asked prefixes) (line_with more) seen text.0 v text.1 has)
 
     has_text : (more : Text) → is_empty (line_text (line_with more)) ≡ false
@@ -141,8 +146,8 @@ module _ (filter : FilterValue) (prefixes : List Text) (at_front : Bool) (front 
     must_be_skipped more invalid on = refl
     must_be_skipped more empty on = absurd (not_both on.1 (has_text more))
 
-    shows : (more : Text) → take 81 (line_text (line_with more)) ≡ take 81 seen
-    shows more = let text = text_is more in ap (take 81) text.1 ∙ take-append-le 81 seen text.0 enough
+    counted_front : (more : Text) → take 81 (line_text (line_with more)) ≡ take 81 seen
+    counted_front more = let text = text_is more in ap (take 81) text.1 ∙ take-append-le 81 seen text.0 enough
 
     -- and is counted as each other one
     pub counted_alike : (more other : Text) (c : CountsValue)
@@ -152,25 +157,48 @@ module _ (filter : FilterValue) (prefixes : List Text) (at_front : Bool) (front 
           lines = one_more c.lines;
           invalid = one_more c.invalid;
           first_invalid = first_of c.first_invalid (record { number = one_more c.lines; front = t });
-        }) (shows more ∙ sym (shows other))
+        }) (counted_front more ∙ sym (counted_front other))
 
 -- ---- what is left of a line
+
+-- what shows that a line has no version is not less than what may show it
+not_shown : (dialect : Dialect) (prefixes : List Text) (at_front : Bool) (line front rest : Text) (count : ℕ)
+    → MayUpTo dialect prefixes at_front line count → line ≡ front ++ rest → ShowsNone dialect prefixes at_front front
+    → count ≤ length front
+not_shown dialect prefixes at_front line front rest count may is shows = by_order (cases_lt (length front) count)
+  where
+    by_order : (length front < count) ⊎ (count ≤ length front) → count ≤ length front
+    by_order (inl less) =
+        absurd (shows.none (subst (MayHaveVersion dialect prefixes at_front) (ap (take (length front)) is ∙ take-append_seam front rest)
+        (may (length front) shows.looked_at less)))
+    by_order (inr most) = most
 
 -- one text is left
 pub same_left : (dialect : Dialect) (prefixes : List Text) (at_front : Bool) (unended left other : Text)
     → IsLeft dialect prefixes at_front unended left → IsLeft dialect prefixes at_front unended other → left ≡ other
-same_left dialect prefixes at_front unended left other (inl (is, _)) (inl (so, _)) = is ∙ sym so
-same_left dialect prefixes at_front unended left other (inr (is, _)) (inr (so, _)) = is ∙ sym so
-same_left dialect prefixes at_front unended left other (inl (is, inl short)) (inr (so, _)) = is ∙ sym (take_all 4096 unended short) ∙ sym so
-same_left dialect prefixes at_front unended left other (inr (is, _)) (inl (so, inl short)) = is ∙ take_all 4096 unended short ∙ sym so
-same_left dialect prefixes at_front unended left other (inl (_, inr may)) (inr (_, isnt)) = absurd (isnt may)
-same_left dialect prefixes at_front unended left other (inr (_, isnt)) (inl (_, inr may)) = absurd (isnt may)
-
--- all is left of a line that is not skipped
-pub left_all : (dialect : Dialect) (prefixes : List Text) (at_front : Bool) (unended left : Text) → left ≡ unended
-    → (4096 < length unended → MayHaveVersion dialect prefixes at_front unended) → IsLeft dialect prefixes at_front unended left
-left_all dialect prefixes at_front unended left is may = by_length (cases_lt 4096 (length unended))
+same_left dialect prefixes at_front unended left other a b = by_cases a b
   where
-    by_length : (4096 < length unended) ⊎ (length unended ≤ 4096) → IsLeft dialect prefixes at_front unended left
-    by_length (inl longer) = inl (is, inr (may longer))
-    by_length (inr short) = inl (is, inl short)
+    whole : (front rest : Text) → MayUpTo dialect prefixes at_front unended (length unended) → unended ≡ front ++ rest
+        → ShowsNone dialect prefixes at_front front → front ≡ unended
+    whole front [] may is shows = sym (is ∙ append-nil front)
+    whole front (x ∷ xs) may is shows =
+        absurd (omega (arith, ap length is, length-append front (x ∷ xs), not_shown dialect prefixes at_front unended front (x ∷ xs) (length
+        unended) may is shows))
+
+    -- of two fronts that show it neither is longer
+    within : (front rest more later : Text) → unended ≡ front ++ rest → unended ≡ more ++ later → ShowsNone dialect prefixes at_front front
+        → ShowsNone dialect prefixes at_front more → length more ≤ length front
+    within front rest more later is so shows also =
+        not_shown dialect prefixes at_front unended front rest (length more)
+        (subst (λ l. MayUpTo dialect prefixes at_front l (length more)) (sym so)
+        (may_longer dialect prefixes at_front more later (length more) (omega arith) also.fewest)) is shows
+
+    by_cases : IsLeft dialect prefixes at_front unended left → IsLeft dialect prefixes at_front unended other → left ≡ other
+    by_cases (inl (is, _)) (inl (so, _)) = is ∙ sym so
+    by_cases (inl (is, may)) (inr (rest, so, shows)) = is ∙ sym (whole other rest may so shows)
+    by_cases (inr (rest, is, shows)) (inl (so, may)) = whole left rest may is shows ∙ sym so
+    by_cases (inr (rest, is, shows)) (inr (later, so, also)) =
+        let long : length left ≡ length other = omega (arith, within left rest other later is so shows also, within other later left rest so
+        is also shows) in
+        sym (take-append_seam left rest) ∙ ap (take (length left)) (sym is) ∙ ap (λ n. take n unended) long
+        ∙ ap (take (length other)) so ∙ take-append_seam other later

@@ -5,8 +5,7 @@ use Rattle.std.specs.Cmp.{IsTotalOrder}
 use Rattle.std.specs.List.{AllByRecursion, concat}
 use Rattle.std.specs.Io.BufRead.{strip_last}
 use Rattle.std.proofs.Math.Bool.{and-true}
-use Rattle.std.proofs.lemmas.Bool.{cases_lt}
-use Rattle.std.proofs.lemmas.List.{take_all, take-append-drop, take-append-le}
+use Rattle.std.proofs.Math.Seq.{drop-append_seam, take-append_seam}
 use Rattle.std.proofs.lemmas.List.Elements.{All-append, All-drop, All-head, All-tail, All-take}
 use Rattle.semver_parser.specs.Precedence.{precedence}
 use Rattle.semver_parser.specs.Texts.{Text, is_empty}
@@ -14,12 +13,13 @@ use Rattle.semver_parser.specs.declared.version.Dialect.{Dialect}
 use Rattle.release_filter.specs.Counting.{CountsValue, counted, counted_as}
 use Rattle.release_filter.specs.LineTexts.{IsWholeLine, after_mark, lines_of, marked_off, without_mark}
 use Rattle.release_filter.specs.Pieces.{AreAlike, Completes, Finishes, LinesValue, Takes, TakesAll, begun}
-use Rattle.release_filter.specs.Skipping.{BeginsAfterOne, IsLeft, MayHaveVersion}
+use Rattle.release_filter.specs.Skipping.{IsLeft, ShowsNone}
 use Rattle.release_filter.specs.Verdicts.{AreJudged, IsVerdictOn, JudgedLine, Verdict, asked, invalid}
 use Rattle.release_filter.specs.Wanted.{Holds, kept_as, kept_of}
 use Rattle.release_filter.proofs.JudgedLines.{judged_one}
 use Rattle.release_filter.proofs.PieceLaws.{took_text, whole_tail}
-use Rattle.release_filter.proofs.SkippedLines.{counted_alike, is_skipped, marked_length, must_be_skipped}
+use Rattle.release_filter.proofs.Looks.{looked_least}
+use Rattle.release_filter.proofs.SkippedLines.{counted_alike, is_skipped, marked_length, must_be_skipped, same_left}
 use Rattle.release_filter.proofs.TakenPieces.{NoEnd, no_end_marked, only_line, took_both, whole_after}
 
 alike : (js : List JudgedLine) → AreAlike js js
@@ -42,15 +42,21 @@ line_after (x ∷ xs) (b ∷ c ∷ cs) q rest none whole is =
     let found = line_after xs (c ∷ cs) q rest (All-tail (λ y. y ≢ 10) x xs none) (whole_tail b c cs whole) later in
     (found.0, ap₂ (λ y ys. y ∷ ys) same found.1, found.2, found.3)
 
-no_more : (xs ys : Text) → length (xs ++ ys) ≤ length xs → xs ++ ys ≡ xs
-no_more xs [] short = append-nil xs
-no_more xs (y ∷ ys) short = absurd (omega (arith, short, length-append xs (y ∷ ys)))
+-- the parts of what ends no line
+front_ends : (front rest : Text) → NoEnd (front ++ rest) → NoEnd front
+front_ends front rest none = subst NoEnd (take-append_seam front rest) (All-take (λ x. x ≢ 10) (length front) (front ++ rest) none)
+
+rest_ends : (front rest : Text) → NoEnd (front ++ rest) → NoEnd rest
+rest_ends front rest none = subst NoEnd (drop-append_seam front rest) (All-drop (λ x. x ≢ 10) (length front) (front ++ rest) none)
 
 -- ---- a skipped line in the next piece
 
-module _ (t : LinesValue) (front dropped : Text) (long : length front ≡ 4096) (none : NoEnd front) (none_dropped : NoEnd dropped)
-    (isnt : ¬ BeginsAfterOne t.filter.dialect (asked t.prefixes) (strip_last 13 (after_mark t.at_front front)))
+module _ (t : LinesValue) (front dropped : Text) (none : NoEnd front) (none_dropped : NoEnd dropped)
+    (shows : ShowsNone t.filter.dialect t.prefixes t.at_front front)
   where
+    long : 4096 ≤ length front
+    long = looked_least (length front) shows.looked_at
+
     abbrev cut_off : LinesValue
     cut_off = record t { unended = front }
 
@@ -62,18 +68,18 @@ module _ (t : LinesValue) (front dropped : Text) (long : length front ≡ 4096) 
     line_as end = record { line = after_mark t.at_front ((front ++ dropped) ++ end); verdict = invalid }
 
     must_be : (end : Text) (v : Verdict) → IsVerdictOn t.filter t.prefixes (after_mark t.at_front (front ++ end)) v → v ≡ invalid
-    must_be = must_be_skipped t.filter t.prefixes t.at_front front long none isnt
+    must_be = must_be_skipped t.filter t.prefixes t.at_front front none shows
 
     is_one : (end : Text) → IsVerdictOn t.filter t.prefixes (after_mark t.at_front ((front ++ dropped) ++ end)) invalid
     is_one end =
         subst (λ l. IsVerdictOn t.filter t.prefixes (after_mark t.at_front l) invalid) (sym (append_assoc front dropped end))
-        (is_skipped t.filter t.prefixes t.at_front front long none isnt (dropped ++ end))
+        (is_skipped t.filter t.prefixes t.at_front front none shows (dropped ++ end))
 
     count_one : (end : Text) (c : CountsValue)
         → counted_as invalid c (after_mark t.at_front (front ++ end)) ≡ counted_as invalid c
             (after_mark t.at_front ((front ++ dropped) ++ end))
     count_one end c =
-        counted_alike t.filter t.prefixes t.at_front front long none isnt end (dropped ++ end) c
+        counted_alike t.filter t.prefixes t.at_front front none shows end (dropped ++ end) c
         ∙ ap (λ l. counted_as invalid c (after_mark t.at_front l)) (sym (append_assoc front dropped end))
 
     -- what such a line does
@@ -91,9 +97,7 @@ module _ (t : LinesValue) (front dropped : Text) (long : length front ≡ 4096) 
         × (u.at_front ≡ t.at_front)
     took_on u q ks old new b nothing =
         let rest : front ++ q ≡ u.unended = b.cut.whole ∙ ap (λ l. concat l ++ u.unended) nothing in
-        let more = subst NoEnd (ap (drop (length front)) (sym rest) ∙ dropped_front front q)
-            (All-drop (λ x. x ≢ 10) (length front) u.unended
-        b.cut.no_end) in
+        let more = rest_ends front q (subst NoEnd (sym rest) b.cut.no_end) in
         let front_is = ap (λ l. t.at_front && is_empty l) nothing ∙ and-true t.at_front in (
           record {
             lines = [];
@@ -117,10 +121,6 @@ module _ (t : LinesValue) (front dropped : Text) (long : length front ≡ 4096) 
           sym rest,
           ap (λ (v : LinesValue). v.at_front) b.state ∙ front_is,
         )
-      where
-        dropped_front : (xs ys : Text) → drop (length xs) (xs ++ ys) ≡ ys
-        dropped_front [] ys = refl
-        dropped_front (x ∷ xs) ys = dropped_front xs ys
 
     -- it does
     took_end : (u : LinesValue) (q y : Text) (ys : List Text) (ks : List JudgedLine) (old new : Text) (b : TakesAll cut_off q ks u old new)
@@ -210,20 +210,6 @@ module _ (t : LinesValue) (front dropped : Text) (long : length front ≡ 4096) 
 
 -- ---- one piece after another
 
-taken : (front more : Text) → length front ≡ 4096 → take 4096 (front ++ more) ≡ front
-taken front more long =
-    take-append-le 4096 front more (omega (arith, long)) ∙ take_all 4096 front (omega (arith, long))
-
--- what is left of a front
-front_left : (dialect : Dialect) (prefixes : List Text) (at_front : Bool) (front more left : Text) → length front ≡ 4096
-    → ¬ BeginsAfterOne dialect (asked prefixes) (strip_last 13 (after_mark at_front front))
-    → IsLeft dialect prefixes at_front (front ++ more) left → left ≡ front
-front_left dialect prefixes at_front front more left long isnt (inl (is, inl short)) =
-    is ∙ no_more front more (omega (arith, long, short))
-front_left dialect prefixes at_front front more left long isnt (inl (is, inr may)) =
-    absurd (isnt (subst (λ l. BeginsAfterOne dialect (asked prefixes) (strip_last 13 (after_mark at_front l))) (taken front more long) may))
-front_left dialect prefixes at_front front more left long isnt (inr (is, _)) = is ∙ taken front more long
-
 module _ (t u : LinesValue) (whole q : Text) (ks : List JudgedLine) (mid new : Text) (none : NoEnd whole) where
   abbrev Next : LinesValue → Type 0
   Next t' = (ls : List JudgedLine) × AreAlike ks ls × Takes t' q ls u mid new
@@ -231,48 +217,41 @@ module _ (t u : LinesValue) (whole q : Text) (ks : List JudgedLine) (mid new : T
   same_next : t.unended ≡ whole → Takes t q ks u mid new → Next (record t { unended = whole })
   same_next is b = (ks, alike ks, subst (λ r. Takes (record t { unended = r }) q ks u mid new) is b)
 
-  module _ (front dropped : Text) (long : length front ≡ 4096) (none_front : NoEnd front) (none_dropped : NoEnd dropped)
-      (isnt : ¬ BeginsAfterOne t.filter.dialect (asked t.prefixes) (strip_last 13 (after_mark t.at_front front)))
+  module _ (front dropped : Text) (is : whole ≡ front ++ dropped) (shows : ShowsNone t.filter.dialect t.prefixes t.at_front front)
       (b : Takes (record t { unended = front }) q ks u mid new)
     where
+      none_front : NoEnd front
+      none_front = front_ends front dropped (subst NoEnd is none)
+
+      none_dropped : NoEnd dropped
+      none_dropped = rest_ends front dropped (subst NoEnd is none)
+
       by_lines : (lines : List Text) → b.all.lines ≡ lines → Next (record t { unended = front ++ dropped })
       by_lines [] nothing =
-          let on = took_on t front dropped long none_front none_dropped isnt (record u { unended = b.unended }) q ks mid new b.all
-              nothing in
-          let there = subst (λ r. IsLeft t.filter.dialect t.prefixes u.at_front r u.unended) on.1 b.left in
-          let here = subst (λ f. IsLeft t.filter.dialect t.prefixes f (front ++ q) u.unended) on.2 there in
-          let left = front_left t.filter.dialect t.prefixes t.at_front front q u.unended long isnt here in
-          let first = ap (take 4096) (append_assoc front dropped q) ∙ taken front (dropped ++ q) long in (
+          let on = took_on t front dropped none_front none_dropped shows (record u { unended = b.unended }) q ks mid new b.all nothing in
+          let left = subst (λ r. IsLeft t.filter.dialect t.prefixes u.at_front r u.unended) on.1 b.left in
+          let at = subst (λ f. ShowsNone t.filter.dialect t.prefixes f front) (sym on.2) shows in
+          let same = same_left t.filter.dialect t.prefixes u.at_front (front ++ q) u.unended front left (inr (q, refl, at)) in (
             ks,
             alike ks,
             record {
               unended = (front ++ dropped) ++ q;
               all = on.0;
               left = inr (
-                left ∙ sym first,
-                subst (λ f. ¬ MayHaveVersion t.filter.dialect t.prefixes f ((front ++ dropped) ++ q)) (sym on.2)
-                    (subst (λ l. ¬ BeginsAfterOne t.filter.dialect (asked t.prefixes) (strip_last 13 (after_mark t.at_front l)))
-                        (sym first) isnt),
+                dropped ++ q,
+                append_assoc front dropped q ∙ ap (λ l. l ++ (dropped ++ q)) (sym same),
+                subst (ShowsNone t.filter.dialect t.prefixes u.at_front) (sym same) at,
               );
             },
           )
       by_lines (y ∷ ys) some =
-          let end = took_end t front dropped long none_front none_dropped isnt (record u { unended = b.unended }) q y ys ks mid new
-              b.all some in
+          let end = took_end t front dropped none_front none_dropped shows (record u { unended = b.unended }) q y ys ks mid new b.all some in
           (end.0, end.1, record { unended = b.unended; all = end.2; left = b.left })
 
   next : IsLeft t.filter.dialect t.prefixes t.at_front whole t.unended → Takes t q ks u mid new → Next (record t { unended = whole })
   next (inl (is, _)) b = same_next is b
-  next (inr (is, isnt)) b = by_length (cases_lt 4096 (length whole))
-    where
-      by_length : (4096 < length whole) ⊎ (length whole ≤ 4096) → Next (record t { unended = whole })
-      by_length (inr short) = same_next (is ∙ take_all 4096 whole short) b
-      by_length (inl longer) =
-          let cut = subst (λ r. Takes (record t { unended = r }) q ks u mid new) is b in
-          subst (λ r. Next (record t { unended = r })) (take-append-drop 4096 whole)
-          (by_lines (take 4096 whole) (drop 4096 whole) (omega (arith, length-take 4096 whole, longer))
-              (All-take (λ x. x ≢ 10) 4096 whole none)
-          (All-drop (λ x. x ≢ 10) 4096 whole none) isnt cut cut.all.lines refl)
+  next (inr (rest, is, shows)) b =
+      subst (λ r. Next (record t { unended = r })) (sym is) (by_lines t.unended rest is shows b b.all.lines refl)
 
 module _ (total : IsTotalOrder precedence) where
   -- what is left suffices: pieces that are taken one after another do what they do as one
@@ -325,14 +304,7 @@ module _ (total : IsTotalOrder precedence) where
 
       by_left : IsLeft t.filter.dialect t.prefixes t.at_front a.unended t.unended → Last whole
       by_left (inl (is, _)) = same_last is
-      by_left (inr (is, isnt)) = by_length (cases_lt 4096 (length a.unended))
-        where
-          by_length : (4096 < length a.unended) ⊎ (length a.unended ≤ 4096) → Last whole
-          by_length (inr short) = same_last (is ∙ take_all 4096 a.unended short)
-          by_length (inl longer) =
-              subst (λ r. Last (record t { unended = r })) (take-append-drop 4096 a.unended)
-              (took_last t (take 4096 a.unended) (drop 4096 a.unended) (omega (arith, length-take 4096 a.unended, longer))
-              (All-take (λ x. x ≢ 10) 4096 a.unended a.all.cut.no_end) (All-drop (λ x. x ≢ 10) 4096 a.unended a.all.cut.no_end) isnt u
-                  ks mid
-              new
-              (subst (λ r. Finishes (record t { unended = r }) ks u mid new) is b))
+      by_left (inr (rest, is, shows)) =
+          let none = subst NoEnd is a.all.cut.no_end in
+          subst (λ r. Last (record t { unended = r })) (sym is)
+          (took_last t t.unended rest (front_ends t.unended rest none) (rest_ends t.unended rest none) shows u ks mid new b)

@@ -1,5 +1,6 @@
--- Lines that are skipped: their first bytes show that they have no version.
-use Rattle.std.specs.Prelude.{◌≡◌, ◌⊎◌, ◌≤◌, ℕ, Bool, List, [], ◌∷◌, ◌++◌, length, take}
+-- Lines that are skipped: bytes that begin them show that they have no version.
+use Rattle.std.specs.Prelude.{◌≡◌, ◌≢◌, ◌⊎◌, ◌<◌, ◌*◌, ◌^◌, ℕ, Bool, List, [], ◌∷◌, ◌++◌, All, IsTrue}
+use Rattle.std.specs.Prelude.{length, take}
 use Rattle.std.specs.Io.BufRead.{strip_last}
 use Rattle.semver_parser.specs.Texts.{Text}
 use Rattle.semver_parser.specs.declared.version.Dialect.{Dialect}
@@ -20,19 +21,37 @@ BeginsAfterOne dialect [] front = ⊥
 BeginsAfterOne dialect (prefix ∷ prefixes) front =
     BeginsAfter dialect prefix front ⊎ BeginsAfterOne dialect prefixes front
 
--- what shows of a line: its first 4,096 bytes, without a carriage return that may end it
+-- at so many bytes of a line it is looked whether it is skipped: 4,096, then twice as many, and so on
+abbrev pub IsLookedAt : ℕ → Type 0
+IsLookedAt size = (k : ℕ) × (size ≡ 4096 * 2 ^ k)
+
+-- what shows in bytes that begin a line: these, without a carriage return that may end it
 abbrev pub shown : Bool → Text → Text
-shown at_front unended = strip_last 13 (after_mark at_front (take 4096 unended))
+shown at_front front = strip_last 13 (after_mark at_front front)
 
--- a line that begins with these bytes may have a version, as far as shows
-abbrev pub MayHaveVersion : Dialect → List Text → Bool → Text → Type 0
-MayHaveVersion dialect prefixes at_front unended =
-    BeginsAfterOne dialect (asked prefixes) (shown at_front unended)
+module _ (dialect : Dialect) (prefixes : List Text) (at_front : Bool) where
+  -- a line that begins with these bytes may have a version, as far as shows
+  abbrev pub MayHaveVersion : Text → Type 0
+  MayHaveVersion front = BeginsAfterOne dialect (asked prefixes) (shown at_front front)
 
--- of a line that has not ended all is left; or the first 4,096 bytes, if it has no version: then
--- it is skipped
-abbrev pub IsLeft : Dialect → List Text → Bool → Text → Text → Type 0
-IsLeft dialect prefixes at_front unended left =
-    ((left ≡ unended)
-    × ((length unended ≤ 4096) ⊎ MayHaveVersion dialect prefixes at_front unended))
-    ⊎ ((left ≡ take 4096 unended) × ¬ MayHaveVersion dialect prefixes at_front unended)
+  -- a line may have one wherever it is looked at, before so many bytes
+  abbrev pub MayUpTo : Text → ℕ → Type 0
+  MayUpTo line count = (size : ℕ) → IsLookedAt size → size < count → MayHaveVersion (take size line)
+
+  -- these bytes show that a line that begins with them has none, and no fewer that are looked at do
+  pub record ShowsNone (front : Text) : Type 0 where
+    pub looked_at : IsLookedAt (length front)
+    pub none : ¬ (MayHaveVersion front)
+    pub fewest : MayUpTo front (length front)
+
+  -- of a line that has not ended all is left; or the bytes that show that it has no version: then
+  -- it is skipped
+  abbrev pub IsLeft : Text → Text → Type 0
+  IsLeft unended left = ((left ≡ unended) × MayUpTo unended (length unended))
+      ⊎ ((rest : Text) × (unended ≡ left ++ rest) × ShowsNone left)
+
+  -- what is left of it between two pieces, and whether it is skipped
+  pub record IsHeld (left : Text) (is_skipped : Bool) : Type 0 where
+    pub no_end : All (λ b. b ≢ 10) left
+    pub may : MayUpTo left (length left)
+    pub skipped : IsTrue is_skipped → ShowsNone left

@@ -19,7 +19,6 @@ use crate::filter::Filter;
 use crate::judging::Judged;
 use crate::line_filter::LineFilter;
 use crate::line_texts::{after_mark, whole_line};
-use crate::skipping::SHOWN;
 use crate::wanted::{Held, Wanted, without_build};
 use semver_parser::laws;
 use std::alloc::{AllocError, Global};
@@ -66,15 +65,17 @@ pub struct Lines {
     is_strict: bool,
     at_front: bool,
     unended: Vec<u8>,
+    is_skipped: bool,
     held: Held,
     counts: Counts,
 }
 
 impl Model for Lines {
-    ghost use Rattle.std.specs.Prelude.{◌≢◌, All, map, string_bytes};
+    ghost use Rattle.std.specs.Prelude.{map, string_bytes};
     ghost use Rattle.release_filter.specs.Counting.{counts_value};
     ghost use Rattle.release_filter.specs.Pieces.{LinesValue};
-    ghost use Rattle.release_filter.specs.Steps.Taking.{held_value};
+    ghost use Rattle.release_filter.specs.Skipping.{IsHeld};
+    ghost use Rattle.release_filter.specs.Steps.Taking.{held_value, texts};
 
     ghost Value = { LinesValue };
 
@@ -88,7 +89,8 @@ impl Model for Lines {
       counts = counts_value l.counts;
     } };
 
-    ghost invariant = { λ l. All (λ byte. byte ≢ 10) l.unended.items };
+    ghost invariant = { λ l. IsHeld l.chosen.filter.dialect (texts l.chosen.prefixes.items)
+        l.at_front l.unended.items l.is_skipped };
 }
 
 impl Lines {
@@ -120,6 +122,7 @@ impl Lines {
             is_strict,
             at_front: true,
             unended: Vec::new(alloc),
+            is_skipped: false,
             held: Held::new(alloc, wanted),
             counts: Counts::new(),
         }
@@ -237,6 +240,7 @@ impl Lines {
         self.held.clear();
         self.at_front = true;
         self.unended.clear();
+        self.is_skipped = false;
     }
 
     /// Takes the bytes up to the first end of a line, if there is one: these bytes, and whether the
@@ -271,15 +275,20 @@ impl Lines {
         Ok(Some((line, is_valid)))
     }
 
-    /// Takes bytes that end no line. Of a line that is skipped the first bytes are left.
+    /// Takes bytes that end no line. Of a line that is skipped none are held or looked at.
     fn take_rest(&mut self, rest: &[u8]) -> Result<(), AllocError>
         requires { All (λ byte. byte ≢ 10) rest.now }
         ensures takes { IfOk result (λ _. TakesRest self.old rest.now self.new) }
         ensures unchanged { IfErr result (λ _. self.new ≡ self.old) }
     {
+        if self.is_skipped {
+            return Ok(());
+        }
+        let seen = self.unended.len();
         self.unended.extend_from_slice(rest)?;
-        if self.chosen.skips(self.at_front, self.unended.as_slice()) {
-            self.unended.truncate(SHOWN);
+        if let Some(size) = self.chosen.shown_end(self.at_front, seen, self.unended.as_slice()) {
+            self.unended.truncate(size);
+            self.is_skipped = true;
         }
         Ok(())
     }
@@ -310,6 +319,7 @@ impl Lines {
             if may_hand_over {
                 self.counts.add(Noted::Version);
                 self.at_front = false;
+                self.is_skipped = false;
                 mem::swap(kept, &mut self.unended);
                 return Ok(true);
             }
@@ -322,6 +332,7 @@ impl Lines {
                 self.counts.add(Noted::Version);
                 self.unended.clear();
                 self.at_front = false;
+                self.is_skipped = false;
                 return Ok(true);
             }
         }
@@ -329,6 +340,7 @@ impl Lines {
             Ok(is_valid) => {
                 self.unended.clear();
                 self.at_front = false;
+                self.is_skipped = false;
                 Ok(is_valid)
             }
             Err(error) => {

@@ -1,10 +1,11 @@
-//! Lines that are skipped: their first bytes show that they have no version.
+//! Lines that are skipped: bytes that begin them show that they have no version.
 
-ghost use Rattle.std.specs.Prelude.{◌≡◌, ◌↔◌, ◌<◌, true, false, map, string_bytes, length, IsTrue};
+ghost use Rattle.std.specs.Prelude.{◌≡◌, ◌↔◌, None, map, string_bytes, length, take, IfSome, IsTrue};
 ghost use Rattle.semver_parser.specs.Texts.{Text};
 ghost use Rattle.version_fronts.specs.Fronts.{IsFrontIn};
 ghost use Rattle.version_fronts.specs.Steps.Scanning.{HasRead};
 ghost use Rattle.release_filter.specs.Skipping.{BeginsAfter, BeginsAfterOne, MayHaveVersion};
+ghost use Rattle.release_filter.specs.Skipping.{MayUpTo, ShowsNone};
 ghost use Rattle.release_filter.specs.Steps.Taking.{texts};
 ghost use Rattle.release_filter.specs.Verdicts.{asked};
 
@@ -13,26 +14,40 @@ use crate::line_texts::{after_mark, without_last};
 use semver_parser::version::Dialect;
 use version_fronts::scanner::Scanner;
 
-/// So many bytes of a line show whether it is skipped.
-pub(crate) const SHOWN: usize = 4096;
+/// At so many bytes of a line it is first looked whether it is skipped.
+const FIRST_LOOK: usize = 4096;
 
 impl LineFilter {
-    /// Whether a line that has not ended is skipped: it has more bytes than show, and those have no
-    /// version after them.
-    pub(crate) fn skips(&self, at_front: bool, unended: &[u8]) -> bool
-        ensures yes { result ≡ true → (4096 < length unended.now) × ¬ (MayHaveVersion
-            self.now.filter.dialect (texts self.now.prefixes.items) at_front unended.now) }
-        ensures no { result ≡ false → 4096 < length unended.now → MayHaveVersion
-            self.now.filter.dialect (texts self.now.prefixes.items) at_front unended.now }
+    /// How many bytes of a line that has not ended show that it has no version, if some do: the
+    /// fewest of those that are looked at, which are 4,096, then twice as many, and so on. The
+    /// first ones, so many, were looked at before.
+    pub(crate) fn shown_end(&self, at_front: bool, seen: usize, unended: &[u8]) -> Option<usize>
+        requires { MayUpTo self.now.filter.dialect (texts self.now.prefixes.items) at_front
+            unended.now seen }
+        ensures none { result ≡ None → MayUpTo self.now.filter.dialect
+            (texts self.now.prefixes.items) at_front unended.now (length unended.now) }
+        ensures some { IfSome result (λ size. ShowsNone self.now.filter.dialect
+            (texts self.now.prefixes.items) at_front (take size unended.now)) }
     {
-        if unended.len() <= SHOWN {
-            return false;
+        let mut size = FIRST_LOOK;
+        while size < unended.len() {
+            if size >= seen && !self.may_have_version(at_front, &unended[..size]) {
+                return Some(size);
+            }
+            size *= 2;
         }
-        let shown = without_last(after_mark(at_front, &unended[..SHOWN]), b'\r');
-        !self.begins_line(shown)
+        None
     }
 
     /// Whether some line that begins with these bytes has a version, as far as they show.
+    fn may_have_version(&self, at_front: bool, front: &[u8]) -> bool
+        ensures { IsTrue result ↔ MayHaveVersion self.now.filter.dialect
+            (texts self.now.prefixes.items) at_front front.now }
+    {
+        self.begins_line(without_last(after_mark(at_front, front), b'\r'))
+    }
+
+    /// Whether these bytes begin the text of a line with a version.
     fn begins_line(&self, front: &[u8]) -> bool
         ensures { IsTrue result ↔ BeginsAfterOne self.now.filter.dialect
             (asked (texts self.now.prefixes.items)) front.now }

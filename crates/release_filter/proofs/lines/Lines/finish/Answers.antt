@@ -30,7 +30,7 @@ returns-then-is_bad-clause-refuses c =
     let line = c.after_mark-line.result.now in
     let is = c.after_mark-line.ensures ∙ ap (after_mark value.at_front) c.as_slice.ensures.value in
     let some = some_line line (sym c.is_empty.ensures ∙ c.if-is_empty.false) in
-    let ends = ends_invalid value line is some c.self.invariant c.judge_line-judged.result c.judge_line-judged.ensures
+    let ends = ends_invalid value line is some c.self.invariant.no_end c.judge_line-judged.result c.judge_line-judged.ensures
     c.is_invalid-is_bad.result c.is_invalid-is_bad.ensures c.if-is_bad.true in
     subst (λ (x : LinesValue). RefusesEnd x (NoVersion c.saturating_add.result)) c.self.view_is
     (c.if-self.true, ends, c.saturating_add.ensures)
@@ -49,7 +49,7 @@ valid_end c =
     let is = c.after_mark-line.ensures ∙ ap (after_mark value.at_front) c.as_slice.ensures.value in
     let some = some_line line (sym c.is_empty.ensures ∙ c.if-is_empty.false) in
     subst (λ (x : LinesValue). RefusesEnd x OutOfMemory) c.self.view_is
-    (λ strict. ends_valid value line is some c.self.invariant c.judge_line-judged.result c.judge_line-judged.ensures
+    (λ strict. ends_valid value line is some c.self.invariant.no_end c.judge_line-judged.result c.judge_line-judged.ensures
     c.one_version_in.ensures.same_version c.is_invalid-is_bad.result c.is_invalid-is_bad.ensures (not_bad c strict))
 
 pub returns-in_default-noted-clause-refuses : goal.returns-in_default-noted-clause-refuses
@@ -91,7 +91,7 @@ returns-clause-finishes c =
       held = record { wanted = c.in-Ok-finish.ensures.wanted i; best = None; sorted = [] };
       counts = counts_value c.add.new.self;
     }) in
-    let ended = finished_one value line is some c.self.invariant c.judge_line-judged.result c.judge_line-judged.ensures
+    let ended = finished_one value line is some c.self.invariant.no_end c.judge_line-judged.result c.judge_line-judged.ensures
     (counts_value c.add.new.self) old new c.in-Ok-finish.ensures.answers (λ plain. c.add.ensures ∙ c.in-Ok-noted.ensures plain)
     c.is_invalid-is_bad.result c.is_invalid-is_bad.ensures (not_bad (goal.at.returns-clause-finishes c).After-noted) in (
       ended.0,

@@ -11,7 +11,7 @@ pub lines-init : goal.lines-init
 lines-init c = (
   omega arith,
   [],
-  took_nothing c.args.self.now _ (subst (λ (s : LinesValue). NoEnd s.unended) c.self.view_is c.self.invariant),
+  took_nothing c.args.self.now _ (subst (λ (s : LinesValue). NoEnd s.unended) c.self.view_is c.self.invariant.no_end),
   λ strict. refl,
 )
 

@@ -21,7 +21,7 @@ returns-clause-takes c =
     let nothing = ap (λ (v : LinesValue). v.unended) same ∙ none in
     let whole = took_judged value line s.unended.items line found.judged s.at_front (held_value c.take.new.held)
     (counts_value c.take.new.counts) c.args.kept.now.items c.take.new.kept.items c.in_ok-is_valid-2.is_valid found.ensures.whole
-    c.self-2.invariant (sym (ap₂ (λ b l. after_mark b (l ++ line)) later nothing)) found.ensures.judged c.in_ok-is_valid-2.ensures.takes
+    c.self-2.invariant.no_end (sym (ap₂ (λ b l. after_mark b (l ++ line)) later nothing)) found.ensures.judged c.in_ok-is_valid-2.ensures.takes
     nothing
     later in (
       found.ensures.front,

@@ -21,7 +21,7 @@ returns-in-Ok-take-clause-takes c =
     false
     (held_value c.take.new.held) (counts_value c.take.new.counts) c.args.kept.now.items c.take.new.kept.items c.in-Ok-take.is_valid
     c.requires
-    c.self.invariant line c.judge_line-judged.ensures c.in-Ok-take.ensures.takes c.clear-in-Ok-take.ensures.items refl in
+    c.self.invariant.no_end line c.judge_line-judged.ensures c.in-Ok-take.ensures.takes c.clear-in-Ok-take.ensures.items refl in
     (whole.0, seen _ _ _ _ _ _ _ c.self.view_is whole.1, whole.2, whole.3)
 
 pub returns-then-may_hand_over-clause-takes : goal.returns-then-may_hand_over-clause-takes
@@ -41,7 +41,7 @@ returns-then-may_hand_over-clause-takes c =
     ∙ sym (is ∙ not_marked s.at_front (s.unended.items ++ c.args.end.now) long) in
     let left = ap (λ (v : Vec ℕ Global). v.items) c.swap.ensures.y_after ∙ nothing in
     let taken = took_judged value c.args.end.now c.swap.new.y.items line c.judge_line-judged.result false (held_value s.held)
-    (counts_value c.add.new.self) old new true c.requires c.self.invariant is c.judge_line-judged.ensures
+    (counts_value c.add.new.self) old new true c.requires c.self.invariant.no_end is c.judge_line-judged.ensures
     (λ plain passes. takes_each (held_value s.held) (counts_value s.counts) (counts_value c.add.new.self) line c.judge_line-judged.result _
     plain old new may.0 c.in-Passes.is nothing whole c.add.ensures) left refl in
     (taken.0, seen _ _ _ _ _ _ _ c.self.view_is taken.1, taken.2, taken.3)
@@ -64,7 +64,7 @@ returns-then-may_hold-clause-takes c =
     let found = subst (λ (l : Text). IsBest (order_of s.held.wanted)
     (option_to_list value.held.best ++ record { version = version; line = l } ∷ []) best.0) whole best.1 in
     let taken = took_judged value c.args.end.now c.clear.new.self.items line c.judge_line-judged.result false
-    (held_value c.hold_whole.new.self) (counts_value c.add-then-may_hold.new.self) old old true c.requires c.self.invariant is
+    (held_value c.hold_whole.new.self) (counts_value c.add-then-may_hold.new.self) old old true c.requires c.self.invariant.no_end is
     c.judge_line-judged.ensures
     (λ plain passes. takes_best value.held (held_value c.hold_whole.new.self) value.counts (counts_value c.add-then-may_hold.new.self) line
     c.judge_line-judged.result c.in-Passes.outline plain version old best.0 may.0 c.in-Passes.is passes (c.in-Ok.ensures plain) found best.2

@@ -1,0 +1,73 @@
+-- The sizes at which it is looked whether a line is skipped, and what the looks before a size say.
+use Rattle.std.proofs.Common.{◌≡◌, ◌∙◌, ◌++◌, ◌<◌, ◌≤◌, ◌+◌, ◌*◌, ◌^◌, List, ◌⊎◌, ℕ, Bool, ap, refl, sym, subst, inl, inr, arith}
+use Rattle.std.proofs.Common.{drop, length, length-take, take}
+use Rattle.std.proofs.Math.Nat.{pow-le-pow_right}
+use Rattle.std.proofs.lemmas.Bool.{cases_lt}
+use Rattle.std.proofs.lemmas.Grind.{pow_more}
+use Rattle.std.proofs.lemmas.List.{take-append-drop, take-append-le}
+use Rattle.std.proofs.lemmas.Nat.{pow_pos}
+use Rattle.semver_parser.specs.Texts.{Text}
+use Rattle.semver_parser.specs.declared.version.Dialect.{Dialect}
+use Rattle.release_filter.specs.Skipping.{IsLeft, IsLookedAt, MayHaveVersion, MayUpTo, ShowsNone}
+
+-- ---- the sizes
+
+pub looked_least : (n : ℕ) → IsLookedAt n → 4096 ≤ n
+looked_least n (k, is) = omega (arith, is, pow_pos k)
+
+pub next_look : (n : ℕ) → IsLookedAt n → IsLookedAt (n * 2)
+next_look n (k, is) = (k + 1, omega (arith, is, pow_more 2 k))
+
+none_between : (n m : ℕ) → IsLookedAt n → IsLookedAt m → n < m → n * 2 ≤ m
+none_between n m (j, is) (k, so) less = by_order (cases_lt j k)
+  where
+    by_order : (j < k) ⊎ (k ≤ j) → n * 2 ≤ m
+    by_order (inl before) =
+        let more : 2 ^ (j + 1) ≤ 2 ^ k = pow-le-pow_right {n = 2} (omega arith) (omega (arith, before)) in
+        omega (arith, is, so, more, pow_more 2 j)
+    by_order (inr behind) =
+        let more : 2 ^ k ≤ 2 ^ j = pow-le-pow_right {n = 2} (omega arith) behind in
+        absurd (omega (arith, is, so, more, less))
+
+-- ---- the looks
+
+module _ (dialect : Dialect) (prefixes : List Text) (at_front : Bool) where
+  abbrev May : Text → Type 0
+  May front = MayHaveVersion dialect prefixes at_front front
+
+  abbrev Upto : Text → ℕ → Type 0
+  Upto line count = MayUpTo dialect prefixes at_front line count
+
+  -- before the first one nothing shows
+  pub before_looks : (line : Text) (n : ℕ) → n ≤ 4096 → Upto line n
+  before_looks line n few size looked less = absurd (omega (arith, few, less, looked_least size looked))
+
+  -- they say as much of a front of the line
+  pub may_front : (front rest : Text) (n : ℕ) → n ≤ length front → Upto (front ++ rest) n → Upto front n
+  may_front front rest n within may size looked less =
+      subst May (take-append-le size front rest (omega (arith, within, less))) (may size looked less)
+
+  pub may_longer : (front rest : Text) (n : ℕ) → n ≤ length front → Upto front n → Upto (front ++ rest) n
+  may_longer front rest n within may size looked less =
+      subst May (sym (take-append-le size front rest (omega (arith, within, less)))) (may size looked less)
+
+  -- one more look
+  pub looked_again : (line : Text) (n : ℕ) → IsLookedAt n → Upto line n → May (take n line) → Upto line (n * 2)
+  looked_again line n at may here size looked less = by_order (cases_lt size n)
+    where
+      by_next : (n < size) ⊎ (size ≤ n) → n ≤ size → May (take size line)
+      by_next (inl above) _ = absurd (omega (arith, less, none_between n size at looked above))
+      by_next (inr within) behind = let same : n ≡ size = omega (arith, within, behind) in subst (λ s. May (take s line)) same here
+
+      by_order : (size < n) ⊎ (n ≤ size) → May (take size line)
+      by_order (inl below) = may size looked below
+      by_order (inr behind) = by_next (cases_lt n size) behind
+
+  -- the bytes that show that the line has no version are left
+  pub left_front : (line seen left : Text) (size : ℕ) → seen ≡ line → left ≡ take size seen
+      → ShowsNone dialect prefixes at_front (take size seen) → IsLeft dialect prefixes at_front line left
+  left_front line seen left size is so shows = inr (
+    drop size line,
+    sym (take-append-drop size line) ∙ ap (λ l. l ++ drop size line) (sym (so ∙ ap (take size) is)),
+    subst (ShowsNone dialect prefixes at_front) (sym so) shows,
+  )

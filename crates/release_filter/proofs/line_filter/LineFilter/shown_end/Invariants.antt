@@ -1,0 +1,13 @@
+use Rattle.std.proofs.Common.{◌-◌, length}
+use Rattle.release_filter.specs.Skipping.{IsLookedAt, MayUpTo}
+use Rattle.release_filter.specs.Steps.Taking.{texts}
+use Rattle.release_filter.proofs.line_filter.LineFilter.shown_end.Given as goal
+
+abbrev pub invariant-loop-size : goal.invariant-loop-size
+invariant-loop-size l = record {
+  looked_at : IsLookedAt l.size;
+  may : MayUpTo l.self.filter.dialect (texts l.self.prefixes.items) l.at_front l.unended l.size;
+}
+
+abbrev pub decreases-loop-size : goal.decreases-loop-size
+decreases-loop-size l = length l.unended - l.size
