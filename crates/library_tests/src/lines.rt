@@ -56,6 +56,9 @@ const LONG_LINES: [(&str, u8, bool); 7] = [
     ("1.2.0", b'\r', true),
 ];
 
+/// How many letters late lines have: they are a version so far, and show then that they are none.
+const LATE_LINES: [usize; 2] = [5000, 9000];
+
 /// Writes at which cuts of the text something else is appended, and how many cuts there were.
 pub fn write_cuts(rt: &impl Print, alloc: Global) -> io::Result<()> {
     let mut cuts = 0u32;
@@ -113,7 +116,8 @@ pub fn write_invalid_lines(rt: &impl Print, alloc: Global) -> io::Result<()> {
 }
 
 /// Writes which long lines are kept, skipped or counted otherwise, and how many there were. The
-/// first 4,096 bytes show of most that they are no version.
+/// first 4,096 bytes show of most that they are no version, and of the late ones twice as many or
+/// four times as many do.
 pub fn write_long_lines(rt: &impl Print, alloc: Global) -> io::Result<()> {
     let mut count = 0u32;
     for (front, byte, is_kept) in &LONG_LINES {
@@ -129,6 +133,15 @@ pub fn write_long_lines(rt: &impl Print, alloc: Global) -> io::Result<()> {
                 }
                 count = count.saturating_add(1);
             }
+        }
+    }
+    for letters in LATE_LINES {
+        let line = late_line(alloc, letters)?;
+        for place in [0, 4096, 4097, 8191, 8192, 8193, 16384, 16385] {
+            if !takes_long(alloc, line.as_slice(), place, false)? {
+                println!(rt; "lines: wrong at {letters} letters, then a blank")?;
+            }
+            count = count.saturating_add(1);
         }
     }
     println!(rt; "lines: {count} long lines")
@@ -271,6 +284,20 @@ fn skips(alloc: Global, before: &str, line: &[u8], after: &str) -> Result<bool, 
         && counts.first_invalid.as_ref().is_some_and(|first| first.number == number
             && first.front.as_slice() == line);
     Ok(has_ended && is_counted && kept == wanted)
+}
+
+/// A line that is a version for so many letters, and then has a blank and as many letters.
+fn late_line(alloc: Global, letters: usize) -> Result<Vec<u8>, AllocError> {
+    let mut line = Vec::new(alloc);
+    line.extend_from_slice(b"1.2.3-")?;
+    for _ in 0..letters {
+        line.push(b'a')?;
+    }
+    line.push(b' ')?;
+    for _ in 0..letters {
+        line.push(b'a')?;
+    }
+    Ok(line)
 }
 
 /// Whether a long line that is cut after so many bytes is kept or else counted, and the line after

@@ -9,7 +9,8 @@ use Rattle.release_filter.specs.Counting.{CountsValue, counted_as, one_more}
 use Rattle.release_filter.specs.LineTexts.{IsWholeLine, after_mark, line_text, lines_of}
 use Rattle.release_filter.specs.Pieces.{Completes, EndsInvalid, LinesValue, TakesAll}
 use Rattle.release_filter.specs.Steps.Outlined.{JudgesBy}
-use Rattle.release_filter.specs.Steps.Taking.{Concludes, Outlines, PassesAs, TakesLine, TakesWhole, verdict_of}
+use Rattle.release_filter.specs.Filters.{FilterValue}
+use Rattle.release_filter.specs.Steps.Taking.{Concludes, Outlines, PassesAs, TakesJudged, TakesLine, TakesWhole, verdict_of}
 use Rattle.release_filter.specs.Verdicts.{AreJudged, HasVersion, IsVerdictOn, JudgedLine, Verdict, asked, has_invalid, is_invalid, kept}
 use Rattle.release_filter.specs.Verdicts.{dropped}
 use Rattle.release_filter.specs.Verdicts.{empty, invalid}
@@ -118,25 +119,27 @@ takes_best h g c d line said o plain v old best either is passes made found so c
     )
 
 -- a line was taken of which a filter says this
-pub took_judged : (s : LinesValue) (end left line : Text) (said : Judged) (front : Bool) (g : HeldValue) (d : CountsValue) (old new : Text)
-    (valid : Bool) → IsWholeLine end → NoEnd s.unended → line ≡ line_with s end
-    → JudgesBy (HasVersion s.filter.dialect (asked s.prefixes) line) s.filter said
-    → ((plain : PlainVersion) → PassesAs said plain → TakesLine s.held s.counts line (verdict_of said plain line) g d old new
-    × (valid ≡ not (is_invalid (verdict_of said plain line)))) → left ≡ [] → front ≡ false
-    → TakesWhole s end (record s { at_front = front; unended = left; held = g; counts = d }) old new valid
-took_judged s end left line said front g d old new valid whole none is judges takes none_left later =
-    let told = verdict s.filter s.prefixes line said judges in
+pub takes_judged : (filter : FilterValue) (prefixes : List Text) (h g : HeldValue) (c d : CountsValue) (line text : Text) (said : Judged)
+    (old new : Text) (valid : Bool) → line ≡ text → JudgesBy (HasVersion filter.dialect (asked prefixes) line) filter said
+    → ((plain : PlainVersion) → PassesAs said plain → TakesLine h c line (verdict_of said plain line) g d old new
+    × (valid ≡ not (is_invalid (verdict_of said plain line)))) → TakesJudged filter prefixes h c text g d old new valid
+takes_judged filter prefixes h g c d line text said old new valid is judges takes =
+    let told = verdict filter prefixes line said judges in
     let one = takes told.0 told.1 in
-    let v = verdict_of said told.0 line in
-    let on = subst (λ l. IsVerdictOn s.filter s.prefixes l v) is told.2 in
-    let taken = subst (λ l. TakesLine s.held s.counts l v g d old new) is one.0 in (
-      judged_as s end v,
-      subst (λ b. TakesAll s end (judged_as s end v ∷ []) (record s { at_front = b; unended = left; held = g; counts = d }) old new) (sym
-          later)
-          (took_line s end left v g d old new whole none on taken none_left),
-      none_left,
-      one.1,
-    )
+    subst (λ l. TakesJudged filter prefixes h c l g d old new valid) is (verdict_of said told.0 line, told.2, one.0, one.1)
+
+-- and this was its end
+pub took_judged : (s : LinesValue) (end left : Text) (front : Bool) (g : HeldValue) (d : CountsValue) (old new : Text) (valid : Bool)
+    → IsWholeLine end → NoEnd s.unended → TakesJudged s.filter s.prefixes s.held s.counts (line_with s end) g d old new valid → left ≡ []
+    → front ≡ false → TakesWhole s end (record s { at_front = front; unended = left; held = g; counts = d }) old new valid
+took_judged s end left front g d old new valid whole none (v, on, taken, is_valid) none_left later = (
+  judged_as s end v,
+  subst (λ b. TakesAll s end (judged_as s end v ∷ []) (record s { at_front = b; unended = left; held = g; counts = d }) old new) (sym
+      later)
+      (took_line s end left v g d old new whole none on taken none_left),
+  none_left,
+  is_valid,
+)
 
 -- ---- lines that are no invalid ones
 

@@ -1,6 +1,6 @@
 -- The sizes at which it is looked whether a line is skipped, and what the looks before a size say.
-use Rattle.std.proofs.Common.{◌≡◌, ◌∙◌, ◌++◌, ◌<◌, ◌≤◌, ◌+◌, ◌*◌, ◌^◌, List, ◌⊎◌, ℕ, Bool, ap, refl, sym, subst, inl, inr, arith}
-use Rattle.std.proofs.Common.{drop, length, length-take, take}
+use Rattle.std.proofs.Common.{◌≡◌, ◌∙◌, ◌++◌, ◌<◌, ◌≤◌, ◌+◌, ◌*◌, ◌^◌, List, ◌⊎◌, ℕ, Bool, ap, sym, subst, inl, inr, arith}
+use Rattle.std.proofs.Common.{drop, length, take}
 use Rattle.std.proofs.Math.Nat.{pow-le-pow_right}
 use Rattle.std.proofs.lemmas.Bool.{cases_lt}
 use Rattle.std.proofs.lemmas.Grind.{pow_more}
@@ -42,11 +42,7 @@ module _ (dialect : Dialect) (prefixes : List Text) (at_front : Bool) where
   pub before_looks : (line : Text) (n : ℕ) → n ≤ 4096 → Upto line n
   before_looks line n few size looked less = absurd (omega (arith, few, less, looked_least size looked))
 
-  -- they say as much of a front of the line
-  pub may_front : (front rest : Text) (n : ℕ) → n ≤ length front → Upto (front ++ rest) n → Upto front n
-  may_front front rest n within may size looked less =
-      subst May (take-append-le size front rest (omega (arith, within, less))) (may size looked less)
-
+  -- they say as much of a line that goes on
   pub may_longer : (front rest : Text) (n : ℕ) → n ≤ length front → Upto front n → Upto (front ++ rest) n
   may_longer front rest n within may size looked less =
       subst May (sym (take-append-le size front rest (omega (arith, within, less)))) (may size looked less)

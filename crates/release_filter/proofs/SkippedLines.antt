@@ -161,44 +161,44 @@ module _ (filter : FilterValue) (prefixes : List Text) (at_front : Bool) (front 
 
 -- ---- what is left of a line
 
--- what shows that a line has no version is not less than what may show it
-not_shown : (dialect : Dialect) (prefixes : List Text) (at_front : Bool) (line front rest : Text) (count : ℕ)
-    → MayUpTo dialect prefixes at_front line count → line ≡ front ++ rest → ShowsNone dialect prefixes at_front front
-    → count ≤ length front
-not_shown dialect prefixes at_front line front rest count may is shows = by_order (cases_lt (length front) count)
-  where
-    by_order : (length front < count) ⊎ (count ≤ length front) → count ≤ length front
-    by_order (inl less) =
-        absurd (shows.none (subst (MayHaveVersion dialect prefixes at_front) (ap (take (length front)) is ∙ take-append_seam front rest)
-        (may (length front) shows.looked_at less)))
-    by_order (inr most) = most
+module _ (dialect : Dialect) (prefixes : List Text) (at_front : Bool) (unended : Text) where
+  abbrev Shows : Text → Type 0
+  Shows front = ShowsNone dialect prefixes at_front front
 
--- one text is left
-pub same_left : (dialect : Dialect) (prefixes : List Text) (at_front : Bool) (unended left other : Text)
-    → IsLeft dialect prefixes at_front unended left → IsLeft dialect prefixes at_front unended other → left ≡ other
-same_left dialect prefixes at_front unended left other a b = by_cases a b
-  where
-    whole : (front rest : Text) → MayUpTo dialect prefixes at_front unended (length unended) → unended ≡ front ++ rest
-        → ShowsNone dialect prefixes at_front front → front ≡ unended
-    whole front [] may is shows = sym (is ∙ append-nil front)
-    whole front (x ∷ xs) may is shows =
-        absurd (omega (arith, ap length is, length-append front (x ∷ xs), not_shown dialect prefixes at_front unended front (x ∷ xs) (length
-        unended) may is shows))
+  -- what shows that a line has no version is no shorter than what it may have one by
+  not_shorter : (front rest : Text) (count : ℕ) → MayUpTo dialect prefixes at_front unended count → unended ≡ front ++ rest → Shows front
+      → count ≤ length front
+  not_shorter front rest count may is shows = by_order (cases_lt (length front) count)
+    where
+      by_order : (length front < count) ⊎ (count ≤ length front) → count ≤ length front
+      by_order (inl less) =
+          let same = ap (take (length front)) is ∙ take-append_seam front rest in
+          absurd (shows.none (subst (MayHaveVersion dialect prefixes at_front) same (may (length front) shows.looked_at less)))
+      by_order (inr most) = most
 
-    -- of two fronts that show it neither is longer
-    within : (front rest more later : Text) → unended ≡ front ++ rest → unended ≡ more ++ later → ShowsNone dialect prefixes at_front front
-        → ShowsNone dialect prefixes at_front more → length more ≤ length front
-    within front rest more later is so shows also =
-        not_shown dialect prefixes at_front unended front rest (length more)
-        (subst (λ l. MayUpTo dialect prefixes at_front l (length more)) (sym so)
-        (may_longer dialect prefixes at_front more later (length more) (omega arith) also.fewest)) is shows
+  -- where all of a line may have one, only all of it can show that it has none
+  all_of : (front rest : Text) → MayUpTo dialect prefixes at_front unended (length unended) → unended ≡ front ++ rest → Shows front
+      → front ≡ unended
+  all_of front [] may is shows = sym (is ∙ append-nil front)
+  all_of front (x ∷ xs) may is shows =
+      let most = not_shorter front (x ∷ xs) (length unended) may is shows in
+      absurd (omega (arith, ap length is, length-append front (x ∷ xs), most))
 
-    by_cases : IsLeft dialect prefixes at_front unended left → IsLeft dialect prefixes at_front unended other → left ≡ other
-    by_cases (inl (is, _)) (inl (so, _)) = is ∙ sym so
-    by_cases (inl (is, may)) (inr (rest, so, shows)) = is ∙ sym (whole other rest may so shows)
-    by_cases (inr (rest, is, shows)) (inl (so, may)) = whole left rest may is shows ∙ sym so
-    by_cases (inr (rest, is, shows)) (inr (later, so, also)) =
-        let long : length left ≡ length other = omega (arith, within left rest other later is so shows also, within other later left rest so
-        is also shows) in
-        sym (take-append_seam left rest) ∙ ap (take (length left)) (sym is) ∙ ap (λ n. take n unended) long
-        ∙ ap (take (length other)) so ∙ take-append_seam other later
+  -- of two that show it neither is longer
+  no_longer : (front rest other later : Text) → unended ≡ front ++ rest → unended ≡ other ++ later → Shows front → Shows other
+      → length other ≤ length front
+  no_longer front rest other later is so shows also =
+      let may = may_longer dialect prefixes at_front other later (length other) (omega arith) also.fewest in
+      not_shorter front rest (length other) (subst (λ l. MayUpTo dialect prefixes at_front l (length other)) (sym so) may) is shows
+
+  -- one text is left
+  pub same_left : (left other : Text) → IsLeft dialect prefixes at_front unended left → IsLeft dialect prefixes at_front unended other
+      → left ≡ other
+  same_left left other (inl (is, _)) (inl (so, _)) = is ∙ sym so
+  same_left left other (inl (is, may)) (inr (rest, so, shows)) = is ∙ sym (all_of other rest may so shows)
+  same_left left other (inr (rest, is, shows)) (inl (so, may)) = all_of left rest may is shows ∙ sym so
+  same_left left other (inr (rest, is, shows)) (inr (later, so, also)) =
+      let within = no_longer left rest other later is so shows also in
+      let long : length left ≡ length other = omega (arith, within, no_longer other later left rest so is also shows) in
+      sym (take-append_seam left rest) ∙ ap (take (length left)) (sym is) ∙ ap (λ n. take n unended) long
+      ∙ ap (take (length other)) so ∙ take-append_seam other later

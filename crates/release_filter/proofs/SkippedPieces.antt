@@ -1,20 +1,18 @@
 -- What pieces do of which a line is skipped: what the whole text does.
-use Rattle.std.proofs.Common.{◌≡◌, ◌≢◌, ◌∙◌, ◌++◌, ◌∷◌, ◌<◌, ◌≤◌, ◌&&◌, [], List, ◌⊎◌, Bool, refl, sym, subst, ap, ap₂, inl, inr}
-use Rattle.std.proofs.Common.{append_assoc, append-nil, arith, drop, length, length-append, length-take, map, take}
+use Rattle.std.proofs.Common.{◌≡◌, ◌≢◌, ◌∙◌, ◌++◌, ◌∷◌, ◌≤◌, ◌&&◌, [], List, refl, sym, subst, ap, ap₂, inl, inr}
+use Rattle.std.proofs.Common.{append_assoc, append-nil, arith, length, length-append, map}
 use Rattle.std.specs.Cmp.{IsTotalOrder}
 use Rattle.std.specs.List.{AllByRecursion, concat}
-use Rattle.std.specs.Io.BufRead.{strip_last}
 use Rattle.std.proofs.Math.Bool.{and-true}
 use Rattle.std.proofs.Math.Seq.{drop-append_seam, take-append_seam}
 use Rattle.std.proofs.lemmas.List.Elements.{All-append, All-drop, All-head, All-tail, All-take}
 use Rattle.semver_parser.specs.Precedence.{precedence}
 use Rattle.semver_parser.specs.Texts.{Text, is_empty}
-use Rattle.semver_parser.specs.declared.version.Dialect.{Dialect}
 use Rattle.release_filter.specs.Counting.{CountsValue, counted, counted_as}
 use Rattle.release_filter.specs.LineTexts.{IsWholeLine, after_mark, lines_of, marked_off, without_mark}
 use Rattle.release_filter.specs.Pieces.{AreAlike, Completes, Finishes, LinesValue, Takes, TakesAll, begun}
 use Rattle.release_filter.specs.Skipping.{IsLeft, ShowsNone}
-use Rattle.release_filter.specs.Verdicts.{AreJudged, IsVerdictOn, JudgedLine, Verdict, asked, invalid}
+use Rattle.release_filter.specs.Verdicts.{AreJudged, IsVerdictOn, JudgedLine, Verdict, invalid}
 use Rattle.release_filter.specs.Wanted.{Holds, kept_as, kept_of}
 use Rattle.release_filter.proofs.JudgedLines.{judged_one}
 use Rattle.release_filter.proofs.PieceLaws.{took_text, whole_tail}
@@ -77,7 +75,7 @@ module _ (t : LinesValue) (front dropped : Text) (none : NoEnd front) (none_drop
 
     count_one : (end : Text) (c : CountsValue)
         → counted_as invalid c (after_mark t.at_front (front ++ end)) ≡ counted_as invalid c
-            (after_mark t.at_front ((front ++ dropped) ++ end))
+        (after_mark t.at_front ((front ++ dropped) ++ end))
     count_one end c =
         counted_alike t.filter t.prefixes t.at_front front none shows end (dropped ++ end) c
         ∙ ap (λ l. counted_as invalid c (after_mark t.at_front l)) (sym (append_assoc front dropped end))
@@ -132,7 +130,7 @@ module _ (t : LinesValue) (front dropped : Text) (none : NoEnd front) (none_drop
         let end = line_after front y q (concat ys ++ u.unended) none each.0 whole in
         let all = b.judges.all ∙ ap (marked_off t.at_front) some in
         let line : k.line ≡ after_mark t.at_front (front ++ end.0) = ap (λ (l : List Text). first_of l k.line) all
-            ∙ ap (after_mark t.at_front) end.1 in
+        ∙ ap (after_mark t.at_front) end.1 in
         let verdict = must_be end.0 k.verdict (subst (λ l. IsVerdictOn t.filter t.prefixes l k.verdict) line b.judges.each.0) in (
           line_as end.0 ∷ ks,
           (inr (verdict, refl), alike ks),
@@ -245,7 +243,8 @@ module _ (t u : LinesValue) (whole q : Text) (ks : List JudgedLine) (mid new : T
             },
           )
       by_lines (y ∷ ys) some =
-          let end = took_end t front dropped none_front none_dropped shows (record u { unended = b.unended }) q y ys ks mid new b.all some in
+          let after = record u { unended = b.unended } in
+          let end = took_end t front dropped none_front none_dropped shows after q y ys ks mid new b.all some in
           (end.0, end.1, record { unended = b.unended; all = end.2; left = b.left })
 
   next : IsLeft t.filter.dialect t.prefixes t.at_front whole t.unended → Takes t q ks u mid new → Next (record t { unended = whole })

@@ -1,6 +1,6 @@
 -- Lines that are skipped: bytes that begin them show that they have no version.
-use Rattle.std.specs.Prelude.{◌≡◌, ◌≢◌, ◌⊎◌, ◌<◌, ◌*◌, ◌^◌, ℕ, Bool, List, [], ◌∷◌, ◌++◌, All, IsTrue}
-use Rattle.std.specs.Prelude.{length, take}
+use Rattle.std.specs.Prelude.{◌≡◌, ◌≢◌, ◌⊎◌, ◌<◌, ◌*◌, ◌^◌, ℕ, Bool, List, [], ◌∷◌, ◌++◌, All}
+use Rattle.std.specs.Prelude.{IsTrue, length, take}
 use Rattle.std.specs.Io.BufRead.{strip_last}
 use Rattle.semver_parser.specs.Texts.{Text}
 use Rattle.semver_parser.specs.declared.version.Dialect.{Dialect}
@@ -21,7 +21,7 @@ BeginsAfterOne dialect [] front = ⊥
 BeginsAfterOne dialect (prefix ∷ prefixes) front =
     BeginsAfter dialect prefix front ⊎ BeginsAfterOne dialect prefixes front
 
--- at so many bytes of a line it is looked whether it is skipped: 4,096, then twice as many, and so on
+-- at so many bytes of a line it is looked whether it is skipped: 4,096, twice as many, and so on
 abbrev pub IsLookedAt : ℕ → Type 0
 IsLookedAt size = (k : ℕ) × (size ≡ 4096 * 2 ^ k)
 
@@ -34,7 +34,7 @@ module _ (dialect : Dialect) (prefixes : List Text) (at_front : Bool) where
   abbrev pub MayHaveVersion : Text → Type 0
   MayHaveVersion front = BeginsAfterOne dialect (asked prefixes) (shown at_front front)
 
-  -- a line may have one wherever it is looked at, before so many bytes
+  -- a line may have one wherever it is looked at before so many bytes
   abbrev pub MayUpTo : Text → ℕ → Type 0
   MayUpTo line count = (size : ℕ) → IsLookedAt size → size < count → MayHaveVersion (take size line)
 

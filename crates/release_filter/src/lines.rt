@@ -9,9 +9,8 @@ ghost use Rattle.semver_parser.specs.Versions.{PlainVersion};
 ghost use Rattle.release_filter.specs.Counting.{counts_value, no_counts};
 ghost use Rattle.release_filter.specs.LineTexts.{IsWholeLine, after_mark};
 ghost use Rattle.release_filter.specs.Pieces.{Finishes, RefusesEnd, StopsAs, Takes, begun};
-ghost use Rattle.release_filter.specs.Steps.Taking.{PassesAs, TakesLine, TakesRest, TakesWhole};
-ghost use Rattle.release_filter.specs.Steps.Taking.{held_value};
-ghost use Rattle.release_filter.specs.Steps.Taking.{verdict_of};
+ghost use Rattle.release_filter.specs.Steps.Taking.{PassesAs, TakesJudged, TakesLine, TakesRest};
+ghost use Rattle.release_filter.specs.Steps.Taking.{TakesWhole, held_value, texts, verdict_of};
 ghost use Rattle.release_filter.specs.Verdicts.{JudgedLine, has_invalid, is_invalid};
 
 use crate::counts::{Counts, Noted, is_invalid};
@@ -57,8 +56,9 @@ pub struct Stopped {
 ///
 /// A byte order mark at the front of the text is dropped, also one that is cut between pieces.
 ///
-/// Of a line that goes on into the next piece its bytes are held, and 4,096 bytes at most of one
-/// that begins as no line with a version does: the rest of it is skipped.
+/// Of a line that goes on into the next piece its bytes are held. At 4,096 of them, at twice as
+/// many, and so on, it is looked whether some line with a version begins so. If none does, no more
+/// than these are held: the rest of the line is skipped.
 #[derive(Drop)]
 pub struct Lines {
     chosen: LineFilter,
@@ -286,7 +286,8 @@ impl Lines {
         }
         let seen = self.unended.len();
         self.unended.extend_from_slice(rest)?;
-        if let Some(size) = self.chosen.shown_end(self.at_front, seen, self.unended.as_slice()) {
+        let unended = self.unended.as_slice();
+        if let Some(size) = self.chosen.shown_end(self.at_front, seen, unended) {
             self.unended.truncate(size);
             self.is_skipped = true;
         }
@@ -294,8 +295,6 @@ impl Lines {
     }
 
     /// Ends the line that has not ended, and returns whether it isn't an invalid one.
-    /// So that a long line isn't held twice, one that is kept is handed over if nothing was
-    /// appended before it.
     fn take_line(
         &mut self,
         alloc: Global,
@@ -310,33 +309,15 @@ impl Lines {
     {
         let begun = self.unended.len();
         self.unended.extend_from_slice(end)?;
-        let marked = self.unended.as_slice();
-        let line = after_mark(self.at_front, marked);
-        let may_hand_over = may_hand_over(self.held.wanted, line, marked, kept.as_slice());
-        let may_hold = may_hold(self.held.wanted, line, marked);
-        let judged = self.chosen.judge_line(line);
-        if let Judged::Passes(outline) = &judged {
-            if may_hand_over {
-                self.counts.add(Noted::Version);
-                self.at_front = false;
-                self.is_skipped = false;
-                mem::swap(kept, &mut self.unended);
-                return Ok(true);
-            }
-            if may_hold {
-                let Ok(version) = without_build(alloc, outline) else {
-                    self.unended.truncate(begun);
-                    return Err(AllocError);
-                };
-                self.held.hold_whole(alloc, version, &mut self.unended);
-                self.counts.add(Noted::Version);
-                self.unended.clear();
-                self.at_front = false;
-                self.is_skipped = false;
-                return Ok(true);
-            }
-        }
-        match take(alloc, line, &judged, &mut self.held, &mut self.counts, kept) {
+        match take_ended(
+            alloc,
+            &self.chosen,
+            self.at_front,
+            &mut self.unended,
+            &mut self.held,
+            &mut self.counts,
+            kept,
+        ) {
             Ok(is_valid) => {
                 self.unended.clear();
                 self.at_front = false;
@@ -349,6 +330,47 @@ impl Lines {
             }
         }
     }
+}
+
+/// Takes a line that has ended, and returns whether it is no invalid one. So that a long line isn't
+/// held twice, one that is kept is handed over if nothing was appended before it, or held as it is.
+fn take_ended(
+    alloc: Global,
+    chosen: &LineFilter,
+    at_front: bool,
+    bytes: &mut Vec<u8>,
+    held: &mut Held,
+    counts: &mut Counts,
+    kept: &mut Vec<u8>,
+) -> Result<bool, AllocError>
+    ensures takes { IfOk result (λ is_valid. TakesJudged chosen.now.filter
+        (texts chosen.now.prefixes.items) (held_value held.old) (counts_value counts.old)
+        (after_mark at_front bytes.old.items) (held_value held.new) (counts_value counts.new)
+        kept.old.items kept.new.items is_valid) }
+    ensures unchanged { IfErr result (λ _. (bytes.new.items ≡ bytes.old.items)
+        × (held_value held.new ≡ held_value held.old)
+        × (counts_value counts.new ≡ counts_value counts.old)
+        × (kept.new.items ≡ kept.old.items)) }
+{
+    let marked = bytes.as_slice();
+    let line = after_mark(at_front, marked);
+    let may_hand_over = may_hand_over(held.wanted, line, marked, kept.as_slice());
+    let may_hold = may_hold(held.wanted, line, marked);
+    let judged = chosen.judge_line(line);
+    if let Judged::Passes(outline) = &judged {
+        if may_hand_over {
+            counts.add(Noted::Version);
+            mem::swap(kept, bytes);
+            return Ok(true);
+        }
+        if may_hold {
+            let version = without_build(alloc, outline)?;
+            held.hold_whole(alloc, version, bytes);
+            counts.add(Noted::Version);
+            return Ok(true);
+        }
+    }
+    take(alloc, line, &judged, held, counts, kept)
 }
 
 /// Whether a kept line may take the place of what was appended, since it is all that is: it has no

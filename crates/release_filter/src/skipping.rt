@@ -1,6 +1,6 @@
 //! Lines that are skipped: bytes that begin them show that they have no version.
 
-ghost use Rattle.std.specs.Prelude.{◌≡◌, ◌↔◌, None, map, string_bytes, length, take, IfSome, IsTrue};
+ghost use Rattle.std.specs.Prelude.{◌≡◌, ◌↔◌, None, length, take, IfSome, IsTrue};
 ghost use Rattle.semver_parser.specs.Texts.{Text};
 ghost use Rattle.version_fronts.specs.Fronts.{IsFrontIn};
 ghost use Rattle.version_fronts.specs.Steps.Scanning.{HasRead};
@@ -14,13 +14,12 @@ use crate::line_texts::{after_mark, without_last};
 use semver_parser::version::Dialect;
 use version_fronts::scanner::Scanner;
 
-/// At so many bytes of a line it is first looked whether it is skipped.
+/// At so many bytes of a line it is looked first whether it is skipped.
 const FIRST_LOOK: usize = 4096;
 
 impl LineFilter {
-    /// How many bytes of a line that has not ended show that it has no version, if some do: the
-    /// fewest of those that are looked at, which are 4,096, then twice as many, and so on. The
-    /// first ones, so many, were looked at before.
+    /// How many bytes of a line that has not ended show that it has no version: the fewest that do,
+    /// of 4,096, twice as many, and so on. At fewer than `seen` it was looked before.
     pub(crate) fn shown_end(&self, at_front: bool, seen: usize, unended: &[u8]) -> Option<usize>
         requires { MayUpTo self.now.filter.dialect (texts self.now.prefixes.items) at_front
             unended.now seen }

@@ -7,11 +7,12 @@ use Rattle.semver_parser.specs.Outlines.{OutlineValue, version_of}
 use Rattle.semver_parser.specs.Texts.{Text, is_empty}
 use Rattle.semver_parser.specs.VersionViews.{version_value}
 use Rattle.semver_parser.specs.Versions.{PlainVersion}
+use Rattle.release_filter.specs.Filters.{FilterValue}
 use Rattle.release_filter.specs.LineTexts.{line_text}
 use Rattle.release_filter.specs.Pieces.{LinesValue, TakesAll}
 use Rattle.release_filter.specs.Skipping.{IsLeft}
-use Rattle.release_filter.specs.Verdicts.{JudgedLine, Verdict, is_invalid, kept, dropped, invalid}
-use Rattle.release_filter.specs.Verdicts.{empty}
+use Rattle.release_filter.specs.Verdicts.{IsVerdictOn, JudgedLine, Verdict, is_invalid}
+use Rattle.release_filter.specs.Verdicts.{dropped, empty, invalid, kept}
 use Rattle.release_filter.specs.Counting.{CountsValue, counted_as}
 use Rattle.release_filter.specs.Wanted.{Answers, HeldValue, Holds, KeptValue, kept_as}
 use Rattle.release_filter.specs.declared.judging.Judged.{Judged}
@@ -63,6 +64,13 @@ pub record TakesLine (h : HeldValue) (c : CountsValue) (line : Text) (verdict : 
   pub holds : Holds h (kept_as verdict line) g added
   pub appended : new ≡ old ++ added
   pub counted : d ≡ counted_as verdict c line
+
+-- one line was judged and taken, and this says whether it is no invalid one
+abbrev pub TakesJudged : FilterValue → List Text → HeldValue → CountsValue → Text
+    → HeldValue → CountsValue → Text → Text → Bool → Type 0
+TakesJudged filter prefixes h c line g d old new is_valid = (verdict : Verdict)
+    × IsVerdictOn filter prefixes line verdict × TakesLine h c line verdict g d old new
+    × (is_valid ≡ not (is_invalid verdict))
 
 -- bytes that end no line were taken
 abbrev pub TakesRest : LinesValue → Text → LinesValue → Type 0

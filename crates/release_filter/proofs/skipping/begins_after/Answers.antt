@@ -22,5 +22,5 @@ returns-in-None c =
     let other : Strips front prefix c.strip_prefix-in-None.result =
     subst (λ p. Strips front p c.strip_prefix-in-None.result) c.as_bytes-prefix.ensures.value c.strip_prefix-in-None.ensures.cases in
     begins_none c.args.dialect prefix front c.strip_prefix-in-None.result c.is_some.result never
-        (behind front prefix c.strip_prefix-in-None.result other)
+    (behind front prefix c.strip_prefix-in-None.result other)
     c.is_some.ensures

@@ -5,7 +5,7 @@ use Rattle.release_filter.specs.LineTexts.{after_mark}
 use Rattle.release_filter.specs.declared.lines.Lines.TheView.{view}
 use Rattle.release_filter.specs.Pieces.{LinesValue}
 use Rattle.release_filter.specs.Steps.Taking.{held_value}
-use Rattle.release_filter.proofs.Endings.{took_judged}
+use Rattle.release_filter.proofs.Endings.{takes_judged, took_judged}
 use Rattle.release_filter.proofs.TakenPieces.{seen}
 use Rattle.release_filter.proofs.lines.Lines.take_first.Goals as goal
 
@@ -19,10 +19,12 @@ returns-clause-takes c =
     let none : c.self.inside.unended.items ≡ [] = grind (arith, common_steps) in
     let later = ap (λ (v : LinesValue). v.at_front) same ∙ c.if-self.false in
     let nothing = ap (λ (v : LinesValue). v.unended) same ∙ none in
-    let whole = took_judged value line s.unended.items line found.judged s.at_front (held_value c.take.new.held)
-    (counts_value c.take.new.counts) c.args.kept.now.items c.take.new.kept.items c.in_ok-is_valid-2.is_valid found.ensures.whole
-    c.self-2.invariant.no_end (sym (ap₂ (λ b l. after_mark b (l ++ line)) later nothing)) found.ensures.judged c.in_ok-is_valid-2.ensures.takes
-    nothing
+    let taken = takes_judged value.filter value.prefixes value.held (held_value c.take.new.held) value.counts
+    (counts_value c.take.new.counts) line (after_mark s.at_front (s.unended.items ++ line)) found.judged c.args.kept.now.items
+    c.take.new.kept.items c.in_ok-is_valid-2.is_valid (sym (ap₂ (λ b l. after_mark b (l ++ line)) later nothing)) found.ensures.judged
+    c.in_ok-is_valid-2.ensures.takes in
+    let whole = took_judged value line s.unended.items s.at_front (held_value c.take.new.held) (counts_value c.take.new.counts)
+    c.args.kept.now.items c.take.new.kept.items c.in_ok-is_valid-2.is_valid found.ensures.whole c.self-2.invariant.no_end taken nothing
     later in (
       found.ensures.front,
       found.ensures.whole,
