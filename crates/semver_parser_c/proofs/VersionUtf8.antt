@@ -147,7 +147,7 @@ crate_utf8 v text w =
     let s = w.spells in
     let three : Text = join_with_byte 46 (map decimal (numbers v.plain)) in
     let core : IsUtf8 w.core = subst IsUtf8 (sym (s.spelled ∙ (λ i. three ++ s.pre.joined i ++ s.build.joined i)
-        ∙ append_assoc three _ _)) (ascii_utf8 _ (core_ascii v s.pre.texts s.build.texts s.major
+    ∙ append_assoc three _ _)) (ascii_utf8 _ (core_ascii v s.pre.texts s.build.texts s.major
     s.minor s.patch (spelled_kept_all v.plain.pre s.pre.texts s.pre.each) (spelled_kept_all v.build s.build.texts s.build.each))) in
     subst IsUtf8 (sym w.whole) (IsUtf8-append (w.before ++ w.core) w.after
     (IsUtf8-append w.before w.core (spaces_utf8 w.before w.spaces_before) core) (spaces_utf8 w.after w.spaces_after))

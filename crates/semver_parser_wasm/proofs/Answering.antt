@@ -26,7 +26,7 @@ pub answered : (m : Meaning) (range version : Text) (met : Bool) (o : VersionVal
     → IsAnswer m range version (if met then meets else does_not_meet)
 answered m range version met o utf8 refuses one spells says =
     let IsOne : ℤ → Type 0 = λ n. Decides (IsVersionTextIn (dialect_of (reading_of m)) version) (n ≡ not_a_version)
-        (IsMeant m range version n) in
+    (IsMeant m range version n) in
     let n : ℤ = if met then meets else does_not_meet in
     let means : IsMeant m range version n = (
       met,

@@ -176,12 +176,12 @@ short_word role p t n h less small =
     let build = marked (codes "+") (build_parts p) in
     let whole : length t ≡ length (numbers_of p) + (length pre + length build) =
     ap length (spelled_parts p t h) ∙ length-append (numbers_of p) (pre ++ build)
-        ∙ ap (λ k. length (numbers_of p) + k) (length-append pre build) in
+    ∙ ap (λ k. length (numbers_of p) + k) (length-append pre build) in
     let parts : has_short_parts p ≡ true = and_from _ _ (components_short p (omega (arith, whole)))
     (and_from _ _ (marked_short is_short_pre 250 short_pre 45 (pre_parts p) (omega (arith, whole)))
     (marked_short is_short_build 250 (λ t e. within (length t) 250 e) 43 (build_parts p) (omega (arith, whole)))) in
     let version : is_short_version (if is_taken_whole role p then n else length (numbers_and_pre p)) ≡ true = by_test
-        (is_taken_whole role p)
+    (is_taken_whole role p)
     (λ y. rw y (within n 256 (omega arith)))
     (λ no. rw no (within (length (numbers_of p ++ pre)) 256 (omega (arith, whole, length-append (numbers_of p) pre)))) in
     and_from _ _ parts (rw version (or_true (not (states_three p)))) where

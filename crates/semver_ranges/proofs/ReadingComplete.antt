@@ -49,7 +49,7 @@ module _ (d : Dialect) where
   simple_starts : (s : Simple) (w u : Text) → SpellsSimple d s w → starts is_simple_byte (w ++ u) ≡ true
   simple_starts s w u (sign, text, form, spelled, whole) =
       rw whole (starts-append is_simple_byte (sign ++ text) u
-          (form_starts s.form sign text form (word_starts d (behind_form s.form) s.partial text spelled)))
+      (form_starts s.form sign text form (word_starts d (behind_form s.form) s.partial text spelled)))
 
   simples_start : (first : Simple) (others : List Simple) (w u : Text) → SpellsSimples d first others w
       → starts is_simple_byte (w ++ u) ≡ true

@@ -100,7 +100,7 @@ module _ (terms : Terms) (v : PlainVersion) (counts : Bool) where
       ∙ (λ i. fresh (met || sym (or-false (range_met terms v counts r)) i) (every || sym (or-false (range_every terms r)) i))
   set_after r (next ∷ others) met every =
       ap (ended counts) (front_after (fresh met every) (yielded (lower_of terms) r)
-          (next_range ∷ events_of (lower_of terms) (next ∷ others)))
+      (next_range ∷ events_of (lower_of terms) (next ∷ others)))
       ∙ set_after next others (met || range_met terms v counts r) (every || range_every terms r)
       ∙ (λ i. fresh (or_assoc met (range_met terms v counts r) (list_any (range_met terms v counts) (next ∷ others)) i)
       (or_assoc every (range_every terms r) (list_any (range_every terms) (next ∷ others)) i))
@@ -138,11 +138,11 @@ module _ (terms : Terms) (v : PlainVersion) (counts : Bool) where
       at (Some []) is e = absurd (read_sound (dialect_of terms) t [] is)
       at (Some (r ∷ others)) is e = by_test (fits_by (term_fits terms) (r ∷ others))
           (λ y. let fit : list_all (event_fits (term_fits terms)) (events_of (lower_of terms) (r ∷ others)) ≡ true = whole (r ∷ others)
-              ∙ y in
+          ∙ y in
           let same : tally ≡ ended counts (after terms v counts (begun counts) (events_of (lower_of terms) (r ∷ others))) =
           (let found = rw fit at e in cc) in
           let end = same ∙ set_after r others false false in
           (r ∷ others, is, y, ap (λ (x : Tally). x.met) end, ap (λ (x : Tally). x.every) end))
           (λ n. let fit : list_all (event_fits (term_fits terms)) (events_of (lower_of terms) (r ∷ others)) ≡ false = whole (r ∷ others)
-              ∙ n in
+          ∙ n in
           let wrong = rw fit at e in cc)

@@ -15,7 +15,7 @@ returns-in-Ok-true c =
     let says : (tree : TreeOf (reading_of c.args.meaning)) → SpellsAs (reading_of c.args.meaning) tree c.args.range.now
     → met ≡ meant_as c.args.meaning tree (version_of c.in-Some.outline) = search rules in
     rw c.in-Ok-true.field-0-test at (answered c.args.meaning c.args.range.now c.args.version.now met (version_of c.in-Some.outline) utf8
-        refuses
+    refuses
     c.one_version_in.ensures.same_version (rw dialect at c.in-Some.ensures.version) says)
 
 pub returns-in-Ok-false : goal.returns-in-Ok-false
@@ -27,7 +27,7 @@ returns-in-Ok-false c =
     let says : (tree : TreeOf (reading_of c.args.meaning)) → SpellsAs (reading_of c.args.meaning) tree c.args.range.now
     → met ≡ meant_as c.args.meaning tree (version_of c.in-Some.outline) = search rules in
     rw c.in-Ok-false.field-0-test at (answered c.args.meaning c.args.range.now c.args.version.now met (version_of c.in-Some.outline)
-        utf8 refuses
+    utf8 refuses
     c.one_version_in.ensures.same_version (rw dialect at c.in-Some.ensures.version) says)
 
 pub returns-in-Err : goal.returns-in-Err
@@ -45,4 +45,4 @@ returns-in-Err-check c =
     let utf8 : IsUtf8 c.args.range.now = search rules in
     let refuses : RefusesAs {A = Unit {0}} (reading_of c.args.meaning) c.args.range.now (Err c.in-Err-check.error) = search rules in
     rw (same, c.number_of-in-Err-check.ensures) (refused c.args.meaning c.args.range.now c.args.version.now c.in-Err-check.error utf8
-        other refuses)
+    other refuses)

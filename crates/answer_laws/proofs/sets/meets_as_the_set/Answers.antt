@@ -23,7 +23,7 @@ returns c =
       | in-Ok o ↦ record {
         same = rw o.has-is (one itself _ c.meets.result
             (answered_too (IsTextAs reading range) (IsTooLargeAs reading range) (HasSetAs reading range) o.in-Ok.set _
-                o.in-Ok.ensures.refusals)
+            o.in-Ok.ensures.refusals)
             r.refusals
             (λ a b is is' text. sym (inner is) ∙ o.has_outline.ensures.of_version
             ∙ o.in-Ok.ensures.meaning text.0 w text.1 c.numbers_fit.ensures ∙ sym (said _ is' r.meaning text.0 text.1)));

@@ -12,8 +12,11 @@ use Rattle.semver_parser_c.proofs.asking.judge.Goals as goal
 
 pub returns-in-Err-clause-refused : goal.returns-in-Err-clause-refused
 returns-in-Err-clause-refused c =
-    search (rules, range_refused _ _ _ c.args.version.now _ (c.in-Err.ensures.refused c.args.range.now)
-        (named_found _ c.in-Err.ensures.numbers))
+    search (
+      rules,
+      range_refused _ _ _ c.args.version.now _ (c.in-Err.ensures.refused c.args.range.now)
+          (named_found _ c.in-Err.ensures.numbers),
+    )
 
 pub returns-in-Ok-check-clause-refused : goal.returns-in-Ok-check-clause-refused
 returns-in-Ok-check-clause-refused c =

@@ -15,7 +15,7 @@ returns c =
     record {
       one = uncast n.result m.result (search rules) (search rules)
           (put_are_one (number.ok ∷ number.no_room ∷ rewrite_faults) rewrite_faults rewrite_exact number.range_out_of_memory refl refl
-              refl refl
+          refl refl
           (inl refl) p.numbers q.numbers (text_once p.refusals q.refusals) (text_once q.refusals p.refusals)
           (λ no no' fault fault'.
           let rooms = p.rooms_unchanged no in

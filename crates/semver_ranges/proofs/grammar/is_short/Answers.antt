@@ -16,4 +16,4 @@ pub returns : goal.returns
 returns c = λ p w.
     c.is_short_word.ensures p (front_spells p c.args.text.now c.args.rest.now w)
     ∙ ap (is_short_word (role_of c.args.role) p) (length-take-le (length c.args.text.now - length c.args.rest.now) c.args.text.now
-        (omega arith))
+    (omega arith))

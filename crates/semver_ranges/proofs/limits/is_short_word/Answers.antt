@@ -10,7 +10,7 @@ written : (c : In-Some) (p : PartialTree) → SpellsPartial p c.behind_v-partial
 written c p h =
     let found = c.in-Some.ensures in
     subst (λ q. AreWritten q c.in-Some.written) (reads_same p found.0 c.behind_v-partial.result.now c.in-Some.field-0-1.now h found.1)
-        found.2
+    found.2
 
 pub is_short_partial-requires : goal.is_short_partial-requires
 is_short_partial-requires c =

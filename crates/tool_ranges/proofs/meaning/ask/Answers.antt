@@ -110,11 +110,11 @@ returns-in-Excluded c =
     let fit : numbers_fit w.plain ≡ true = c.requires in
     let is : c.args.meaning ≡ Crate arm.compat Excluded = arm.is ∙ ap (Crate arm.compat) c.in-Excluded.is in
     let said : IsSaid (reading.Crate arm.compat) range (λ tree. list_any (range_met (terms.Crate arm.compat) v true) tree)
-        c.ask_crate.result =
+    c.ask_crate.result =
     record { refusals = e.refusals; no_memory = e.no_memory; meaning = e.meaning } in
     let meant : IsSaid (reading.Crate arm.compat) range (λ tree. meets_tree arm.compat tree v) c.ask_crate.result =
     said_so (reading.Crate arm.compat) range _ (λ tree. meets_tree arm.compat tree v) c.ask_crate.result
-        (λ tree. own_said v arm.compat tree) said in
+    (λ tree. own_said v arm.compat tree) said in
     let r = c.of_releases-in-Excluded.result in
     let told = subst (Says range w r) (sym is)
     (said_so (reading.Crate arm.compat) range _ (λ tree. meant_as (Crate arm.compat Excluded) tree w) r
@@ -132,11 +132,11 @@ returns-in-Stated c =
     let fit : numbers_fit w.plain ≡ true = c.requires in
     let is : c.args.meaning ≡ Crate arm.compat Stated = arm.is ∙ ap (Crate arm.compat) c.in-Stated.is in
     let said : IsSaid (reading.Crate arm.compat) range (λ tree. list_any (range_met (terms.Crate arm.compat) v c.is_release.result)
-        tree) c.ask_crate-in-Stated.result =
+    tree) c.ask_crate-in-Stated.result =
     record { refusals = e.refusals; no_memory = e.no_memory; meaning = e.meaning } in
     let meant : IsSaid (reading.Crate arm.compat) range (λ tree. meets_tree_as_stated arm.compat tree v) c.ask_crate-in-Stated.result =
     said_so (reading.Crate arm.compat) range _ (λ tree. meets_tree_as_stated arm.compat tree v) c.ask_crate-in-Stated.result (λ tree. ap
-        (λ b. list_any (range_met (terms.Crate arm.compat) v b) tree) c.is_release.ensures ∙ stated_said v arm.compat tree) said in
+    (λ b. list_any (range_met (terms.Crate arm.compat) v b) tree) c.is_release.ensures ∙ stated_said v arm.compat tree) said in
     let told = subst (Says range w c.ask_crate-in-Stated.result) (sym is)
     (said_so (reading.Crate arm.compat) range _ (λ tree. meant_as (Crate arm.compat Stated) tree w) c.ask_crate-in-Stated.result
     (λ tree. fitting Stated arm.compat w tree fit) meant) in
@@ -152,11 +152,11 @@ returns-in-Included c =
     let fit : numbers_fit w.plain ≡ true = c.requires in
     let is : c.args.meaning ≡ Crate arm.compat Included = arm.is ∙ ap (Crate arm.compat) c.in-Included.is in
     let said : IsSaid (reading.Crate arm.compat) range (λ tree. list_any (range_met (terms.Crate arm.compat) v true) tree)
-        c.ask_crate-in-Included.result =
+    c.ask_crate-in-Included.result =
     record { refusals = e.refusals; no_memory = e.no_memory; meaning = e.meaning } in
     let meant : IsSaid (reading.Crate arm.compat) range (λ tree. meets_tree arm.compat tree v) c.ask_crate-in-Included.result =
     said_so (reading.Crate arm.compat) range _ (λ tree. meets_tree arm.compat tree v) c.ask_crate-in-Included.result
-        (λ tree. own_said v arm.compat tree) said in
+    (λ tree. own_said v arm.compat tree) said in
     let told = subst (Says range w c.ask_crate-in-Included.result) (sym is)
     (said_so (reading.Crate arm.compat) range _ (λ tree. meant_as (Crate arm.compat Included) tree w) c.ask_crate-in-Included.result
     (λ tree. fitting Included arm.compat w tree fit) meant) in

@@ -12,7 +12,7 @@ first c =
     let so_far = c.loop-event.invariant in
     let gives : NextGives (dialect_of c.args.terms) c.loop-event.events (Some c.in-Some.event) c.next_in.new.self =
     subst (λ d. NextGives d c.loop-event.events (Some c.in-Some.event) c.next_in.new.self) c.dialect-dialect.ensures
-        c.in-Some.ensures.gives in
+    c.in-Some.ensures.gives in
     first_simple (dialect_of c.args.terms) so_far.0 c.in-Simple.simple c.next_in.new.self
     (rw (c.in_ok-simple.was, c.in-Simple.is) at (gives.0 so_far.0 so_far.1))
 

@@ -22,5 +22,5 @@ returns-in-NpmAll c = λ s is fit. rw c.in-NpmAll.is
 pub returns-in-Crate : goal.returns-in-Crate
 returns-in-Crate c = λ s is fit. rw c.in-Crate.is
     (said s c.args.simple.now is (term_stated c.args.terms s fit)
-        (λ f n z. meets_stated c.in-Crate.compat f n z (asked_of c.args.version.now))
+    (λ f n z. meets_stated c.in-Crate.compat f n z (asked_of c.args.version.now))
     c.meets_crate.result c.meets_crate.ensures)
