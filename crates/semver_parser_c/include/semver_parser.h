@@ -270,13 +270,13 @@ int32_t semver_parser_precedence(const uint8_t *version, size_t version_length,
 /* Rewrites a range into comparators, and prints them: `^1.2 || 3.x` by SEMVER_PARSER_NPM gives
  * `>=1.2.0 <2.0.0-0 || >=3.0.0 <4.0.0-0`. By the crate's dialects raised bounds are so only if
  * `exact`, and otherwise `<2.0.0`. By Cargo's and npm's the comparators say which releases the
- * range means. Allocates up to 98 bytes for each byte. */
+ * range means. Allocates up to 155 bytes for each byte. */
 int32_t semver_parser_rewrite(const uint8_t *text, size_t text_length, int32_t reading, bool exact,
                               uint8_t *out, size_t room, size_t *length);
 
 /* Gives the same comparators as data, with their pre-releases one after the other in `out`.
  * `^1.2.3-rc.1` by SEMVER_PARSER_NPM gives `rc.10`: `>=` 1, 2, 3 with offset 0 and length 4, and
- * `<` 2, 0, 0 with 4 and 1. Allocates up to 241 bytes for each byte. */
+ * `<` 2, 0, 0 with 4 and 1. Allocates up to 300 bytes for each byte. */
 int32_t semver_parser_comparators(const uint8_t *text, size_t text_length, int32_t reading,
                                   bool exact, semver_parser_comparator *comparators,
                                   size_t comparator_room, size_t *count, uint8_t *out, size_t room,
