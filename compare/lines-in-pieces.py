@@ -124,7 +124,8 @@ def told(text, holds, wanted, prefixes, dialect, is_strict):
         shown = "".join(ESCAPES.get(byte) or (chr(byte) if 32 <= byte < 127 else f"\\x{byte:02x}") for byte in first[:80])
         dots = "..." if len(first) > 80 else ""
         are = "is" if len(invalid) == 1 else "are"
-        report = f"release-filter: {len(invalid)} of {len(lines) - empty} lines {are} no version; the first, line {number}: {shown}{dots}\n".encode()
+        of = f"{len(lines) - empty} {'line' if len(lines) - empty == 1 else 'lines'}"
+        report = f"release-filter: {len(invalid)} of {of} {are} no version; the first, line {number}: {shown}{dots}\n".encode()
     return written, report, 0 if kept else 1
 
 
@@ -143,6 +144,8 @@ def random_line(draw, prefixes):
         line = line[:at] + draw.choice((b"x", b"-", b".", b"+", b"\x00", b"\x80")) + line[at + 1:]
     elif kind == 3:
         line += draw.choice((b"+", b"-a.")) + draw.choice((b"z", b"0a", b"7")) * draw.choice((1, 90, 400))
+    if draw.randrange(100) == 0:
+        line += draw.choice((b"+", b"-a.", b" ")) + b"z" * draw.choice((4080, 5000, 8180, 9000)) + draw.choice((b"", b" ", b"!" + 9000 * b"z"))
     return line
 
 
@@ -155,7 +158,7 @@ def random_text(draw, prefixes):
 def random_cut(draw, text):
     """The pieces of a text: of one length, or ended at random places."""
     if draw.randrange(4) == 0:
-        length = draw.choice((1, 2, 3, 7))
+        length = draw.choice((1, 2, 3, 7) if len(text) < 4000 else (1000, 4096, 8192))
         return [text[at:at + length] for at in range(0, len(text), length)]
     ends = sorted(draw.sample(range(1, len(text)), min(len(text) - 1, draw.randrange(1, 9)))) if len(text) > 1 else []
     return [text[start:end] for start, end in zip([0, *ends], [*ends, len(text)]) if start < end]

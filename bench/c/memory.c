@@ -83,10 +83,23 @@ static int32_t make(size_t length, int32_t reading, int32_t rule) {
         text, length, reading, rule, switches, ROWS, &count, out, sizeof out, &needed);
 }
 
+static int32_t least(size_t length, int32_t reading, int32_t rule) {
+    size_t needed;
+    return semver_parser_least(text, length, reading, rule, out, sizeof out, &needed);
+}
+
+static int32_t compare(size_t length, int32_t reading, int32_t rule) {
+    size_t needed;
+    semver_parser_comparison comparison;
+    return semver_parser_compare(text, length, (const uint8_t *)"*", 1, reading, rule, out,
+        sizeof out, &needed, &comparison);
+}
+
 static const struct {
     const char *name;
     int32_t (*run)(size_t length, int32_t reading, int32_t rule);
-} calls[] = {{"rewrite", rewrite}, {"comparators", list}, {"meets_each", ask}, {"set", make}};
+} calls[] = {{"rewrite", rewrite}, {"comparators", list}, {"meets_each", ask}, {"set", make},
+    {"least", least}, {"compare", compare}};
 
 /* ---- texts: so many equal terms, and this again and again; # is another number each time */
 

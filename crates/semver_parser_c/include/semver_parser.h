@@ -27,9 +27,10 @@
  * - SEMVER_PARSER_NO_ROOM if a buffer is too small: then the lengths say what is needed, and the
  *   buffers are unchanged. So a call with capacity 0 asks for the length.
  *
- * MEMORY. Nothing is kept between calls or has to be freed. Allocations are by `malloc`. Add 1,000
- * bytes to the figures below. Time is linear in the texts, and n log n for n comparators if a range
- * is made into a set.
+ * MEMORY. Nothing is kept between calls or must be freed. Allocations are by `malloc`. To make a
+ * set of a range (_set, _least, _compare, and _meets_each of 4 versions or more) takes up to 290
+ * bytes per byte of it, and time in n log n for n comparators. Else time is linear. Add 1,000 bytes
+ * to all figures.
  *
  * Compile with `pkg-config --cflags --libs semver_parser`, or cc program.c c/calls.c c/heap.c
  * out/libsemver_parser_c.a
@@ -270,13 +271,13 @@ int32_t semver_parser_precedence(const uint8_t *version, size_t version_length,
 /* Rewrites a range into comparators, and prints them: `^1.2 || 3.x` by SEMVER_PARSER_NPM gives
  * `>=1.2.0 <2.0.0-0 || >=3.0.0 <4.0.0-0`. By the crate's dialects raised bounds are so only if
  * `exact`, and otherwise `<2.0.0`. By Cargo's and npm's the comparators say which releases the
- * range means. Allocates up to 155 bytes for each byte. */
+ * range means. Allocates up to 155 bytes per byte. */
 int32_t semver_parser_rewrite(const uint8_t *text, size_t text_length, int32_t reading, bool exact,
                               uint8_t *out, size_t room, size_t *length);
 
 /* Gives the same comparators as data, with their pre-releases one after the other in `out`.
  * `^1.2.3-rc.1` by SEMVER_PARSER_NPM gives `rc.10`: `>=` 1, 2, 3 with offset 0 and length 4, and
- * `<` 2, 0, 0 with 4 and 1. Allocates up to 300 bytes for each byte. */
+ * `<` 2, 0, 0 with 4 and 1. Allocates up to 300 bytes per byte. */
 int32_t semver_parser_comparators(const uint8_t *text, size_t text_length, int32_t reading,
                                   bool exact, semver_parser_comparator *comparators,
                                   size_t comparator_room, size_t *count, uint8_t *out, size_t room,
@@ -291,7 +292,7 @@ int32_t semver_parser_meets(const uint8_t *range, size_t range_length, int32_t r
 
 /* The same for `count` versions. Each byte of `answers` is SEMVER_PARSER_MEETS,
  * SEMVER_PARSER_DOES_NOT_MEET, or the error of that version. If an empty string is null, the array
- * is copied. With 4 or more, allocates up to 290 bytes for each byte of the range. */
+ * is copied. */
 int32_t semver_parser_meets_each(const uint8_t *range, size_t range_length, int32_t reading,
                                  int32_t pre_releases, const semver_parser_text *versions,
                                  size_t count, uint8_t *answers);
