@@ -3,7 +3,7 @@
 //! Nothing here takes memory, and a call looks at each byte a fixed number of times.
 
 ghost use Rattle.std.specs.Prelude.{◌≡◌, ◌<◌, ◌≤◌, ◌++◌, Some, None, true, false, length, codes};
-ghost use Rattle.std.specs.Prelude.{IfSome};
+ghost use Rattle.std.specs.Prelude.{[], Err, IfSome};
 ghost use Rattle.semver_ranges.specs.RangeTree.{Simple as SimpleTree, PartialTree, hyphen};
 ghost use Rattle.semver_ranges.specs.Steps.Reading.{ends_range, simple, right_side};
 ghost use Rattle.semver_ranges.specs.Steps.Reading.{with_right};
@@ -41,8 +41,8 @@ pub struct Events<'input> {
 
 impl<'input> Events<'input> {
     // Answer: equation.
-    /// The events of a text by a dialect, where the bound of a left side of three numbers is
-    /// written so.
+    /// The events of a text by a dialect. `lower` says how the left side of a hyphen range is
+    /// written.
     #[inline(always)]
     pub fn new(text: &'input [u8], dialect: Dialect, lower: LowerBounds) -> Events<'input>
         ensures all { HasLeft dialect result (events dialect lower text.now) }
@@ -58,10 +58,11 @@ impl<'input> Events<'input> {
 
     // Answer: equation.
     /// The next event by a dialect, or that the text isn't in its grammar from there on. None at
-    /// the end.
+    /// the end, and after an error.
     #[inline(always)]
     pub fn next_in(&mut self, dialect: Dialect) -> Option<Result<Event<'input>, RangeError>>
         ensures gives { NextGives dialect self.old result self.new }
+        ensures ended { result ≡ Some (Err RangeError.NotARange) → HasLeft dialect self.new (Some []) }
         ensures fewer { IfSome result (λ _. size_left self.new < size_left self.old) }
     {
         if let Some(upper) = self.upper {

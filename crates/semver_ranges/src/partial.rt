@@ -100,7 +100,7 @@ pub struct Partial<'input> {
 }
 
 impl<'input> Partial<'input> {
-    // Answer: equation.
+    // Answer: free, what is kept beside a number above 2^64 - 1: ../replayed_cases/stdin.
     /// The partial of three components, of which those that aren't there are wildcards, and of the
     /// parts of a pre-release, which count after three numbers alone.
     #[inline(always)]
@@ -265,7 +265,8 @@ impl<'input> Partial<'input> {
     /// The parts of the pre-release that is stated after three numbers, joined by dots.
     #[inline(always)]
     pub fn pre(&self) -> &'input [u8]
-        ensures { map kept (cut_at_dots result.now) ≡ (version_of self.now).pre }
+        ensures bytes { result.now ≡ self.now.pre.now }
+        ensures parts { map kept (cut_at_dots result.now) ≡ (version_of self.now).pre }
     {
         self.pre
     }

@@ -149,7 +149,7 @@ fn singleton(alloc: Global, comparator: Comparator) -> Result<Vec<Comparator>, A
     Ok(comparators)
 }
 
-// Answer: equation.
+// Answer: free, the row of a number above 2^64 - 1: ../replayed_cases/stdin.
 /// The comparators of a simple, by the table: its form, how many numbers it states, and the mode.
 #[inline(always)]
 pub fn rewritten(simple: &Simple<'_>, compat: Compat) -> Bounds

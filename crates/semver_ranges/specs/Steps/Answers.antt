@@ -1,4 +1,5 @@
--- A means of proof, which no public clause cites: what a text is read to, by the reader.
+-- A means of proof, which only clauses of calls between these crates cite: what a text is read to,
+-- by the reader.
 use Rattle.std.specs.Prelude.{List, [], ◌≡◌, Bool, false, IsTrue, Result, Ok, Err, Option, Some}
 use Rattle.std.specs.Prelude.{None}
 use Rattle.std.specs.List.{list_all}

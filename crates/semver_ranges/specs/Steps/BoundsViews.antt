@@ -1,5 +1,5 @@
--- A means of proof, which no public clause cites: what private contracts see of the comparators of
--- simples that aren't built yet.
+-- A means of proof, which only clauses of calls between these crates cite: what contracts see of
+-- the comparators of simples that aren't built yet.
 use Rattle.std.specs.Prelude.{◌≡◌, ◌≤◌, ◌++◌, ℕ, Bool, true, ◌&&◌, Option, Some, None, List, []}
 use Rattle.std.specs.Prelude.{◌∷◌, length}
 use Rattle.std.specs.List.{flat_map}

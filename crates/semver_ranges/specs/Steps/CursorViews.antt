@@ -1,5 +1,5 @@
--- A means of proof, which no public clause cites: what private contracts see of what the cursor
--- yields.
+-- A means of proof, which only clauses of calls between these crates cite: what contracts see of
+-- what the cursor yields.
 use Rattle.std.specs.Prelude.{◌≡◌, ◌+◌, ◌*◌, ◌<◌, ◌≤◌, length, ℕ, Bool, true, false, ◌==◌}
 use Rattle.std.specs.Prelude.{if◌then◌else◌, Option, Some, None, is_some, Result, Ok, Err, List, []}
 use Rattle.std.specs.Prelude.{◌∷◌}

@@ -1,5 +1,5 @@
--- A means of proof, which no public clause cites: what private contracts see of components and
--- partials.
+-- A means of proof, which only clauses of calls between these crates cite: what contracts see of
+-- components and partials.
 use Rattle.std.specs.Prelude.{◌≡◌, ℕ, Bool, true, false, Option, Some, None, List, [], ◌∷◌, map}
 use Rattle.std.specs.Prelude.{length, not, codes}
 use Rattle.std.specs.List.{list_all}

@@ -1,5 +1,5 @@
--- A means of proof, which no public clause cites: the events of a range text, from the left to the
--- right.
+-- A means of proof, which only clauses of calls between these crates cite: the events of a range
+-- text, from the left to the right.
 use Rattle.std.specs.Prelude.{Bool, true, false, if◌then◌else◌, Option, Some, None, List, []}
 use Rattle.std.specs.Prelude.{◌∷◌, codes}
 use Rattle.semver_texts.specs.declared.dialect.Dialect.{Dialect}

@@ -1,6 +1,6 @@
--- A means of proof, which no public clause cites: the functions on lists that the cursor of range
--- texts follows, from the left to the right. Each answers what is at the front of a text, and
--- what follows it; `read` answers the tree that a text spells, or none.
+-- A means of proof, which only clauses of calls between these crates cite: the functions on lists
+-- that the cursor of range texts follows, from the left to the right. Each answers what is at the
+-- front of a text, and what follows it; `read` answers the tree that a text spells, or none.
 use Prim.Native.Char.{code}
 use Rattle.std.specs.Prelude.{ℕ, zero, suc, ◌-◌, Bool, true, false, ◌&&◌, ◌||◌, ◌==◌, if◌then◌else◌}
 use Rattle.std.specs.Prelude.{Option, Some, None, List, [], ◌∷◌, length}
