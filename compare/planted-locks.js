@@ -157,22 +157,24 @@ function planted (text, parsed, at, version) {
 function main () {
   const [program, count, seed, ...files] = process.argv.slice(2)
   const random = new Random(Number(seed))
-  const folder = fs.mkdtempSync(path.join(os.tmpdir(), 'planted-'))
+  const made = fs.mkdtempSync(path.join(os.tmpdir(), 'planted-'))
+  process.on('exit', () => fs.rmSync(made, { recursive: true }))
   let copies = 0
   let faults = 0
   for (const file of files) {
     const text = fs.readFileSync(file, 'utf8')
     const parsed = asksOf(text)
     const name = path.basename(file)
+    const folder = fs.mkdtempSync(path.join(made, 'copy-'))
     const manifest = path.join(path.dirname(file), 'package.json')
     if (fs.existsSync(manifest)) fs.copyFileSync(manifest, path.join(folder, 'package.json'))
-    for (let made = 0; made < Number(count);) {
+    for (let done = 0; done < Number(count);) {
       const at = random.below(parsed.packages.length)
       const version = VERSIONS[random.below(VERSIONS.length)]
       if (parsed.packages[at].version.endsWith('use.local')) continue
       const plant = planted(text, parsed, at, version)
       if (plant === null) continue
-      made += 1
+      done += 1
       fs.writeFileSync(path.join(folder, name), plant.copy)
       const ran = spawnSync(program, [path.join(folder, name)], { encoding: 'utf8' })
       const listed = ran.stdout.split('\n').filter((it) => it !== '').sort()

@@ -48,7 +48,7 @@ range text in npm's syntax, as '=1.2.0 || >=1.9.0 <2.0.0', or '*' for all.
     --npm            the same as --as npm
     --releases       count releases only
     --pre            count each pre-release within the bounds of a range, too;
-                     '*' is every version then
+                     as cargo and npm, '*' is every version then
     --pre-stated     count pre-releases that a range means, and of which a term
                      of the same range states the three numbers and a
                      pre-release

@@ -39,8 +39,8 @@ that are a version which RANGE means.
                        crate-npm    the crate semver-parser's, in npm mode
     --npm            the same as --as npm
     --releases       copy releases only
-    --pre            copy each pre-release within the bounds of RANGE, too; with
-                     '*' every version
+    --pre            copy each pre-release within the bounds of RANGE, too; as
+                     cargo and npm, with '*' every version
     --pre-stated     copy pre-releases that RANGE means, and of which a term
                      of the same range states the three numbers and a
                      pre-release
