@@ -1,6 +1,6 @@
-/* Finds how much memory the calls that allocate hold at most for each byte of a text, beyond the
- * first 1,000 bytes: on texts of many forms and lengths, by each reading. It counts the memory
- * itself, in place of c/heap.c. */
+/* Finds how much memory the calls that allocate hold at most for each byte of a range text, or of
+ * the data of a set, beyond the first 1,000 bytes: on texts of many forms and lengths, by each
+ * reading and rule. It counts the memory itself, in place of c/heap.c. */
 #include "../../crates/semver_parser_c/c/heap.h"
 #include "../../crates/semver_parser_c/include/semver_parser.h"
 
@@ -55,7 +55,10 @@ enum { LONGEST = 132000, ROWS = 2 * LONGEST };
 
 static uint8_t text[LONGEST], out[8 * LONGEST];
 static semver_parser_comparator comparators[ROWS];
-static semver_parser_switch switches[ROWS];
+static semver_parser_switch switches[ROWS], more_switches[ROWS];
+
+/* How many bytes a call is given: those of the text, or of a set. */
+static size_t given;
 
 static int32_t rewrite(size_t length, int32_t reading, int32_t rule) {
     size_t needed;
@@ -95,11 +98,48 @@ static int32_t compare(size_t length, int32_t reading, int32_t rule) {
         sizeof out, &needed, &comparison);
 }
 
+/* The set of the text, as data. What making it takes is not counted. */
+static semver_parser_flat_set set_of(size_t length, int32_t reading, int32_t rule) {
+    static uint8_t bytes[LONGEST];
+    size_t count = 0, needed = 0;
+    semver_parser_set(
+        text, length, reading, rule, switches, ROWS, &count, bytes, sizeof bytes, &needed);
+    semver_parser_flat_set made = {switches, count, bytes, needed};
+    most = held = 0;
+    given = count * sizeof *switches + needed;
+    return made;
+}
+
+static int32_t combine(size_t length, int32_t reading, int32_t rule) {
+    size_t count, needed;
+    semver_parser_flat_set set = set_of(length, reading, rule), empty = {switches, 0, text, 0};
+    return semver_parser_combine(set, empty, SEMVER_PARSER_UNION, more_switches, ROWS, &count, out,
+        sizeof out, &needed);
+}
+
+static int32_t compare_sets(size_t length, int32_t reading, int32_t rule) {
+    bool is_within, contains;
+    semver_parser_flat_set set = set_of(length, reading, rule), empty = {switches, 0, text, 0};
+    return semver_parser_compare_sets(set, empty, &is_within, &contains);
+}
+
+static int32_t set_least(size_t length, int32_t reading, int32_t rule) {
+    size_t needed;
+    return semver_parser_set_least(set_of(length, reading, rule), out, sizeof out, &needed);
+}
+
+static int32_t print_set(size_t length, int32_t reading, int32_t rule) {
+    size_t needed;
+    return semver_parser_print_set(
+        set_of(length, reading, rule), false, out, sizeof out, &needed);
+}
+
 static const struct {
     const char *name;
     int32_t (*run)(size_t length, int32_t reading, int32_t rule);
 } calls[] = {{"rewrite", rewrite}, {"comparators", list}, {"meets_each", ask}, {"set", make},
-    {"least", least}, {"compare", compare}};
+    {"least", least}, {"compare", compare}, {"combine", combine}, {"compare_sets", compare_sets},
+    {"set_least", set_least}, {"print_set", print_set}};
 
 /* ---- texts: so many equal terms, and this again and again; # is another number each time */
 
@@ -149,8 +189,9 @@ static void run(size_t call, const char *term, size_t count, size_t often) {
     for (int32_t reading = SEMVER_PARSER_CARGO; reading <= SEMVER_PARSER_CRATE_NPM; reading++) {
         for (int32_t rule = 0; rule <= SEMVER_PARSER_PRE_RELEASES_OF_TOOL; rule++) {
             most = held = 0;
+            given = length;
             if (calls[call].run(length, reading, rule) != SEMVER_PARSER_OK || most < 1000) continue;
-            double found = (double)(most - 1000) / (double)length;
+            double found = (double)(most - 1000) / (double)given;
             if (found <= rate) continue;
             rate = found;
             snprintf(shown, sizeof shown, "%zu ranges of %zu times `%s`", often, count, term);

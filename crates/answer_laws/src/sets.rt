@@ -28,7 +28,7 @@ type Made = (
 );
 
 /// Two sets with the same versions are equal. It does nothing.
-pub(crate) fn are_alike(first: &VersionSet, second: &VersionSet)
+fn are_alike(first: &VersionSet, second: &VersionSet)
     ensures alike { AreAlike first.now second.now }
 {
     one_set();

@@ -3,7 +3,6 @@ use release_filter::{Filter, Lines, LinesError, PreReleases, Wanted};
 use semver_parser::Compat;
 use std::alloc::{AllocError, Global};
 use std::io;
-use std::io::ErrorKind;
 
 /// The text: a byte order mark, six versions of which `^1.2` means four, an empty line, and the
 /// second line, which is no version.

@@ -15,7 +15,7 @@ ghost use Rattle.release_filter.specs.Extremes.{HasNone, IsGreatest, IsOneThat};
 use crate::precedence;
 use semver_parser::version::{Dialect, Version};
 use semver_parser::{Compat, RangeError, laws};
-use std::alloc::{AllocError, Global};
+use std::alloc::Global;
 use std::marker::Model;
 use version_sets::{PreReleases, VersionSet};
 

@@ -2,7 +2,7 @@
 //! `RangeSet` of plain comparators.
 //!
 //! Its parts are in crates below it: tokens and the steps of a parser, versions, and ranges. Here
-//! is their whole surface.
+//! is the whole surface of the Rust crate, under its paths, and the report of the program.
 #![tactic(auto)]
 
 pub mod laws;

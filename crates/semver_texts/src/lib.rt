@@ -1,6 +1,6 @@
-//! What version texts and range texts share: versions as plain data, and lists of printed values,
-//! written one after the other; and, in `specs/`, texts as their bytes, identifiers and versions
-//! without where they lie in memory, and their printed texts.
+//! What version texts and range texts share: versions as plain data and their precedence, bytes,
+//! numbers, identifiers joined by dots, dialects, and lists of printed values; and, in `specs/`,
+//! texts as their bytes, the grammar of versions, and their printed texts.
 #![tactic(auto)]
 
 pub mod bytes;

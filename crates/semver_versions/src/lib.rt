@@ -1,5 +1,5 @@
-//! Version texts as plain data: a text is read as a `Version`, straight from its bytes or token by
-//! token.
+//! Version texts read from their bytes, by three dialects: as an outline without memory, or as a
+//! `Version`.
 #![tactic(auto)]
 
 mod comparing;

@@ -9,7 +9,7 @@
 ghost use Rattle.std.specs.Prelude.{IsUtf8};
 
 use release_filter::{Filter, PreReleases, filter_text};
-use semver_parser::version::{Dialect, Version};
+use semver_parser::version::Version;
 use semver_parser::{Compat, RangeSet, version};
 use std::alloc::Global;
 use tool_ranges::cargo;

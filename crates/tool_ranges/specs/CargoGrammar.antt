@@ -32,8 +32,8 @@ wildcards_are_last [] = true
 wildcards_are_last (c ∷ cs) =
     if is_wildcard c then list_all is_wildcard cs else wildcards_are_last cs
 
--- whether Cargo reads a partial: no number is after a wildcard, and a pre-release or a build
--- after three numbers alone
+-- whether Cargo reads a partial: no number is after a wildcard, a pre-release or a build after
+-- three numbers alone, and no number in the pre-release has a leading zero
 abbrev pub is_partial_of_cargo : PartialTree → Bool
 is_partial_of_cargo p = wildcards_are_last (components p)
     && ((is_empty (qualifier p) || length (stated p) == 3)

@@ -1,4 +1,5 @@
-//! The comparators that judge the releases of one of a requirement, or its pre-releases.
+//! The comparators that stand for one of a requirement where releases, pre-releases or all versions
+//! are judged.
 
 ghost use Rattle.std.specs.Prelude.{◌≡◌, ◌++◌, true, map, IfOk};
 ghost use Rattle.semver_ranges.specs.RangeTree.{Simple as SimpleTree};
