@@ -3,6 +3,7 @@
 # of the programs and the library. It proves nothing: in place of `rt` stands a script.
 work=$(mktemp -d)
 trap 'rm -rf "$work"' EXIT
+trap 'exit 2' HUP INT TERM
 umask 022
 chmod 755 "$work"
 unset DESTDIR SOURCE_DATE_EPOCH CC

@@ -2,6 +2,7 @@
 # `expected`, the file of what its runs have to write; then it reads this file.
 work=$(mktemp -d)
 trap 'rm -rf "$work"' EXIT
+trap 'exit 2' HUP INT TERM
 
 # run NAME COMMAND..: runs the command, and tells what it wrote and its status.
 run() {
