@@ -1,12 +1,10 @@
 pub mod CargoGrammar
 pub mod CargoMeaning
 pub mod CargoTable
-pub mod CargoTexts
 pub mod ToolTable
 pub mod NpmGrammar
 pub mod NpmMeaning
 pub mod NpmTable
-pub mod NpmTexts
 pub mod AllPreReleases
 pub mod Steps
 pub mod Readings

@@ -15,7 +15,8 @@ ghost use Rattle.tool_ranges.specs.Steps.LowerBounds.{set_begun, written_for};
 ghost use Rattle.tool_ranges.specs.NpmGrammar.{is_white_space, may_stand, SpellsNpm};
 ghost use Rattle.tool_ranges.specs.NpmMeaning.{meets_npm};
 ghost use Rattle.tool_ranges.specs.NpmTable.{is_safe_simple, rewritten_npm};
-ghost use Rattle.tool_ranges.specs.NpmTexts.{RefusesNpm};
+ghost use Rattle.tool_ranges.specs.Readings.{RefusesAs};
+ghost use Rattle.tool_ranges.specs.declared.reading.Reading.TheVariants as reading;
 
 mod asking;
 mod reading;
@@ -55,7 +56,7 @@ use std::alloc::{AllocError, Global};
 pub fn rewrite(alloc: Global, range: &str) -> Result<RangeSet, RangeError>
     // What isn't in npm's grammar and what is too large is refused, exactly; all else is read. What
     // is answered is what each tree of the text is rewritten to.
-    ensures refusals { RefusesNpm range.now result }
+    ensures refusals { RefusesAs reading.Npm range.now result }
     ensures as_rewritten { IfOk result (λ set. (tree : SetTree) → SpellsNpm tree range.now
         → set_of set ≡ rewritten_npm tree) }
     // A release meets the answer exactly if the text means it.
@@ -74,7 +75,7 @@ pub fn rewrite(alloc: Global, range: &str) -> Result<RangeSet, RangeError>
 
 /// The set of a text, with lower bounds as they are asked for.
 fn rewritten(alloc: Global, range: &str, lower: LowerBounds) -> Result<RangeSet, RangeError>
-    ensures refusals { RefusesNpm range.now result }
+    ensures refusals { RefusesAs reading.Npm range.now result }
     ensures begun { IfOk result (λ set. (tree : SetTree) → SpellsNpm tree range.now
         → set_of set ≡ set_begun lower tree) }
 {

@@ -1,6 +1,7 @@
 use Rattle.std.proofs.Common.{ap, ◌∙◌}
 use Rattle.semver_ranges.specs.declared.range_set.RangeSet.{RangeSet}
-use Rattle.tool_ranges.specs.NpmTexts.{IsNpmRange, IsNpmTooLarge, HasNpmSet}
+use Rattle.tool_ranges.specs.Readings.{HasSetAs, IsTextAs, IsTooLargeAs}
+use Rattle.tool_ranges.specs.declared.reading.Reading.TheVariants as reading
 use Rattle.tool_ranges.specs.Steps.NpmReading.{is_meant}
 use Rattle.tool_ranges.proofs.NpmLaws.{set_of_text}
 use Rattle.tool_ranges.proofs.NpmSets.{meant}
@@ -8,8 +9,8 @@ use Rattle.tool_ranges.proofs.ReadSets.{same_refusal}
 use Rattle.tool_ranges.proofs.npm.reading.read.Goals as goal
 
 pub returns-in-Err-clause-refusals : goal.returns-in-Err-clause-refusals
-returns-in-Err-clause-refusals c = same_refusal RangeSet _ (IsNpmRange c.args.range.now)
-    (IsNpmTooLarge c.args.range.now) (HasNpmSet c.args.range.now) c.in-Err.refusal c.in-Err.ensures.refusals
+returns-in-Err-clause-refusals c = same_refusal RangeSet _ (IsTextAs reading.Npm c.args.range.now)
+    (IsTooLargeAs reading.Npm c.args.range.now) (HasSetAs reading.Npm c.args.range.now) c.in-Err.refusal c.in-Err.ensures.refusals
 
 pub returns-in-Ok-meant-clause-refusals : goal.returns-in-Ok-meant-clause-refusals
 returns-in-Ok-meant-clause-refusals c = set_of_text c.args.range.now _ c.in-Ok.ensures.refusals.accepted
