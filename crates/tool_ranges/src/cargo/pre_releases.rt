@@ -75,7 +75,7 @@ fn push_some(
             comparators.push(with_lowest(alloc, simple.partial.as_comparator(alloc, Op::Lt)?)?)?;
         }
         Form::Greater | Form::AtLeast => {
-            comparators.push(above_last(alloc, &simple.partial)?)?;
+            comparators.push(above_last(alloc, &simple.partial))?;
         }
         Form::Caret => {
             comparators.push(with_lowest(alloc, simple.partial.as_comparator(alloc, Op::Gte)?)?)?;
@@ -116,25 +116,23 @@ fn with_lowest(alloc: Global, of: Comparator) -> Result<Comparator, AllocError>
     })
 }
 
-/// Above the last release with one or two stated numbers.
-fn above_last(alloc: Global, partial: &Partial<'_>) -> Result<Comparator, AllocError>
-    requires parts { PartsPass partial.now }
-    requires some { states_some (stated_of partial.now) ≡ true }
-    ensures { IfOk result (λ c. comparator_of c
-        ≡ comparator Op.Gt (last (stated_of partial.now) (version_of partial.now))) }
+/// Above the last release with one or two stated numbers. It does not allocate.
+fn above_last(alloc: Global, partial: &Partial<'_>) -> Comparator
+    requires { states_some (stated_of partial.now) ≡ true }
+    ensures { comparator_of result
+        ≡ comparator Op.Gt (last (stated_of partial.now) (version_of partial.now)) }
 {
-    let of = partial.as_comparator(alloc, Op::Gt)?;
     let minor = match partial.kind() {
         PartialKind::MajorOnly => u64::MAX,
-        _ => of.minor,
+        _ => partial.minor(),
     };
-    Ok(Comparator {
-        op: of.op,
-        major: of.major,
+    Comparator {
+        op: Op::Gt,
+        major: partial.major(),
         minor,
         patch: u64::MAX,
         pre: Vec::new(alloc),
-    })
+    }
 }
 
 /// The lowest pre-release: `0`.
@@ -163,17 +161,15 @@ pub(crate) fn push_counting(
     if !counts || !partial.has_pre_release() {
         return Ok(());
     }
-    let of = partial.as_comparator(alloc, Op::Lt)?;
-    ranges.push(pre_releases_of(alloc, of)?)?;
+    ranges.push(pre_releases_of(alloc, partial)?)?;
     Ok(())
 }
 
-/// The range of the pre-releases of a comparator's numbers.
-fn pre_releases_of(alloc: Global, of: Comparator) -> Result<Range, AllocError>
-    ensures { IfOk result (λ range. range_of range
-        ≡ pre_releases_of (comparator_of of).version) }
+/// The range of the pre-releases of a partial's numbers.
+fn pre_releases_of(alloc: Global, partial: &Partial<'_>) -> Result<Range, AllocError>
+    ensures { IfOk result (λ range. range_of range ≡ pre_releases_of (version_of partial.now)) }
 {
-    let (major, minor, patch) = (of.major, of.minor, of.patch);
+    let (major, minor, patch) = (partial.major(), partial.minor(), partial.patch());
     let mut comparator_set = Vec::with_capacity(alloc, 2)?;
     comparator_set.push(Comparator {
         op: Op::Gte,
