@@ -1,9 +1,9 @@
 -- The cell of a simple that was read: where it is `>` of one or two numbers, below every pre-release, and else.
-use Rattle.std.proofs.Common.{◌≡◌, ℕ, Bool, true, false, ◌&&◌, [], ◌∷◌, ◌++◌, ◌==◌, List, length, refl, sym, ap, ◌∙◌, None, arith}
+use Rattle.std.proofs.Common.{◌≡◌, ℕ, Bool, true, false, ◌&&◌, [], ◌∷◌, List, length, refl, sym, ap, ◌∙◌, None, arith}
 use Rattle.std.specs.Prelude.{Result, Ok, Err, IfOk}
 use Rattle.std.specs.List.{list_all}
 use Rattle.std.proofs.Math.Bool.{and-true}
-use Rattle.std.proofs.lemmas.Bool.{and_left, both_ways, not-true}
+use Rattle.std.proofs.lemmas.Bool.{and_left, both_ways}
 use Rattle.semver_ranges.specs.declared.grammar.Simple as read
 use Rattle.semver_ranges.specs.declared.partial.Place.{Place}
 use Rattle.semver_ranges.specs.declared.partial.RaisedBounds.TheVariants.{Exact}
@@ -13,9 +13,9 @@ use Rattle.semver_ranges.specs.declared.range.Compat.TheVariants.{Npm}
 use Rattle.semver_ranges.specs.declared.rewriting.Bounds.{Bounds}
 use Rattle.semver_ranges.specs.RangeTree.{Form, less, greater, Simple}
 use Rattle.semver_texts.specs.Versions.{PlainVersion}
-use Rattle.semver_ranges.specs.Partials.{stated, pre_release, zero_filled, fits_u64}
-use Rattle.semver_ranges.specs.RewritingTable.{comparator, with_pre_release, cell, cell_raised}
-use Rattle.semver_ranges.specs.ExactBounds.{lowest_pre_release}
+use Rattle.semver_ranges.specs.Partials.{stated, fits_u64}
+use Rattle.semver_ranges.specs.RewritingTable.{comparator, cell, cell_raised}
+use Rattle.semver_ranges.specs.ExactBounds.{exact_bound}
 use Rattle.semver_ranges.specs.Steps.PartialViews.{stated_of, place_number, PartsPass}
 use Rattle.semver_ranges.specs.Steps.BoundsViews.{IsRow, place_of, cell_of as table_cell}
 use Rattle.semver_ranges.specs.declared.rewriting.Bounds.TheVariants.{Against, Below, Between}
@@ -53,19 +53,15 @@ same_ends : (mode : Compat) (s : Simple) (simple : read.Simple) → IsSimpleOf s
 same_ends mode s simple is f =
     ap (λ x. ends_at mode x (stated_of simple.partial)) is.0 ∙ ap (λ x. ends_at mode s.form x) (is.1.1 f).0
 
--- fewer than three numbers have no pre-release, and what is below them raises no bound
-few : (mode : Compat) (form : Form) (ns : List ℕ) → ends_at mode form ns ≡ true
-    → ((length ns == 3) ≡ false) × (cell_raised (cell mode form ns) ns ≡ None)
-few Npm less [] e = (refl, refl)
-few Npm less (a ∷ []) e = (refl, refl)
-few Npm less (a ∷ b ∷ []) e = (refl, refl)
-few Npm less (a ∷ b ∷ c ∷ ns) e = (not-true (length (a ∷ b ∷ c ∷ ns) == 3) e, refl)
-few Npm greater [] e = (refl, refl)
-few Npm greater (n ∷ ns) e = cc
-few _ _ ns e = cc
-
-no_pre_release : (s : Simple) → (length (stated s.partial) == 3) ≡ false → pre_release s.partial ≡ []
-no_pre_release s e = rw e refl
+-- what is below fewer than three numbers raises no bound
+raises_none : (mode : Compat) (form : Form) (ns : List ℕ) → ends_at mode form ns ≡ true → cell_raised (cell mode form ns) ns ≡ None
+raises_none Npm less [] e = refl
+raises_none Npm less (a ∷ []) e = refl
+raises_none Npm less (a ∷ b ∷ []) e = refl
+raises_none Npm less (a ∷ b ∷ c ∷ ns) e = refl
+raises_none Npm greater [] e = refl
+raises_none Npm greater (n ∷ ns) e = cc
+raises_none _ _ ns e = cc
 
 -- the three cells: where the numbers fit, what is there decides, and else nothing fits
 module _ (mode : Compat) (s : Simple) (simple : read.Simple) (is : IsSimpleOf s simple) where
@@ -94,16 +90,13 @@ module _ (mode : Compat) (s : Simple) (simple : read.Simple) (is : IsSimpleOf s 
   pub below_cell : above simple ≡ false → ends mode simple ≡ true → IsCellOf mode s simple.partial BelowAll
   below_cell other below = by_fit BelowAll tt (λ f. f)
       (λ f. let n : begins_above s ≡ false = sym (same_above s simple is f) ∙ other in
-      let y : ends_below mode s ≡ true = sym (same_ends mode s simple is f) ∙ below in
-      let short = few mode s.form (stated s.partial) y in
-      let none : pre_release s.partial ≡ [] = no_pre_release s short.0 in (
-        rw (n, short.1) (sym is.1.0 ∙ sym (and-true _)),
-        λ e. ap (λ (v : PlainVersion). comparator Lt (with_pre_release (v.pre ++ lowest_pre_release) v) ∷ []) (is.1.1 f).1
-            ∙ ap (λ p. comparator Lt (with_pre_release (p ++ lowest_pre_release) (zero_filled s.partial)) ∷ []) none ∙ rw (n, y) refl,
+      let y : ends_below mode s ≡ true = sym (same_ends mode s simple is f) ∙ below in (
+        rw (n, raises_none mode s.form (stated s.partial) y) (sym is.1.0 ∙ sym (and-true _)),
+        λ e. ap (λ (v : PlainVersion). comparator Lt (exact_bound v) ∷ []) (is.1.1 f).1 ∙ rw (n, y) refl,
       ))
       (λ f. let n : begins_above s ≡ false = sym (same_above s simple is f) ∙ other in
       let y : ends_below mode s ≡ true = sym (same_ends mode s simple is f) ∙ below in
-      rw n (sym (few mode s.form (stated s.partial) y).1))
+      rw n (sym (raises_none mode s.form (stated s.partial) y)))
 
   pub shared_cell : (bounds : Bounds) → above simple ≡ false → ends mode simple ≡ false → IsRow mode s simple.partial bounds
       → IsCellOf mode s simple.partial (Shared bounds)

@@ -7,9 +7,7 @@ ghost use Rattle.semver_ranges.specs.RangeTree.{Simple as SimpleTree};
 ghost use Rattle.semver_ranges.specs.RangeViews.{comparator_of};
 ghost use Rattle.semver_ranges.specs.Steps.PartialViews.{stated_of, place_number};
 ghost use Rattle.semver_ranges.specs.Steps.CursorViews.{form_of, IsSimpleOf};
-ghost use Rattle.semver_ranges.specs.RewritingTable.{comparator, with_pre_release};
-ghost use Rattle.semver_ranges.specs.RewritingTable.{bound_fits, up, up_with};
-ghost use Rattle.semver_ranges.specs.ExactBounds.{lowest_pre_release};
+ghost use Rattle.semver_ranges.specs.RewritingTable.{bound_fits, comparator, up, up_with};
 ghost use Rattle.semver_ranges.specs.Steps.PartialViews.{version_of, PartsPass};
 ghost use Rattle.tool_ranges.specs.ToolTable.{fits_in, is_greater, states_some, ends_at};
 ghost use Rattle.tool_ranges.specs.Steps.Cells.{cell_fits, cell_place, cell_written, is_safe_cell};
@@ -22,7 +20,7 @@ ghost use Rattle.semver_ranges.specs.Steps.BoundsViews.{comparators_of};
 use semver_ranges::grammar::{Form, Simple};
 use semver_ranges::partial::{LowerBounds, Partial, PartialKind, Place, RaisedBounds};
 use semver_ranges::rewriting::{Bounds, rewritten};
-use semver_ranges::{Comparator, Compat, Identifier, Op};
+use semver_ranges::{Comparator, Compat, Op};
 use std::alloc::{AllocError, Global};
 
 /// The greatest number that npm reads: JavaScript's `Number.MAX_SAFE_INTEGER`, 2^53 - 1.
@@ -108,7 +106,7 @@ impl Cell {
                 Ok(())
             }
             Cell::BelowAll => {
-                comparators.push(lowest_below(alloc, partial)?)?;
+                comparators.push(partial.lowest().as_comparator(alloc, Op::Lt)?)?;
                 Ok(())
             }
             Cell::Shared(bounds) => {
@@ -185,19 +183,6 @@ fn from_raised(
         op: Op::Gte,
         ..bound
     })
-}
-
-/// Below every pre-release of a partial, which has none.
-#[inline(always)]
-fn lowest_below(alloc: Global, partial: &Partial<'_>) -> Result<Comparator, AllocError>
-    requires { PartsPass partial.now }
-    ensures { IfOk result (λ c. comparator_of c ≡ comparator Op.Lt
-        (with_pre_release ((version_of partial.now).pre ++ lowest_pre_release)
-        (version_of partial.now))) }
-{
-    let mut bound = partial.as_comparator(alloc, Op::Lt)?;
-    bound.pre.push(Identifier::Numeric(0))?;
-    Ok(bound)
 }
 
 /// A partial that begins what is within bounds as it is asked for.

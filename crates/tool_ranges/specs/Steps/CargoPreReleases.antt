@@ -13,17 +13,13 @@ use Rattle.semver_ranges.specs.Partials.{stated, pre_release, zero_filled, zero_
 use Rattle.semver_ranges.specs.Partials.{leading_place}
 use Rattle.semver_ranges.specs.RewritingTable.{PlainComparator, PlainRange, PlainSet, comparator}
 use Rattle.semver_ranges.specs.RewritingTable.{cell, up_with, with_pre_release, written_cell}
-use Rattle.semver_ranges.specs.ExactBounds.{lowest_pre_release}
+use Rattle.semver_ranges.specs.ExactBounds.{exact_bound, lowest_pre_release}
 use Rattle.tool_ranges.specs.declared.cargo.judging.JudgedVersions.{JudgedVersions}
 use Rattle.tool_ranges.specs.declared.cargo.judging.JudgedVersions.TheVariants.{Releases}
 use Rattle.tool_ranges.specs.declared.cargo.judging.JudgedVersions.TheVariants.{PreReleases, All}
 use Rattle.tool_ranges.specs.CargoMeaning.{as_read}
 use Rattle.tool_ranges.specs.ToolTable.{written_in}
 use Rattle.tool_ranges.specs.Steps.LowerBounds.{written_for}
-
--- the lowest pre-release of a version's numbers
-abbrev pub lowest : PlainVersion → PlainVersion
-lowest z = with_pre_release lowest_pre_release z
 
 -- the last release with one or two stated numbers, where all numbers fit
 abbrev pub greatest : ℕ
@@ -35,16 +31,16 @@ last _ z = record z { patch = greatest; pre = [] }
 
 -- no version is below 0.0.0-0
 abbrev pub below_all : List PlainComparator
-below_all = comparator Lt (lowest zero_version) ∷ []
+below_all = comparator Lt (exact_bound zero_version) ∷ []
 
 -- one or two numbers stated: only `^` takes pre-releases with just these numbers
 abbrev pub some_judged : Form → List ℕ → PlainVersion → List PlainComparator
-some_judged less s z = comparator Lt (lowest z) ∷ []
-some_judged at_most s z = comparator Lt (lowest z) ∷ []
+some_judged less s z = comparator Lt (exact_bound z) ∷ []
+some_judged at_most s z = comparator Lt (exact_bound z) ∷ []
 some_judged greater s z = comparator Gt (last s z) ∷ []
 some_judged at_least s z = comparator Gt (last s z) ∷ []
 some_judged caret s z =
-    comparator Gte (lowest z)
+    comparator Gte (exact_bound z)
     ∷ comparator Lt (up_with lowest_pre_release (leading_place s) s) ∷ []
 some_judged _ s z = below_all
 
@@ -76,7 +72,7 @@ judging judged tree =
 abbrev pub pre_releases_of : PlainVersion → PlainRange
 pre_releases_of z =
     record {
-      comparators = comparator Gte (lowest z) ∷ comparator Lt (with_pre_release [] z) ∷ [];
+      comparators = comparator Gte (exact_bound z) ∷ comparator Lt (with_pre_release [] z) ∷ [];
       compat = Cargo;
     }
 

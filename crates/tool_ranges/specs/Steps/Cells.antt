@@ -1,6 +1,6 @@
 -- A means of proof, which no public clause cites: what private contracts see of the cells of the
 -- tools' tables.
-use Rattle.std.specs.Prelude.{◌≡◌, ◌≤◌, ◌++◌, Bool, true, ◌&&◌, Option, Some, None, List, []}
+use Rattle.std.specs.Prelude.{◌≡◌, ◌≤◌, Bool, true, ◌&&◌, Option, Some, None, List, []}
 use Rattle.std.specs.Prelude.{◌∷◌, length}
 use Rattle.std.specs.List.{list_all}
 use Rattle.semver_ranges.specs.declared.partial.Partial.{Partial}
@@ -9,9 +9,8 @@ use Rattle.semver_ranges.specs.declared.partial.RaisedBounds.TheVariants.{Exact}
 use Rattle.semver_ranges.specs.declared.range.Compat.{Compat}
 use Rattle.semver_ranges.specs.declared.range.Op.TheVariants.{Lt, Gte}
 use Rattle.semver_ranges.specs.RangeTree.{Simple}
-use Rattle.semver_ranges.specs.ExactBounds.{lowest_pre_release}
+use Rattle.semver_ranges.specs.ExactBounds.{exact_bound}
 use Rattle.semver_ranges.specs.RewritingTable.{PlainComparator, comparator, up, up_with, bound_fits}
-use Rattle.semver_ranges.specs.RewritingTable.{with_pre_release}
 use Rattle.semver_ranges.specs.Steps.PartialViews.{stated_of, version_of, place_number, PartsPass}
 use Rattle.semver_ranges.specs.Steps.BoundsViews.{bounds_fit, comparators_of, place_of, IsPlaced}
 use Rattle.semver_texts.specs.Versions.{PlainVersion}
@@ -55,8 +54,7 @@ is_safe_cell c p =
 abbrev pub cell_written : Cell → Partial → List PlainComparator
 cell_written (Above place) p =
     comparator Gte (up_with [] (place_number place) (stated_of p)) ∷ []
-cell_written BelowAll p = comparator Lt
-    (with_pre_release ((version_of p).pre ++ lowest_pre_release) (version_of p)) ∷ []
+cell_written BelowAll p = comparator Lt (exact_bound (version_of p)) ∷ []
 cell_written (Shared bounds) p = comparators_of Exact bounds p
 
 -- the cell of a simple, and its comparators and its raised bound where it fits

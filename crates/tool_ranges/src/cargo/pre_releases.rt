@@ -7,15 +7,14 @@ ghost use Rattle.semver_ranges.specs.RangeTree.{Simple as SimpleTree, PartialTre
 ghost use Rattle.semver_ranges.specs.declared.range.Compat.TheVariants.{Cargo};
 ghost use Rattle.semver_ranges.specs.Partials.{leading_place};
 ghost use Rattle.semver_ranges.specs.RewritingTable.{bound_fits, comparator, up};
-ghost use Rattle.semver_ranges.specs.ExactBounds.{lowest_pre_release};
-ghost use Rattle.semver_ranges.specs.RangeViews.{comparator_of, identifier_of, range_of};
+ghost use Rattle.semver_ranges.specs.RangeViews.{comparator_of, range_of};
 ghost use Rattle.semver_ranges.specs.Steps.PartialViews.{stated_of, version_of};
 ghost use Rattle.semver_ranges.specs.Steps.PartialViews.{IsPartialOf, PartsPass};
 ghost use Rattle.semver_ranges.specs.Steps.CursorViews.{form_of, IsSimpleOf};
 ghost use Rattle.tool_ranges.specs.declared.cargo.judging.JudgedVersions.TheVariants.{PreReleases};
 ghost use Rattle.tool_ranges.specs.ToolTable.{fits_in, states_some};
 ghost use Rattle.tool_ranges.specs.Steps.CargoPreReleases.{below_all, counting_beside};
-ghost use Rattle.tool_ranges.specs.Steps.CargoPreReleases.{judging_read, last, lowest};
+ghost use Rattle.tool_ranges.specs.Steps.CargoPreReleases.{judging_read, last};
 ghost use Rattle.tool_ranges.specs.Steps.CargoPreReleases.{pre_releases_of, some_judged};
 
 use crate::rows;
@@ -72,13 +71,13 @@ fn push_some(
 {
     match simple.form {
         Form::Less | Form::AtMost => {
-            comparators.push(with_lowest(alloc, simple.partial.as_comparator(alloc, Op::Lt)?)?)?;
+            comparators.push(simple.partial.lowest().as_comparator(alloc, Op::Lt)?)?;
         }
         Form::Greater | Form::AtLeast => {
             comparators.push(above_last(alloc, &simple.partial))?;
         }
         Form::Caret => {
-            comparators.push(with_lowest(alloc, simple.partial.as_comparator(alloc, Op::Gte)?)?)?;
+            comparators.push(simple.partial.lowest().as_comparator(alloc, Op::Gte)?)?;
             let place = simple.partial.leading_place();
             comparators.push(simple.partial.raised(alloc, place, RaisedBounds::Exact)?)?;
         }
@@ -98,21 +97,7 @@ fn below_all(alloc: Global) -> Result<Comparator, AllocError>
         major: 0,
         minor: 0,
         patch: 0,
-        pre: lowest_identifiers(alloc)?,
-    })
-}
-
-/// A comparator of the lowest pre-release of the same numbers.
-fn with_lowest(alloc: Global, of: Comparator) -> Result<Comparator, AllocError>
-    ensures { IfOk result (λ c. comparator_of c
-        ≡ comparator of.op (lowest (comparator_of of).version)) }
-{
-    Ok(Comparator {
-        op: of.op,
-        major: of.major,
-        minor: of.minor,
-        patch: of.patch,
-        pre: lowest_identifiers(alloc)?,
+        pre: vec![in alloc; Identifier::Numeric(0)]?,
     })
 }
 
@@ -133,15 +118,6 @@ fn above_last(alloc: Global, partial: &Partial<'_>) -> Comparator
         patch: u64::MAX,
         pre: Vec::new(alloc),
     }
-}
-
-/// The lowest pre-release: `0`.
-fn lowest_identifiers(alloc: Global) -> Result<Vec<Identifier>, AllocError>
-    ensures { IfOk result (λ pre. map identifier_of pre.items ≡ lowest_pre_release) }
-{
-    let mut pre = Vec::with_capacity(alloc, 1)?;
-    pre.push(Identifier::Numeric(0))?;
-    Ok(pre)
 }
 
 /// Adds the range of the pre-releases that count beside a partial, if it has a pre-release, and if
@@ -169,20 +145,13 @@ pub(crate) fn push_counting(
 fn pre_releases_of(alloc: Global, partial: &Partial<'_>) -> Result<Range, AllocError>
     ensures { IfOk result (λ range. range_of range ≡ pre_releases_of (version_of partial.now)) }
 {
-    let (major, minor, patch) = (partial.major(), partial.minor(), partial.patch());
     let mut comparator_set = Vec::with_capacity(alloc, 2)?;
-    comparator_set.push(Comparator {
-        op: Op::Gte,
-        major,
-        minor,
-        patch,
-        pre: lowest_identifiers(alloc)?,
-    })?;
+    comparator_set.push(partial.lowest().as_comparator(alloc, Op::Gte)?)?;
     comparator_set.push(Comparator {
         op: Op::Lt,
-        major,
-        minor,
-        patch,
+        major: partial.major(),
+        minor: partial.minor(),
+        patch: partial.patch(),
         pre: Vec::new(alloc),
     })?;
     Ok(Range {
