@@ -19,3 +19,4 @@ mod FlatTexts
 mod FlatLists
 mod FlatSets
 mod MetLaws
+mod RightAbove

@@ -1,10 +1,12 @@
 //! The intervals of a set's switches as ranges of comparators.
 
-ghost use Rattle.std.specs.Prelude.{◌≡◌, ◌<◌, length, map, option_map, Option};
+ghost use Rattle.std.specs.Prelude.{◌≡◌, ◌<◌, ◌++◌, ◌∷◌, [], length, map, option_map, Option};
 ghost use Rattle.std.specs.Prelude.{IfOk, IfErr};
+ghost use Rattle.std.specs.Ordering.{is_eq};
+ghost use Rattle.semver_parser.specs.Precedence.{identifier_cmp, pre_cmp};
 ghost use Rattle.semver_parser.specs.RangeViews.{comparator_of, identifier_of, range_of};
 ghost use Rattle.semver_parser.specs.RewritingTable.{comparator as plain_comparator};
-ghost use Rattle.semver_parser.specs.Versions.{PlainVersion};
+ghost use Rattle.semver_parser.specs.Versions.{numeric, PlainVersion};
 ghost use Rattle.semver_parser.specs.VersionViews.{identifier_value};
 ghost use Rattle.version_sets.specs.SetRanges.{interval, intervals, is_lowest, is_same_end};
 ghost use Rattle.version_sets.specs.SetRanges.{npm_range, bounds as plain_bounds};
@@ -24,10 +26,11 @@ pub(crate) trait Bound: Switch {
     fn is_lowest(&self) -> bool
         ensures { result ≡ is_lowest (Self.place self.now) };
 
-    /// The version of its kind right above it, if there is one. `Err` is out of memory.
-    fn next(&self, alloc: Global) -> Result<Option<Self>, AllocError>
-        ensures { IfOk result (λ above.
-            option_map Self.place above ≡ next_place (Self.place self.now)) };
+    /// Whether it is the only version of its kind from itself on and below another, if there is
+    /// one.
+    fn is_alone(&self, to: Option<&Self>) -> bool
+        ensures { result ≡ is_same_end (option_map (λ x. Self.place x.now) to.entry)
+            (next_place (Self.place self.now)) };
 
     /// The comparator of an operator and its version. `Err` is out of memory.
     fn comparator(&self, alloc: Global, op: Op) -> Result<Comparator, AllocError>
@@ -44,9 +47,12 @@ impl Bound for Release {
         self.major == 0 && self.minor == 0 && self.patch == 0
     }
 
-    /// It does not allocate.
-    fn next(&self, _alloc: Global) -> Result<Option<Release>, AllocError> {
-        Ok(next_numbers(*self))
+    fn is_alone(&self, to: Option<&Release>) -> bool {
+        match (to, next_numbers(*self)) {
+            (Some(to), Some(next)) => to.compare(&next).is_eq(),
+            (None, None) => true,
+            _ => false,
+        }
     }
 
     /// It does not allocate.
@@ -70,10 +76,12 @@ impl Bound for Version {
         self.major == 0 && self.minor == 0 && self.patch == 0 && is_lowest_pre(&self.pre)
     }
 
-    fn next(&self, alloc: Global) -> Result<Option<Version>, AllocError> {
-        let mut above = self.at_same_place(alloc)?;
-        above.pre.push(version::Identifier::Numeric(0))?;
-        Ok(Some(above))
+    fn is_alone(&self, to: Option<&Version>) -> bool {
+        match to {
+            Some(to) => Release::of(to).compare(&Release::of(self)).is_eq()
+                && are_right_above(&to.pre, &self.pre),
+            None => false,
+        }
     }
 
     fn comparator(&self, alloc: Global, op: Op) -> Result<Comparator, AllocError> {
@@ -85,6 +93,24 @@ impl Bound for Version {
             pre: copied(alloc, &self.pre)?,
         })
     }
+}
+
+/// Whether identifiers are those of another pre-release with the number 0 after them.
+fn are_right_above(identifiers: &[version::Identifier], below: &[version::Identifier]) -> bool
+    ensures { result ≡ is_eq (pre_cmp (map identifier_value identifiers.now)
+        (map identifier_value below.now ++ numeric 0 ∷ [])) }
+{
+    match identifiers.split_last() {
+        Some((last, others)) => is_zero(last) && others.cmp(below).is_eq(),
+        None => false,
+    }
+}
+
+/// Whether an identifier is the number 0.
+fn is_zero(identifier: &version::Identifier) -> bool
+    ensures { result ≡ is_eq (identifier_cmp (identifier_value identifier.now) (numeric 0)) }
+{
+    matches!(identifier, version::Identifier::Numeric(0))
 }
 
 /// Whether there is no pre-release, or the lowest, `0`.
@@ -145,7 +171,7 @@ fn range_between<T: Bound>(alloc: Global, from: &T, to: Option<&T>) -> Result<Ra
     ensures { IfOk result (λ range. range_of range ≡ npm_range (interval T.next_place
         (T.place from.now) (option_map (λ x. T.place x.now) to.entry))) }
 {
-    let comparator_set = if is_alone(alloc, from, to)? {
+    let comparator_set = if from.is_alone(to) {
         vec![in alloc; from.comparator(alloc, Op::Eq)?]?
     } else {
         bounds(alloc, from, to)?
@@ -153,19 +179,6 @@ fn range_between<T: Bound>(alloc: Global, from: &T, to: Option<&T>) -> Result<Ra
     Ok(Range {
         comparator_set,
         compat: Compat::Npm,
-    })
-}
-
-/// Whether a version is the only one of its kind from itself on and below another, if there is
-/// one.
-fn is_alone<T: Bound>(alloc: Global, version: &T, to: Option<&T>) -> Result<bool, AllocError>
-    ensures { IfOk result (λ answer. answer ≡ is_same_end
-        (option_map (λ x. T.place x.now) to.entry) (T.next_place (T.place version.now))) }
-{
-    Ok(match (to, version.next(alloc)?) {
-        (Some(to), Some(next)) => to.compare(&next).is_eq(),
-        (None, None) => true,
-        _ => false,
     })
 }
 
