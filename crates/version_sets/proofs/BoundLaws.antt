@@ -1,6 +1,6 @@
 -- What is at or above a version, what is above it, and what has its numbers.
-use Rattle.std.proofs.Common.{rules, arith, ◌≡◌, zero, suc, Bool, true, false, ◌&&◌, not, List, [], ◌∷◌, ◌++◌, refl, sym, ap, ap₂, ◌∙◌}
-use Rattle.std.proofs.Common.{nat_cmp, Ordering, Less, Equal, Greater, is_eq, is_ge, is_gt, ℕ, nat_eq}
+use Rattle.std.proofs.Common.{rules, arith, ◌≡◌, zero, suc, Bool, true, false, ◌&&◌, ◌||◌, not, List, [], ◌∷◌, ◌++◌, refl, sym, ap, ap₂, ◌∙◌}
+use Rattle.std.proofs.Common.{append-nil, nat_cmp, Ordering, Less, Equal, Greater, is_eq, is_ge, is_gt, ℕ, nat_eq}
 use Rattle.std.specs.Prelude.{Option, Some, None, option_map}
 use Rattle.std.specs.Cmp.{nat_cmp_is}
 use Rattle.std.specs.Cmp.Lexicographic.{pointwise, slice_cmp}
@@ -12,6 +12,7 @@ use Rattle.semver_parser.specs.Versions.{IdentifierValue, numeric, alphanumeric,
 use Rattle.version_sets.specs.declared.release.Release.{Release}
 use Rattle.version_sets.specs.Steps.Bounds.{lowest_place, numbers_cmp, reaches}
 use Rattle.version_sets.specs.Steps.Spans.{reached}
+use Rattle.version_sets.specs.Steps.SpanViews.{is_past, with_zero}
 use Rattle.version_sets.specs.Releases.{release_value}
 
 -- ---- precedence goes by the numbers, and then by the pre-releases
@@ -73,11 +74,29 @@ right_behind (x ∷ xs) [] e f = absurd (search rules)
 right_behind (x ∷ xs) (w ∷ ws) e f = nothing_between (x ∷ xs) (w ∷ ws)
 
 -- what is at or above it, with one more identifier, the number 0, is above it
-pub right_above : (w v : PlainVersion) → is_empty w.pre ≡ false → is_empty v.pre ≡ false
+right_above : (w v : PlainVersion) → is_empty w.pre ≡ false → is_empty v.pre ≡ false
     → is_ge (precedence v (record w { pre = w.pre ++ numeric 0 ∷ [] })) ≡ is_gt (precedence v w)
 right_above w v f e =
     ap is_ge (by_numbers v (record w { pre = w.pre ++ numeric 0 ∷ [] }))
     ∙ then_alike is_ge is_gt (numbers_cmp v w) _ _ refl refl (right_behind v.pre w.pre e f) ∙ sym (ap is_gt (by_numbers v w))
+
+-- where the pre-releases at or above a version begin, or those above it
+pub past : (above : Bool) (w v : PlainVersion) → is_empty w.pre ≡ false → is_empty v.pre ≡ false
+    → is_ge (precedence v (record w { pre = with_zero w.pre (above || is_empty w.pre) })) ≡ is_past above (precedence v w)
+past true w v f e = right_above w v f e
+past false w v f e = ap (λ b. is_ge (precedence v (record w { pre = with_zero w.pre b }))) f
+    ∙ ap (λ p. is_ge (precedence v (record w { pre = p }))) (append-nil w.pre)
+
+before_release : (xs ws : List IdentifierValue) → is_empty xs ≡ false → is_empty ws ≡ true → is_gt Equal ≡ is_ge (pre_cmp xs ws)
+before_release [] ws e f = absurd (search rules)
+before_release (x ∷ xs) [] e f = refl
+before_release (x ∷ xs) (w ∷ ws) e f = absurd (search rules)
+
+-- and no pre-release of its numbers is above a release
+pub none_past : (above : Bool) (w v : PlainVersion) → is_empty w.pre ≡ true → is_empty v.pre ≡ false
+    → is_gt (numbers_cmp v w) ≡ is_past above (precedence v w)
+none_past true w v f e = against is_gt is_gt v w refl refl (none_above v.pre w.pre f)
+none_past false w v f e = against is_gt is_ge v w refl refl (before_release v.pre w.pre e f)
 
 -- ---- what is from a place on
 

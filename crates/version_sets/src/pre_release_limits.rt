@@ -12,7 +12,7 @@ ghost use Rattle.version_sets.specs.VersionSets.{IsPreRelease};
 ghost use Rattle.version_sets.specs.Releases.{release_value};
 ghost use Rattle.version_sets.specs.Steps.Bounds.{lowest_place, numbers_cmp};
 ghost use Rattle.version_sets.specs.Steps.Spans.{reached};
-ghost use Rattle.version_sets.specs.Steps.SpanViews.{limit_place, with_zero};
+ghost use Rattle.version_sets.specs.Steps.SpanViews.{is_past, limit_place, with_zero};
 
 use crate::limits::{Limit, numbers_of};
 use crate::release::{Release, next_numbers};
@@ -43,30 +43,31 @@ impl<'a> PreReleaseLimit<'a> {
         }
     }
 
-    /// Where the pre-releases at or above a comparator's version begin. None of the same numbers is
-    /// above a release.
+    /// Where the pre-releases at or above a comparator's version begin.
     pub(crate) fn at(comparator: &'a Comparator) -> Option<PreReleaseLimit<'a>>
         ensures { (v : PlainVersion) → IsPreRelease v
             → reached precedence (option_map limit_place result) v
             ≡ is_ge (precedence v (comparator_of comparator.entry.now).version) }
     {
-        let numbers = numbers_of(comparator);
-        if comparator.pre.is_empty() {
-            return PreReleaseLimit::above_numbers(numbers);
-        }
-        Some(PreReleaseLimit {
-            numbers,
-            identifiers: &comparator.pre,
-            with_zero: false,
-        })
+        PreReleaseLimit::of(comparator, false)
     }
 
-    /// Where the pre-releases above a comparator's version begin. Nothing is between a pre-release
-    /// and that with one more identifier, the number 0.
+    /// Where the pre-releases above a comparator's version begin.
     pub(crate) fn above(comparator: &'a Comparator) -> Option<PreReleaseLimit<'a>>
         ensures { (v : PlainVersion) → IsPreRelease v
             → reached precedence (option_map limit_place result) v
             ≡ is_gt (precedence v (comparator_of comparator.entry.now).version) }
+    {
+        PreReleaseLimit::of(comparator, true)
+    }
+
+    /// Where the pre-releases above a comparator's version begin, or else those at or above it. None
+    /// of the same numbers is above a release, and nothing is between a pre-release and that with
+    /// one more identifier, the number 0.
+    fn of(comparator: &'a Comparator, above: bool) -> Option<PreReleaseLimit<'a>>
+        ensures { (v : PlainVersion) → IsPreRelease v
+            → reached precedence (option_map limit_place result) v
+            ≡ is_past above (precedence v (comparator_of comparator.entry.now).version) }
     {
         let numbers = numbers_of(comparator);
         if comparator.pre.is_empty() {
@@ -75,7 +76,7 @@ impl<'a> PreReleaseLimit<'a> {
         Some(PreReleaseLimit {
             numbers,
             identifiers: &comparator.pre,
-            with_zero: true,
+            with_zero: above,
         })
     }
 

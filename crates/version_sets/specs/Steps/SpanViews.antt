@@ -1,6 +1,8 @@
 -- What contracts see of spans, and of where pre-releases begin and end: a means of proof.
-use Rattle.std.specs.Prelude.{Bool, ◌||◌, if◌then◌else◌, option_map, List, [], ◌∷◌}
+use Rattle.std.specs.Prelude.{Bool, true, false, ◌||◌, if◌then◌else◌, option_map, List, [], ◌∷◌}
 use Rattle.std.specs.Prelude.{◌++◌, map}
+use Rattle.std.specs.Ordering.{is_ge, is_gt}
+use Rattle.std.specs.declared.cmp.Ordering.{Ordering}
 use Rattle.semver_parser.specs.RangeViews.{identifier_of}
 use Rattle.semver_parser.specs.Texts.{is_empty}
 use Rattle.semver_parser.specs.Versions.{IdentifierValue, numeric, PlainVersion}
@@ -23,6 +25,11 @@ limit_place l = record {
   pre = with_zero (map identifier_of l.identifiers.now)
       (l.with_zero || is_empty (map identifier_of l.identifiers.now));
 }
+
+-- whether what compares so with a version is above it, or is at or above it
+abbrev pub is_past : Bool → Ordering → Bool
+is_past true o = is_gt o
+is_past false o = is_ge o
 
 module _ {L : Type 0} (place : L → PlainVersion) where
   abbrev pub span_value : Span L → SpanValue PlainVersion
