@@ -16,8 +16,8 @@ impl VersionSet {
     ///
     /// Those of `>=1.0.0 <1.5.0` and `>=1.2.0 <2.0.0` give that of `>=1.0.0 <2.0.0`.
     ///
-    /// Memory is asked for as the answer grows, and not at all where it is empty. `Err` is want of
-    /// it.
+    /// Memory is asked for as the answer grows, and not at all where it is empty. `Err` is out of
+    /// memory.
     pub fn union(&self, alloc: Global, other: &VersionSet) -> Result<VersionSet, AllocError>
         ensures has { IfOk result (λ set. (v : PlainVersion)
             → has set v ≡ (has self.now v || has other.now v)) }
@@ -36,8 +36,8 @@ impl VersionSet {
     ///
     /// Those of `>=1.0.0 <1.5.0` and `>=1.2.0 <2.0.0` give that of `>=1.2.0 <1.5.0`.
     ///
-    /// Memory is asked for as the answer grows, and not at all where it is empty. `Err` is want of
-    /// it.
+    /// Memory is asked for as the answer grows, and not at all where it is empty. `Err` is out of
+    /// memory.
     pub fn intersection(&self, alloc: Global, other: &VersionSet) -> Result<VersionSet, AllocError>
         ensures has { IfOk result (λ set. (v : PlainVersion)
             → has set v ≡ (has self.now v && has other.now v)) }
@@ -57,8 +57,8 @@ impl VersionSet {
     ///
     /// Of those of `>=1.0.0 <1.5.0` and `>=1.2.0 <2.0.0` it is that of `>=1.0.0 <1.2.0`.
     ///
-    /// Memory is asked for as the answer grows, and not at all where it is empty. `Err` is want of
-    /// it.
+    /// Memory is asked for as the answer grows, and not at all where it is empty. `Err` is out of
+    /// memory.
     pub fn difference(&self, alloc: Global, other: &VersionSet) -> Result<VersionSet, AllocError>
         ensures has { IfOk result (λ set. (v : PlainVersion)
             → has set v ≡ (has self.now v && not (has other.now v))) }

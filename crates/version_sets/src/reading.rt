@@ -51,9 +51,9 @@ impl VersionSet {
     }
 }
 
-/// Reads a range text into comparators that say, by the rule, what the text means. Raised bounds
-/// count for pre-releases only, so for releases shorter ones are enough: of `^1.2`
-/// it is `>=1.2.0 <2.0.0`, and by the other rules `>=1.2.0 <2.0.0-0`.
+/// Reads a range text into comparators that say, by the rule, what the text means. Only for
+/// pre-releases does it matter how a raised bound is written, so for releases the shorter form is
+/// enough: of `^1.2` `>=1.2.0 <2.0.0`, and by the other rules `>=1.2.0 <2.0.0-0`.
 ///
 /// # Errors
 ///
