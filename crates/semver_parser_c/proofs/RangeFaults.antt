@@ -1,15 +1,30 @@
 -- What is told of a range text by a number.
 use Rattle.std.proofs.Common.{◌≡◌, ◌≢◌, ◌⊎◌, ℤ, [], ◌∷◌, ◌++◌, rules, arith, inl, inr, refl}
-use Rattle.std.specs.Prelude.{⊤}
+use Rattle.std.specs.Prelude.{⊤, Err, IsUtf8}
 use Rattle.semver_parser.specs.Texts.{Text}
+use Rattle.semver_parser.specs.declared.RangeError.{RangeError}
+use Rattle.semver_parser.specs.declared.RangeError.TheVariants.{NotARange, NumberTooLarge, OutOfMemory}
 use Rattle.tool_ranges.specs.declared.reading.Reading.{Reading}
 use Rattle.tool_ranges.specs.declared.meaning.Meaning.{Meaning}
 use Rattle.tool_ranges.specs.Meanings.{reading_of}
+use Rattle.tool_ranges.specs.Readings.{RefusesAs}
+use Rattle.semver_parser_c.specs.declared.range_text.RangeFault.{RangeFault}
 use Rattle.semver_parser_c.specs.Numbers.{no_such_reading, no_such_rule, ok, no_room, range_out_of_memory, new_range_out_of_memory}
 use Rattle.semver_parser_c.specs.Faults.{IsAccepted, IsOneOf, RefusesBy, RefusesRange, RefusesText, range_numbers, new_range_numbers}
 use Rattle.semver_parser_c.specs.Faults.{RangeIsRead, named_faults, new_range_faults}
 use Rattle.semver_parser_c.specs.Steps.RangeFaults.{IsMeaningOf, IsReadingOf, IsReadable, IsTold, IsRefused, IsTextRefused, Stands}
-use Rattle.semver_parser_c.specs.Steps.RangeFaults.{IsEitherRefused, TellsBoth, other_numbers}
+use Rattle.semver_parser_c.specs.Steps.RangeFaults.{HasFault, IsEitherRefused, TellsBoth, fault_of, other_numbers}
+
+-- the fault that an error tells is one that the text has
+has : {A : Type 0} (r : Reading) (text : Text) (error : RangeError) → IsUtf8 text → RefusesAs {A = A} r text (Err error)
+    → HasFault r text (fault_of error)
+has r text NotARange utf8 refuses = search rules
+has r text NumberTooLarge utf8 refuses = search rules
+has r text OutOfMemory utf8 refuses = search rules
+
+pub has_fault : {A : Type 0} (r : Reading) (text read : Text) (error : RangeError) (fault : RangeFault) → fault ≡ fault_of error
+    → RefusesAs {A = A} r read (Err error) → read ≡ text → IsUtf8 text → HasFault r text fault
+has_fault r text read error fault is refuses same utf8 = rw is (has r text error utf8 (rw same at refuses))
 
 -- where a range is read, it isn't refused by a number that is answered then
 stands_by : (r : Reading) (text : Text) → IsReadable r text → (n : ℤ) → IsOneOf other_numbers n → RefusesBy range_numbers ⊤ r text n

@@ -15,8 +15,8 @@ ghost use Rattle.semver_parser_c.specs.Steps.RangeFaults.{HasFault, IsReadable, 
 
 use crate::range_text::{self, RangeFault};
 use crate::{readings, version_text};
+use semver_parser::laws;
 use semver_parser::version::{self, Outline};
-use semver_parser::{RangeError, laws};
 use std::alloc::Global;
 use tool_ranges::meaning::{self, Meaning};
 
@@ -73,9 +73,7 @@ pub fn meets(meaning: Meaning, range: &[u8], version: &Outline<'_>) -> Result<bo
     };
     match meaning::meets(meaning, text, version) {
         Ok(met) => Ok(met),
-        Err(RangeError::NotARange) => Err(RangeFault::NotARange),
-        Err(RangeError::NumberTooLarge) => Err(RangeFault::TooLarge),
-        Err(RangeError::OutOfMemory) => Err(RangeFault::OutOfMemory),
+        Err(error) => Err(range_text::fault_of(error)),
     }
 }
 
@@ -90,8 +88,6 @@ pub fn check(meaning: Meaning, range: &[u8]) -> Result<(), RangeFault>
     };
     match meaning::check(meaning, text) {
         Ok(()) => Ok(()),
-        Err(RangeError::NotARange) => Err(RangeFault::NotARange),
-        Err(RangeError::NumberTooLarge) => Err(RangeFault::TooLarge),
-        Err(RangeError::OutOfMemory) => Err(RangeFault::OutOfMemory),
+        Err(error) => Err(range_text::fault_of(error)),
     }
 }

@@ -13,7 +13,7 @@ ghost use Rattle.semver_parser_c.specs.Faults.{IsOneOf, IsSetFor, RefusesBy, Ref
 ghost use Rattle.semver_parser_c.specs.Faults.{new_range_faults, new_range_numbers};
 ghost use Rattle.semver_parser_c.specs.Printing.{Puts};
 ghost use Rattle.semver_parser_c.specs.Steps.RangeFaults.{HasFault, IsReadable, IsTextRefused};
-ghost use Rattle.semver_parser_c.specs.Steps.RangeFaults.{IsTold, Stands};
+ghost use Rattle.semver_parser_c.specs.Steps.RangeFaults.{IsTold, Stands, fault_of};
 
 use crate::{numbers, readings};
 use semver_parser::{RangeError, RangeSet};
@@ -68,9 +68,7 @@ fn rewritten(
     };
     match rewritten_text(alloc, text, reading, exact) {
         Ok(set) => Ok(set),
-        Err(RangeError::NotARange) => Err(RangeFault::NotARange),
-        Err(RangeError::NumberTooLarge) => Err(RangeFault::TooLarge),
-        Err(RangeError::OutOfMemory) => Err(RangeFault::OutOfMemory),
+        Err(error) => Err(fault_of(error)),
     }
 }
 
@@ -91,6 +89,17 @@ fn rewritten_text(
         Reading::Cargo => cargo::rewrite(alloc, text),
         Reading::Npm => npm::rewrite(alloc, text),
         Reading::Crate(compat) => RangeSet::parse(alloc, text, compat),
+    }
+}
+
+/// The fault that an error tells of a text whose bytes are UTF-8.
+pub fn fault_of(error: RangeError) -> RangeFault
+    ensures { result ≡ fault_of error }
+{
+    match error {
+        RangeError::NotARange => RangeFault::NotARange,
+        RangeError::NumberTooLarge => RangeFault::TooLarge,
+        RangeError::OutOfMemory => RangeFault::OutOfMemory,
     }
 }
 

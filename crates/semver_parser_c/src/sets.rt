@@ -17,7 +17,6 @@ ghost use Rattle.semver_parser_c.specs.Steps.RangeFaults.{TellsBoth};
 
 use crate::range_text::{self, RangeFault};
 use crate::{numbers, readings};
-use semver_parser::RangeError;
 use semver_parser::version::Version;
 use std::alloc::{AllocError, Global};
 use tool_ranges::meaning::{self, Meaning};
@@ -60,9 +59,7 @@ fn read_as(alloc: Global, meaning: Meaning, range: &[u8]) -> Result<VersionSet, 
     };
     match meaning::read(alloc, meaning, text) {
         Ok(set) => Ok(set),
-        Err(RangeError::NotARange) => Err(RangeFault::NotARange),
-        Err(RangeError::NumberTooLarge) => Err(RangeFault::TooLarge),
-        Err(RangeError::OutOfMemory) => Err(RangeFault::OutOfMemory),
+        Err(error) => Err(range_text::fault_of(error)),
     }
 }
 

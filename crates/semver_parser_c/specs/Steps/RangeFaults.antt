@@ -5,6 +5,8 @@ use Rattle.semver_parser.specs.Texts.{Text}
 use Rattle.semver_parser.specs.Versions.{VersionValue}
 use Rattle.semver_parser.specs.ToolVersions.{IsVersionTextIn, SpellsIn}
 use Rattle.semver_parser.specs.declared.version.Dialect.{Dialect}
+use Rattle.semver_parser.specs.declared.RangeError.{RangeError}
+use Rattle.semver_parser.specs.declared.RangeError.TheVariants as range_error
 use Rattle.tool_ranges.specs.declared.reading.Reading.{Reading}
 use Rattle.tool_ranges.specs.declared.meaning.Meaning.{Meaning}
 use Rattle.tool_ranges.specs.Readings.{IsTextAs, HasSetAs, IsTooLargeAs}
@@ -38,6 +40,12 @@ HasFault reading text range_fault.NotUtf8 = ¬ (IsUtf8 text)
 HasFault reading text range_fault.NotARange = IsUtf8 text × (¬ (IsTextAs reading text))
 HasFault reading text range_fault.TooLarge = IsUtf8 text × IsTooLargeAs reading text
 HasFault reading text range_fault.OutOfMemory = IsReadable reading text
+
+-- the fault that an error tells of a text whose bytes are UTF-8
+abbrev pub fault_of : RangeError → RangeFault
+fault_of range_error.NotARange = range_fault.NotARange
+fault_of range_error.NumberTooLarge = range_fault.TooLarge
+fault_of range_error.OutOfMemory = range_fault.OutOfMemory
 
 -- the number is that of a fault that the text has, and nothing is read
 pub record IsTold (reading : Reading) (text : Text) (n : ℤ) : Type 0 where
