@@ -19,7 +19,6 @@ use crate::{numbers, readings};
 use semver_parser::{RangeError, RangeSet};
 use std::alloc::Global;
 use tool_ranges::reading::{self, Reading};
-use tool_ranges::{cargo, npm};
 
 /// Why a range text isn't read.
 #[derive(Clone, Copy)]
@@ -82,13 +81,9 @@ fn rewritten_text(
     ensures refusals { RefusesAs reading text.now result }
     ensures as_rewritten { IfOk result (λ set. IsSetFor exact reading text.now (set_of set)) }
 {
-    if exact {
-        return reading::rewrite(alloc, reading, text);
-    }
     match reading {
-        Reading::Cargo => cargo::rewrite(alloc, text),
-        Reading::Npm => npm::rewrite(alloc, text),
-        Reading::Crate(compat) => RangeSet::parse(alloc, text, compat),
+        Reading::Crate(compat) if !exact => RangeSet::parse(alloc, text, compat),
+        _ => reading::rewrite(alloc, reading, text),
     }
 }
 
