@@ -1,7 +1,7 @@
 """What Cargo.toml files ask for: those of a workspace and of its members."""
 
 import os
-from glob import glob
+from glob import escape, glob
 from typing import Any, Dict, Iterator, List, NamedTuple, Optional, Tuple
 
 from ..files import Entry, WrongShape, bytes_of, list_at, object_at, taking, text_at, toml_object
@@ -62,10 +62,14 @@ def need_of(key: str, value: Any, table: str, inherited: Entry) -> Need:
     return Need(package, key if package != key else None, requirement, has_registry, table)
 
 
+def workspace_of(manifest: Entry) -> Entry:
+    """What a manifest has of its workspace, if it is that of one."""
+    return object_at(manifest.get("workspace", {}), "workspace")
+
+
 def workspace_table(manifest: Entry) -> Entry:
     """The dependencies that a workspace has for its members."""
-    workspace = object_at(manifest.get("workspace", {}), "workspace")
-    return object_at(workspace.get("dependencies", {}), "workspace: dependencies")
+    return object_at(workspace_of(manifest).get("dependencies", {}), "workspace: dependencies")
 
 
 def manifest_of(entry: Entry, inherited: Entry, of_package: Entry) -> Manifest:
@@ -90,60 +94,90 @@ def read(path: str) -> Entry:
 
 
 def manifests_at(folder: str) -> Iterator[Manifest]:
-    """The manifests of a workspace or a package: the one in the folder, and those of its members,
-    which are also the packages that it has by a path inside the folder."""
-    top_path = os.path.join(folder, MANIFEST)
-    top = read(top_path)
-    workspace = object_at(top.get("workspace", {}), "workspace")
-    of_package = object_at(workspace.get("package", {}), "workspace: package")
+    """The manifests of the workspace or the package in a folder."""
+    top = read(os.path.join(folder, MANIFEST))
+    of_package = object_at(workspace_of(top).get("package", {}), "workspace: package")
     inherited = workspace_table(top)
-    paths = {os.path.normpath(folder or "."): top}
-    left = [(os.path.normpath(folder or "."), top)]
-    for member in members_of(folder, workspace):
-        if member not in paths:
-            paths[member] = read(os.path.join(member, MANIFEST))
-            left.append((member, paths[member]))
-    while left:
-        at, entry = left.pop(0)
-        for inner in paths_of(at, entry):
-            if inner not in paths and is_inside(inner, folder):
-                paths[inner] = read(os.path.join(inner, MANIFEST))
-                left.append((inner, paths[inner]))
-    for path, entry in paths.items():
+    for path, entry in entries_of(folder, top).items():
         with taking(os.path.join(path, MANIFEST), MANIFEST):
             yield manifest_of(entry, inherited, of_package)
 
 
-def members_of(folder: str, workspace: Entry) -> List[str]:
-    """The folders of the members of a workspace."""
-    excluded = {
-        os.path.normpath(os.path.join(folder, text_at(it, "workspace: exclude")))
-        for it in list_at(workspace.get("exclude", []), "workspace: exclude")
-    }
-    found: List[str] = []
-    for it in list_at(workspace.get("members", []), "workspace: members"):
-        pattern = os.path.join(folder, text_at(it, "workspace: members"))
-        for path in sorted(glob(pattern)):
-            path = os.path.normpath(path)
-            if path not in excluded and os.path.exists(os.path.join(path, MANIFEST)):
-                found.append(path)
+# ---- the members of a workspace
+
+
+def entries_of(folder: str, top: Entry) -> Dict[str, Entry]:
+    """The manifests of a workspace or a package by their folders. Members are the packages that a
+    workspace names, and those that a member has by a path inside the folder, but for what is
+    excluded."""
+    root = os.path.normpath(folder or ".")
+    found = {root: top}
+    if "workspace" not in top:
+        return found
+    left = [*named_by(folder, top), *paths_of(root, top, root, top)]
+    for path in left:
+        if path not in found and not is_excluded(path, folder, top):
+            found[path] = read(os.path.join(path, MANIFEST))
+            left += paths_of(path, found[path], root, top)
     return found
 
 
-def paths_of(folder: str, entry: Entry) -> Iterator[str]:
-    """The folders of the packages that a manifest has by a path."""
+def texts_of(top: Entry, key: str) -> List[str]:
+    """A list of paths that a workspace has."""
+    where = f"workspace: {key}"
+    return [text_at(it, where) for it in list_at(workspace_of(top).get(key, []), where)]
+
+
+def named_by(folder: str, top: Entry) -> Iterator[str]:
+    """The folders that a workspace names as its members. A pattern that finds nothing names itself,
+    and one that ends in `**` finds what is below, as Cargo has it."""
+    for text in texts_of(top, "members"):
+        pattern = os.path.join(escape(folder), f"{text}/*" if text.endswith("**") else text)
+        paths = sorted(glob(pattern, recursive=True, include_hidden=True))
+        for path in paths or [os.path.join(folder, text)]:
+            if os.path.isdir(path) or not paths:
+                yield os.path.normpath(path)
+
+
+def parts_of(folder: str, path: str) -> List[str]:
+    """The parts of a path that begins at a folder, by which Cargo compares paths: `..` is one."""
+    whole = os.path.join(os.path.abspath(folder), path)
+    return [part for part in whole.split("/") if part not in ("", ".")]
+
+
+def is_excluded(path: str, folder: str, top: Entry) -> bool:
+    """Whether a package is at or below a folder that a workspace excludes, and at or below none
+    that it names as a member without a pattern."""
+    parts = parts_of(path, "")
+
+    def is_within(key: str) -> bool:
+        outer = [parts_of(folder, text) for text in texts_of(top, key)]
+        return any(parts[: len(it)] == it for it in outer)
+
+    return is_within("exclude") and not is_within("members")
+
+
+def paths_of(folder: str, entry: Entry, root: str, top: Entry) -> Iterator[str]:
+    """The folders inside that of a workspace of the packages that a manifest has by a path, its own
+    or the workspace's."""
+    inherited = workspace_table(top)
     for _, values in tables_of(entry):
-        for value in values.values():
-            if isinstance(value, dict) and isinstance(value.get("path"), str):
-                path = os.path.normpath(os.path.join(folder, value["path"]))
-                if os.path.exists(os.path.join(path, MANIFEST)):
+        for key, value in values.items():
+            is_inherited = isinstance(value, dict) and value.get("workspace") is True
+            at, own = (root, inherited.get(key)) if is_inherited else (folder, value)
+            if isinstance(own, dict) and isinstance(own.get("path"), str):
+                path = os.path.normpath(os.path.join(at, own["path"]))
+                if is_inside(path, root):
                     yield path
 
 
 def is_inside(path: str, folder: str) -> bool:
     """Whether a path is inside a folder."""
-    top = os.path.abspath(folder or ".")
+    top = os.path.abspath(folder)
     return os.path.commonpath([top, os.path.abspath(path)]) == top
+
+
+# ---- what one manifest asks for
 
 
 def by_table(entry: Entry) -> Dict[Tuple[str, str], Need]:
