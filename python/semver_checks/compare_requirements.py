@@ -11,9 +11,10 @@ from typing import Dict, Iterator, List, NamedTuple, Optional, Tuple
 
 from semver_parser import RangeError, Reading, compare_ranges
 
-from .cargo.manifests import INHERITED, by_table
+from .cargo.manifests import Need, by_table
 from .files import Entry, Refusal, bytes_of, json_object, taking, texts_at, toml_object
-from .npm.specs import is_no_range, range_of
+from .judging import is_met
+from .npm.specs import alias_of, is_elsewhere, is_no_range, range_of
 from .program import Misuse, Options, Outcome, Program, escaped, run
 
 PAGE = """\
@@ -37,6 +38,7 @@ differs, and 2 after an error, which standard error reports."""
 KINDS_OF_NPM = ("dependencies", "devDependencies", "optionalDependencies", "peerDependencies")
 
 SAME = "the same versions"
+ANOTHER = "another package"
 
 NOTHING = "<0.0.0-0"
 """How a set without versions is printed."""
@@ -45,10 +47,20 @@ Key = Tuple[str, str]
 """The table of a requirement, and its key there."""
 
 
+class Requirement(NamedTuple):
+    """What is asked for: how it is printed, the name of the package, where that is known, where it
+    is to be taken from, if told, and the range, where it is one or may be meant for one."""
+
+    text: str
+    name: Optional[str]
+    source: str
+    range: Optional[str]
+
+
 class Manifest(NamedTuple):
     """The requirements of a manifest by table and key, and the dialect that they are in."""
 
-    requirements: Dict[Key, str]
+    requirements: Dict[Key, Requirement]
     reading: Reading
 
 
@@ -82,13 +94,29 @@ def manifest_of(text: bytes) -> Manifest:
         return manifest_of_npm(json_object(text))
     entry = toml_object(text)
     needs = by_table(entry)
-    return Manifest({key: need.requirement for key, need in needs.items()}, Reading.CARGO)
+    return Manifest({key: of_cargo(need) for key, need in needs.items()}, Reading.CARGO)
+
+
+def of_cargo(need: Need) -> Requirement:
+    """A requirement of a Cargo.toml."""
+    wanted = need.requirement if need.has_registry else None
+    package = f'package = "{need.name}"' if need.other_name is not None else ""
+    text = ", ".join(filter(None, (wanted, package, need.source)))
+    return Requirement(text, need.name, need.source, wanted)
+
+
+def of_npm(name: str, spec: str) -> Requirement:
+    """A requirement of a package.json. What is at an address has its name there."""
+    alias, wanted = alias_of(spec), range_of(spec)
+    is_none = is_met(wanted, "0.0.0", Reading.NPM) is None and is_no_range(spec)
+    own_name = None if is_elsewhere(spec) else name if alias is None else alias[0]
+    return Requirement(spec, own_name, "", None if is_none else wanted)
 
 
 def manifest_of_npm(entry: Entry) -> Manifest:
     """A package.json."""
     found = {
-        (kind, name): spec
+        (kind, name): of_npm(name, spec)
         for kind in KINDS_OF_NPM
         for name, spec in texts_at(entry.get(kind, {}), kind).items()
     }
@@ -126,32 +154,42 @@ def changes(old: Manifest, new: Manifest) -> Iterator[Change]:
     for key, requirement in old.requirements.items():
         other = new.requirements.get(key)
         if other is None:
-            yield Change(key[1], key[0], requirement, None, "removed")
+            yield Change(key[1], key[0], requirement.text, None, "removed")
         elif other != requirement:
             yield change(key, requirement, other, new.reading)
     for key, requirement in new.requirements.items():
         if key not in old.requirements:
-            yield Change(key[1], key[0], None, requirement, "added")
+            yield Change(key[1], key[0], None, requirement.text, "added")
 
 
-def change(key: Key, old: str, new: str, reading: Reading) -> Change:
-    """What a changed requirement loses and gains. A tag, an address or a path has no versions."""
+def change(key: Key, old: Requirement, new: Requirement, reading: Reading) -> Change:
+    """What a changed requirement loses and gains. A tag, an address or a path has no versions, and
+    those of two packages aren't compared."""
     table, name = key
-    is_npm = reading is Reading.NPM
-    texts = [range_of(text) if is_npm else text for text in (old, new)]
+    note, ranges = comparison(old, new, reading)
+    return Change(name, table, old.text, new.text, note, *ranges)
+
+
+def comparison(
+    old: Requirement, new: Requirement, reading: Reading
+) -> Tuple[str, List[Optional[str]]]:
+    """The note of a change, and its versions, if there are any."""
+    if None not in (old.name, new.name) and old.name != new.name:
+        return ANOTHER, []
+    if old.range is None or new.range is None:
+        return "not a range", []
+    if old.source != new.source:
+        return ANOTHER, []
     try:
-        compared = compare_ranges(*texts, reading)
+        compared = compare_ranges(old.range, new.range, reading)
     except RangeError:
-        none = is_no_range if is_npm else INHERITED.__eq__
-        kind = "not a range" if none(old) or none(new) else "not read"
-        return Change(name, table, old, new, kind)
+        return "not read", []
     ranges = [
         None if text == NOTHING else text
         for versions in (compared.lost, compared.gained, compared.shared)
         for text in (versions.releases, versions.pre_releases)
     ]
-    note = SAME if compared.means_same else "" if compared.overlaps else "nothing shared"
-    return Change(name, table, old, new, note, *ranges)
+    return SAME if compared.means_same else "" if compared.overlaps else "nothing shared", ranges
 
 
 # ---- what is printed
@@ -160,7 +198,7 @@ def change(key: Key, old: str, new: str, reading: Reading) -> Change:
 def lines_of(it: Change) -> Iterator[str]:
     """The lines of a change."""
     if it.old is None or it.new is None:
-        yield f"{it.name} ({it.table}): {it.note} {it.old or it.new}"
+        yield f"{it.name} ({it.table}): {it.note} {it.new if it.old is None else it.old}"
         return
     note = f": {it.note}" if it.note else ""
     yield f"{it.name} ({it.table}): {it.old} -> {it.new}{note}"

@@ -9,20 +9,23 @@ from ..files import Entry, WrongShape, bytes_of, list_at, object_at, taking, tex
 KINDS = ("dependencies", "dev-dependencies", "build-dependencies")
 MANIFEST = "Cargo.toml"
 
-# In place of a requirement that is the workspace's.
+# In place of the source of what is the workspace's, in another file.
 INHERITED = "workspace = true"
+
+SOURCES = ("path", "git", "branch", "tag", "rev", "registry", "registry-index")
 
 
 class Need(NamedTuple):
     """What a manifest asks for: the name of the package, the name that it is given, if another, the
-    requirement, whether that is of a registry or of a path or git alone, and the table that it is
-    in."""
+    requirement, whether that is of a registry or of a path or git alone, the table that it is in,
+    and where the package is to be taken from, if told."""
 
     name: str
     other_name: Optional[str]
     requirement: str
     has_registry: bool
     table: str
+    source: str = ""
 
 
 class Manifest(NamedTuple):
@@ -59,7 +62,11 @@ def need_of(key: str, value: Any, table: str, inherited: Entry) -> Need:
     package = text_at(entry.get("package", key), f"{where}: package")
     requirement = text_at(entry.get("version", "*"), f"{where}: version")
     has_registry = "version" in entry or not ("path" in entry or "git" in entry)
-    return Need(package, key if package != key else None, requirement, has_registry, table)
+    source = ", ".join(
+        f'{it} = "{text_at(entry[it], f"{where}: {it}")}"' for it in SOURCES if it in entry
+    )
+    other_name = key if package != key else None
+    return Need(package, other_name, requirement, has_registry, table, source)
 
 
 def workspace_of(manifest: Entry) -> Entry:
@@ -189,7 +196,7 @@ def by_table(entry: Entry) -> Dict[Tuple[str, str], Need]:
         for key, value in values.items():
             is_elsewhere = isinstance(value, dict) and value.get("workspace") is True
             if is_elsewhere and key not in inherited:
-                found[table, key] = Need(key, None, INHERITED, False, table)
+                found[table, key] = Need(key, None, "*", False, table, INHERITED)
             else:
                 found[table, key] = need_of(key, value, table, inherited)
     return found

@@ -32,11 +32,15 @@ def range_of(spec: str) -> str:
     return spec if alias is None else alias[1]
 
 
+def is_elsewhere(spec: str) -> bool:
+    """Whether npm takes what is asked for for an address or a path. An alias is none."""
+    return alias_of(spec) is None and ELSEWHERE.match(spec) is not None
+
+
 def is_no_range(spec: str) -> bool:
     """Whether npm takes what is asked for, which isn't read as a range, for something else: a tag,
     an address or a path. An alias has a range or a tag."""
-    is_address = alias_of(spec) is None and ELSEWHERE.match(spec) is not None
-    return is_address or TAG.fullmatch(range_of(spec).strip()) is not None
+    return is_elsewhere(spec) or TAG.fullmatch(range_of(spec).strip()) is not None
 
 
 def verdict_on(version: Optional[str], spec: str) -> str:
