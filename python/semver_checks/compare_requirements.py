@@ -12,7 +12,16 @@ from typing import Dict, Iterator, List, NamedTuple, Optional, Tuple
 from semver_parser import RangeError, Reading, compare_ranges
 
 from .cargo.manifests import Need, by_table
-from .files import Entry, Refusal, bytes_of, json_object, taking, texts_at, toml_object
+from .files import (
+    BYTE_ORDER_MARK,
+    Entry,
+    Refusal,
+    bytes_of,
+    json_object,
+    taking,
+    texts_at,
+    toml_object,
+)
 from .judging import is_met
 from .npm.specs import alias_of, is_elsewhere, is_no_range, range_of
 from .program import Misuse, Options, Outcome, Program, escaped, run
@@ -143,7 +152,7 @@ def read_revision(revision: str, path: str) -> Manifest:
         why = " ".join(shown.stderr.decode("utf-8", "replace").split())
         raise Refusal(path, f"git doesn't show it: {why}")
     with taking(f"{revision}:{path}", "package.json or Cargo.toml"):
-        return manifest_of(shown.stdout)
+        return manifest_of(shown.stdout.removeprefix(BYTE_ORDER_MARK))
 
 
 # ---- the changes

@@ -9,6 +9,8 @@ Entry = Dict[str, Any]
 
 STANDARD_INPUT = "-"
 
+BYTE_ORDER_MARK = b"\xef\xbb\xbf"
+
 
 class Refusal(Exception):
     """Why a file is refused."""
@@ -27,13 +29,13 @@ class WrongShape(Exception):
 
 
 def bytes_of(path: str) -> bytes:
-    """What a file holds, or standard input."""
+    """What a file holds, or standard input, behind a byte order mark."""
     if path != STANDARD_INPUT:
         with open(path, "rb") as file:
-            return file.read()
+            return file.read().removeprefix(BYTE_ORDER_MARK)
     if sys.stdin is None:
         raise Refusal(path, "it can't be read: it is closed")
-    return sys.stdin.buffer.read()
+    return sys.stdin.buffer.read().removeprefix(BYTE_ORDER_MARK)
 
 
 @contextmanager
@@ -98,9 +100,9 @@ def yaml_object(text: bytes) -> Entry:
 
 
 def utf8(text: bytes) -> str:
-    """The text that bytes are, without a byte order mark."""
+    """The text that bytes are."""
     try:
-        return text.decode("utf-8-sig")
+        return text.decode("utf-8")
     except UnicodeDecodeError:
         raise Unreadable("it isn't UTF-8") from None
 
