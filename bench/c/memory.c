@@ -112,15 +112,17 @@ static semver_parser_flat_set set_of(size_t length, int32_t reading, int32_t rul
 
 static int32_t combine(size_t length, int32_t reading, int32_t rule) {
     size_t count, needed;
-    semver_parser_flat_set set = set_of(length, reading, rule), empty = {switches, 0, text, 0};
-    return semver_parser_combine(set, empty, SEMVER_PARSER_UNION, more_switches, ROWS, &count, out,
+    semver_parser_flat_set set = set_of(length, reading, rule);
+    given *= 2;
+    return semver_parser_combine(set, set, SEMVER_PARSER_UNION, more_switches, ROWS, &count, out,
         sizeof out, &needed);
 }
 
 static int32_t compare_sets(size_t length, int32_t reading, int32_t rule) {
     bool is_within, contains;
-    semver_parser_flat_set set = set_of(length, reading, rule), empty = {switches, 0, text, 0};
-    return semver_parser_compare_sets(set, empty, &is_within, &contains);
+    semver_parser_flat_set set = set_of(length, reading, rule);
+    given *= 2;
+    return semver_parser_compare_sets(set, set, &is_within, &contains);
 }
 
 static int32_t set_least(size_t length, int32_t reading, int32_t rule) {
