@@ -6,7 +6,6 @@ ghost use Rattle.semver_parser.specs.Outlines.{dotted_text};
 ghost use Rattle.semver_parser.specs.RangeViews.{comparator_of, identifier_of, set_of};
 ghost use Rattle.semver_parser_c.specs.Comparators.{comparators_of, op_number, pre_releases};
 ghost use Rattle.semver_parser_c.specs.Comparators.{listed_comparator, listed_comparators};
-ghost use Rattle.semver_parser_c.specs.Printing.{PutsBoth};
 
 use crate::{Part, RewrittenComparator, numbers};
 use semver_parser::{Comparator, Identifier, Op, RangeSet};
@@ -90,40 +89,4 @@ fn op_number(op: &Op) -> i32
         Op::Gte => numbers::GREATER_EQUAL,
         Op::Eq => numbers::EQUAL,
     }
-}
-
-/// Tells how many comparators and bytes there are, and puts both at the front of their rooms where
-/// both fit.
-pub fn put(
-    listed: &Listed,
-    comparators: &mut [RewrittenComparator],
-    count: &mut usize,
-    out: &mut [u8],
-    length: &mut usize,
-) -> i32
-    ensures { PutsBoth
-        (record {
-          items = listed.now.comparators.items;
-          old = comparators.old;
-          new = comparators.new;
-          told = count.new;
-        })
-        (record {
-          items = string_bytes listed.now.pre_releases;
-          old = out.old;
-          new = out.new;
-          told = length.new;
-        })
-        result }
-{
-    let items = listed.comparators.len();
-    let bytes = listed.pre_releases.as_bytes();
-    *count = items;
-    *length = bytes.len();
-    if items > comparators.len() || bytes.len() > out.len() {
-        return numbers::NO_ROOM;
-    }
-    comparators[..items].copy_from_slice(&listed.comparators);
-    out[..bytes.len()].copy_from_slice(bytes);
-    numbers::OK
 }

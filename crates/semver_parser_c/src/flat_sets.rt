@@ -1,15 +1,15 @@
-//! Sets of a caller, which are flat data, and where such data is put.
+//! Sets of a caller, which are flat data, and their texts.
 
 ghost use Rattle.std.specs.Prelude.{◌≡◌, ◌⊎◌, ◌∷◌, [], IfOk, IfErr, string_bytes};
 ghost use Rattle.version_sets.specs.Flat.{IsFlat, IsPrintable};
 ghost use Rattle.version_sets.specs.VersionSets.{SetValue};
 ghost use Rattle.semver_parser_c.specs.Numbers as number;
 ghost use Rattle.semver_parser_c.specs.Faults.{IsOneOf};
-ghost use Rattle.semver_parser_c.specs.FlatSets.{AreSets, IsNoSet, PutsSet, kind_text};
+ghost use Rattle.semver_parser_c.specs.FlatSets.{AreSets, IsNoSet, kind_text};
 
 use crate::numbers;
 use std::alloc::{AllocError, Global};
-use version_sets::{FlatData, FlatSet, FlatSwitch, VersionSet};
+use version_sets::{FlatSet, FlatSwitch, VersionSet};
 
 /// The set of flat data, or the number of why there is none.
 pub fn read(alloc: Global, switches: &[FlatSwitch], bytes: &[u8]) -> Result<VersionSet, i32>
@@ -68,30 +68,4 @@ pub fn print(alloc: Global, set: &VersionSet, pre_releases: bool) -> Result<Stri
         set.release_ranges(alloc)?
     };
     ranges.to_string(alloc)
-}
-
-/// Tells how many switches and bytes a set has, and puts both at the front of their rooms if both
-/// fit.
-pub fn put(
-    flat: &FlatData,
-    made: &mut [FlatSwitch],
-    count: &mut usize,
-    out: &mut [u8],
-    length: &mut usize,
-) -> i32
-    ensures { (set : SetValue)
-        → IsFlat flat.now.switches.items (string_bytes flat.now.bytes) set → PutsSet set
-        (record { old = made.old; new = made.new; told = count.new })
-        (record { old = out.old; new = out.new; told = length.new }) result }
-{
-    let switches = flat.switches.len();
-    let bytes = flat.bytes.as_bytes();
-    *count = switches;
-    *length = bytes.len();
-    if switches > made.len() || bytes.len() > out.len() {
-        return numbers::NO_ROOM;
-    }
-    made[..switches].copy_from_slice(&flat.switches);
-    out[..bytes.len()].copy_from_slice(bytes);
-    numbers::OK
 }

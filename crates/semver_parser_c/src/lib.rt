@@ -407,7 +407,10 @@ pub extern "C" fn semver_parser_proved_comparators(
         Err(number) => return number,
     };
     match comparators::list(alloc, &rewritten) {
-        Ok(told) => comparators::put(&told, comparators, count, out, length),
+        Ok(told) => {
+            let texts = told.pre_releases.as_bytes();
+            range_text::put_both(&told.comparators, texts, comparators, count, out, length)
+        }
         Err(_) => numbers::RANGE_OUT_OF_MEMORY,
     }
 }
@@ -789,7 +792,10 @@ pub extern "C" fn semver_parser_proved_set(
     };
     set.is_normal();
     match set.to_flat(alloc) {
-        Ok(Some(flat)) => flat_sets::put(&flat, made, count, out, length),
+        Ok(Some(flat)) => {
+            let bytes = flat.bytes.as_bytes();
+            range_text::put_both(&flat.switches, bytes, made, count, out, length)
+        }
         Ok(None) | Err(_) => numbers::RANGE_OUT_OF_MEMORY,
     }
 }
@@ -911,7 +917,10 @@ pub extern "C" fn semver_parser_proved_combine(
         return numbers::RANGE_OUT_OF_MEMORY;
     };
     match set.to_flat(alloc) {
-        Ok(Some(flat)) => flat_sets::put(&flat, made, count, out, length),
+        Ok(Some(flat)) => {
+            let bytes = flat.bytes.as_bytes();
+            range_text::put_both(&flat.switches, bytes, made, count, out, length)
+        }
         Ok(None) => unreachable!(),
         Err(_) => numbers::RANGE_OUT_OF_MEMORY,
     }

@@ -1,4 +1,4 @@
-//! Range texts: the set of one, or the number of its fault, and its printed text in the room of a
+//! Range texts: the set of one, or the number of its fault, and what is put into the rooms of a
 //! caller.
 
 ghost use Rattle.std.specs.Prelude.{◌≡◌, ⊤, IsUtf8, IfOk, IfErr};
@@ -11,7 +11,7 @@ ghost use Rattle.semver_parser_c.specs.declared.range_text.RangeFault.TheVariant
 ghost use Rattle.semver_parser_c.specs.Readings.{reading_number};
 ghost use Rattle.semver_parser_c.specs.Faults.{IsOneOf, IsSetFor, RefusesBy, RefusesText};
 ghost use Rattle.semver_parser_c.specs.Faults.{new_range_faults, new_range_numbers};
-ghost use Rattle.semver_parser_c.specs.Printing.{Puts};
+ghost use Rattle.semver_parser_c.specs.Printing.{Puts, PutsBoth};
 ghost use Rattle.semver_parser_c.specs.Steps.RangeFaults.{HasFault, IsReadable, IsTextRefused};
 ghost use Rattle.semver_parser_c.specs.Steps.RangeFaults.{IsTold, Stands, fault_of};
 
@@ -136,5 +136,32 @@ pub fn put<T: Copy>(items: &[T], out: &mut [T], length: &mut usize) -> i32
         return numbers::NO_ROOM;
     }
     out[..len].copy_from_slice(items);
+    numbers::OK
+}
+
+/// Tells how many items and bytes there are, and puts both at the front of their rooms where both
+/// fit.
+pub fn put_both<T: Copy>(
+    items: &[T],
+    bytes: &[u8],
+    room: &mut [T],
+    count: &mut usize,
+    out: &mut [u8],
+    length: &mut usize,
+) -> i32
+    ensures { PutsBoth
+        (record { items = items.now; old = room.old; new = room.new; told = count.new })
+        (record { items = bytes.now; old = out.old; new = out.new; told = length.new })
+        result }
+{
+    let item_count = items.len();
+    let byte_count = bytes.len();
+    *count = item_count;
+    *length = byte_count;
+    if item_count > room.len() || byte_count > out.len() {
+        return numbers::NO_ROOM;
+    }
+    room[..item_count].copy_from_slice(items);
+    out[..byte_count].copy_from_slice(bytes);
     numbers::OK
 }
