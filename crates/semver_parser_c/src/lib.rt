@@ -1,9 +1,10 @@
-//! The C functions, proved: reading a version text, rewriting a range text, which versions meet a
-//! range, the least of them, and how two ranges compare. `include/semver_parser.h` says them in C's
+//! The C functions, proved: reading a version text and rewriting a range text, where and why a text
+//! is refused, how two versions compare, which versions meet a range, the least of them, how two
+//! ranges compare, and sets of versions as flat data. `include/semver_parser.h` says them in C's
 //! words, without `proved_` in their names, and `c/calls.c` makes those of these: there null with a
 //! length of 0 is an empty text or an empty room.
 //!
-//! A text is bytes, and bytes that are no UTF-8 are a fault of their own. Each call answers one of
+//! A text is bytes, and bytes that are no UTF-8 are an error of their own. Each call answers one of
 //! the numbers in `numbers`. Nothing is kept between calls, and nothing is left for the caller to
 //! free.
 #![tactic(auto)]
@@ -299,9 +300,9 @@ pub extern "C" fn semver_parser_proved_explain_range(
 ///
 /// `length` becomes the length of the printed set, also where `out` has no room for it (`NO_ROOM`);
 /// so a call with an empty `out` asks for the length. `out` is as it was after the printed set,
-/// and all of it after any answer but `OK`. `length` is as it was after a fault of the text.
+/// and all of it after any answer but `OK`. `length` is as it was after an error of the text.
 ///
-/// # Faults
+/// # Errors
 ///
 /// `NO_SUCH_READING`, whatever the text. Then `RANGE_NOT_UTF8`, those of
 /// `tool_ranges::reading::rewrite`, which are `NOT_A_RANGE`, `NUMBER_TOO_LARGE` and
@@ -323,7 +324,7 @@ pub extern "C" fn semver_parser_proved_rewrite(
         × (tree : TreeOf r) × SpellsAs r tree text.now × IsTrue (fits_as r tree)
         × Puts (set_text (set_for exact r tree)) out.old out.new length.new result }
 
-    // Faults of the reading and of the text, whatever the room.
+    // Errors of the reading and of the text, whatever the room.
     ensures refusals { RefusesText reading text.now result }
     ensures room_unchanged { result ≢ number.ok → out.new ≡ out.old }
     ensures length_unchanged { IsOneOf (number.no_such_reading ∷ range_faults) result
@@ -351,10 +352,10 @@ pub extern "C" fn semver_parser_proved_rewrite(
 ///
 /// `count` and `length` become how many comparators and how many bytes there are, also where one of
 /// the rooms is too small (`NO_ROOM`); then both rooms are as they were. So a call with two empty
-/// rooms asks for both. After a fault of the text both rooms are as they were, and so are `count`
+/// rooms asks for both. After an error of the text both rooms are as they were, and so are `count`
 /// and `length`. What is after what was put into a room is as it was.
 ///
-/// # Faults
+/// # Errors
 ///
 /// Those of `semver_parser_proved_rewrite`.
 #[unsafe(no_mangle)]
@@ -395,7 +396,7 @@ pub extern "C" fn semver_parser_proved_comparators(
         → HasPreReleases out.new (take count.new comparators.new)
         (comparators_of (set_for exact r tree)) }
 
-    // Faults of the reading and of the text, whatever the rooms.
+    // Errors of the reading and of the text, whatever the rooms.
     ensures refusals { RefusesText reading text.now result }
     ensures rooms_unchanged { result ≢ number.ok
         → (comparators.new ≡ comparators.old) × (out.new ≡ out.old) }
@@ -417,7 +418,7 @@ pub extern "C" fn semver_parser_proved_comparators(
 
 // Answer: law semver_parser_c::laws::one_meeting.
 /// Whether a version meets a range, by the reading and by the rule for pre-releases that numbers
-/// name: `OK` with the answer in `meets`, or the number of a fault with `meets` as it was.
+/// name: `OK` with the answer in `meets`, or the number of an error with `meets` as it was.
 ///
 /// It goes by what the range text means by itself, and not by comparators. By `RELEASES_ALONE` no
 /// version with a pre-release meets any range, and by `ALL_PRE_RELEASES` one is compared by
@@ -426,7 +427,7 @@ pub extern "C" fn semver_parser_proved_comparators(
 /// `CRATE_NPM` have besides `STATED_PRE_RELEASES`, by which one meets the range where a term states
 /// the same three numbers and a pre-release.
 ///
-/// # Faults
+/// # Errors
 ///
 /// `NO_SUCH_READING`, and where there is a reading of that number `NO_SUCH_RULE`, whatever the
 /// texts. Then the range is read: `RANGE_NOT_UTF8`, `NOT_A_RANGE` and `NUMBER_TOO_LARGE`, whatever
@@ -458,10 +459,10 @@ pub extern "C" fn semver_parser_proved_meets(
         → SpellsIn d v version.now → result ≡ number.ok }
     ensures unchanged { result ≢ number.ok → meets.new ≡ meets.old }
 
-    // Faults of the reading, of the rule, and of the range, whatever the version.
+    // Errors of the reading, of the rule, and of the range, whatever the version.
     ensures refusals { RefusesRange reading pre_releases range.now result }
 
-    // Faults of the version, where the range is read.
+    // Errors of the version, where the range is read.
     ensures version_not_utf8 { RangeIsRead reading pre_releases range.now result
         → (result ≡ number.version_not_utf8) ↔ ¬ (IsUtf8 version.now) }
     ensures version_refused { RangeIsRead reading pre_releases range.now result
@@ -482,14 +483,14 @@ pub extern "C" fn semver_parser_proved_meets(
 
 // Answer: law semver_parser_c::laws::one_meetings.
 /// Whether each of many versions meets a range, as `semver_parser_proved_meets` says of one: `OK`
-/// with a byte in `answers` for each text of `versions`, or the number of a fault with `answers` as
-/// it was. Each of at most three is judged as the range is read. For more the set of the range is
-/// made once, which takes less time from about four on.
+/// with a byte in `answers` for each text of `versions`, or the number of an error with `answers`
+/// as it was. Each of at most three is judged as the range is read. For more the set of the range
+/// is made once, which takes less time from about four on.
 ///
-/// A byte is `DOES_NOT_MEET`, `MEETS`, or the number of the version's fault. Where `versions` and
+/// A byte is `DOES_NOT_MEET`, `MEETS`, or the number of the version's error. Where `versions` and
 /// `answers` differ in length, as many are answered as the shorter has.
 ///
-/// # Faults
+/// # Errors
 ///
 /// `NO_SUCH_READING` and `NO_SUCH_RULE`, whatever the texts, and those of the range:
 /// `RANGE_NOT_UTF8`, `NOT_A_RANGE`, `NUMBER_TOO_LARGE` and `RANGE_OUT_OF_MEMORY`.
@@ -515,7 +516,7 @@ pub extern "C" fn semver_parser_proved_meets_each(
     ensures read { result ≡ number.ok → RangeIsRead reading pre_releases range.now result }
     ensures unchanged { result ≢ number.ok → answers.new ≡ answers.old }
 
-    // Faults of the reading, of the rule, and of the range.
+    // Errors of the reading, of the rule, and of the range.
     ensures refusals { RefusesRange reading pre_releases range.now result }
 {
     let count = versions.len();
@@ -535,9 +536,9 @@ pub extern "C" fn semver_parser_proved_meets_each(
 ///
 /// `length` becomes the length of the text, also where `out` has no room for it (`NO_ROOM`). It is
 /// 0 exactly where the range means no version. `out` is as it was after the text, and all of it
-/// after any answer but `OK`. `length` is as it was after a fault of the numbers or of the text.
+/// after any answer but `OK`. `length` is as it was after an error of the numbers or of the text.
 ///
-/// # Faults
+/// # Errors
 ///
 /// `NO_SUCH_READING` and `NO_SUCH_RULE`, whatever the text. Then `RANGE_NOT_UTF8`, `NOT_A_RANGE`,
 /// `NUMBER_TOO_LARGE` and `RANGE_OUT_OF_MEMORY`, and `NO_ROOM`.
@@ -561,7 +562,7 @@ pub extern "C" fn semver_parser_proved_least(
     ensures read { (result ≡ number.ok) ⊎ (result ≡ number.no_room)
         → RangeIsRead reading pre_releases range.now result }
 
-    // Faults of the reading, of the rule, and of the range, whatever the room.
+    // Errors of the reading, of the rule, and of the range, whatever the room.
     ensures refusals { RefusesRange reading pre_releases range.now result }
     ensures room_unchanged { result ≢ number.ok → out.new ≡ out.old }
     ensures length_unchanged { IsOneOf named_faults result → length.new ≡ length.old }
@@ -589,9 +590,9 @@ pub extern "C" fn semver_parser_proved_least(
 /// `length` becomes the length of the three texts together and `comparison` where they lie, also
 /// where `out` has no room for them (`NO_ROOM`), so a call with an empty `out` asks which there
 /// are. `out` is as it was after the texts, and all of it after any answer but `OK`. `length` and
-/// `comparison` are as they were after a fault of the numbers or of a text.
+/// `comparison` are as they were after an error of the numbers or of a text.
 ///
-/// # Faults
+/// # Errors
 ///
 /// `NO_SUCH_READING` and `NO_SUCH_RULE`, whatever the texts. Then the errors of the old range,
 /// whatever the new one is: `RANGE_NOT_UTF8`, `NOT_A_RANGE` and `NUMBER_TOO_LARGE`. Then those of
