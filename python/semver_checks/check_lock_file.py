@@ -79,7 +79,7 @@ def read_manifest(path: Optional[str]) -> Entry:
 
 def findings(path: str, text: bytes, manifest_at: Optional[str]) -> Iterator[Finding]:
     """What there is to say of a lock file, by what it is."""
-    if text.lstrip()[:1] in (b"{", b"["):
+    if text.lstrip()[:1] == b"{":
         yield from of_json(json_object(text), manifest_at)
     elif b"yarn lockfile v1" in text or b"\n__metadata:" in text:
         yield from yarn.findings(tree_of(utf8(text)), read_manifest(manifest_at))
