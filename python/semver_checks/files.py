@@ -84,6 +84,8 @@ def toml_object(text: bytes) -> Entry:
         return tomllib.loads(utf8(text))
     except tomllib.TOMLDecodeError as error:
         raise Unreadable(f"it isn't TOML: {error}") from None
+    except ValueError:
+        raise Unreadable("it isn't TOML") from None
 
 
 def yaml_object(text: bytes) -> Entry:
@@ -96,6 +98,8 @@ def yaml_object(text: bytes) -> Entry:
         value = yaml.load(utf8(text), Loader=yaml.BaseLoader)
     except yaml.YAMLError as error:
         raise Unreadable(f"it isn't YAML: {' '.join(str(error).split())}") from None
+    except (ValueError, OverflowError):
+        raise Unreadable("it isn't YAML") from None
     return object_at(value, "the file")
 
 
