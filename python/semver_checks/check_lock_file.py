@@ -6,7 +6,7 @@ tabs, and a fourth field if there is more to know. man/check-lock-file.1 describ
 
 import os
 import sys
-from typing import Iterator, Optional
+from typing import Callable, Iterator, Optional, Tuple, TypeVar
 
 from .cargo import lock as cargo_lock
 from .cargo import metadata as cargo_metadata
@@ -28,6 +28,8 @@ from .program import Misuse, Options, Outcome, Program, joined, run
 from .yarn import edges as yarn
 from .yarn.lock import tree_of
 
+Taken = TypeVar("Taken")
+
 PAGE = """\
 usage: check-lock-file [--strict] [--package-json FILE] LOCK-FILE
 
@@ -45,7 +47,7 @@ that wrote it reads ranges and versions. What the file is, its content says:
     --strict             count and list what is asked for by a tag, an address or
                          a path, and what is not there
     --package-json FILE  take overrides and resolutions from this package.json,
-                         and not from that beside the lock file
+                         and not from that beside the lock file of npm or yarn
     -h, --help           print this
     --                   end the options
 
@@ -64,41 +66,50 @@ def manifest_path(options: Options) -> Optional[str]:
     return beside if os.path.exists(beside) else None
 
 
-def read_manifest(path: Optional[str]) -> Entry:
-    """The project's package.json."""
+def read_manifest(path: Optional[str], take: Callable[[Entry], Taken]) -> Tuple[Entry, Taken]:
+    """The project's package.json, and what a tool takes of it."""
     if path is None:
-        return {}
+        return {}, take({})
     with taking(path, "package.json"):
         manifest = json_object(bytes_of(path))
-        npm.check_manifest(manifest)
-        return manifest
+        return manifest, take(manifest)
+
+
+def refuse_manifest(options: Options) -> None:
+    """Refuses a package.json that is named beside a file of another tool."""
+    if "--package-json" in options.given:
+        raise Misuse("--package-json is for files of npm and yarn")
 
 
 # ---- which file it is
 
 
-def findings(path: str, text: bytes, manifest_at: Optional[str]) -> Iterator[Finding]:
+def findings(options: Options, manifest_at: Optional[str], text: bytes) -> Iterator[Finding]:
     """What there is to say of a lock file, by what it is."""
     if text.lstrip()[:1] == b"{":
-        yield from of_json(json_object(text), manifest_at)
+        yield from of_json(options, manifest_at, json_object(text))
     elif b"yarn lockfile v1" in text or b"\n__metadata:" in text:
-        yield from yarn.findings(tree_of(utf8(text)), read_manifest(manifest_at))
+        tree = tree_of(utf8(text))
+        yield from yarn.findings(tree, read_manifest(manifest_at, yarn.resolutions_of)[1])
     elif text.startswith(b"lockfileVersion:") or b"\nlockfileVersion:" in text:
+        refuse_manifest(options)
         yield from pnpm.findings(yaml_object(text))
     elif b"[[package]]" in text:
+        refuse_manifest(options)
+        path = options.files[0]
         folder = None if path == STANDARD_INPUT else os.path.dirname(path)
         yield from cargo_lock.findings(toml_object(text), folder)
     else:
         raise WrongShape(" that is known")
 
 
-def of_json(lock: Entry, manifest_at: Optional[str]) -> Iterator[Finding]:
+def of_json(options: Options, manifest_at: Optional[str], lock: Entry) -> Iterator[Finding]:
     """What there is to say of a file of npm, or of what `cargo metadata` writes."""
     if "workspace_members" in lock or "resolve" in lock:
+        refuse_manifest(options)
         yield from cargo_metadata.findings(lock)
-        return
-    manifest = read_manifest(manifest_at)
-    yield from npm.findings(lock, manifest, npm.rules_of(manifest))
+    else:
+        yield from npm.findings(lock, *read_manifest(manifest_at, npm.rules_of_manifest))
 
 
 # ---- the program
@@ -109,7 +120,7 @@ def check(options: Options) -> Outcome:
     path, manifest_at = options.files[0], manifest_path(options)
     is_strict = "--strict" in options.given
     with taking(path, "lock file"):
-        found = list(findings(path, bytes_of(path), manifest_at))
+        found = list(findings(options, manifest_at, bytes_of(path)))
     wrong = [finding for finding in found if is_strict or not finding.is_strict]
     lines = [joined(*(it[:4] if it.kind else it[:3])) for it in wrong]
     skipped = sum(it.kind == SKIPPED for it in found)

@@ -93,7 +93,7 @@ def of_version(place: str, version: Optional[str]) -> Iterator[Finding]:
         yield Finding("", version, place or "the project", NO_VERSION)
 
 
-def check_manifest(manifest: Entry) -> Rule:
+def rules_of_manifest(manifest: Entry) -> Rule:
     """The rules of a package.json, whose dependencies are texts."""
     for kind in ASKS_OF_OLD_PROJECTS:
         texts_at(manifest.get(kind, {}), kind)

@@ -111,9 +111,8 @@ def by_patterns(packages: List[Package]) -> Dict[str, Package]:
     }
 
 
-def findings(tree: Tree, manifest: Entry) -> Iterator[Finding]:
-    """What there is to say of a lock file, in its order, beside the project's package.json."""
-    resolutions = resolutions_of(manifest)
+def findings(tree: Tree, resolutions: Dict[str, List[str]]) -> Iterator[Finding]:
+    """What there is to say of a lock file, in its order, beside the project's resolutions."""
     packages = list(packages_of(tree))
     by_pattern = by_patterns(packages)
     # From yarn 2 on the project and its workspaces are packages, and ask for all that is there.
