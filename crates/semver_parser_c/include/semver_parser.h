@@ -6,8 +6,7 @@
  *
  * STRINGS AND BUFFERS. Strings are UTF-8, given as pointer and byte length; they need no
  * terminating zero, and none is written. Offsets and lengths count bytes. Buffers are given as
- * pointer and capacity. If a length or capacity is 0, the pointer may be null. Otherwise it must be
- * valid.
+ * pointer and capacity. If a length or capacity is 0, the pointer may be null.
  *
  * THE CALLER MUST pass strings, arrays and buffers of the given size, and not change them during
  * the call; pointers to write to that overlap with no other argument, are aligned and, for a single
@@ -27,10 +26,10 @@
  * - SEMVER_PARSER_NO_ROOM if a buffer is too small: then the lengths say what is needed, and the
  *   buffers are unchanged. So a call with capacity 0 asks for the length.
  *
- * MEMORY. Nothing is kept between calls or must be freed. Allocations are by `malloc`. To make a
- * set of a range (_set, _least, _compare, and _meets_each of 4 versions or more) takes up to 290
- * bytes per byte of it, and time in n log n for n comparators. Else time is linear. Add 1,000 bytes
- * to all figures.
+ * MEMORY. Nothing is kept between calls or must be freed. Allocations are by `malloc`. Making a set
+ * of a range (_set, _least, _compare, and _meets_each of 4 versions or more) takes up to 290 bytes
+ * per byte of it, calls on sets but _set_has up to 10, and time n log n for n comparators. Else
+ * time is linear. Add 1,000 bytes to each.
  *
  * Compile with `pkg-config --cflags --libs semver_parser`, or cc program.c c/calls.c c/heap.c
  * out/libsemver_parser_c.a
