@@ -62,7 +62,8 @@ impl<'input> Events<'input> {
     #[inline(always)]
     pub fn next_in(&mut self, dialect: Dialect) -> Option<Result<Event<'input>, RangeError>>
         ensures gives { NextGives dialect self.old result self.new }
-        ensures ended { result ≡ Some (Err RangeError.NotARange) → HasLeft dialect self.new (Some []) }
+        ensures ended { result ≡ Some (Err RangeError.NotARange)
+            → HasLeft dialect self.new (Some []) }
         ensures fewer { IfSome result (λ _. size_left self.new < size_left self.old) }
     {
         if let Some(upper) = self.upper {

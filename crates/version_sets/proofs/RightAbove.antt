@@ -19,7 +19,8 @@ and_then o r s b e = grind arith
 
 -- two lists are equal where their last ones are, and those before these
 ends : (xs ws : List IdentifierValue) (x w : IdentifierValue)
-    → is_eq (slice_cmp identifier_cmp (xs ++ x ∷ []) (ws ++ w ∷ [])) ≡ (is_eq (identifier_cmp x w) && is_eq (slice_cmp identifier_cmp xs ws))
+    → is_eq (slice_cmp identifier_cmp (xs ++ x ∷ []) (ws ++ w ∷ []))
+    ≡ (is_eq (identifier_cmp x w) && is_eq (slice_cmp identifier_cmp xs ws))
 ends [] [] x w = grind arith
 ends [] (v ∷ []) x w = differ (identifier_cmp x v) Less _ refl
 ends [] (v ∷ u ∷ ws) x w = differ (identifier_cmp x v) Less _ refl

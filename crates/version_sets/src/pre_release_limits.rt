@@ -61,9 +61,9 @@ impl<'a> PreReleaseLimit<'a> {
         PreReleaseLimit::of(comparator, true)
     }
 
-    /// Where the pre-releases above a comparator's version begin, or else those at or above it. None
-    /// of the same numbers is above a release, and nothing is between a pre-release and that with
-    /// one more identifier, the number 0.
+    /// Where the pre-releases above a comparator's version begin, or else those at or above it.
+    /// None of the same numbers is above a release, and nothing is between a pre-release and that
+    /// with one more identifier, the number 0.
     fn of(comparator: &'a Comparator, above: bool) -> Option<PreReleaseLimit<'a>>
         ensures { (v : PlainVersion) → IsPreRelease v
             → reached precedence (option_map limit_place result) v

@@ -77,8 +77,8 @@ fn has_wildcard(written: &Components<'_>) -> bool
 }
 
 /// Whether Cargo reads such a comparator: a wildcard alone stands for every release, and else the
-/// first number is stated, nothing but wildcards is after a wildcard, a pre-release or a build after
-/// three numbers alone, and no number in the pre-release has a leading zero.
+/// first number is stated, nothing but wildcards is after a wildcard, a pre-release or a build
+/// after three numbers alone, and no number in the pre-release has a leading zero.
 #[inline(always)]
 fn is_read(form: Form, written: &Components<'_>) -> bool
     ensures { (s : SimpleTree) → form_of form ≡ s.form → AreWritten s.partial written.now

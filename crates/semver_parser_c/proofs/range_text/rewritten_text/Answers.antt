@@ -36,6 +36,6 @@ returns-in_default c =
     let e = c.rewrite.ensures in
     record {
       refusals = rw same at e.refusals;
-      as_rewritten = IfOk-weaker c.rewrite.result _ _ (λ set is tree spells. is tree spells ∙ are_exact c.args.exact c.args.reading asked tree)
-          (rw same at e.as_rewritten);
+      as_rewritten = IfOk-weaker c.rewrite.result _ _
+          (λ set is tree spells. is tree spells ∙ are_exact c.args.exact c.args.reading asked tree) (rw same at e.as_rewritten);
     }
