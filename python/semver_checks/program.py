@@ -2,6 +2,7 @@
 
 import json
 import os
+import signal
 import sys
 from typing import Callable, Dict, List, NamedTuple, Tuple
 
@@ -88,9 +89,16 @@ def read_arguments(arguments: List[str], options: Dict[str, bool]) -> Tuple[List
     return files, given
 
 
+def let_interrupt() -> None:
+    """Has an interrupt end the program at once, and not by an exception of Python."""
+    if signal.getsignal(signal.SIGINT) is signal.default_int_handler:
+        signal.signal(signal.SIGINT, signal.SIG_DFL)
+
+
 def run(program: Program, arguments: List[str]) -> int:
     """Runs a program. Its status: that of what it does, or 2 if it is misused, if a file is refused
     or if the output can't be written, which one line on standard error reports."""
+    let_interrupt()
     open_output()
     try:
         return write(outcome_of(program, arguments))
