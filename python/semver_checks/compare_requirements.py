@@ -33,7 +33,9 @@ usage: compare-requirements [--json] OLD NEW
 Prints what changed between two package.json or two Cargo.toml files: each
 requirement that was added, removed or changed, and of a changed one the
 versions that it loses, gains and shares, as compare-ranges prints them. Ranges
-are read as npm or Cargo reads them.
+are read as npm or Cargo reads them. Cargo.toml needs Python 3.11.
+
+- is standard input.
 
     --git        compare FILE as it is in a revision with FILE as it is in the
                  other revision, or in the folder

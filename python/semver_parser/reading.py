@@ -69,8 +69,8 @@ def parse_version(text: Text, reading: Reading = Reading.CARGO) -> Version:
     """Reads a version, as Cargo itself reads it unless another reading is given.
 
     By Cargo's own reading versions are those of SemVer 2.0.0. By npm's own their numbers go up to
-    2**53 - 1, and there may be a `v` before them and white space around them. The crate's two
-    readings have one grammar (docs/GRAMMAR.md).
+    2**53 - 1, and there may be a `v` before them and white space around them, in at most 256
+    characters. The crate's two readings have one grammar (docs/GRAMMAR.md).
 
     Raises `VersionError` if the text is no version.
     """

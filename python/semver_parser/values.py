@@ -76,7 +76,8 @@ class Reading(enum.Enum):
     are those of SemVer 2.0.0."""
     NPM = 1
     """npm's own: `1.2` is `>=1.2.0 <1.3.0`, and `>1.2` is `>=1.3.0`. Versions are those of SemVer
-    2.0.0 with numbers up to 2**53 - 1, after a `v` or without, and between white space."""
+    2.0.0 with numbers up to 2**53 - 1, after a `v` or without, and between white space, in at most
+    256 characters."""
     CRATE_CARGO = 2
     """The crate's in Cargo mode: `1.2` is `>=1.2.0 <1.3.0`, and `1.2.3` is `>=1.2.3 <2.0.0`.
     Versions have no two hyphens in a row, and may have `01` in a pre-release."""
