@@ -117,11 +117,12 @@ def of_cargo(need: Need) -> Requirement:
 
 
 def of_npm(name: str, spec: str) -> Requirement:
-    """A requirement of a package.json. What is at an address has its name there."""
+    """A requirement of a package.json. What is at an address has its name there. The empty one is
+    printed in quotes."""
     alias, wanted = alias_of(spec), range_of(spec)
     is_none = is_met(wanted, "0.0.0", Reading.NPM) is None and is_no_range(spec)
     own_name = None if is_elsewhere(spec) else name if alias is None else alias[0]
-    return Requirement(spec, own_name, "", None if is_none else wanted)
+    return Requirement(spec or '""', own_name, "", None if is_none else wanted)
 
 
 def manifest_of_npm(entry: Entry) -> Manifest:
