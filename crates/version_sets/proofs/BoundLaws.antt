@@ -75,7 +75,7 @@ right_behind (x ∷ xs) [] e f = absurd (search rules)
 right_behind (x ∷ xs) (w ∷ ws) e f = nothing_between (x ∷ xs) (w ∷ ws)
 
 -- what is at or above it, with one more identifier, the number 0, is above it
-right_above : (w v : PlainVersion) → is_empty w.pre ≡ false → is_empty v.pre ≡ false
+pub right_above : (w v : PlainVersion) → is_empty w.pre ≡ false → is_empty v.pre ≡ false
     → is_ge (precedence v (record w { pre = w.pre ++ numeric 0 ∷ [] })) ≡ is_gt (precedence v w)
 right_above w v f e =
     ap is_ge (by_numbers v (record w { pre = w.pre ++ numeric 0 ∷ [] }))
