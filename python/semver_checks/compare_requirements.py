@@ -117,12 +117,11 @@ def of_cargo(need: Need) -> Requirement:
 
 
 def of_npm(name: str, spec: str) -> Requirement:
-    """A requirement of a package.json. What is at an address has its name there. The empty one is
-    printed in quotes."""
+    """A requirement of a package.json. What is at an address has its name there."""
     alias, wanted = alias_of(spec), range_of(spec)
     is_none = is_met(wanted, "0.0.0", Reading.NPM) is None and is_no_range(spec)
     own_name = None if is_elsewhere(spec) else name if alias is None else alias[0]
-    return Requirement(spec or '""', own_name, "", None if is_none else wanted)
+    return Requirement(spec, own_name, "", None if is_none else wanted)
 
 
 def manifest_of_npm(entry: Entry) -> Manifest:
@@ -207,13 +206,18 @@ def comparison(
 # ---- what is printed
 
 
+def shown(text: Optional[str]) -> str:
+    """A requirement as it is printed: the empty one in quotes."""
+    return text or '""'
+
+
 def lines_of(it: Change) -> Iterator[str]:
     """The lines of a change."""
     if it.old is None or it.new is None:
-        yield f"{it.name} ({it.table}): {it.note} {it.new if it.old is None else it.old}"
+        yield f"{it.name} ({it.table}): {it.note} {shown(it.new if it.old is None else it.old)}"
         return
     note = f": {it.note}" if it.note else ""
-    yield f"{it.name} ({it.table}): {it.old} -> {it.new}{note}"
+    yield f"{it.name} ({it.table}): {shown(it.old)} -> {shown(it.new)}{note}"
     for field in WHOLE:
         versions = getattr(it, field)
         if versions is not None and it.note != SAME:
