@@ -4,7 +4,6 @@ ghost use Rattle.std.specs.Prelude.{◌≡◌, ◌+◌, ◌<◌, ◌^◌, IsOk, 
 ghost use Rattle.std.specs.Prelude.{option_map};
 ghost use Rattle.semver_texts.specs.Texts.{BeginsWithNumbers, Text};
 ghost use Rattle.semver_texts.specs.VersionViews.{identifier_value, version_value};
-ghost use Rattle.semver_tokens.specs.ParserState.{OutOfMemory};
 ghost use Rattle.semver_tokens.specs.ParserViews.{IfOutOfMemory, UnlessOutOfMemory};
 ghost use Rattle.semver_tokens.specs.ParserViews.{answer_of, step_of};
 ghost use Rattle.answer_laws.specs.OneAnswer.{AreOne};

@@ -1,7 +1,7 @@
 //! A range text read once, as a test on many versions.
 
-ghost use Rattle.std.specs.Prelude.{◌≡◌, ◌↔◌, map, filter, Any, IfOk, IfErr, IfSome};
-ghost use Rattle.std.specs.Prelude.{IsTrue, None, []};
+ghost use Rattle.std.specs.Prelude.{◌≡◌, ◌↔◌, map, filter, IfOk, IfSome};
+ghost use Rattle.std.specs.Prelude.{None};
 ghost use Rattle.semver_parser.specs.RangeTexts.{RefusesExactly};
 ghost use Rattle.semver_parser.specs.RangeTree.{SetTree, Spells};
 ghost use Rattle.semver_parser.specs.Versions.{VersionValue};

@@ -1,8 +1,7 @@
 //! What a filter says of a line, after one of some prefixes.
 
-ghost use Rattle.std.specs.Prelude.{◌≡◌, ◌≢◌, None, [], ◌∷◌, map, string_bytes, All, IfSome};
+ghost use Rattle.std.specs.Prelude.{◌≡◌, ◌≢◌, None, [], All, IfSome};
 ghost use Rattle.std.specs.Io.{StartsWith};
-ghost use Rattle.semver_parser.specs.Texts.{Text};
 ghost use Rattle.release_filter.specs.LineTexts.{IsWholeLine, line_text};
 ghost use Rattle.release_filter.specs.Steps.Outlined.{IsOutlined, JudgesBy};
 ghost use Rattle.release_filter.specs.Steps.Taking.{texts};

@@ -1,10 +1,9 @@
 //! The lines of a text that comes in pieces, and which of them a filter keeps.
 
 ghost use Rattle.std.specs.Prelude.{◌≡◌, ◌≤◌, ◌≢◌, ◌⊎◌, [], true, false, length, map};
-ghost use Rattle.std.specs.Prelude.{All, IfErr, IfOk, IfSome, IsTrue, List, MatchOption, None, not};
+ghost use Rattle.std.specs.Prelude.{All, IfErr, IfOk, IsTrue, List, MatchOption, None, not};
 ghost use Rattle.std.specs.Prelude.{string_bytes, take};
 ghost use Rattle.std.specs.Io.{StartsWith};
-ghost use Rattle.semver_parser.specs.Texts.{Text};
 ghost use Rattle.semver_parser.specs.Versions.{PlainVersion};
 ghost use Rattle.release_filter.specs.Counting.{counts_value, no_counts};
 ghost use Rattle.release_filter.specs.LineTexts.{IsWholeLine, after_mark};
@@ -57,8 +56,8 @@ pub struct Stopped {
 /// A byte order mark at the front of the text is dropped, also one that is cut between pieces.
 ///
 /// Of a line that goes on into the next piece its bytes are held. At 4,096 of them, at twice as
-/// many, and so on, it is looked whether some line with a version begins so. If none does, no more
-/// than these are held: the rest of the line is skipped.
+/// many, and so on, they are checked: if no line with a version begins with them, no more than
+/// these are held, and the rest of the line is skipped.
 #[derive(Drop)]
 pub struct Lines {
     chosen: LineFilter,

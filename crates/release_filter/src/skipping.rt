@@ -1,9 +1,7 @@
 //! Lines that are skipped: bytes that begin them show that they have no version.
 
 ghost use Rattle.std.specs.Prelude.{◌≡◌, ◌↔◌, None, length, take, IfSome, IsTrue};
-ghost use Rattle.semver_parser.specs.Texts.{Text};
 ghost use Rattle.version_fronts.specs.Fronts.{IsFrontIn};
-ghost use Rattle.version_fronts.specs.Steps.Scanning.{HasRead};
 ghost use Rattle.release_filter.specs.Skipping.{BeginsAfter, BeginsAfterOne, MayHaveVersion};
 ghost use Rattle.release_filter.specs.Skipping.{MayUpTo, ShowsNone};
 ghost use Rattle.release_filter.specs.Steps.Taking.{texts};
@@ -14,12 +12,12 @@ use crate::line_texts::{after_mark, without_last};
 use semver_parser::version::Dialect;
 use version_fronts::scanner::Scanner;
 
-/// At so many bytes of a line it is looked first whether it is skipped.
+/// A line of so many bytes is checked first: it is skipped if no version can follow.
 const FIRST_LOOK: usize = 4096;
 
 impl LineFilter {
     /// How many bytes of a line that has not ended show that it has no version: the fewest that do,
-    /// of 4,096, twice as many, and so on. At fewer than `seen` it was looked before.
+    /// of 4,096, twice as many, and so on. Those below `seen` were checked before.
     pub(crate) fn shown_end(&self, at_front: bool, seen: usize, unended: &[u8]) -> Option<usize>
         requires { MayUpTo self.now.filter.dialect (texts self.now.prefixes.items) at_front
             unended.now seen }

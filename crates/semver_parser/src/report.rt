@@ -1,5 +1,5 @@
 //! The lines of the program, and its status.
-ghost use Rattle.std.specs.Prelude.{◌≡◌, true, false, ◌++◌, ◌||◌, IfOk, codes};
+ghost use Rattle.std.specs.Prelude.{◌≡◌, true, false, ◌||◌, IfOk, codes};
 ghost use Rattle.semver_parser.specs.Writing.{WritesOrBegins};
 ghost use Rattle.semver_parser.specs.ReportLines.{VersionLine, RangeLine, version_fault_word};
 ghost use Rattle.semver_parser.specs.ReportLines.{range_fault_word, line, lines, WritesLines};

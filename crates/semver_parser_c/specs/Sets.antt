@@ -1,7 +1,7 @@
 -- Sets of the versions that range texts mean, and the texts of their least versions.
 use Rattle.std.specs.Prelude.{[], Option, Some, None, IsTrue}
 use Rattle.semver_parser.specs.Texts.{Text}
-use Rattle.semver_parser.specs.Versions.{PlainVersion, VersionValue}
+use Rattle.semver_parser.specs.Versions.{PlainVersion, without_build}
 use Rattle.semver_parser.specs.VersionViews.{version_value}
 use Rattle.semver_parser.specs.PrintedText.{version_text}
 use Rattle.semver_parser.specs.declared.version.Version.{Version}
@@ -10,13 +10,9 @@ use Rattle.tool_ranges.specs.declared.meaning.Meaning.{Meaning}
 use Rattle.tool_ranges.specs.Readings.{TreeOf}
 use Rattle.tool_ranges.specs.Meanings.{reading_of, meant_as}
 
--- a version without a build
-abbrev pub plain : PlainVersion → VersionValue
-plain v = record { plain = v; build = [] }
-
 -- a version whose numbers fit is one that a tree means
 abbrev pub IsMeant : (m : Meaning) → TreeOf (reading_of m) → PlainVersion → Type 0
-IsMeant m tree v = Fits v × IsTrue (meant_as m tree (plain v))
+IsMeant m tree v = Fits v × IsTrue (meant_as m tree (without_build v))
 
 -- the text of a version, and an empty one where there is none
 abbrev pub text_of : Option Version → Text

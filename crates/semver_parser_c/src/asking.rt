@@ -1,6 +1,6 @@
 //! One range asked of one version, by a meaning: the range is judged as it is read, without memory.
 
-ghost use Rattle.std.specs.Prelude.{◌≡◌, ◌≢◌, Err, IfErr, IfOk, IsUtf8, MatchOption};
+ghost use Rattle.std.specs.Prelude.{◌≡◌, ◌≢◌, Err, IfErr, IfOk, IsUtf8};
 ghost use Rattle.semver_parser.specs.Versions.{VersionValue};
 ghost use Rattle.semver_parser.specs.ToolVersions.{IsVersionTextIn, SpellsIn};
 ghost use Rattle.semver_parser.specs.declared.version.Dialect.{Dialect as SomeDialect};
@@ -9,7 +9,7 @@ ghost use Rattle.tool_ranges.specs.declared.meaning.Meaning.{Meaning as SomeMean
 ghost use Rattle.tool_ranges.specs.Meanings.{meant_as, reading_of};
 ghost use Rattle.tool_ranges.specs.Readings.{SpellsAs, TreeOf, dialect_of};
 ghost use Rattle.semver_parser_c.specs.declared.range_text.RangeFault.TheVariants.{OutOfMemory};
-ghost use Rattle.semver_parser_c.specs.Faults.{IsAccepted, RefusesRange, RefusesVersion};
+ghost use Rattle.semver_parser_c.specs.Faults.{IsAccepted, RefusesRange};
 ghost use Rattle.semver_parser_c.specs.Readings.{IsDialect, IsNamed};
 ghost use Rattle.semver_parser_c.specs.Steps.RangeFaults.{HasFault, IsReadable, IsUnjudged, Stands};
 

@@ -1,7 +1,7 @@
 //! Sets of a caller, which are flat data, and their texts.
 
 ghost use Rattle.std.specs.Prelude.{◌≡◌, ◌⊎◌, ◌∷◌, [], IfOk, IfErr, string_bytes};
-ghost use Rattle.version_sets.specs.Flat.{IsFlat, IsPrintable};
+ghost use Rattle.version_sets.specs.Flat.{IsFlat};
 ghost use Rattle.version_sets.specs.VersionSets.{SetValue};
 ghost use Rattle.semver_parser_c.specs.Numbers as number;
 ghost use Rattle.semver_parser_c.specs.Faults.{IsOneOf};

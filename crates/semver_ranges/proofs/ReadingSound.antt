@@ -5,13 +5,13 @@ use Rattle.std.proofs.lemmas.Bool.{and_parts, and_from, eqb-true}
 use Rattle.std.proofs.Common.{arith}
 use Rattle.std.proofs.lemmas.Bool.Decides.{nat_tests}
 use Rattle.semver_texts.specs.declared.dialect.Dialect.{Dialect}
-use Rattle.semver_ranges.specs.RangeTree.{PartialTree, Form, bare, Simple, RangeTree, behind_form, behind_hyphen}
+use Rattle.semver_ranges.specs.RangeTree.{PartialTree, Form, bare, Simple, RangeTree, behind_form, behind_hyphen, is_bare}
 use Rattle.semver_ranges.specs.RangeTree.{SetTree, is_blank, AreBlanks, AreSomeBlanks, SpellsWord, SpellsForm, SpellsSimple, SpellsSimples}
 use Rattle.semver_ranges.specs.RangeTree.{SpellsRange, SpellsPadded, SpellsIn}
 use Rattle.semver_texts.specs.Texts.{Text}
 use Rattle.semver_ranges.specs.Steps.Reading.{front, behind_blanks, ends_range, put_before}
 use Rattle.semver_texts.specs.Texts.{begins_with}
-use Rattle.semver_ranges.specs.Steps.Reading.{behind_simple, some_simples, range_end, right_side, is_bare, with_right}
+use Rattle.semver_ranges.specs.Steps.Reading.{behind_simple, some_simples, range_end, right_side, with_right}
 use Rattle.semver_ranges.specs.Steps.Reading.{with_others, behind_first, range_here, behind_bars, onto, more_ranges, behind_range}
 use Rattle.semver_ranges.specs.Steps.Reading.{some_ranges, read}
 use Rattle.semver_ranges.proofs.ReadingPieces.{front-back, front_all, WordAt, partial_sound, IsGap, SimpleAt, simple_sound}

@@ -24,6 +24,11 @@ pub data PartialTree : Type 0 where
 pub data Form : Type 0 where
   bare equal less at_most greater at_least tilde caret : Form
 
+-- whether nothing is before it
+abbrev pub is_bare : Form → Bool
+is_bare bare = true
+is_bare _ = false
+
 -- a partial and what is before it
 pub record Simple : Type 0 where
   pub form : Form

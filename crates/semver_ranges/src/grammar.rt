@@ -3,32 +3,25 @@
 //! Nothing here takes memory, and a call looks at each byte a fixed number of times. What can't be
 //! read is `None`.
 
-ghost use Rattle.semver_texts.specs.Texts.{is_dot};
-ghost use Rattle.std.specs.Prelude.{◌≡◌, ◌||◌, ◌<◌, ◌≤◌, ◌+◌, ◌-◌, ◌*◌, ◌++◌, ℕ, Some, None, []};
-ghost use Rattle.std.specs.Prelude.{◌∷◌, length, take, drop, codes, false, true, List};
+ghost use Rattle.std.specs.Prelude.{◌≡◌, ◌||◌, ◌<◌, ◌+◌, ◌-◌, ◌*◌, ◌++◌, ℕ, Some, None, []};
+ghost use Rattle.std.specs.Prelude.{◌∷◌, length, codes, false, true};
 ghost use Rattle.std.specs.Prelude.{MatchOption};
-ghost use Rattle.std.specs.Prelude.{IfSome};
-ghost use Rattle.std.specs.List.{list_all, slice_split};
 ghost use Rattle.std.specs.Str.Parse.{digits_value};
 ghost use Rattle.std.specs.Char.{is_ascii_digit};
-ghost use Rattle.semver_texts.specs.Texts.{Text, is_part_byte as part_byte};
+ghost use Rattle.semver_texts.specs.Texts.{Text};
 ghost use Rattle.semver_ranges.specs.RangeTree.{one, two, three, is_blank as blank};
-ghost use Rattle.semver_texts.specs.Texts.{is_part};
 ghost use Rattle.semver_ranges.specs.RangeTree.{PartialTree, has_no_leading_zeros, is_short_word};
 ghost use Rattle.semver_texts.specs.declared.dialect.Dialect.TheVariants as dialect;
 ghost use Rattle.semver_ranges.specs.Steps.Reading.{behind_v, takes};
 ghost use Rattle.semver_ranges.specs.Steps.Reading.{back, ends_range, ends_word};
-ghost use Rattle.semver_texts.specs.Texts.{begins_with};
 ghost use Rattle.semver_ranges.specs.Steps.Reading.{component, partial, operator, simple};
-ghost use Rattle.semver_ranges.specs.Steps.Reading.{right_side, with_second, with_third};
-ghost use Rattle.semver_ranges.specs.Steps.Reading.{behind_three, with_first, behind_bars};
+ghost use Rattle.semver_ranges.specs.Steps.Reading.{right_side};
+ghost use Rattle.semver_ranges.specs.Steps.Reading.{with_first, behind_bars};
 ghost use Rattle.semver_ranges.specs.Steps.Reading.{front, behind_blanks, begins_qualifier};
-ghost use Rattle.semver_texts.specs.Texts.{is_dotted_byte};
 ghost use Rattle.semver_ranges.specs.Steps.RangeEvents.{wildcard};
 ghost use Rattle.semver_ranges.specs.Steps.PartialViews.{IsValue, IsComponentOf};
-ghost use Rattle.semver_texts.specs.Texts.{cut_at_dots};
 ghost use Rattle.semver_ranges.specs.Steps.PartialViews.{AreWritten, IsPartialOf};
-ghost use Rattle.semver_ranges.specs.Steps.CursorViews.{form_of, marked_parts, Finds, FindsPre};
+ghost use Rattle.semver_ranges.specs.Steps.CursorViews.{form_of, Finds, FindsPre};
 ghost use Rattle.semver_ranges.specs.Steps.CursorViews.{IsSimpleOf, role_of};
 ghost use Rattle.semver_ranges.specs.Steps.NpmLimits.{IsBefore};
 

@@ -1,11 +1,10 @@
 //! Partials: the numbers that one states, and its pre-release as a slice of the text.
 
-ghost use Rattle.std.specs.Prelude.{◌≡◌, ◌+◌, ◌-◌, ◌^◌, ◌<◌, ◌≤◌, Some, true, List, [], map};
-ghost use Rattle.std.specs.Prelude.{length, IsTrue, IfOk, ◌&&◌, ◌==◌, nat_le, not};
-ghost use Rattle.std.specs.List.{count_by, list_all, slice_split};
-ghost use Rattle.std.specs.Str.{IsUtf8};
-ghost use Rattle.semver_texts.specs.Texts.{Text, is_dot, is_empty};
-ghost use Rattle.semver_ranges.specs.RangeTree.{PartialTree, one, two, three};
+ghost use Rattle.std.specs.Prelude.{◌≡◌, ◌+◌, ◌-◌, ◌<◌, ◌≤◌, Some, true, [], map};
+ghost use Rattle.std.specs.Prelude.{length, IfOk, ◌&&◌, ◌==◌, nat_le, not};
+ghost use Rattle.std.specs.List.{list_all};
+ghost use Rattle.semver_texts.specs.Texts.{is_empty};
+ghost use Rattle.semver_ranges.specs.RangeTree.{PartialTree, one, two};
 ghost use Rattle.semver_texts.specs.Texts.{is_part};
 ghost use Rattle.semver_ranges.specs.Partials.{kept, leading_place};
 ghost use Rattle.semver_ranges.specs.RewritingTable.{comparator, up, up_with, bound_fits};

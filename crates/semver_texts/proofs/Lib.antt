@@ -1,5 +1,5 @@
 pub mod DottedParts
-mod DerivedOrder
+pub mod DerivedOrder
 pub mod Joins
 pub mod Lists
 pub mod Numerals

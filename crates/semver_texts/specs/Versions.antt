@@ -20,6 +20,10 @@ pub record VersionValue : Type 0 where
   pub plain : PlainVersion
   pub build : List IdentifierValue
 
+-- a version without a build
+abbrev pub without_build : PlainVersion → VersionValue
+without_build v = record { plain = v; build = [] }
+
 -- its three numbers, as a list
 abbrev pub numbers : PlainVersion → List ℕ
 numbers v = v.major ∷ v.minor ∷ v.patch ∷ []

@@ -5,7 +5,7 @@
 //!
 //! `foo / *` has the tokens `AlphaNumeric("foo")` and `Whitespace(3, 4)`; then comes the error
 //! `UnexpectedChar('/')`, and then nothing.
-ghost use Rattle.std.specs.Prelude.{◌^◌, [], ◌≡◌, ℕ, ◌+◌, ◌<◌, ◌≤◌, length, drop, option_map};
+ghost use Rattle.std.specs.Prelude.{◌^◌, [], ◌≡◌, ◌+◌, ◌<◌, length, option_map};
 ghost use Rattle.semver_tokens.specs.Tokens.{is_whitespace};
 ghost use Rattle.semver_texts.specs.Texts.{IsRun};
 ghost use Rattle.semver_tokens.specs.Steps.Scanning.{component, sign, first_token};

@@ -23,7 +23,7 @@ ghost use Rattle.semver_texts.specs.Versions.{alphanumeric};
 ghost use Rattle.semver_tokens.specs.VersionReading.{ReadsIdentifier, ReadsVersion};
 ghost use Rattle.semver_tokens.specs.VersionReading.{MayRunOutInIdentifier, MayRunOutInVersion};
 ghost use Rattle.semver_texts.specs.VersionViews.{identifier_value, version_value};
-ghost use Rattle.semver_tokens.specs.Steps.Taking.{TakesIdentifier, AtMark, TakesPart};
+ghost use Rattle.semver_tokens.specs.Steps.Taking.{TakesIdentifier, TakesPart};
 ghost use Rattle.semver_tokens.specs.Steps.Taking.{PartMayRunOut, expect_run, skip_whitespace};
 ghost use Rattle.semver_tokens.specs.Steps.Taking.{numbers};
 ghost use Rattle.semver_tokens.specs.ParserViews.{fault_of, fixed_text, step_of, UnlessOutOfMemory};
@@ -115,7 +115,7 @@ pub struct Parser<'input> {
 }
 
 impl<'input> Model for Parser<'input> {
-    ghost use Rattle.std.specs.Prelude.{◌≡◌, ◌++◌, [], option_to_list, option_map, IfNone};
+    ghost use Rattle.std.specs.Prelude.{◌≡◌, ◌++◌, [], option_map, IfNone};
     ghost use Rattle.semver_tokens.specs.ParserState.{ParserState};
     ghost use Rattle.semver_tokens.specs.Views.{token_value};
     ghost use Rattle.semver_tokens.specs.ParserViews.{ahead};

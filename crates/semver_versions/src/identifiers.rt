@@ -1,6 +1,6 @@
 //! Identifiers, cut from their text at its dots.
 
-ghost use Rattle.std.specs.Prelude.{◌≡◌, ◌<◌, length, map, IfOk, IfErr, IsTrue};
+ghost use Rattle.std.specs.Prelude.{◌<◌, length, map, IfOk, IfErr, IsTrue};
 ghost use Rattle.std.specs.List.{AllZip};
 ghost use Rattle.semver_texts.specs.Texts.{cut_at_dots, is_part};
 ghost use Rattle.semver_texts.specs.ToolVersions.{IsKeptAs};

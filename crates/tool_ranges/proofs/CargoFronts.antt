@@ -8,10 +8,10 @@ use Rattle.std.proofs.lemmas.Bool.{and_parts, and_from, not-true, or_parts, or_r
 use Rattle.semver_texts.specs.declared.dialect.Dialect.TheVariants.{Cargo}
 use Rattle.semver_texts.specs.Texts.{Text, has_no_leading_zero, is_empty, marked}
 use Rattle.semver_texts.proofs.Lists.{by_test}
-use Rattle.semver_ranges.specs.RangeTree.{Form, bare, equal, less, at_most, greater, at_least, tilde, caret}
+use Rattle.semver_ranges.specs.RangeTree.{Form, bare, equal, less, at_most, greater, at_least, tilde, caret, is_bare, AreBlanks}
 use Rattle.semver_ranges.specs.RangeTree.{PartialTree, one, two, three, Simple, SpellsPartial, components, is_wildcard}
 use Rattle.semver_ranges.specs.Partials.{stated, states_nothing}
-use Rattle.tool_ranges.specs.CargoGrammar.{AreSpaces, SpellsComparator, SpellsComparators, SpellsRequirement, is_bare, is_every}
+use Rattle.tool_ranges.specs.CargoGrammar.{SpellsComparator, SpellsComparators, SpellsRequirement, is_every}
 use Rattle.tool_ranges.specs.CargoGrammar.{is_of_cargo, is_one, is_partial_of_cargo, sign, stands_alone, wildcards_are_last}
 use Rattle.version_fronts.proofs.FrontPartials.{AreFrontOfParts, IsFrontOf, IsFrontOfComponent, IsFrontOfEnd}
 use Rattle.version_fronts.proofs.FrontPartials.{cut_at, partial_goes_on, rest_text}
@@ -200,7 +200,7 @@ module _ (IsRest : Text → Type 0) (Right : Simple → Type 0) (rests : AreCarg
     states : states_nothing s.partial ≡ false → states_nothing tree.partial ≡ false
     right : Right tree
 
-  number_after : (s : Simple) (f : Form) (front before gap : Text) → AreSpaces before → AreSpaces gap
+  number_after : (s : Simple) (f : Form) (front before gap : Text) → AreBlanks Cargo before → AreBlanks Cargo gap
       → front ≡ before ++ (sign f ++ gap) → ComparatorGoesOn s front
   number_after s f front before gap spaces more text = record {
     tree = numbered f;
@@ -235,7 +235,7 @@ module _ (IsRest : Text → Type 0) (Right : Simple → Type 0) (rests : AreCarg
         after = m;
         before_is = w.before_is;
         gap_is = w.gap_is;
-        after_is = blanks_front Cargo m rest (subst AreSpaces cut w.after_is);
+        after_is = blanks_front Cargo m rest (subst (AreBlanks Cargo) cut w.after_is);
         partial = w.partial;
         is_read = w.is_read;
         text = append-nil front ∙ text;
@@ -282,7 +282,7 @@ module _ (IsRest : Text → Type 0) (Right : Simple → Type 0) (rests : AreCarg
         → w.gap ++ (w.word ++ w.after) ≡ b ∷ (n ++ rest) → ComparatorGoesOn s front
     after_sign b n text cut = elim (cut_at w.gap (w.word ++ w.after) (b ∷ n) rest (sym cut)) [
       | inl c ↦ number_after s s.form front w.before (b ∷ n) w.before_is
-          (blanks_front Cargo (b ∷ n) c.0 (subst AreSpaces c.1 w.gap_is)) text
+          (blanks_front Cargo (b ∷ n) c.0 (subst (AreBlanks Cargo) c.1 w.gap_is)) text
       | inr c ↦ after_gap c.0 c.1 (text ∙ ap (λ x. w.before ++ (sign s.form ++ x)) c.2) c.3
     ]
 
@@ -298,7 +298,7 @@ module _ (IsRest : Text → Type 0) (Right : Simple → Type 0) (rests : AreCarg
   comparator_goes_on : (s : Simple) (front rest : Text) → SpellsComparator s (front ++ rest) → Right s → ComparatorGoesOn s front
   comparator_goes_on s front rest w right =
       elim (cut_at w.before (sign s.form ++ (w.gap ++ (w.word ++ w.after))) front rest w.text) [
-        | inl c ↦ number_after s bare front front [] (blanks_front Cargo front c.0 (subst AreSpaces c.1 w.before_is)) refl
+        | inl c ↦ number_after s bare front front [] (blanks_front Cargo front c.0 (subst (AreBlanks Cargo) c.1 w.before_is)) refl
             (sym (append-nil front))
         | inr c ↦ after_before s (front ++ rest) w right front rest c.0 c.1 c.2 c.3
       ]

@@ -13,7 +13,7 @@ use Rattle.semver_ranges.proofs.ReadingPieces.{front-back, front_all, operator_s
 use Rattle.semver_ranges.proofs.ReadingPieces.{starts, starts-append, is_word_byte, component_word, partial_starts}
 use Rattle.semver_ranges.proofs.WrittenPieces.{stops, ends_partial, apart, first_read, operator_read, blanks_behind, no_blank, no_sign}
 use Rattle.semver_texts.proofs.Lists.{by_test}
-use Rattle.tool_ranges.specs.CargoGrammar.{AreSpaces, sign, is_of_cargo, SpellsComparator}
+use Rattle.tool_ranges.specs.CargoGrammar.{sign, is_of_cargo, SpellsComparator}
 use Rattle.tool_ranges.specs.Steps.CargoReading.{begins_with_tilde_greater, at_end, with_operator, comparator_here, comparator_at}
 
 -- ---- what is found is there
@@ -29,7 +29,7 @@ ComparatorAt t (Some found) = (front : Text) × SpellsComparator found.0 front �
 
 -- the sign of an operator, without `~>`
 form_signed : (f : Form) (w t : Text) → SpellsForm Cargo f w → begins_with_tilde_greater (w ++ t) ≡ false
-    → (gap : Text) × AreSpaces gap × (w ≡ sign f ++ gap)
+    → (gap : Text) × AreBlanks Cargo gap × (w ≡ sign f ++ gap)
 form_signed bare w t h n = ([], refl, h)
 form_signed tilde w t (inl h) n = h
 form_signed tilde w t (inr (blanks, h, text)) n =
@@ -42,7 +42,7 @@ form_signed at_least w t h n = h
 form_signed caret w t h n = h
 
 -- a comparator of its pieces, after which nothing or a comma stands
-made : (s : Simple) (before gap word after v t : Text) → AreSpaces before → AreSpaces gap → AreSpaces after → SpellsPartial s.partial word
+made : (s : Simple) (before gap word after v t : Text) → AreBlanks Cargo before → AreBlanks Cargo gap → AreBlanks Cargo after → SpellsPartial s.partial word
     → is_of_cargo s ≡ true → t ≡ before ++ ((sign s.form ++ gap) ++ (word ++ (after ++ v))) → ComparatorAt t (at_end s v)
 made s before gap word after [] t b g a p r text = (
   before ++ (sign s.form ++ (gap ++ (word ++ after))),
@@ -79,7 +79,7 @@ made s before gap word after (c ∷ v) t b g a p r text = by_test (c == 44)
     ))
     (λ e. rw e tt)
 
-partial_made : (before gap t u : Text) (f : Form) (o : Option (PartialTree × Text)) → AreSpaces before → AreSpaces gap
+partial_made : (before gap t u : Text) (f : Form) (o : Option (PartialTree × Text)) → AreBlanks Cargo before → AreBlanks Cargo gap
     → t ≡ before ++ ((sign f ++ gap) ++ u) → PartialAt u o → ComparatorAt t (with_operator f o)
 partial_made before gap t u f None b g text h = tt
 partial_made before gap t u f (Some (p, v)) b g text (word, spelled, whole) = by_test (is_of_cargo (record { form = f; partial = p }))
@@ -88,7 +88,7 @@ partial_made before gap t u f (Some (p, v)) b g text (word, spelled, whole) = by
     (text ∙ ap (λ x. before ++ ((sign f ++ gap) ++ x)) (whole ∙ ap (λ x. word ++ x) (front-back (is_blank Cargo) v)))))
     (λ e. rw e tt)
 
-here_sound : (before u t : Text) (found : Form × Text) → AreSpaces before → t ≡ before ++ u
+here_sound : (before u t : Text) (found : Form × Text) → AreBlanks Cargo before → t ≡ before ++ u
     → begins_with_tilde_greater u ≡ false → FormAt Cargo u found → ComparatorAt t (with_operator found.0 (with_first (component found.1)))
 here_sound before u t found b text m (w, form, whole) =
     let signed = form_signed found.0 w found.1 form (ap begins_with_tilde_greater (sym whole) ∙ m) in
@@ -171,11 +171,11 @@ reads f before gap x b g e = by_test (is_bare_form f)
     (λ n. rw (blanks_behind Cargo before ((sign f ++ gap) ++ x) b (signs_stop f gap x n))
     (begins_with f gap x g e (λ is. absurd (true≢false (sym (ap is_bare_form is) ∙ n)))))
 
-spaces_end : (after v : Text) → AreSpaces after → ends_partial v ≡ true → ends_partial (after ++ v) ≡ true
+spaces_end : (after v : Text) → AreBlanks Cargo after → ends_partial v ≡ true → ends_partial (after ++ v) ≡ true
 spaces_end [] v a e = e
 spaces_end (b ∷ after) v a e = rw (eqb-true b 32 (and_parts (b == 32) (list_all (λ b. b == 32) after) a).0) refl
 
-comparator_here_read : (s : Simple) (word after v u : Text) → AreSpaces after → SpellsPartial s.partial word → is_of_cargo s ≡ true
+comparator_here_read : (s : Simple) (word after v u : Text) → AreBlanks Cargo after → SpellsPartial s.partial word → is_of_cargo s ≡ true
     → ends_partial v ≡ true → stops (is_blank Cargo) v ≡ true → Reads s.form u (word ++ (after ++ v)) → comparator_here u ≡ at_end s v
 comparator_here_read s word after v u a p r e n (other, form) =
     let x = word ++ (after ++ v) in

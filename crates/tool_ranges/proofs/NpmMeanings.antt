@@ -28,7 +28,8 @@ use Rattle.tool_ranges.specs.ToolTable.{is_greater, states_some, ends_at, writte
 use Rattle.tool_ranges.specs.NpmMeaning.{is_zero, is_from, meets_by_count, meets_one, asks_nothing_by, asks_nothing, is_every_release}
 use Rattle.tool_ranges.specs.NpmMeaning.{meets_npm}
 use Rattle.tool_ranges.specs.NpmTable.{rewritten_npm}
-use Rattle.tool_ranges.specs.Steps.NpmReading.{is_at_least, is_from_zero}
+use Rattle.tool_ranges.specs.Steps.NpmReading.{is_from_zero}
+use Rattle.version_sets.specs.SetRanges.{is_at_least}
 use Rattle.tool_ranges.proofs.ReadMeanings.{step, behind, not_less, no_lower, is_less}
 use Rattle.tool_ranges.proofs.ToolRows.{npm_table}
 

@@ -10,7 +10,7 @@ use Rattle.std.specs.Cmp.Lexicographic.{pointwise}
 use Rattle.std.specs.declared.cmp.Ordering.{Ordering}
 use Rattle.std.specs.declared.cmp.Ordering.TheVariants.{Equal}
 use Rattle.semver_ranges.specs.declared.range.Compat.TheVariants.{Cargo}
-use Rattle.semver_ranges.specs.RangeTree.{Form, bare, equal, less, at_most, greater, at_least, tilde, caret, Simple}
+use Rattle.semver_ranges.specs.RangeTree.{Form, bare, equal, less, at_most, greater, at_least, tilde, caret, Simple, is_bare}
 use Rattle.semver_ranges.specs.Terms.{of_simple}
 use Rattle.semver_texts.specs.Texts.{is_empty}
 use Rattle.semver_texts.specs.Precedence.{pre_cmp}
@@ -23,7 +23,6 @@ use Rattle.semver_ranges.proofs.Rows.{Step, Tail, same, past, floor, numbers_ste
 use Rattle.semver_ranges.proofs.SetMeanings.{stated_shape}
 use Rattle.semver_texts.proofs.Lists.{by_test}
 use Rattle.version_sets.specs.VersionSets.{Fits}
-use Rattle.tool_ranges.specs.CargoGrammar.{is_bare}
 use Rattle.tool_ranges.specs.CargoMeaning.{has_wildcard, as_read, meets_by_count, meets_one}
 use Rattle.tool_ranges.specs.declared.cargo.judging.JudgedVersions.TheVariants.{PreReleases}
 use Rattle.tool_ranges.specs.Steps.CargoPreReleases.{below_all, counting, counting_one, greatest, judged_by_count, judging, judging_one}

@@ -13,7 +13,7 @@ use Rattle.std.specs.declared.cmp.Ordering.{Ordering}
 use Rattle.std.specs.declared.cmp.Ordering.TheVariants.{Less, Equal, Greater}
 use Rattle.semver_ranges.specs.declared.range.Op.TheVariants.{Gte}
 use Rattle.semver_ranges.specs.declared.range.Compat.TheVariants.{Cargo}
-use Rattle.semver_ranges.specs.RangeTree.{Form, bare, equal, less, at_most, greater, at_least, tilde, caret, Simple, one, two, three}
+use Rattle.semver_ranges.specs.RangeTree.{Form, bare, equal, less, at_most, greater, at_least, tilde, caret, Simple, one, two, three, is_bare}
 use Rattle.semver_ranges.specs.RangeTree.{PartialTree, is_wildcard}
 use Rattle.semver_texts.specs.Texts.{Text, is_empty}
 use Rattle.semver_texts.specs.Precedence.{pre_cmp}
@@ -25,7 +25,7 @@ use Rattle.semver_ranges.specs.Meeting.{meets_comparator, meets_set}
 use Rattle.semver_ranges.proofs.Rows.{Step, Shape, exact_row}
 use Rattle.semver_ranges.proofs.SetMeanings.{stated_shape}
 use Rattle.semver_texts.proofs.Lists.{by_test}
-use Rattle.tool_ranges.specs.CargoGrammar.{is_bare, is_one, is_of_cargo, SpellsComparators}
+use Rattle.tool_ranges.specs.CargoGrammar.{is_one, is_of_cargo, SpellsComparators}
 use Rattle.tool_ranges.specs.CargoMeaning.{has_wildcard, named, as_read, meets_by_count, meets_one, meets_requirement}
 use Rattle.tool_ranges.specs.CargoTable.{written_one, rewritten_requirement}
 use Rattle.tool_ranges.specs.ToolTable.{is_greater, states_some}

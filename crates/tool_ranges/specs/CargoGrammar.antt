@@ -1,19 +1,15 @@
 -- A requirement as Cargo reads it, and the texts that spell it: comparators separated by commas.
-use Prim.Native.Char.{code}
 use Rattle.std.specs.Prelude.{◌≡◌, ◌≤◌, Bool, true, false, ◌&&◌, ◌||◌, ◌==◌, not}
 use Rattle.std.specs.Prelude.{if◌then◌else◌, List, [], ◌∷◌, ◌++◌, length, codes, IsTrue}
 use Rattle.std.specs.List.{list_all, list_any}
 use Rattle.semver_texts.specs.Texts.{Text, is_empty}
-use Rattle.semver_ranges.specs.RangeTree.{Form, bare, equal, less, at_most, greater, at_least}
-use Rattle.semver_ranges.specs.RangeTree.{tilde, caret, PartialTree, one, Simple, components}
-use Rattle.semver_ranges.specs.RangeTree.{qualifier, is_wildcard}
+use Rattle.semver_texts.specs.declared.dialect.Dialect.TheVariants.{Cargo}
+use Rattle.semver_ranges.specs.RangeTree.{Form, is_bare, bare, equal, less, at_most, greater}
+use Rattle.semver_ranges.specs.RangeTree.{at_least, tilde, caret, PartialTree, one, Simple, components}
+use Rattle.semver_ranges.specs.RangeTree.{AreBlanks, qualifier, is_wildcard}
 use Rattle.semver_texts.specs.Texts.{has_no_leading_zero}
 use Rattle.semver_ranges.specs.RangeTree.{SpellsPartial}
 use Rattle.semver_ranges.specs.Partials.{stated, states_nothing, pre_parts}
-
--- any number of spaces, none included
-abbrev pub AreSpaces : Text → Type 0
-AreSpaces t = IsTrue (list_all (λ b. b == code " ") t)
 
 -- the sign of an operator
 abbrev pub sign : Form → Text
@@ -44,10 +40,6 @@ abbrev pub is_one : PartialTree → Bool
 is_one (one a) = true
 is_one _ = false
 
-abbrev pub is_bare : Form → Bool
-is_bare bare = true
-is_bare _ = false
-
 abbrev pub is_every : Simple → Bool
 is_every s = is_bare s.form && (is_one s.partial && states_nothing s.partial)
 
@@ -62,9 +54,9 @@ pub record SpellsComparator (s : Simple) (t : Text) : Type 0 where
   pub gap : Text
   pub word : Text
   pub after : Text
-  pub before_is : AreSpaces before
-  pub gap_is : AreSpaces gap
-  pub after_is : AreSpaces after
+  pub before_is : AreBlanks Cargo before
+  pub gap_is : AreBlanks Cargo gap
+  pub after_is : AreBlanks Cargo after
   pub partial : SpellsPartial s.partial word
   pub is_read : IsTrue (is_of_cargo s)
   pub text : t ≡ before ++ (sign s.form ++ (gap ++ (word ++ after)))

@@ -2,13 +2,13 @@
 
 ghost use Rattle.std.specs.Prelude.{◌≡◌, ◌≢◌, ◌&&◌, Bool, true, Err, IfOk};
 ghost use Rattle.semver_texts.specs.Texts.{Text, is_empty};
-ghost use Rattle.semver_texts.specs.Versions.{PlainVersion};
+ghost use Rattle.semver_texts.specs.Versions.{PlainVersion, without_build};
 ghost use Rattle.tool_ranges.specs.declared.reading.Reading.{Reading};
 ghost use Rattle.semver_parser.specs.Outlines.{version_of};
 ghost use Rattle.version_sets.specs.PreReleaseRules.{numbers_fit};
 ghost use Rattle.tool_ranges.specs.Readings.{RefusesAs, SpellsAs, TreeOf};
 ghost use Rattle.tool_ranges.specs.Meanings.{IsSetBy, MeansAs, meant_as, reading_of};
-ghost use Rattle.tool_ranges.specs.Steps.Asking.{asked_of, of_releases, without_build};
+ghost use Rattle.tool_ranges.specs.Steps.Asking.{asked_of, of_releases};
 
 use crate::asked::Asked;
 use crate::reading::Reading;

@@ -3,7 +3,7 @@
 //! dialect itself what a front could be gone on with, so there is no second grammar.
 
 ghost use Rattle.std.specs.List.{Any};
-ghost use Rattle.std.specs.Prelude.{◌≡◌, ◌≢◌, ◌<◌, ◌≤◌, ◌↔◌, ◌++◌, ℕ, IfOk, IsTrue, length, map};
+ghost use Rattle.std.specs.Prelude.{◌≡◌, ◌≢◌, ◌<◌, ◌≤◌, ◌↔◌, ◌++◌, ℕ, IfOk, IsTrue, map};
 ghost use Rattle.std.specs.Str.{IsCharBoundary};
 ghost use Rattle.tool_ranges.specs.Fronts.{BeginsAs, BeginsFitting, IsPlace};
 ghost use Rattle.tool_ranges.specs.Meanings.{reading_of};

@@ -1,5 +1,5 @@
 //! Where and why a text is no version.
-ghost use Rattle.std.specs.Prelude.{◌≡◌, ◌≤◌, ◌<◌, None, Some, length, take, MatchOption};
+ghost use Rattle.std.specs.Prelude.{◌≡◌, ◌<◌, None, Some, take, MatchOption};
 ghost use Rattle.semver_texts.specs.ToolVersions.{IsVersionTextIn};
 ghost use Rattle.version_fronts.specs.Fronts.{IsLongestFront};
 ghost use Rattle.version_fronts.specs.Reasons.{IsReason, byte_at, is_ascii_white, is_separator};

@@ -1,5 +1,5 @@
 //! Where in a version a text ends: a state, and the state after one more byte.
-ghost use Rattle.std.specs.Prelude.{◌≡◌, ◌≤◌, ◌<◌, ◌-◌, ◌^◌, true};
+ghost use Rattle.std.specs.Prelude.{◌≡◌, ◌<◌, ◌-◌, true};
 ghost use Rattle.std.specs.Char.{is_ascii_digit};
 ghost use Rattle.version_fronts.specs.Steps.Scanning.{accepts, after, before, behind_identifier};
 ghost use Rattle.version_fronts.specs.Steps.Scanning.{behind_number, begins, first_digit, greatest};

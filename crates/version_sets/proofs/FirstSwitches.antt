@@ -7,11 +7,11 @@ use Rattle.semver_parser.specs.VersionViews.{version_value}
 use Rattle.semver_parser.specs.declared.version.Version.{Version}
 use Rattle.version_sets.specs.Comparisons.{TellsLeast}
 use Rattle.version_sets.specs.Steps.Combined.{keeps, combined_sets, IsKept}
-use Rattle.version_sets.specs.Steps.Lower.{lower, unbuilt}
+use Rattle.version_sets.specs.Steps.Lower.{lower}
 use Rattle.version_sets.specs.declared.combination.Combination.{Combination}
 use Rattle.version_sets.specs.declared.combination.Combination.TheVariants.{Union, Intersection, Difference}
 use Rattle.semver_parser.specs.Texts.{is_empty}
-use Rattle.semver_parser.specs.Versions.{PlainVersion, VersionValue}
+use Rattle.semver_parser.specs.Versions.{PlainVersion, VersionValue, without_build}
 use Rattle.semver_parser.specs.Precedence.{precedence}
 use Rattle.version_sets.specs.Switches.{switched}
 use Rattle.version_sets.specs.VersionSets.{SetValue, has, Fits, IsIn, IsRelease, IsPreRelease, AreSwitches, IsNormal, IsLeast, HasNone}
@@ -129,12 +129,12 @@ pub record IsTold (set : SetValue) (least : Option Version) : Type 0 where
   pub none : (least ≡ None) ↔ HasNone Fits set
 
 pub is_told : (set : SetValue) (o : Option PlainVersion) → TellsPlain Fits set o → (least : Option Version)
-    → option_map version_value least ≡ option_map unbuilt o → IsTold set least
+    → option_map version_value least ≡ option_map without_build o → IsTold set least
 is_told set None told None e = record { is_least = tt; no_build = tt; none = (λ _. told, λ _. refl) }
 is_told set None told (Some v) e = absurd (cc)
 is_told set (Some w) told None e = absurd (cc)
 is_told set (Some w) told (Some v) e =
-    let same : version_value v ≡ unbuilt w = cc in
+    let same : version_value v ≡ without_build w = cc in
     record {
       is_least = subst (λ (u : VersionValue). IsLeast Fits set u.plain) (sym same) told;
       no_build = ap (λ (u : VersionValue). u.build) same;

@@ -8,7 +8,7 @@ use Rattle.semver_parser.specs.Precedence.{identifier_cmp, pre_cmp}
 use Rattle.semver_parser.specs.Versions.{IdentifierValue, numeric}
 use Rattle.semver_parser.specs.VersionViews.{identifier_value}
 use Rattle.semver_parser.specs.declared.version.Identifier.{Identifier}
-use Rattle.semver_parser.specs.declared.version.Identifier.TheVariants.{Numeric, AlphaNumeric}
+use Rattle.semver_texts.proofs.DerivedOrder.{derived_is_precedence}
 use Rattle.semver_parser.below.semver_texts.specs.contracts.version.IdentifierOrd.TheImpl.{cmp-value}
 
 differ : (o r : Ordering) (b : Bool) → is_eq r ≡ false → is_eq (ordering_then o r) ≡ (b && false)
@@ -38,26 +38,12 @@ by_identifiers [] (v ∷ ws) w = refl
 by_identifiers (x ∷ xs) [] w = refl
 by_identifiers (x ∷ xs) (v ∷ ws) w = refl
 
--- the derived order of identifiers is that of precedence
-one : (x y : Identifier) → cmp-value.it x y ≡ identifier_cmp (identifier_value x) (identifier_value y)
-one (Numeric m) (Numeric n) = refl
-one (Numeric m) (AlphaNumeric t) = refl
-one (AlphaNumeric s) (Numeric n) = refl
-one (AlphaNumeric s) (AlphaNumeric t) = refl
-
-derived : (xs ys : List Identifier)
-    → slice_cmp cmp-value.it xs ys ≡ slice_cmp identifier_cmp (map identifier_value xs) (map identifier_value ys)
-derived [] [] = refl
-derived [] (y ∷ ys) = refl
-derived (x ∷ xs) [] = refl
-derived (x ∷ xs) (y ∷ ys) = λ i. ordering_then (one x y i) (derived xs ys i)
-
 -- they are where the last is the number 0, and those before it are the others
 pub zero_behind : (xs others below : List Identifier) (last : Identifier) (zero answer : Bool) → xs ≡ others ++ last ∷ []
     → zero ≡ is_eq (identifier_cmp (identifier_value last) (numeric 0)) → answer ≡ (zero && is_eq (slice_cmp cmp-value.it others below))
     → answer ≡ is_eq (pre_cmp (map identifier_value xs) (map identifier_value below ++ numeric 0 ∷ []))
 zero_behind xs others below last zero answer e z a =
-    a ∙ (λ i. z i && is_eq (derived others below i))
+    a ∙ (λ i. z i && is_eq (derived_is_precedence others below i))
     ∙ sym (ends (map identifier_value others) (map identifier_value below) (identifier_value last) (numeric 0))
     ∙ ap (λ l. is_eq (slice_cmp identifier_cmp l (map identifier_value below ++ numeric 0 ∷ [])))
     (sym (ap (map identifier_value) e ∙ map-append identifier_value others (last ∷ [])))

@@ -1,6 +1,6 @@
 //! Which of many versions are in a set.
 
-ghost use Rattle.std.specs.Prelude.{◌≡◌, ◌&&◌, not, length, map};
+ghost use Rattle.std.specs.Prelude.{◌≡◌, length, map};
 ghost use Rattle.std.specs.List.{AllByRecursion};
 ghost use Rattle.semver_parser.specs.VersionViews.{version_value};
 ghost use Rattle.version_sets.specs.VersionSets.{has as is_in, Fits};

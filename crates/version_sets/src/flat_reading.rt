@@ -1,6 +1,6 @@
 //! Flat data as a set, if it is one in the normal form. Nothing here allocates.
 
-ghost use Rattle.std.specs.Prelude.{◌≡◌, ◌≤◌, ◌∷◌, true, length, map, MatchOption};
+ghost use Rattle.std.specs.Prelude.{◌≡◌, ◌≤◌, true, length, MatchOption};
 ghost use Rattle.std.specs.List.{AllByRecursion, list_all, slice_split};
 ghost use Rattle.semver_parser.specs.Texts.{cut_at_dots, is_dot, is_part, is_part_byte};
 ghost use Rattle.version_sets.specs.Flat.{IsFlat, flat_switches};

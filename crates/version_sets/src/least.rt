@@ -1,12 +1,12 @@
 //! The least version of a set.
 
 ghost use Rattle.std.specs.Prelude.{◌≡◌, ◌↔◌, None, Some, [], IfOk, IfErr, IfSome, option_map};
-ghost use Rattle.semver_parser.specs.Versions.{PlainVersion};
+ghost use Rattle.semver_parser.specs.Versions.{PlainVersion, without_build as unbuilt};
 ghost use Rattle.semver_parser.specs.VersionViews.{version_value};
 ghost use Rattle.version_sets.specs.Releases.{release_value};
-ghost use Rattle.version_sets.specs.VersionSets.{Fits, IsIn, IsRelease, IsPreRelease};
+ghost use Rattle.version_sets.specs.VersionSets.{Fits, IsRelease, IsPreRelease};
 ghost use Rattle.version_sets.specs.VersionSets.{IsLeast, HasNone};
-ghost use Rattle.version_sets.specs.Steps.Lower.{is_below, lower, unbuilt};
+ghost use Rattle.version_sets.specs.Steps.Lower.{is_below, lower};
 ghost use Rattle.version_sets.specs.Steps.Places.{version_place};
 
 use crate::release::Release;

@@ -20,7 +20,7 @@ use crate::limits::{numbers_of, release_above};
 use crate::pre_release_limits::PreReleaseLimit;
 use crate::release::{LOWEST, Release};
 use crate::rules::PreReleases;
-use crate::set_ranges::is_lowest;
+use crate::set_ranges::is_lowest_pre;
 use crate::spans::{Bounds, Span, switches_of};
 use crate::version_set::VersionSet;
 use semver_parser::version::Version;
@@ -185,7 +185,7 @@ fn some_states_pre_release(comparators: &[Comparator]) -> bool
 fn states_pre_release(comparator: &Comparator) -> bool
     ensures { result ≡ states_pre_release (comparator_of comparator.now) }
 {
-    let is_below_all = matches!(&comparator.op, Op::Lt) && is_lowest(&comparator.pre);
+    let is_below_all = matches!(&comparator.op, Op::Lt) && is_lowest_pre(&comparator.pre);
     !comparator.pre.is_empty() && !is_below_all
 }
 

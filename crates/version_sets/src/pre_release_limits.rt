@@ -16,7 +16,7 @@ ghost use Rattle.version_sets.specs.Steps.SpanViews.{is_past, limit_place, with_
 
 use crate::limits::{Limit, numbers_of};
 use crate::release::{Release, next_numbers};
-use crate::set_ranges::is_lowest;
+use crate::set_ranges::is_lowest_pre;
 use semver_parser::version::{self, Version};
 use semver_parser::{Comparator, Identifier};
 use std::alloc::{AllocError, Global};
@@ -184,7 +184,7 @@ fn compare_zero(zero: bool, others: &[Identifier], others_zero: bool) -> Orderin
     if others.is_empty() {
         return zero.cmp(&others_zero);
     }
-    if zero && !others_zero && is_lowest(others) {
+    if zero && !others_zero && is_lowest_pre(others) {
         Ordering::Equal
     } else {
         Ordering::Less

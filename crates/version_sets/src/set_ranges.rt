@@ -9,7 +9,7 @@ ghost use Rattle.semver_parser.specs.RangeViews.{comparator_of, identifier_of, r
 ghost use Rattle.semver_parser.specs.Versions.{PlainVersion};
 ghost use Rattle.version_sets.specs.SetRanges.{release_ranges, pre_release_ranges};
 ghost use Rattle.version_sets.specs.SetRanges.{is_whole, ranges_text, ReadsBack};
-ghost use Rattle.version_sets.specs.SetRanges.{is_lowest_pre, is_from_lowest as from_lowest};
+ghost use Rattle.version_sets.specs.SetRanges.{is_lowest_pre as lowest_pre, is_from_lowest as from_lowest};
 ghost use Rattle.version_sets.specs.VersionSets.{has, IsIn, IsRelease, IsPreRelease};
 
 use crate::intervals::ranges_of;
@@ -132,15 +132,15 @@ fn is_from_lowest(comparators: &[Comparator]) -> bool
     match comparators {
         [only] => {
             let is_zero = only.major == 0 && only.minor == 0 && only.patch == 0;
-            matches!(&only.op, Op::Gte) && is_zero && is_lowest(&only.pre)
+            matches!(&only.op, Op::Gte) && is_zero && is_lowest_pre(&only.pre)
         }
         _ => false,
     }
 }
 
 /// Whether there is no pre-release, or the lowest, `0`.
-pub(crate) fn is_lowest(identifiers: &[Identifier]) -> bool
-    ensures { result ≡ is_lowest_pre (map identifier_of identifiers.now) }
+pub(crate) fn is_lowest_pre(identifiers: &[Identifier]) -> bool
+    ensures { result ≡ lowest_pre (map identifier_of identifiers.now) }
 {
     match identifiers {
         [] => true,

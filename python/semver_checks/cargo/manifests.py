@@ -103,9 +103,11 @@ def read(path: str) -> Entry:
 def manifests_at(folder: str) -> Iterator[Manifest]:
     """The manifests of the workspace or the package in a folder."""
     top = read(os.path.join(folder, MANIFEST))
-    of_package = object_at(workspace_of(top).get("package", {}), "workspace: package")
-    inherited = workspace_table(top)
-    for path, entry in entries_of(folder, top).items():
+    with taking(os.path.join(folder, MANIFEST), MANIFEST):
+        of_package = object_at(workspace_of(top).get("package", {}), "workspace: package")
+        inherited = workspace_table(top)
+        entries = entries_of(folder, top)
+    for path, entry in entries.items():
         with taking(os.path.join(path, MANIFEST), MANIFEST):
             yield manifest_of(entry, inherited, of_package)
 
@@ -125,7 +127,8 @@ def entries_of(folder: str, top: Entry) -> Dict[str, Entry]:
     for path in left:
         if path not in found and not is_excluded(path, folder, top):
             found[path] = read(os.path.join(path, MANIFEST))
-            left += paths_of(path, found[path], root, top)
+            with taking(os.path.join(path, MANIFEST), MANIFEST):
+                left += paths_of(path, found[path], root, top)
     return found
 
 

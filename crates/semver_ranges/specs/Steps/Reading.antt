@@ -9,7 +9,7 @@ use Rattle.std.specs.List.{list_all, slice_split}
 use Rattle.semver_ranges.specs.RangeTree.{PartialTree, one, two, three, Form, bare, equal, less}
 use Rattle.semver_ranges.specs.RangeTree.{at_most, greater, at_least, tilde, caret, Simple}
 use Rattle.semver_ranges.specs.RangeTree.{RangeTree, empty, hyphen, simples, SetTree, is_blank}
-use Rattle.semver_ranges.specs.RangeTree.{Role, behind_form, behind_hyphen, is_wildcard}
+use Rattle.semver_ranges.specs.RangeTree.{Role, behind_form, behind_hyphen, is_bare, is_wildcard}
 use Rattle.semver_ranges.specs.RangeTree.{is_word_of_npm}
 use Rattle.semver_texts.specs.Texts.{is_part}
 use Rattle.semver_texts.specs.declared.dialect.Dialect.{Dialect}
@@ -196,10 +196,6 @@ right_side d (dash ∷ blank ∷ t) =
     else None
 
 -- a hyphen range of a first simple, which has to be bare, and a right side
-abbrev pub is_bare : Form → Bool
-is_bare bare = true
-is_bare _ = false
-
 abbrev pub with_right : Simple → Option (PartialTree × Text) → Option (RangeTree × Text)
 with_right s None = None
 with_right s (Some found) =

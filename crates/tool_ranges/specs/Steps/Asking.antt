@@ -5,7 +5,7 @@ use Rattle.std.specs.Prelude.{List, [], ◌∷◌, IsTrue, Result, Ok, Err, Some
 use Rattle.std.specs.Cmp.Lexicographic.{pointwise}
 use Rattle.std.specs.List.{list_all, list_any}
 use Rattle.semver_texts.specs.Texts.{Text, cut_at_dots, is_empty}
-use Rattle.semver_texts.specs.Versions.{PlainVersion, VersionValue, numbers}
+use Rattle.semver_texts.specs.Versions.{PlainVersion, numbers}
 use Rattle.semver_texts.specs.declared.dialect.Dialect.{Dialect}
 use Rattle.semver_texts.specs.declared.dialect.Dialect.TheVariants as dialect
 use Rattle.semver_ranges.specs.declared.partial.LowerBounds.{LowerBounds}
@@ -45,9 +45,6 @@ asked_of a = record {
   patch = a.patch;
   pre = map identifier_of (cut_at_dots a.pre.now);
 }
-
-abbrev pub without_build : PlainVersion → VersionValue
-without_build v = record { plain = v; build = [] }
 
 -- whether a partial states the three numbers of a version, and a pre-release
 abbrev pub states_at : Partial → PlainVersion → Bool

@@ -16,7 +16,7 @@ use Rattle.semver_ranges.specs.RewritingTable.{PlainComparator, PlainRange, Plai
 use Rattle.semver_ranges.specs.Steps.BoundsViews.{range_of_simples}
 use Rattle.semver_ranges.specs.Steps.RangeEvents.{yielded}
 use Rattle.tool_ranges.specs.ToolTable.{written_in}
-use Rattle.tool_ranges.specs.Steps.NpmReading.{is_at_least}
+use Rattle.version_sets.specs.SetRanges.{is_at_least}
 
 -- `>=` of the lowest pre-release of the same numbers; any other comparator stays
 abbrev pub lowered : PlainComparator → PlainComparator

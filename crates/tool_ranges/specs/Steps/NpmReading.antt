@@ -1,20 +1,15 @@
 -- A means of proof, which no public clause cites: which versions npm's comparators mean.
 use Rattle.std.specs.Prelude.{Bool, true, false, not, ◌&&◌, if◌then◌else◌, map}
 use Rattle.std.specs.List.{filter, list_all, list_any}
-use Rattle.semver_ranges.specs.declared.range.Op.{Op}
-use Rattle.semver_ranges.specs.declared.range.Op.TheVariants.{Gte}
 use Rattle.semver_texts.specs.Texts.{is_empty}
 use Rattle.semver_texts.specs.Versions.{PlainVersion}
 use Rattle.semver_ranges.specs.RewritingTable.{PlainComparator, PlainRange, PlainSet}
 use Rattle.semver_ranges.specs.Meeting.{meets_set}
 use Rattle.semver_ranges.specs.StatedPreReleases.{meets_set_as_stated}
+use Rattle.version_sets.specs.SetRanges.{is_at_least}
 use Rattle.tool_ranges.specs.NpmMeaning.{is_zero}
 
 -- whether a comparator is `>=0.0.0`, by which npm asks nothing
-abbrev pub is_at_least : Op → Bool
-is_at_least Gte = true
-is_at_least _ = false
-
 abbrev pub is_from_zero : PlainComparator → Bool
 is_from_zero c = is_at_least c.op && is_zero c.version
 

@@ -1,8 +1,7 @@
 //! The comparators that judge pre-releases as a requirement does, and the ranges of those that
 //! count.
 
-ghost use Rattle.std.specs.Prelude.{◌≡◌, ◌++◌, ◌∷◌, [], true, length, map, Some, IfOk};
-ghost use Rattle.semver_texts.specs.Versions.{PlainVersion};
+ghost use Rattle.std.specs.Prelude.{◌≡◌, ◌++◌, ◌∷◌, [], true, map, Some, IfOk};
 ghost use Rattle.semver_ranges.specs.RangeTree.{Simple as SimpleTree, PartialTree, caret};
 ghost use Rattle.semver_ranges.specs.declared.range.Compat.TheVariants.{Cargo};
 ghost use Rattle.semver_ranges.specs.Partials.{leading_place};

@@ -1,7 +1,7 @@
 -- The lower one of two versions by precedence, where there are both: a means of proof.
-use Rattle.std.specs.Prelude.{Bool, false, if◌then◌else◌, Option, Some, None, []}
+use Rattle.std.specs.Prelude.{Bool, false, if◌then◌else◌, Option, Some, None}
 use Rattle.std.specs.Ordering.{is_lt}
-use Rattle.semver_parser.specs.Versions.{PlainVersion, VersionValue}
+use Rattle.semver_parser.specs.Versions.{PlainVersion}
 use Rattle.semver_parser.specs.Precedence.{precedence}
 
 abbrev pub is_below : Option PlainVersion → PlainVersion → Bool
@@ -11,7 +11,3 @@ is_below (Some v) w = is_lt (precedence v w)
 abbrev pub lower : Option PlainVersion → Option PlainVersion → Option PlainVersion
 lower o None = o
 lower o (Some w) = if is_below o w then o else Some w
-
--- without a build
-abbrev pub unbuilt : PlainVersion → VersionValue
-unbuilt v = record { plain = v; build = [] }

@@ -1,6 +1,6 @@
 use Rattle.std.proofs.Common.{◌≡◌, true, refl, sym, ap, ◌∙◌}
-use Rattle.semver_ranges.specs.RangeTree.{hyphen}
-use Rattle.semver_ranges.specs.Steps.Reading.{is_bare, with_right}
+use Rattle.semver_ranges.specs.RangeTree.{hyphen, is_bare}
+use Rattle.semver_ranges.specs.Steps.Reading.{with_right}
 use Rattle.semver_ranges.specs.Steps.CursorViews.{form_of}
 use Rattle.semver_ranges.proofs.events.read_hyphen_range.Goals as goal
 

@@ -1,5 +1,6 @@
 use Rattle.std.proofs.Common.{◌≡◌, true, ◌&&◌, refl, sym, ap, ◌∙◌, subst}
 use Rattle.semver_texts.specs.Texts.{is_empty}
+use Rattle.semver_texts.specs.Versions.{without_build}
 use Rattle.std.specs.List.{list_any}
 use Rattle.semver_ranges.specs.OwnMeaning.{meets_tree}
 use Rattle.semver_ranges.specs.StatedPreReleases.{meets_tree_as_stated}
@@ -13,7 +14,7 @@ use Rattle.tool_ranges.specs.declared.meaning.Meaning.TheVariants.{Crate}
 use Rattle.tool_ranges.specs.declared.reading.Reading.TheVariants.{Cargo, Npm}
 use Rattle.tool_ranges.specs.declared.reading.Reading.TheVariants as reading
 use Rattle.tool_ranges.specs.declared.tally.Terms.TheVariants as terms
-use Rattle.tool_ranges.specs.Steps.Asking.{asked_of, range_met, without_build}
+use Rattle.tool_ranges.specs.Steps.Asking.{asked_of, range_met}
 use Rattle.tool_ranges.proofs.AskedMeanings.{IsSaid, Says, fitting, released, said_so}
 use Rattle.tool_ranges.proofs.AskedRanges.{own_said, stated_said}
 use Rattle.tool_ranges.proofs.meaning.ask.Goals as goal
