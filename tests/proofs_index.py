@@ -12,7 +12,7 @@ function returns, and that nothing in it panics, overflows or goes past a bound,
 
 `semver_parser` passes on the calls of the layers below it under the Rust crate's paths. The rest of `specs/Steps` is a
 means of proof: it says what the code does step by step, and no clause of a call for users cites it, but for `HasRead` of
-a `Scanner` and the view of a `Lexer`.
+a `Scanner` and the views of `Lexer`, `VersionSet`, `FlatSet` and `Lines`.
 
 ## One answer for each call
 
@@ -22,10 +22,11 @@ names:
 - **equation**: a clause gives what the call returns and leaves as a function of what it was given, always, or if it
   returns `Ok`, and then `Err` is out of memory or the writer's own error.
 - **a law** by its name: a function that makes the call twice with the same arguments. Its clause says that both results
-  are equal, or that one is out of memory. Its proof sees the clauses of the call only. Two say less: if a parser reads a
-  version, memory may run out before an error is found (`one_version_of_parser`, `one_version_parse`). A law doesn't say
-  when memory runs out: the clauses of the call do.
-- **free**: what the clauses leave open, and the mutant that they still reject.
+  are equal, or that one is out of memory. Its proof sees the clauses of the call only. Some say less: if a text is
+  refused as a version, memory may run out before the error is found (`one_version_of_parser`, `one_version_parse`,
+  `one_parse_by_tokens`; of C `one_parsed_version`, `one_precedence`, `one_membership`). A law doesn't say when memory
+  runs out: a clause of the call does, if it has one (`out_of_memory`, `no_memory`).
+- **free**: what the clauses leave open, and the mutant that they still reject, or the file of tests that shows it.
 
 What `Parser::identifier` and `Parser::version` leave if memory ran out is an end part of the tokens, by their clause
 `out_of_memory`; of `identifier` the law fixes it. The clauses of `Lines` don't speak of a reader or a writer: they are

@@ -103,10 +103,10 @@ class RangeError(_TextError):
       above 2**64 - 1, or by npm's reading above 2**53 - 1.
 
     `place` is where in the text it stops being a range: the index of the first character that no
-    range has there, or the text's length if something is missing at its end; of a number that is
-    too large, that of the first after which no range has numbers that fit. `hint` says what may
-    have been meant, or which limit there is, if there is something to say. Both are None where the
-    text isn't UTF-8, and in an error that isn't raised by a call of this package.
+    range has there; of a number that is too large, that of the first after which no range has
+    numbers that fit. It is the text's length if only what is missing at the end is wrong. `hint`
+    says what may have been meant, or which limit there is, if there is something to say. Both are
+    None where the text isn't UTF-8, and in an error that isn't raised by a call of this package.
     """
 
     _NUMBERS = {"not-utf8": 10, "not-a-range": 11, "number-too-large": 12}

@@ -13,16 +13,16 @@
  * object, not null; bools of 0 or 1; and must not call from a signal handler, nor in the forked
  * child of a process with several threads. Threads may call concurrently.
  *
- * RESULTS. A function returns SEMVER_PARSER_OK (0) or the number of an error. After an error
- * nothing was written, but for what is said of SEMVER_PARSER_NO_ROOM, `in_other`, `place` and
- * `hint`. Errors come in this order, each exactly if it applies:
+ * RESULTS. A function returns SEMVER_PARSER_OK (0) or the number of an error. An error writes
+ * nothing, but for what is said of SEMVER_PARSER_NO_ROOM, `in_other`, `place` and `hint`. Errors
+ * come in this order, each exactly if it applies:
  * - SEMVER_PARSER_NO_SUCH_READING, _NO_SUCH_RULE, _NO_SUCH_OPERATION, then _NOT_A_SET;
  * - of a range: SEMVER_PARSER_RANGE_NOT_UTF8, _NOT_A_RANGE, _NUMBER_TOO_LARGE;
  * - of a version: SEMVER_PARSER_VERSION_NOT_UTF8; then by Cargo's and npm's dialects
  *   SEMVER_PARSER_NOT_A_VERSION, and by the crate's SEMVER_PARSER_UNEXPECTED_END,
  *   _UNEXPECTED_TOKEN, _UNEXPECTED_CHAR or _MORE_INPUT;
  * - out of memory (SEMVER_PARSER_RANGE_OUT_OF_MEMORY, _VERSION_OUT_OF_MEMORY,
- *   _NEW_RANGE_OUT_OF_MEMORY): in place of a success, or of one of the last four.
+ *   _NEW_RANGE_OUT_OF_MEMORY): in place of a success, of one of the last four, or as said below.
  * - SEMVER_PARSER_NO_ROOM if a buffer is too small: then the lengths say what is needed, and the
  *   buffers are unchanged. So a call with capacity 0 asks for the length.
  *
@@ -254,9 +254,9 @@ int32_t semver_parser_explain_version(const uint8_t *text, size_t text_length, i
                                       size_t *place);
 
 /* Returns SEMVER_PARSER_OK exactly for a range. After _NOT_A_RANGE `place` is where no range has
- * the character, or `text_length`, and after _NUMBER_TOO_LARGE where no numbers fit any more:
- * `1 || 2` by SEMVER_PARSER_CARGO gives 2 and _HINT_CARGO_BARS. Only these allocate, and may be
- * _RANGE_OUT_OF_MEMORY. */
+ * the character, after _NUMBER_TOO_LARGE where no numbers fit any more, or `text_length`: `1 || 2`
+ * by SEMVER_PARSER_CARGO gives 2 and _HINT_CARGO_BARS. _RANGE_OUT_OF_MEMORY may replace these two,
+ * which alone allocate. */
 int32_t semver_parser_explain_range(const uint8_t *text, size_t text_length, int32_t reading,
                                     size_t *place, int32_t *hint);
 

@@ -194,7 +194,7 @@ releases_alone = pos 0
 abbrev pub stated_pre_releases : ℤ
 stated_pre_releases = pos 1
 
--- each is compared as any version
+-- each within the bounds meets
 abbrev pub all_pre_releases : ℤ
 all_pre_releases = pos 2
 

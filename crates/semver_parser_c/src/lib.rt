@@ -421,11 +421,10 @@ pub extern "C" fn semver_parser_proved_comparators(
 /// name: `OK` with the answer in `meets`, or the number of an error with `meets` as it was.
 ///
 /// It goes by what the range text means by itself, and not by comparators. By `RELEASES_ALONE` no
-/// version with a pre-release meets any range, and by `ALL_PRE_RELEASES` one is compared by
-/// precedence alone (SemVer 2.0.0, section 11), as any version. The tools' own readings, `CARGO`
-/// and `NPM`, have besides `PRE_RELEASES_OF_TOOL`: those that the tool takes. `CRATE_CARGO` and
-/// `CRATE_NPM` have besides `STATED_PRE_RELEASES`, by which one meets the range where a term states
-/// the same three numbers and a pre-release.
+/// version with a pre-release meets any range, and by `ALL_PRE_RELEASES` each within the bounds
+/// does. The tools' own readings, `CARGO` and `NPM`, have besides `PRE_RELEASES_OF_TOOL`: those
+/// that the tool takes. `CRATE_CARGO` and `CRATE_NPM` have besides `STATED_PRE_RELEASES`, by which
+/// one meets the range where a term states the same three numbers and a pre-release.
 ///
 /// # Errors
 ///

@@ -109,7 +109,7 @@ pub const CRATE_NPM: i32 = 3;
 pub const RELEASES_ALONE: i32 = 0;
 /// The rule by which one meets where the range states a pre-release of the same three numbers.
 pub const STATED_PRE_RELEASES: i32 = 1;
-/// The rule by which each is compared as any version.
+/// The rule by which each within the bounds meets the range.
 pub const ALL_PRE_RELEASES: i32 = 2;
 /// The rule that a tool has by its own reading.
 pub const PRE_RELEASES_OF_TOOL: i32 = 3;

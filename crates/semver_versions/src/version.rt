@@ -139,7 +139,7 @@ pub fn outline_in(input: &[u8], dialect: Dialect) -> Option<Outline<'_>>
     reader::outline(input, dialect)
 }
 
-// Answer: law answer_laws::versions::one_outline_of_numbers.
+// Answer: free, beside its conditions (law one_outline_of_numbers): must-fail/major_is_zero.edit.
 /// Returns what [`outline_in`] does of a text that begins with three numbers, if these are read
 /// already: 1, 2 and 3, their 5 bytes, and the rest `-rc.4` give the outline of `1.2.3-rc.4`. It
 /// does not allocate.

@@ -1,4 +1,4 @@
--- What one line does: a means of proof.
+-- What one line does: a means of proof, and a part of the view of `Lines`.
 use Rattle.std.specs.Prelude.{◌≡◌, ◌++◌, Bool, not, List, [], ◌∷◌, map, String, string_bytes}
 use Rattle.std.specs.Prelude.{if◌then◌else◌}
 use Rattle.std.specs.Global.{Global}

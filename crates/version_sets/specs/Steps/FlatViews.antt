@@ -1,4 +1,4 @@
--- Flat data as it is read: a means of proof, which no public clause cites.
+-- Flat data as it is read: a means of proof, and the view of a `FlatSet`.
 use Rattle.std.specs.Prelude.{ℕ, ◌+◌, ◌-◌, ◌^◌, ◌<◌, ◌==◌, ◌&&◌, Bool, true, List, [], ◌∷◌, ◌++◌}
 use Rattle.std.specs.Prelude.{length, map, take, drop, nat_le, nat_lt}
 use Rattle.std.specs.List.{list_all}

@@ -1,4 +1,5 @@
--- What precedence sees of a version, and of lists of switches: a means of proof.
+-- What precedence sees of a version, and of lists of switches: a means of proof, and the view of a
+-- `VersionSet`.
 use Rattle.std.specs.Prelude.{List, map}
 use Rattle.semver_parser.specs.Versions.{PlainVersion}
 use Rattle.semver_parser.specs.VersionViews.{version_value}
