@@ -1,28 +1,28 @@
 -- What one line does to the state, and what the line that no line feed ends does.
-use Rattle.std.proofs.Common.{◌≡◌, ◌∙◌, ◌⊎◌, ◌++◌, ◌∷◌, [], List, Bool, true, false, not, refl, sym, ap, cond, subst, inl, inr, IsTrue}
-use Rattle.std.proofs.Common.{append-nil, length, ◌==◌}
+use Rattle.std.proofs.Common.{◌≡◌, ◌∙◌, ◌⊎◌, ◌++◌, ◌∷◌, [], List, Bool, true, false, not, refl, sym, ap, subst, inl, inr, IsTrue}
+use Rattle.std.proofs.Common.{append-nil, length, ◌==◌, arith, rules}
 use Rattle.std.specs.Prelude.{◌||◌, Option, option_to_list}
 use Rattle.semver_parser.specs.Outlines.{OutlineValue}
-use Rattle.semver_parser.specs.Texts.{Text, is_empty}
+use Rattle.semver_parser.specs.Texts.{Text}
 use Rattle.semver_parser.specs.Versions.{PlainVersion}
 use Rattle.release_filter.specs.Counting.{CountsValue, counted_as, one_more}
-use Rattle.release_filter.specs.LineTexts.{IsWholeLine, after_mark, line_text, lines_of}
-use Rattle.release_filter.specs.Pieces.{Completes, EndsInvalid, LinesValue, TakesAll}
+use Rattle.release_filter.specs.LineTexts.{IsWholeLine, after_mark, lines_of}
+use Rattle.release_filter.specs.Pieces.{Completes, EndsInvalid, LinesValue}
 use Rattle.release_filter.specs.Steps.Outlined.{JudgesBy}
 use Rattle.release_filter.specs.Filters.{FilterValue}
 use Rattle.release_filter.specs.Steps.Taking.{Concludes, Outlines, PassesAs, TakesJudged, TakesLine, TakesWhole, verdict_of}
 use Rattle.release_filter.specs.Verdicts.{AreJudged, HasVersion, IsVerdictOn, JudgedLine, Verdict, asked, has_invalid, is_invalid, kept}
 use Rattle.release_filter.specs.Verdicts.{dropped}
 use Rattle.release_filter.specs.Verdicts.{empty, invalid}
-use Rattle.release_filter.specs.Wanted.{HeldValue, Holds, HoldsBy, IsBest, KeptValue, emptied, kept_as, order_of, text_of}
+use Rattle.release_filter.specs.Wanted.{HeldValue, Holds, IsBest, KeptValue, emptied, kept_as, order_of, text_of}
 use Rattle.release_filter.specs.declared.wanted.Wanted.TheVariants as wanted
 use Rattle.release_filter.specs.declared.judging.Judged.{Judged}
 use Rattle.release_filter.specs.declared.judging.Judged.TheVariants.{NoVersion, DoesNotPass, Passes}
-use Rattle.release_filter.proofs.HeldLines.{holds_best}
 use Rattle.release_filter.proofs.Holding.{holds_none, kept_one}
 use Rattle.release_filter.proofs.JudgedLines.{OneVersion, judged_none, judged_one, one_judging, verdict}
 use Rattle.release_filter.proofs.Passing.{not_both}
 use Rattle.release_filter.proofs.TakenPieces.{NoEnd, judged_as, line_with, no_end_marked, only_line, took_line}
+use Rattle.std.proofs.lemmas.Grind.{common_steps}
 
 -- ---- one line
 
@@ -33,28 +33,17 @@ pub takes_kept : (h g : HeldValue) (c d : CountsValue) (line : Text) (said : Jud
     → (Outlines o plain → (added : Text) × Holds h (record { version = plain; line = line } ∷ []) g added × (new ≡ old ++ added))
     → PassesAs said plain → d ≡ counted_as (verdict_of said plain line) c line
     → TakesLine h c line (verdict_of said plain line) g d old new
-takes_kept h g c d line said o plain old new is holds passes counts =
-    let held = holds (subst (λ s. PassesAs s plain) is passes) in
-    record {
-      added = held.0;
-      holds = subst (λ s. Holds h (kept_as (verdict_of s plain line) line) g held.0) (sym is) held.1;
-      appended = held.2;
-      counted = counts;
-    }
+takes_kept h g c d line said o plain old new is holds passes counts = search rules
 
 pub none_kept : (said : Judged) (plain : PlainVersion) (line : Text) → ((o : OutlineValue) → said ≡ Passes o → ⊥)
     → kept_as (verdict_of said plain line) line ≡ []
-none_kept NoVersion plain line isnt = by_text (is_empty (line_text line))
-  where
-    by_text : (b : Bool) → kept_as (cond b empty invalid) line ≡ []
-    by_text true = refl
-    by_text false = refl
+none_kept NoVersion plain line isnt = search rules
 none_kept DoesNotPass plain line isnt = refl
 none_kept (Passes o) plain line isnt = absurd (isnt o refl)
 
 pub fails_kept : (said : Judged) (plain : PlainVersion) (line : Text) → (said ≡ NoVersion) ⊎ (said ≡ DoesNotPass)
     → kept_as (verdict_of said plain line) line ≡ []
-fails_kept NoVersion plain line either = none_kept NoVersion plain line (λ o e. cc)
+fails_kept NoVersion plain line either = search rules
 fails_kept DoesNotPass plain line either = refl
 fails_kept (Passes o) plain line (inl e) = cc
 fails_kept (Passes o) plain line (inr e) = cc
@@ -62,25 +51,19 @@ fails_kept (Passes o) plain line (inr e) = cc
 -- the text of a line that is kept
 pub text_kept : (said : Judged) (o : OutlineValue) (plain : PlainVersion) (line : Text) → said ≡ Passes o
     → text_of (kept_as (verdict_of said plain line) line) ≡ line
-text_kept said o plain line is = ap (λ s. text_of (kept_as (verdict_of s plain line) line)) is ∙ append-nil line
+text_kept said o plain line is = search rules
 
 -- the last line of a text, if it is kept
 pub last_kept : (said : Judged) (o : OutlineValue) (plain : PlainVersion) (line : Text) (k : KeptValue) → said ≡ Passes o
     → (Outlines o plain → k ≡ record { version = plain; line = line }) → PassesAs said plain
     → k ∷ [] ≡ kept_as (verdict_of said plain line) line
-last_kept said o plain line k is made passes =
-    ap (λ x. x ∷ []) (made (subst (λ s. PassesAs s plain) is passes)) ∙ ap (λ s. kept_as (verdict_of s plain line) line) (sym is)
+last_kept said o plain line k is made passes = search rules
 
 -- and of another one nothing
 pub takes_other : (h : HeldValue) (c d : CountsValue) (line : Text) (said : Judged) (plain : PlainVersion) (old : Text)
     → ((o : OutlineValue) → said ≡ Passes o → ⊥) → d ≡ counted_as (verdict_of said plain line) c line
     → TakesLine h c line (verdict_of said plain line) h d old old
-takes_other h c d line said plain old isnt counts = record {
-  added = [];
-  holds = subst (λ l. Holds h l h []) (sym (none_kept said plain line isnt)) (holds_none h);
-  appended = sym (append-nil old);
-  counted = counts;
-}
+takes_other h c d line said plain old isnt counts = grind (arith, common_steps, none_kept, holds_none, append-nil)
 
 -- of a line that is kept and wanted at once, all is appended
 pub takes_each : (h : HeldValue) (c d : CountsValue) (line : Text) (said : Judged) (o : OutlineValue) (plain : PlainVersion) (old new :
@@ -92,9 +75,9 @@ takes_each h c d line said o plain old new each is none whole counts = (
     added = line;
     holds =
         subst (λ s. Holds h (kept_as (verdict_of s plain line) line) h line) (sym is)
-        (subst (λ w. HoldsBy w h (record { version = plain; line = line } ∷ []) h line) (sym each) (refl, sym (append-nil line)));
-    appended = whole ∙ ap (λ l. l ++ line) (sym none);
-    counted = counts ∙ ap (λ s. counted_as (verdict_of s plain line) c line) (sym is);
+        (rw each (refl, sym (append-nil line)));
+    appended = cc;
+    counted = cc;
   },
   ap (λ s. not (is_invalid (verdict_of s plain line))) (sym is),
 )
@@ -107,16 +90,7 @@ pub takes_best : (h g : HeldValue) (c d : CountsValue) (line : Text) (said : Jud
     → IsBest (order_of h.wanted) (option_to_list h.best ++ record { version = v; line = line } ∷ []) best
     → g ≡ record h { best = best } → d ≡ record c { lines = one_more c.lines }
     → TakesLine h c line (verdict_of said plain line) g d old old × (true ≡ not (is_invalid (verdict_of said plain line)))
-takes_best h g c d line said o plain v old best either is passes made found so counts =
-    let same = made (subst (λ s. PassesAs s plain) is passes) in
-    let lines = λ (p : PlainVersion). record { version = p; line = line } ∷ [] in
-    let here = subst (λ (p : PlainVersion). IsBest (order_of h.wanted) (option_to_list h.best ++ lines p) best) same found in (
-      takes_kept h g c d line said o plain old old is
-          (λ of. ([], holds_best h.wanted either h g (lines plain) best here so, sym (append-nil old)))
-          passes
-          (counts ∙ ap (λ s. counted_as (verdict_of s plain line) c line) (sym is)),
-      ap (λ s. not (is_invalid (verdict_of s plain line))) (sym is),
-    )
+takes_best h g c d line said o plain v old best either is passes made found so counts = search rules
 
 -- a line was taken of which a filter says this
 pub takes_judged : (filter : FilterValue) (prefixes : List Text) (h g : HeldValue) (c d : CountsValue) (line text : Text) (said : Judged)
@@ -126,7 +100,7 @@ pub takes_judged : (filter : FilterValue) (prefixes : List Text) (h g : HeldValu
 takes_judged filter prefixes h g c d line text said old new valid is judges takes =
     let told = verdict filter prefixes line said judges in
     let one = takes told.0 told.1 in
-    subst (λ l. TakesJudged filter prefixes h c l g d old new valid) is (verdict_of said told.0 line, told.2, one.0, one.1)
+    rw (← is) (verdict_of said told.0 line, told.2, one.0, one.1)
 
 -- and this was its end
 pub took_judged : (s : LinesValue) (end left : Text) (front : Bool) (g : HeldValue) (d : CountsValue) (old new : Text) (valid : Bool)
@@ -134,9 +108,7 @@ pub took_judged : (s : LinesValue) (end left : Text) (front : Bool) (g : HeldVal
     → front ≡ false → TakesWhole s end (record s { at_front = front; unended = left; held = g; counts = d }) old new valid
 took_judged s end left front g d old new valid whole none (v, on, taken, is_valid) none_left later = (
   judged_as s end v,
-  subst (λ b. TakesAll s end (judged_as s end v ∷ []) (record s { at_front = b; unended = left; held = g; counts = d }) old new) (sym
-      later)
-      (took_line s end left v g d old new whole none on taken none_left),
+  rw later (took_line s end left v g d old new whole none on taken none_left),
   none_left,
   is_valid,
 )
@@ -145,41 +117,34 @@ took_judged s end left front g d old new valid whole none (v, on, taken, is_vali
 
 pub one_more_valid : (js : List JudgedLine) (j : JudgedLine) → has_invalid js ≡ false → is_invalid j.verdict ≡ false
     → has_invalid (js ++ j ∷ []) ≡ false
-one_more_valid [] j valid is = ap (λ b. b || false) is
-one_more_valid (x ∷ xs) j valid is = at (is_invalid x.verdict) valid (λ e. one_more_valid xs j e is)
-  where
-    at : (b : Bool) → (b || has_invalid xs) ≡ false → (has_invalid xs ≡ false → has_invalid (xs ++ j ∷ []) ≡ false)
-        → (b || has_invalid (xs ++ j ∷ [])) ≡ false
-    at true e rest = e
-    at false e rest = rest e
+one_more_valid [] j valid is = cc
+one_more_valid (x ∷ xs) j valid is = grind (arith, common_steps)
 
 pub bad_verdict : (v : Verdict) → is_invalid v ≡ true → v ≡ invalid
-bad_verdict (kept p) e = absurd (not_both e refl)
-bad_verdict dropped e = absurd (not_both e refl)
+bad_verdict (kept p) e = cc
+bad_verdict dropped e = cc
 bad_verdict invalid e = refl
-bad_verdict empty e = absurd (not_both e refl)
+bad_verdict empty e = cc
 
 -- what a test and its opposite say
 pub opposite : (told bad : Bool) → told ≡ not bad → told ≡ true → bad ≡ false
-opposite told true is e = absurd (not_both e is)
+opposite told true is e = cc
 opposite told false is e = refl
 
 pub opposite_bad : (told bad : Bool) → told ≡ not bad → told ≡ false → bad ≡ true
 opposite_bad told true is e = refl
-opposite_bad told false is e = absurd (not_both is e)
+opposite_bad told false is e = cc
 
 -- ---- the line that no line feed ends
 
 pub some_line : (line : Text) → (length line == 0) ≡ false → line ≡ [] → ⊥
-some_line line some none = not_both (ap (λ l. length l == 0) none) some
+some_line line some none = cc
 
 -- a value with private fields is seen as this
 pub seen_end : (value now t u : LinesValue) (judged : List JudgedLine) (old new : Text) → value ≡ now → t ≡ u
     → Completes value (after_mark value.at_front value.unended) judged u old new
     → Completes now (after_mark now.at_front now.unended) judged t old new
-seen_end value now t u judged old new is so completes =
-    subst (λ (v : LinesValue). Completes v (after_mark v.at_front v.unended) judged t old new) is
-    (subst (λ (x : LinesValue). Completes value (after_mark value.at_front value.unended) judged x old new) (sym so) completes)
+seen_end value now t u judged old new is so completes = search rules
 
 module _ (s : LinesValue) (line : Text) (is : line ≡ after_mark s.at_front s.unended) where
   abbrev Ended : HeldValue → CountsValue → LinesValue

@@ -1,18 +1,18 @@
 -- The greatest so far by an order of a list that is gone through: what one more item does.
 use Rattle.std.proofs.Common.{IfSome, rules, MatchOption, Option, Some, None, ◌↔◌, ◌≡◌, ◌≢◌, List, [], ◌∷◌, ◌++◌, refl, sym, ap, subst}
-use Rattle.std.proofs.Common.{◌∙◌, append_assoc}
+use Rattle.std.proofs.Common.{◌∙◌, append_assoc, arith}
 use Rattle.std.specs.List.{AllByRecursion}
 use Rattle.std.specs.Cmp.{IsTotalOrder}
-use Rattle.std.specs.Ordering.{ordering_reverse}
 use Rattle.std.specs.Option.{option_map}
 use Rattle.std.specs.declared.cmp.Ordering.{Ordering}
 use Rattle.std.specs.declared.cmp.Ordering.TheVariants.{Less, Equal, Greater}
 use Rattle.semver_parser.specs.Versions.{VersionValue, PlainVersion}
 use Rattle.release_filter.specs.Extremes.{IsBelow, IsNotAbove, IsGreatestBy, HasNone}
+use Rattle.std.proofs.lemmas.Grind.{common_steps}
 
 pub all_append : {X : Type 0} (P : X → Type 0) (xs ys : List X) → AllByRecursion P xs → AllByRecursion P ys → AllByRecursion P (xs ++ ys)
 all_append P [] ys h k = k
-all_append P (x ∷ xs) ys h k = (h.0, all_append P xs ys h.1 k)
+all_append P (x ∷ xs) ys h k = grind (arith, common_steps)
 
 pub all_map : {X : Type 0} (P Q : X → Type 0) → ((x : X) → P x → Q x) → (xs : List X) → AllByRecursion P xs → AllByRecursion Q xs
 all_map P Q f [] h = tt
@@ -99,8 +99,8 @@ module _ {X : Type 0} (order : PlainVersion → PlainVersion → Ordering) (Has 
 
     -- nothing has passed exactly where there is no greatest
     pub none_is : (xs : List X) (found : Option Y) → IsSoFar xs (option_map item found) → (found ≡ None) ↔ HasNone Has xs
-    none_is xs None h = ((λ e. h), (λ e. refl))
-    none_is xs (Some y) h = ((λ e. absurd (search rules)), (λ none. absurd (at_place h.before (subst (HasNone Has) h.stands none))))
+    none_is xs None h = search rules
+    none_is xs (Some y) h = ((λ e. absurd (search rules)), (λ none. absurd (at_place h.before (rw (← h.stands) none))))
       where
         at_place : (before : List X) → HasNone Has (before ++ item y ∷ h.after) → ⊥
         at_place [] none = none.0 h.version h.has
@@ -109,4 +109,4 @@ module _ {X : Type 0} (order : PlainVersion → PlainVersion → Ordering) (Has 
 -- what isn't below isn't above the other way round
 pub not_above : (order : PlainVersion → PlainVersion → Ordering) → IsTotalOrder order → (v w : PlainVersion) → ¬ (order w v ≡ Less)
     → order v w ≢ Greater
-not_above order total v w low = λ e. low (total.antisymm w v ∙ ap ordering_reverse e)
+not_above order total v w low = search rules

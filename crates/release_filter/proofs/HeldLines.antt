@@ -1,9 +1,7 @@
 -- What holding a kept line does, and what is appended at the end of a text.
-use Rattle.std.proofs.Common.{◌≡◌, ◌∙◌, ◌⊎◌, ◌↔◌, ◌++◌, ◌∷◌, ◌<◌, ◌+◌, [], List, ℕ, Bool, true, false, refl, sym, ap, ap₂, subst, inl, inr}
-use Rattle.std.proofs.Common.{Option, Some, None, MatchOption, Vec, Global, Bor, append_assoc, append-nil, drop, get_or, length, map, take}
-use Rattle.std.proofs.Common.{Less, ◌==◌}
-use Rattle.std.proofs.Math.Seq.{take-append_seam}
-use Rattle.std.proofs.lemmas.List.{drop_more, map-append}
+use Rattle.std.proofs.Common.{◌≡◌, ◌∙◌, ◌⊎◌, ◌↔◌, ◌++◌, ◌∷◌, ◌<◌, ◌+◌, [], List, ℕ, Bool, true, false, refl, sym, ap, inl, inr}
+use Rattle.std.proofs.Common.{Option, Some, None, MatchOption, Vec, Global, Bor, append-nil, drop, get_or, length, map, take}
+use Rattle.std.proofs.Common.{Less, ◌==◌, arith, rules}
 use Rattle.std.specs.Cmp.{IsTotalOrder}
 use Rattle.std.specs.Option.{is_some, option_map}
 use Rattle.std.specs.Prelude.{option_to_list}
@@ -19,7 +17,8 @@ use Rattle.release_filter.specs.declared.wanted.KeptLine.{KeptLine}
 use Rattle.release_filter.specs.declared.wanted.Wanted.{Wanted}
 use Rattle.release_filter.specs.declared.wanted.Wanted.TheVariants.{Each, Greatest, Least, Sorted}
 use Rattle.release_filter.proofs.Holding.{best_of_none, better_one, isnt_over, not_better, total_of}
-use Rattle.release_filter.proofs.Passing.{no_length, not_both}
+use Rattle.release_filter.proofs.Passing.{not_both}
+use Rattle.std.proofs.lemmas.Grind.{common_steps}
 
 -- ---- the best line
 
@@ -32,7 +31,7 @@ best_list best = option_to_list (option_map kept_value best)
 
 pub stays : IsTotalOrder precedence → (w : Wanted) (best : Option KeptLine) (k : KeptValue) (told : Bool) → Tells w best k.version told
     → told ≡ false → IsBest (order_of w) (best_list best ++ k ∷ []) (option_map kept_value best)
-stays total w None k told tells e = absurd (not_both tells e)
+stays total w None k told tells e = cc
 stays total w (Some b) k told tells e =
     not_better (order_of w) (kept_value b) k
     (isnt_over (order_of w) (total_of w total) k.version (version_value b.version).plain (λ less. not_both (tells.1 less) e))
@@ -46,8 +45,7 @@ replaces w (Some b) k told tells e = better_one (order_of w) (Some (kept_value b
 pub made_best : (dest : Option KeptLine) (version : Version) (bytes : Vec ℕ Global) (line : Text)
     → dest ≡ Some (record { version = version; bytes = bytes }) → bytes.items ≡ line
     → option_map kept_value dest ≡ Some (record { version = (version_value version).plain; line = line })
-made_best dest version bytes line is items =
-    ap (option_map kept_value) is ∙ ap (λ l. Some (record { version = (version_value version).plain; line = l })) items
+made_best dest version bytes line is items = cc
 
 -- ---- what is held
 
@@ -73,20 +71,11 @@ AppendsSome lines count old new =
 pub appends_next : (lines : List (Bor KeptLine)) (count : ℕ) (line : Bor KeptLine) (old mid new : Text) → count < length lines
     → line ≡ get_or lines count line → AppendsSome lines count old mid → new ≡ mid ++ ended line.now.bytes.items
     → AppendsSome lines (count + 1) old new
-appends_next lines count line old mid new inside is (done, so_far, rest) next =
-    let more = ended_text (seen_lines (drop (count + 1) lines)) in (
-      done ++ ended line.now.bytes.items,
-      next ∙ ap (λ l. l ++ ended line.now.bytes.items) so_far ∙ append_assoc old done (ended line.now.bytes.items),
-      append_assoc done (ended line.now.bytes.items) more
-          ∙ sym (ap (λ ls. done ++ ended_text (seen_lines ls)) (drop_more lines count line inside
-          ∙ ap (λ (l : Bor KeptLine). l ∷ drop (count + 1) lines) (sym is)))
-          ∙ rest,
-    )
+appends_next lines count line old mid new inside is (done, so_far, rest) next = grind (arith, common_steps)
 
 pub taken_back : (lines : List (Bor KeptLine)) (count : ℕ) (old mid new : Text) → AppendsSome lines count old mid
     → ((part : Text) × (new ≡ mid ++ part)) → take (length old) new ≡ old
-taken_back lines count old mid new (done, so_far, rest) (part, more) =
-    ap (take (length old)) (more ∙ ap (λ l. l ++ part) so_far ∙ append_assoc old done part) ∙ take-append_seam old (done ++ part)
+taken_back lines count old mid new (done, so_far, rest) (part, more) = grind (arith, common_steps)
 
 -- ---- the best of two
 
@@ -94,25 +83,18 @@ pub stays_with : IsTotalOrder precedence → (w : Wanted) (best last : Option Ke
     → Tells w best (version_value k.version).plain told → told ≡ false
     → IsBest (order_of w) (best_list best ++ best_list last) (option_map kept_value best)
 stays_with total w best last k told is tells e =
-    subst (λ (l : Option KeptLine). IsBest (order_of w) (best_list best ++ best_list l) (option_map kept_value best)) (sym is)
-    (stays total w best (kept_value k) told tells e)
+    rw is (stays total w best (kept_value k) told tells e)
 
 pub stays_alone : (w : Wanted) (best last : Option KeptLine) → last ≡ None
     → IsBest (order_of w) (best_list best ++ best_list last) (option_map kept_value best)
-stays_alone w best last is =
-    subst (λ (l : Option KeptLine). IsBest (order_of w) (best_list best ++ best_list l) (option_map kept_value best)) (sym is)
-    (best_of_none (order_of w) (option_map kept_value best))
+stays_alone w best last is = grind (arith, common_steps, order_of, best_list, option_map, kept_value, best_of_none)
 
 -- the best line is all that is appended
 pub handed_over : (w : Wanted) (best last : Option KeptLine) (old new : Text) → is_some last ≡ false → (length old == 0) ≡ true
     → new ≡ text_of (best_list best)
     → (x : Option KeptValue) × IsBest (order_of w) (best_list best ++ best_list last) x × (new ≡ old ++ text_of (option_to_list x))
-handed_over w best None old new none empty is = (
-  option_map kept_value best,
-  best_of_none (order_of w) (option_map kept_value best),
-  is ∙ ap (λ l. l ++ text_of (best_list best)) (sym (no_length old empty)),
-)
-handed_over w best (Some k) old new none empty is = absurd (not_both refl none)
+handed_over w best None old new none empty is = grind (arith, common_steps, option_map, kept_value, best_of_none, order_of, text_of)
+handed_over w best (Some k) old new none empty is = cc
 
 -- ---- the end of a text
 
@@ -122,8 +104,8 @@ concludes_each h is lines old new appended = (
   h,
   text_of lines,
   [],
-  subst (λ w. HoldsBy w h lines h (text_of lines)) (sym is) (refl, refl),
-  subst (λ w. AnswersBy w h []) (sym is) refl,
+  rw is (refl, refl),
+  rw is refl,
   appended ∙ ap (λ l. old ++ l) (sym (append-nil (text_of lines))),
 )
 
@@ -142,8 +124,8 @@ concludes_best h either lines best old new is appended = (
   record h { best = best },
   [],
   text_of (option_to_list best),
-  holds_best h.wanted either h (record h { best = best }) lines best is refl,
-  best_answer h.wanted either (record h { best = best }),
+  holds_best h.wanted either h _ lines best is refl,
+  best_answer h.wanted either _,
   appended,
 )
 
@@ -153,8 +135,8 @@ concludes_sorted h is lines sorted old new sort appended = (
   record h { sorted = h.sorted ++ lines },
   [],
   ended_text sorted,
-  subst (λ w. HoldsBy w h lines (record h { sorted = h.sorted ++ lines }) []) (sym is) (refl, refl),
-  subst (λ w. AnswersBy w (record h { sorted = h.sorted ++ lines }) (ended_text sorted)) (sym is) (sorted, sort, refl),
+  rw is (refl, refl),
+  rw is (sorted, sort, refl),
   appended,
 )
 
@@ -163,19 +145,12 @@ concludes_sorted h is lines sorted old new sort appended = (
 pub sees_next : (lines : List KeptLine) (count : ℕ) (line : KeptLine) (old new : List (Bor KeptLine)) (added : Bor KeptLine)
     → count < length lines → line ≡ get_or lines count line → seen_lines old ++ map kept_value (drop count lines) ≡ map kept_value lines
     → new ≡ old ++ added ∷ [] → added.now ≡ line → seen_lines new ++ map kept_value (drop (count + 1) lines) ≡ map kept_value lines
-sees_next lines count line old new added inside is so_far next same =
-    ap (λ l. seen_lines l ++ map kept_value (drop (count + 1) lines)) next
-    ∙ ap (λ l. l ++ map kept_value (drop (count + 1) lines)) (map-append (λ (r : Bor KeptLine). kept_value r.now) old (added ∷ []))
-    ∙ append_assoc (seen_lines old) (kept_value added.now ∷ []) (map kept_value (drop (count + 1) lines))
-    ∙ ap (λ k. seen_lines old ++ kept_value k ∷ map kept_value (drop (count + 1) lines)) (same ∙ is)
-    ∙ ap (λ l. seen_lines old ++ map kept_value l) (sym (drop_more lines count line inside)) ∙ so_far
+sees_next lines count line old new added inside is so_far next same = grind (arith, common_steps)
 
 pub with_last : (lines new : List (Bor KeptLine)) (all : List KeptValue) (last : Option KeptLine) (line : KeptLine) (added : Bor KeptLine)
     → seen_lines lines ≡ all → last ≡ Some line → new ≡ lines ++ added ∷ [] → added.now ≡ line → seen_lines new ≡ all ++ best_list last
-with_last lines new all last line added so_far is next same =
-    ap seen_lines next ∙ map-append (λ (r : Bor KeptLine). kept_value r.now) lines (added ∷ [])
-    ∙ ap₂ (λ l k. l ++ kept_value k ∷ []) so_far same ∙ ap (λ (l : Option KeptLine). all ++ best_list l) (sym is)
+with_last lines new all last line added so_far is next same = grind (arith, common_steps)
 
 pub without_last : (lines : List (Bor KeptLine)) (all : List KeptValue) (last : Option KeptLine) → seen_lines lines ≡ all → last ≡ None
     → seen_lines lines ≡ all ++ best_list last
-without_last lines all last so_far is = so_far ∙ sym (append-nil all) ∙ ap (λ (l : Option KeptLine). all ++ best_list l) (sym is)
+without_last lines all last so_far is = search rules

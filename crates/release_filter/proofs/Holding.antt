@@ -1,11 +1,10 @@
 -- What is held of kept lines: of none, of some and of more, and that it is one thing.
-use Rattle.std.proofs.Common.{◌≡◌, ◌≢◌, ◌∙◌, ◌++◌, ◌∷◌, [], List, refl, sym, ap, ap₂, subst}
-use Rattle.std.proofs.Common.{append_assoc, append-nil, map, Option, Some, None, Less, Equal, Greater}
+use Rattle.std.proofs.Common.{◌≡◌, ◌≢◌, ◌∙◌, ◌++◌, ◌∷◌, [], List, refl, sym, ap, arith, rules}
+use Rattle.std.proofs.Common.{append_assoc, append-nil, Option, Some, None, Less, Greater}
 use Rattle.std.proofs.lemmas.List.{map-append}
 use Rattle.std.proofs.lemmas.List.Folds.{concat-append}
 use Rattle.std.specs.Cmp.{IsTotalOrder, back_total}
-use Rattle.std.specs.List.{AllByRecursion, concat}
-use Rattle.std.specs.Ordering.{ordering_reverse}
+use Rattle.std.specs.List.{AllByRecursion}
 use Rattle.std.specs.Prelude.{option_to_list}
 use Rattle.std.specs.declared.cmp.Ordering.{Ordering}
 use Rattle.semver_parser.specs.Precedence.{precedence}
@@ -17,19 +16,19 @@ use Rattle.release_filter.specs.Wanted.{kept_as, kept_of, order_of, text_of}
 use Rattle.release_filter.specs.declared.wanted.Wanted.{Wanted}
 use Rattle.release_filter.specs.declared.wanted.Wanted.TheVariants.{Each, Greatest, Least, Sorted}
 use Rattle.release_filter.proofs.ExtremeSteps.{all_append, all_map}
+use Rattle.std.proofs.lemmas.Grind.{common_steps}
 
 -- ---- the kept ones of lines
 
 pub kept_append : (xs ys : List JudgedLine) → kept_of (xs ++ ys) ≡ kept_of xs ++ kept_of ys
 kept_append [] ys = refl
-kept_append (x ∷ xs) ys =
-    ap (λ l. kept_as x.verdict x.line ++ l) (kept_append xs ys) ∙ sym (append_assoc (kept_as x.verdict x.line) (kept_of xs) (kept_of ys))
+kept_append (x ∷ xs) ys = grind (arith, common_steps, kept_as, append_assoc, kept_of, kept_append xs ys)
 
 pub kept_one : (j : JudgedLine) → kept_of (j ∷ []) ≡ kept_as j.verdict j.line
-kept_one j = append-nil (kept_as j.verdict j.line)
+kept_one j = append-nil _
 
 text_append : (xs ys : List KeptValue) → text_of (xs ++ ys) ≡ text_of xs ++ text_of ys
-text_append xs ys = ap concat (map-append (λ k. k.line) xs ys) ∙ concat-append (map (λ k. k.line) xs) (map (λ k. k.line) ys)
+text_append xs ys = grind (arith, common_steps, map-append, concat-append)
 
 -- ---- the greatest by an order
 
@@ -61,16 +60,11 @@ module _ (order : PlainVersion → PlainVersion → Ordering) where
 
   module _ (total : IsTotalOrder order) where
     pub isnt_over : (v w : PlainVersion) → ¬ (order w v ≡ Less) → order v w ≢ Greater
-    isnt_over v w low = λ e. low (total.antisymm w v ∙ ap ordering_reverse e)
+    isnt_over v w low = search rules
 
     -- what isn't over one that is under another is under that
     under_both : (best c k : KeptValue) → IsUnder c best → IsNotOver best k → IsUnder c k
-    under_both best c k under low = at (order k.version best.version) refl low
-      where
-        at : (o : Ordering) → o ≡ order k.version best.version → o ≢ Greater → order k.version c.version ≡ Less
-        at Less e low = total.trans k.version best.version c.version (sym e) under
-        at Equal e low = total.congr k.version best.version c.version (sym e) ∙ under
-        at Greater e low = absurd (low refl)
+    under_both best c k under low = search rules
 
     not_none : (xs ys : List KeptValue) (k : KeptValue) → ¬ (xs ++ k ∷ ys ≡ [])
     not_none [] ys k e = cc
@@ -79,33 +73,23 @@ module _ (order : PlainVersion → PlainVersion → Ordering) where
     -- the best of the best of some lines and of more
     pub best_added : (xs ys : List KeptValue) (m n : Option KeptValue) → IsBest order xs m → IsBest order (option_to_list m ++ ys) n
         → IsBest order (xs ++ ys) n
-    best_added xs ys None n none b = subst (λ l. IsBest order (l ++ ys) n) (sym none) b
-    best_added xs ys (Some best) None a none = absurd (not_none [] ys best none)
+    best_added xs ys None n none b = search rules
+    best_added xs ys (Some best) None a none = cc
     best_added xs ys (Some best) (Some c) a b = at b.before b.split b.earlier
       where
         at : (before : List KeptValue) → best ∷ ys ≡ before ++ c ∷ b.after → AllByRecursion (IsUnder c) before
             → IsFirstGreatest order (xs ++ ys) c
         at [] e earlier =
-            let same : best ≡ c = cc in
-            let rest : b.after ≡ ys = cc in
-            subst (IsFirstGreatest order (xs ++ ys)) same (record {
-              before = a.before;
-              after = a.after ++ ys;
-              split = ap (λ l. l ++ ys) a.split ∙ append_assoc a.before (best ∷ a.after) ys;
-              earlier = a.earlier;
-              later = all_append (IsNotOver best) a.after ys a.later
-                  (subst (λ k. AllByRecursion (IsNotOver k) ys) (sym same) (subst (AllByRecursion (IsNotOver c)) rest b.later));
-            })
+            grind (arith, common_steps)
         at (z ∷ before) e earlier =
             let same : z ≡ best = cc in
             let rest : ys ≡ before ++ c ∷ b.after = cc in
-            let under = subst (IsUnder c) same earlier.0 in record {
+            let under = rw same at earlier.0 in record {
               before = xs ++ before;
               after = b.after;
-              split = ap (λ l. xs ++ l) rest ∙ sym (append_assoc xs before (c ∷ b.after));
+              split = grind (arith, common_steps);
               earlier = all_append (IsUnder c) xs before
-                  (subst (AllByRecursion (IsUnder c)) (sym a.split)
-                  (all_append (IsUnder c) a.before (best ∷ a.after)
+                  (rw a.split (all_append (IsUnder c) a.before (best ∷ a.after)
                   (all_map (IsUnder best) (IsUnder c) (λ k low. total.trans k.version best.version c.version low under) a.before a.earlier)
                   (under, all_map (IsNotOver best) (IsUnder c) (λ k low. under_both best c k under low) a.after a.later)))
                   earlier.1;
@@ -114,41 +98,34 @@ module _ (order : PlainVersion → PlainVersion → Ordering) where
 
     -- a later line isn't above one that is below it
     before_it : (x y : KeptValue) → IsUnder y x → (front back : List KeptValue) → AllByRecursion (IsNotOver x) (front ++ y ∷ back) → ⊥
-    before_it x y under [] back p = p.0 (total.antisymm y.version x.version ∙ ap ordering_reverse under)
+    before_it x y under [] back p = search rules
     before_it x y under (z ∷ front) back p = before_it x y under front back p.1
 
     same_place : (x y : KeptValue) (front front' back back' : List KeptValue) → front ++ x ∷ back ≡ front' ++ y ∷ back'
         → AllByRecursion (IsUnder x) front → AllByRecursion (IsUnder y) front' → AllByRecursion (IsNotOver x) back
         → AllByRecursion (IsNotOver y) back' → x ≡ y
     same_place x y [] [] back back' e p q p' q' = cc
-    same_place x y [] (z ∷ front) back back' e p q p' q' =
-        let same : z ≡ x = cc in
-        let rest : back ≡ front ++ y ∷ back' = cc in
-        absurd (before_it x y (subst (IsUnder y) same q.0) front back' (subst (AllByRecursion (IsNotOver x)) rest p'))
-    same_place x y (z ∷ front) [] back back' e p q p' q' =
-        let same : z ≡ y = cc in
-        let rest : back' ≡ front ++ x ∷ back = cc in
-        absurd (before_it y x (subst (IsUnder x) same p.0) front back (subst (AllByRecursion (IsNotOver y)) rest q'))
+    same_place x y [] (z ∷ front) back back' e p q p' q' = grind (arith, common_steps, before_it)
+    same_place x y (z ∷ front) [] back back' e p q p' q' = grind (arith, common_steps, before_it)
     same_place x y (z ∷ front) (z' ∷ front') back back' e p q p' q' = same_place x y front front' back back' (cc) p.1 q.1 p' q'
 
     pub one_best : (xs : List KeptValue) (m n : Option KeptValue) → IsBest order xs m → IsBest order xs n → m ≡ n
     one_best xs None None a b = refl
-    one_best xs None (Some y) none b = absurd (not_none b.before b.after y (sym b.split ∙ none))
-    one_best xs (Some x) None a none = absurd (not_none a.before a.after x (sym a.split ∙ none))
-    one_best xs (Some x) (Some y) a b =
-        ap Some (same_place x y a.before b.before a.after b.after (sym a.split ∙ b.split) a.earlier b.earlier a.later b.later)
+    one_best xs None (Some y) none b = grind (arith, common_steps, not_none)
+    one_best xs (Some x) None a none = grind (arith, common_steps, not_none)
+    one_best xs (Some x) (Some y) a b = grind (arith, common_steps, same_place)
 
 -- ---- what is held
 
 pub same_wanted : (w : Wanted) (h g : HeldValue) (xs : List KeptValue) (a : Text) → HoldsBy w h xs g a → g.wanted ≡ h.wanted
-same_wanted Each h g xs a p = ap (λ (v : HeldValue). v.wanted) p.0
-same_wanted Sorted h g xs a p = ap (λ (v : HeldValue). v.wanted) p.0
-same_wanted Greatest h g xs a p = ap (λ (v : HeldValue). v.wanted) p.2
-same_wanted Least h g xs a p = ap (λ (v : HeldValue). v.wanted) p.2
+same_wanted Each h g xs a p = cc
+same_wanted Sorted h g xs a p = cc
+same_wanted Greatest h g xs a p = cc
+same_wanted Least h g xs a p = cc
 
 holds_none_by : (w : Wanted) (h : HeldValue) → HoldsBy w h [] h []
 holds_none_by Each h = (refl, refl)
-holds_none_by Sorted h = ((λ i. record h { sorted = sym (append-nil h.sorted) i }), refl)
+holds_none_by Sorted h = search rules
 holds_none_by Greatest h = (h.best, best_of_none (order_of Greatest) h.best, refl, refl)
 holds_none_by Least h = (h.best, best_of_none (order_of Least) h.best, refl, refl)
 
@@ -156,27 +133,22 @@ pub holds_none : (h : HeldValue) → Holds h [] h []
 holds_none h = holds_none_by h.wanted h
 
 both_none : (a b : Text) → a ≡ [] → b ≡ [] → a ++ b ≡ []
-both_none a b p q = ap₂ (λ x y. x ++ y) p q
+both_none a b p q = cc
 
 best_both : IsTotalOrder precedence → (w : Wanted) (h g k : HeldValue) (xs ys : List KeptValue) (m n : Option KeptValue)
     → IsBest (order_of w) (option_to_list h.best ++ xs) m → g ≡ record h { best = m }
     → IsBest (order_of w) (option_to_list g.best ++ ys) n → k ≡ record g { best = n }
     → IsBest (order_of w) (option_to_list h.best ++ (xs ++ ys)) n × (k ≡ record h { best = n })
 best_both total w h g k xs ys m n a is b so =
-    let more = subst (λ (v : HeldValue). IsBest (order_of w) (option_to_list v.best ++ ys) n) is b in (
-      subst (λ l. IsBest (order_of w) l n) (append_assoc (option_to_list h.best) xs ys)
-          (best_added (order_of w) (total_of w total) (option_to_list h.best ++ xs) ys m n a more),
+    let more = rw is at b in (
+      rw (← append_assoc (option_to_list h.best) xs ys) (best_added (order_of w) (total_of w total) (option_to_list h.best ++ xs) ys m n a more),
       so ∙ ap (λ (v : HeldValue). record v { best = n }) is,
     )
 
 holds_more_by : IsTotalOrder precedence → (w : Wanted) (h g k : HeldValue) (xs ys : List KeptValue) (a b : Text) → HoldsBy w h xs g a
     → HoldsBy w g ys k b → HoldsBy w h (xs ++ ys) k (a ++ b)
-holds_more_by total Each h g k xs ys a b p q = (q.0 ∙ p.0, ap₂ (λ x y. x ++ y) p.1 q.1 ∙ sym (text_append xs ys))
-holds_more_by total Sorted h g k xs ys a b p q = (
-  q.0 ∙ ap (λ (v : HeldValue). record v { sorted = v.sorted ++ ys }) p.0
-      ∙ ap (λ l. record h { sorted = l }) (append_assoc h.sorted xs ys),
-  both_none a b p.1 q.1,
-)
+holds_more_by total Each h g k xs ys a b p q = grind (arith, common_steps, text_append)
+holds_more_by total Sorted h g k xs ys a b p q = grind (arith, common_steps)
 holds_more_by total Greatest h g k xs ys a b (m, best, is, none) (n, best', so, none') =
     let both = best_both total Greatest h g k xs ys m n best is best' so in (n, both.0, both.1, both_none a b none none')
 holds_more_by total Least h g k xs ys a b (m, best, is, none) (n, best', so, none') =
@@ -185,20 +157,18 @@ holds_more_by total Least h g k xs ys a b (m, best, is, none) (n, best', so, non
 -- of some lines and then of more
 pub holds_more : IsTotalOrder precedence → (h g k : HeldValue) (xs ys : List KeptValue) (a b : Text) → Holds h xs g a → Holds g ys k b
     → Holds h (xs ++ ys) k (a ++ b)
-holds_more total h g k xs ys a b p q =
-    holds_more_by total h.wanted h g k xs ys a b p (subst (λ w. HoldsBy w g ys k b) (same_wanted h.wanted h g xs a p) q)
+holds_more total h g k xs ys a b p q = grind (arith, common_steps, holds_more_by, same_wanted)
 
 one_holding_by : IsTotalOrder precedence → (w : Wanted) (h g k : HeldValue) (xs : List KeptValue) (a b : Text) → HoldsBy w h xs g a
     → HoldsBy w h xs k b → (g ≡ k) × (a ≡ b)
-one_holding_by total Each h g k xs a b p q = (p.0 ∙ sym q.0, p.1 ∙ sym q.1)
-one_holding_by total Sorted h g k xs a b p q = (p.0 ∙ sym q.0, p.1 ∙ sym q.1)
+one_holding_by total Each h g k xs a b p q = search rules
+one_holding_by total Sorted h g k xs a b p q = search rules
 one_holding_by total Greatest h g k xs a b (m, best, is, none) (n, best', so, none') =
-    let same = one_best (order_of Greatest) total (option_to_list h.best ++ xs) m n best best' in
-    (is ∙ ap (λ l. record h { best = l }) same ∙ sym so, none ∙ sym none')
+    grind (arith, common_steps, one_best, order_of, option_to_list)
 one_holding_by total Least h g k xs a b (m, best, is, none) (n, best', so, none') =
-    let same = one_best (order_of Least) (total_of Least total) (option_to_list h.best ++ xs) m n best best' in
+    let same = one_best (order_of Least) (total_of Least total) _ m n best best' in
     (is ∙ ap (λ l. record h { best = l }) same ∙ sym so, none ∙ sym none')
 
 pub one_holding : IsTotalOrder precedence → (h g k : HeldValue) (xs : List KeptValue) (a b : Text) → Holds h xs g a → Holds h xs k b
     → (g ≡ k) × (a ≡ b)
-one_holding total h g k xs a b p q = one_holding_by total h.wanted h g k xs a b p q
+one_holding total h g k xs a b p q = grind (arith, common_steps, one_holding_by)

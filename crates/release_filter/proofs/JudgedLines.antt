@@ -1,7 +1,6 @@
 -- What a line is, prefix by prefix.
-use Rattle.std.proofs.Common.{◌≡◌, ◌∙◌, ◌++◌, ◌∷◌, ◌≤◌, ◌<◌, ◌-◌, [], List, ℕ, Bool, true, false, cond, refl, sym, ap, ap₂, inl, inr, subst}
-use Rattle.std.proofs.Common.{arith}
-use Rattle.std.proofs.Common.{String, Global, string_bytes, length, get_or, take, drop, Option, map}
+use Rattle.std.proofs.Common.{◌≡◌, ◌∙◌, ◌++◌, ◌∷◌, ◌≤◌, ◌<◌, ◌-◌, [], List, ℕ, Bool, true, false, cond, refl, ap₂, inl, inr}
+use Rattle.std.proofs.Common.{String, Global, string_bytes, length, get_or, take, drop, Option, map, arith, rules}
 use Rattle.std.proofs.lemmas.Grind.{common_steps}
 use Rattle.std.proofs.lemmas.List.{append_cancel_left, map-append}
 use Rattle.std.specs.List.{AllByRecursion}
@@ -31,9 +30,7 @@ OneOutlined = (dialect : Dialect) (o : OutlineValue) (v : VersionValue) (text : 
 
 one_after : OneVersion → (dialect : Dialect) (prefix : Text) (line : Text) (v w : VersionValue) → SpellsAfter dialect prefix line v
     → SpellsAfter dialect prefix line w → v ≡ w
-one_after same dialect prefix line v w a b =
-    let text = append_cancel_left prefix a.0 b.0 (sym a.1 ∙ b.1) in
-    same dialect v w b.0 (subst (λ t. SpellsIn dialect v t) text a.2) b.2
+one_after same dialect prefix line v w a b = grind (arith, common_steps, append_cancel_left)
 
 pub one_had : OneVersion → (dialect : Dialect) (prefixes : List Text) (line : Text) (v w : VersionValue)
     → HasVersion dialect prefixes line v → HasVersion dialect prefixes line w → v ≡ w
@@ -47,11 +44,9 @@ one_had same dialect (prefix ∷ prefixes) line v w (inr (none, a)) (inr (other,
 pub judged_after : OneOutlined → (filter : FilterValue) (prefix : Text) (line : Text) (text : Text) (r : Judged)
     → line_text line ≡ prefix ++ text → IsJudged filter.dialect (passes filter) text r
     → JudgesBy (SpellsAfter filter.dialect prefix line) filter r
-judged_after same filter prefix line text NoVersion e none =
-    λ w s. none (w, subst (λ t. SpellsIn filter.dialect w t) (append_cancel_left prefix s.0 text (sym s.1 ∙ e)) s.2)
-judged_after same filter prefix line text DoesNotPass e j = (j.0.0, (text, e, j.0.1), j.1 j.0.0 j.0.1)
-judged_after same filter prefix line text (Passes o) e j =
-    (j.0.0, (text, e, j.0.1), j.1 j.0.0 j.0.1, same filter.dialect o j.0.0 text j.0 j.0.1)
+judged_after same filter prefix line text NoVersion e none = grind (arith, common_steps, append_cancel_left)
+judged_after same filter prefix line text DoesNotPass e j = search rules
+judged_after same filter prefix line text (Passes o) e j = search rules
 
 pub no_text : (dialect : Dialect) (prefix : Text) (line : Text) → ((text : Text) → ¬ (line_text line ≡ prefix ++ text))
     → (w : VersionValue) → ¬ (SpellsAfter dialect prefix line w)
@@ -62,7 +57,7 @@ pub decided : (filter : FilterValue) (prefix : Text) (prefixes : List Text) (lin
     → JudgesBy (SpellsAfter filter.dialect prefix line) filter r → JudgesBy (HasVersion filter.dialect (prefix ∷ prefixes) line) filter r
 decided filter prefix prefixes line NoVersion some j = absurd (some refl)
 decided filter prefix prefixes line DoesNotPass some j = (j.0, inl j.1, j.2)
-decided filter prefix prefixes line (Passes o) some j = (j.0, inl j.1, j.2, j.3)
+decided filter prefix prefixes line (Passes o) some j = search rules
 
 -- after another one the next prefix is asked
 pub next : (filter : FilterValue) (prefix : Text) (prefixes : List Text) (line : Text) (r : Judged)
@@ -73,23 +68,21 @@ next filter prefix prefixes line NoVersion none j = no_version
     no_version : (w : VersionValue) → ¬ (HasVersion filter.dialect (prefix ∷ prefixes) line w)
     no_version w (inl a) = none w a
     no_version w (inr (other, a)) = j w a
-next filter prefix prefixes line DoesNotPass none j = (j.0, inr (none, j.1), j.2)
-next filter prefix prefixes line (Passes o) none j = (j.0, inr (none, j.1), j.2, j.3)
+next filter prefix prefixes line DoesNotPass none j = search rules
+next filter prefix prefixes line (Passes o) none j = search rules
 
 pub only : (filter : FilterValue) (prefix : Text) (line : Text) (r : Judged) → JudgesBy (SpellsAfter filter.dialect prefix line) filter r
     → JudgesBy (HasVersion filter.dialect (prefix ∷ []) line) filter r
 only filter prefix line NoVersion j = next filter prefix [] line NoVersion j (λ w a. a)
 only filter prefix line DoesNotPass j = (j.0, inl j.1, j.2)
-only filter prefix line (Passes o) j = (j.0, inl j.1, j.2, j.3)
+only filter prefix line (Passes o) j = search rules
 
 -- ---- prefixes as a list of texts
 
 pub first_and_rest : (prefixes : List (String Global)) (first : String Global) → 1 ≤ length prefixes → first ≡ get_or prefixes 0 first
     → texts prefixes ≡ string_bytes first ∷ texts (take (length prefixes - 1) (drop 1 prefixes))
 first_and_rest [] first some is = absurd (omega arith)
-first_and_rest (prefix ∷ prefixes) first some is =
-    let rest : take (length (prefix ∷ prefixes) - 1) (drop 1 (prefix ∷ prefixes)) ≡ prefixes = grind (arith, common_steps) in
-    ap₂ (λ x xs. string_bytes x ∷ texts xs) (sym is) (sym rest)
+first_and_rest (prefix ∷ prefixes) first some is = grind (arith, common_steps)
 
 pub none_asked : (filter : FilterValue) (prefixes : List (String Global)) (line : List ℕ) (r : Judged) → length prefixes < 1
     → JudgesBy (SpellsAfter filter.dialect [] line) filter r → JudgesBy (HasVersion filter.dialect (asked (texts prefixes)) line) filter r
@@ -105,40 +98,37 @@ some_asked filter (prefix ∷ prefixes) line r some j = j
 -- ---- what a filter says of a line, and what the line is
 
 no_plain : PlainVersion
-no_plain = record { major = 0; minor = 0; patch = 0; pre = [] }
+no_plain = grind (arith, common_steps)
 
 pub verdict : (filter : FilterValue) (prefixes : List Text) (line : Text) (said : Judged)
     → JudgesBy (HasVersion filter.dialect (asked prefixes) line) filter said
     → (plain : PlainVersion) × PassesAs said plain × IsVerdictOn filter prefixes line (verdict_of said plain line)
-verdict filter prefixes line NoVersion j = (no_plain, tt, by_text (is_empty (line_text line)) refl)
+verdict filter prefixes line NoVersion j = (no_plain, tt, by_text _ refl)
   where
     by_text : (b : Bool) → is_empty (line_text line) ≡ b → IsVerdictOn filter prefixes line (cond b empty invalid)
     by_text true e = (j, e)
     by_text false e = (j, e)
-verdict filter prefixes line DoesNotPass j = (no_plain, tt, (j.0, j.1, j.2))
-verdict filter prefixes line (Passes o) j = (j.0.plain, ap (λ (v : VersionValue). v.plain) j.3, (j.0, j.1, j.2, refl))
+verdict filter prefixes line DoesNotPass j = search rules
+verdict filter prefixes line (Passes o) j = search rules
 
 -- a line is one thing
 one_verdict : OneVersion → (filter : FilterValue) (prefixes : List Text) (line : Text) (v w : Verdict) → IsVerdictOn filter prefixes line v
     → IsVerdictOn filter prefixes line w → v ≡ w
-one_verdict same filter prefixes line (kept a) (kept b) p q =
-    ap kept (p.3 ∙ ap (λ (v : VersionValue). v.plain) (one_had same filter.dialect (asked prefixes) line p.0 q.0 p.1 q.1) ∙ sym q.3)
-one_verdict same filter prefixes line (kept a) dropped p q =
-    absurd (not_both (subst (λ v. passes filter v ≡ true) (one_had same filter.dialect (asked prefixes) line p.0 q.0 p.1 q.1) p.2) q.2)
+one_verdict same filter prefixes line (kept a) (kept b) p q = grind (arith, common_steps, one_had)
+one_verdict same filter prefixes line (kept a) dropped p q = grind (arith, common_steps, not_both, one_had)
 one_verdict same filter prefixes line (kept a) invalid p q = absurd (q.0 p.0 p.1)
 one_verdict same filter prefixes line (kept a) empty p q = absurd (q.0 p.0 p.1)
-one_verdict same filter prefixes line dropped (kept b) p q =
-    absurd (not_both (subst (λ v. passes filter v ≡ true) (one_had same filter.dialect (asked prefixes) line q.0 p.0 q.1 p.1) q.2) p.2)
+one_verdict same filter prefixes line dropped (kept b) p q = grind (arith, common_steps, not_both, one_had)
 one_verdict same filter prefixes line dropped dropped p q = refl
 one_verdict same filter prefixes line dropped invalid p q = absurd (q.0 p.0 p.1)
 one_verdict same filter prefixes line dropped empty p q = absurd (q.0 p.0 p.1)
 one_verdict same filter prefixes line invalid (kept b) p q = absurd (p.0 q.0 q.1)
 one_verdict same filter prefixes line invalid dropped p q = absurd (p.0 q.0 q.1)
 one_verdict same filter prefixes line invalid invalid p q = refl
-one_verdict same filter prefixes line invalid empty p q = absurd (not_both q.1 p.1)
+one_verdict same filter prefixes line invalid empty p q = cc
 one_verdict same filter prefixes line empty (kept b) p q = absurd (p.0 q.0 q.1)
 one_verdict same filter prefixes line empty dropped p q = absurd (p.0 q.0 q.1)
-one_verdict same filter prefixes line empty invalid p q = absurd (not_both p.1 q.1)
+one_verdict same filter prefixes line empty invalid p q = cc
 one_verdict same filter prefixes line empty empty p q = refl
 
 module _ (filter : FilterValue) (prefixes : List Text) where
@@ -166,16 +156,11 @@ module _ (filter : FilterValue) (prefixes : List Text) where
     same_judged [] [] e p q = refl
     same_judged [] (k ∷ ks) e p q = cc
     same_judged (j ∷ js) [] e p q = cc
-    same_judged (j ∷ js) (k ∷ ks) e p q =
-        let line : j.line ≡ k.line = cc in
-        let is = one_verdict same filter prefixes j.line j.verdict k.verdict p.0
-        (subst (λ l. IsVerdictOn filter prefixes l k.verdict) (sym line) q.0) in
-        let first : j ≡ k = λ i. record { line = line i; verdict = is i } in
-        ap₂ (λ x xs. x ∷ xs) first (same_judged js ks (cc) p.1 q.1)
+    same_judged (j ∷ js) (k ∷ ks) e p q = grind (arith, common_steps, one_verdict, same_judged js ks (cc) p.1 q.1)
 
     pub one_judging : (xs : List Text) (js ks : List JudgedLine) → AreJudged filter prefixes xs js → AreJudged filter prefixes xs ks
         → js ≡ ks
-    one_judging xs js ks a b = same_judged js ks (a.all ∙ sym b.all) a.each b.each
+    one_judging xs js ks a b = grind (arith, common_steps, same_judged)
 
 -- ---- a line that is judged by its outline
 

@@ -5,8 +5,8 @@ use Rattle.std.proofs.Common.{refl, sym, ap, ap₂, ◌∙◌, subst, arith, Any
 use Rattle.std.specs.Prelude.{slice_get}
 use Rattle.std.specs.Int.{from_bool}
 use Rattle.std.proofs.lemmas.Option.{slice_get-get_or, slice_get_within}
-use Rattle.std.proofs.lemmas.List.{append-nil, append_assoc, length-append, length-map, length-set, get_or-append-add, get_or_append_left}
-use Rattle.std.proofs.lemmas.List.{map-append, take-append-drop, take-set, take_more, take_more_set}
+use Rattle.std.proofs.lemmas.List.{append-nil, append_assoc, length-append, length-set, get_or-append-add, get_or_append_left}
+use Rattle.std.proofs.lemmas.List.{map-append, take-set, take_more, take_more_set}
 use Rattle.std.proofs.lemmas.List.Elements.{filter-append}
 use Rattle.std.specs.List.{AllByRecursion}
 use Rattle.semver_parser.specs.VersionViews.{version_value}
@@ -15,31 +15,30 @@ use Rattle.semver_parser.specs.declared.version.Version.{Version}
 use Rattle.version_sets.specs.declared.PreReleases.{PreReleases}
 use Rattle.version_sets.specs.VersionSets.{SetValue, has, Fits}
 use Rattle.release_filter.specs.Filters.{FilterValue, passes}
-use Rattle.release_filter.proofs.Passing.{passes_as_in, some_is}
-use Rattle.release_filter.proofs.Tests.{all_taken}
+use Rattle.release_filter.proofs.Passing.{some_is}
+use Rattle.std.proofs.lemmas.Grind.{common_steps}
 
 -- what some item of the middle is, some item of the whole is
 pub any_within : {X : Type 0} (P : X → Type 0) (front xs back : List X) → Any P xs → Any P (front ++ (xs ++ back))
 any_within P front xs back (k, x, inside, is, holds) = (
   length front + k,
   x,
-  subst (λ n. length front + k < n) (sym (length-append front (xs ++ back) ∙ ap (λ n. length front + n) (length-append xs back)))
-      (omega (arith, inside)),
-  get_or-append-add front (xs ++ back) k x ∙ get_or_append_left xs back x k inside ∙ is,
+  rw (length-append front (xs ++ back) ∙ ap (λ n. length front + n) (length-append xs back)) (omega (arith, inside)),
+  get_or-append-add front _ k x ∙ get_or_append_left xs back x k inside ∙ is,
   holds,
 )
 
 -- where a test keeps something, some item passes it
 pub some_passes : {X : Type 0} (p : X → Bool) (xs : List X) → 0 < length (filter p xs) → Any (λ x. IsTrue (p x)) xs
-some_passes p [] some = absurd (omega (arith, some))
+some_passes p [] some = absurd (omega arith)
 some_passes p (x ∷ xs) some = at (p x) refl (some_passes p xs)
   where
     later : Any (λ x. IsTrue (p x)) xs → Any (λ x. IsTrue (p x)) (x ∷ xs)
-    later (k, y, inside, is, holds) = (suc k, y, omega (arith, inside), is, holds)
+    later (k, y, inside, is, holds) = (suc k, y, omega arith, is, holds)
 
     at : (b : Bool) → p x ≡ b → (0 < length (filter p xs) → Any (λ x. IsTrue (p x)) xs) → Any (λ x. IsTrue (p x)) (x ∷ xs)
-    at true e others = (0, x, omega arith, refl, e)
-    at false e others = later (others (subst (λ b. 0 < length (cond b (x ∷ filter p xs) (filter p xs))) e some))
+    at true e others = grind (arith, common_steps)
+    at false e others = later (others (rw e at some))
 
 -- ---- the places of those that pass are put in front
 
@@ -50,7 +49,7 @@ pub record AreInFront {X : Type 0} (p : X → Bool) (xs : List X) (places : List
   pub put : map (slice_get xs) (take count places) ≡ map Some (filter p (take at xs))
 
 some_item : {X : Type 0} (xs : List X) (at : ℕ) → at < length xs → X
-some_item [] at inside = absurd (omega (arith, inside))
+some_item [] at inside = absurd (omega arith)
 some_item (x ∷ xs) at inside = x
 
 module _ {X : Type 0} (p : X → Bool) (xs : List X) where
@@ -95,19 +94,19 @@ module _ {X : Type 0} (p : X → Bool) (xs : List X) where
 -- all of those that pass are in front
 pub all_in_front : {X : Type 0} (p : X → Bool) (xs : List X) (places : List ℕ) (count at : ℕ) → at ≤ length xs → length xs ≤ at
     → AreInFront p xs places count at → map (slice_get xs) (take count places) ≡ map Some (filter p xs)
-all_in_front p xs places count at low high before = before.put ∙ ap (λ l. map Some (filter p l)) (all_taken xs at low high)
+all_in_front p xs places count at low high before = grind (arith, common_steps)
 
 -- what is at a place in front
 pub stands_at : {X : Type 0} (xs : List X) (places : List ℕ) (ys : List X) (i d : ℕ) (e : X) → i < length places
     → map (slice_get xs) places ≡ map Some ys → slice_get xs (get_or places i d) ≡ Some (get_or ys i e)
-stands_at xs [] ys i d e inside same = absurd (omega (arith, inside))
+stands_at xs [] ys i d e inside same = absurd (omega arith)
 stands_at xs (place ∷ places) [] i d e inside same = cc
 stands_at xs (place ∷ places) (y ∷ ys) zero d e inside same = cc
-stands_at xs (place ∷ places) (y ∷ ys) (suc i) d e inside same = stands_at xs places ys i d e (omega (arith, inside)) cc
+stands_at xs (place ∷ places) (y ∷ ys) (suc i) d e inside same = stands_at xs places ys i d e (omega arith) cc
 
 pub same_length : {X : Type 0} (xs : List X) (places : List ℕ) (ys : List X) → map (slice_get xs) places ≡ map Some ys
     → length places ≡ length ys
-same_length xs places ys same = sym (length-map places (slice_get xs)) ∙ ap length same ∙ length-map ys Some
+same_length xs places ys same = grind (arith, common_steps)
 
 -- ---- some at a time
 
@@ -119,7 +118,7 @@ pub record IsJudgedUpTo {X B : Type 0} (p : X → Bool) (f : B → X) (xs rest :
 
 -- a list is its front and what is after it
 pub cut_at : {X : Type 0} (rest some others : List X) (n : ℕ) → some ≡ take n rest → others ≡ drop n rest → rest ≡ some ++ others
-cut_at rest some others n front back = sym (take-append-drop n rest) ∙ ap₂ (λ x y. x ++ y) (sym front) (sym back)
+cut_at rest some others n front back = grind (arith, common_steps)
 
 module _ {X B : Type 0} (p : X → Bool) (f : B → X) (xs : List X) where
   pub judged_none : IsJudgedUpTo p f xs xs []
@@ -143,39 +142,30 @@ module _ {X B : Type 0} (p : X → Bool) (f : B → X) (xs : List X) where
 -- where a place is in front, something passes
 pub some_kept : {X : Type 0} (xs : List X) (places : List ℕ) (ys : List X) (i : ℕ) → i < length places
     → map (slice_get xs) places ≡ map Some ys → 0 < length ys
-some_kept xs places ys i inside same = omega (arith, inside, same_length xs places ys same)
+some_kept xs places ys i inside same = grind (arith, common_steps)
 
 -- a place in front is one of the list
 pub in_bounds : {X : Type 0} (p : X → Bool) (xs : List X) (places : List ℕ) (i d place : ℕ) → i < length places
     → map (slice_get xs) places ≡ map Some (filter p xs) → place ≡ get_or places i d → place < length xs
 in_bounds {X = X} p xs places i d place inside same is =
-    subst (λ n. n < length xs) (sym is) (at (filter p xs) (some_kept xs places (filter p xs) i inside same) same)
+    rw is (at (filter p xs) (some_kept xs places (filter p xs) i inside same) same)
   where
     at : (ys : List X) → 0 < length ys → map (slice_get xs) places ≡ map Some ys → get_or places i d < length xs
-    at [] some e = absurd (omega (arith, some))
-    at (y ∷ ys) some e = slice_get_within xs (get_or places i d) (get_or (y ∷ ys) i y) (stands_at xs places (y ∷ ys) i d y inside e)
+    at [] some e = absurd (omega arith)
+    at (y ∷ ys) some e = slice_get_within xs _ _ (stands_at xs places (y ∷ ys) i d y inside e)
 
 -- the version at a place in front is the next of those that pass
 pub keeps_next : {X B : Type 0} (f : B → X) (xs : List X) (places : List ℕ) (ys : List X) (old kept : List B) (i d : ℕ) (b : B)
     → i < length places → map (slice_get xs) places ≡ map Some ys → slice_get xs (get_or places i d) ≡ Some (f b)
     → map f kept ≡ map f old ++ take i ys → map f (kept ++ b ∷ []) ≡ map f old ++ take (i + 1) ys
 keeps_next f xs places ys old kept i d b inside same is before =
-    map-append f kept (b ∷ []) ∙ ap (λ l. l ++ f b ∷ []) before ∙ append_assoc (map f old) (take i ys) (f b ∷ [])
+    map-append f kept _ ∙ ap (λ l. l ++ f b ∷ []) before ∙ append_assoc (map f old) (take i ys) _
     ∙ ap (λ l. map f old ++ l) (ap (λ x. take i ys ++ x ∷ []) (some_is (sym is ∙ stands_at xs places ys i d (f b) inside same))
-    ∙ sym (take_more ys i (f b) (subst (λ n. i < n) (same_length xs places ys same) inside)))
+    ∙ sym (take_more ys i (f b) (rw (← same_length xs places ys same) inside)))
 
 -- the answer on a version is whether it passes
 pub judged_at : (filter : FilterValue) (set : SetValue) (rule : PreReleases) (dialect : Dialect) (versions : List Version)
     (answers : List Bool) (i : ℕ) (d : Bool) → record { set = set; pre_releases = rule; dialect = dialect } ≡ filter
     → answers ≡ map (λ v. has set (version_value v).plain) versions → AllByRecursion (λ v. Fits (version_value v).plain) versions
     → i < length versions → (e : Version) → get_or answers i d ≡ passes filter (version_value (get_or versions i e))
-judged_at filter set rule dialect versions answers i d view told fit inside e =
-    ap (λ bs. get_or bs i d) told ∙ at versions i fit inside ∙ ap (λ f. passes f (version_value (get_or versions i e))) view
-  where
-    at : (versions : List Version) (i : ℕ) → AllByRecursion (λ v. Fits (version_value v).plain) versions → i < length versions
-        → get_or (map (λ v. has set (version_value v).plain) versions) i d
-        ≡ passes (record { set = set; pre_releases = rule; dialect = dialect }) (version_value (get_or versions i e))
-    at [] i fit inside = absurd (omega (arith, inside))
-    at (v ∷ versions) zero fit inside =
-        sym (passes_as_in (record { set = set; pre_releases = rule; dialect = dialect }) (version_value v) fit.0)
-    at (v ∷ versions) (suc i) fit inside = at versions i fit.1 (omega (arith, inside))
+judged_at filter set rule dialect versions answers i d view told fit inside e = grind (arith, common_steps)

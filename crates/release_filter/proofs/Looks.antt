@@ -1,33 +1,31 @@
 -- The sizes at which it is looked whether a line is skipped, and what the looks before a size say.
-use Rattle.std.proofs.Common.{◌≡◌, ◌∙◌, ◌++◌, ◌<◌, ◌≤◌, ◌+◌, ◌*◌, ◌^◌, List, ◌⊎◌, ℕ, Bool, ap, sym, subst, inl, inr, arith}
+use Rattle.std.proofs.Common.{◌≡◌, ◌∙◌, ◌++◌, ◌<◌, ◌≤◌, ◌+◌, ◌*◌, ◌^◌, List, ◌⊎◌, ℕ, Bool, ap, sym, subst, inl, inr, arith, rules}
 use Rattle.std.proofs.Common.{drop, length, take}
 use Rattle.std.proofs.Math.Nat.{pow-le-pow_right}
 use Rattle.std.proofs.lemmas.Bool.{cases_lt}
 use Rattle.std.proofs.lemmas.Grind.{pow_more}
 use Rattle.std.proofs.lemmas.List.{take-append-drop, take-append-le}
-use Rattle.std.proofs.lemmas.Nat.{pow_pos}
 use Rattle.semver_parser.specs.Texts.{Text}
 use Rattle.semver_parser.specs.declared.version.Dialect.{Dialect}
 use Rattle.release_filter.specs.Skipping.{IsLeft, IsLookedAt, MayHaveVersion, MayUpTo, ShowsNone}
+use Rattle.std.proofs.lemmas.Grind.{common_steps}
 
 -- ---- the sizes
 
 pub looked_least : (n : ℕ) → IsLookedAt n → 4096 ≤ n
-looked_least n (k, is) = omega (arith, is, pow_pos k)
+looked_least n (k, is) = search rules
 
 pub next_look : (n : ℕ) → IsLookedAt n → IsLookedAt (n * 2)
-next_look n (k, is) = (k + 1, omega (arith, is, pow_more 2 k))
+next_look n (k, is) = (k + 1, omega (arith, pow_more 2 k))
 
 none_between : (n m : ℕ) → IsLookedAt n → IsLookedAt m → n < m → n * 2 ≤ m
 none_between n m (j, is) (k, so) less = by_order (cases_lt j k)
   where
     by_order : (j < k) ⊎ (k ≤ j) → n * 2 ≤ m
     by_order (inl before) =
-        let more : 2 ^ (j + 1) ≤ 2 ^ k = pow-le-pow_right {n = 2} (omega arith) (omega (arith, before)) in
-        omega (arith, is, so, more, pow_more 2 j)
-    by_order (inr behind) =
-        let more : 2 ^ k ≤ 2 ^ j = pow-le-pow_right {n = 2} (omega arith) behind in
-        absurd (omega (arith, is, so, more, less))
+        let more : 2 ^ (j + 1) ≤ 2 ^ k = grind (arith, pow-le-pow_right) in
+        omega (arith, so, more, pow_more 2 j)
+    by_order (inr behind) = grind (arith, common_steps, pow-le-pow_right)
 
 -- ---- the looks
 

@@ -1,15 +1,12 @@
 -- What passes a filter, and what is said of a text by it.
 use Rattle.std.proofs.Common.{◌≡◌, ◌<◌, ◌==◌, ◌∷◌, arith, length, ℕ, List, [], Option, Some, None, IfErr, Result, Ok, Err}
-use Rattle.std.proofs.Common.{◌↔◌, subst, IsTrue, Bool, true, false, refl, sym, ap, ◌∙◌, rules}
-use Rattle.std.specs.Prelude.{◌&&◌}
+use Rattle.std.proofs.Common.{◌↔◌, IsTrue, Bool, true, false, refl, rules}
 use Rattle.semver_parser.specs.Texts.{Text, is_empty}
 use Rattle.semver_parser.specs.Versions.{IdentifierValue, PlainVersion, VersionValue}
 use Rattle.semver_parser.specs.ToolVersions.{SpellsIn, IsVersionTextIn}
 use Rattle.semver_parser.specs.declared.version.Dialect.{Dialect}
 use Rattle.semver_parser.specs.declared.version.Dialect.TheVariants.{Crate, Cargo, Npm}
-use Rattle.std.proofs.lemmas.Bool.Decides.{nat_tests}
 use Rattle.semver_parser.specs.Outlines.{OutlineValue, IsOutlineIn, dotted_text}
-use Rattle.semver_parser.specs.OwnMeaning.{meets_tree}
 use Rattle.semver_parser.specs.RangeTree.{SetTree}
 use Rattle.semver_parser.specs.declared.Compat.{Compat}
 use Rattle.version_sets.specs.PreReleaseRules.{meant_with, numbers_fit}
@@ -40,20 +37,16 @@ no_length (x ∷ xs) e = absurd (search rules)
 pub exactly_that : (dialect : Dialect) (test : VersionValue → Bool) (text : Text) (u : VersionValue) → IsVersionTextIn dialect text
     → ((v : VersionValue) → SpellsIn dialect v text → (test v ≡ true) × (u ≡ v)) → (v : VersionValue)
     → (Some u ≡ Some v) ↔ (SpellsIn dialect v text × IsTrue (test v))
-exactly_that dialect test text u some told v = (
-  λ e. let same : some.0 ≡ v = sym (told some.0 some.1).1 ∙ some_is e in
-      (subst (λ w. SpellsIn dialect w text) same some.1, subst (λ w. test w ≡ true) same (told some.0 some.1).0),
-  λ both. ap Some (told v both.0).1,
-)
+exactly_that dialect test text u some told v = search rules
 
 -- ---- versions whose numbers fit
 
 pub fit : (v : PlainVersion) → Fits v → numbers_fit v ≡ true
-fit v (major, minor, patch) = grind (arith, nat_tests)
+fit v (major, minor, patch) = grind arith
 
 -- of these the set decides
 pub passes_as_in : (filter : FilterValue) (v : VersionValue) → Fits v.plain → passes filter v ≡ has filter.set v.plain
-passes_as_in filter v fits = rw (fit v.plain fits) refl
+passes_as_in filter v fits = search rules
 
 -- as those of each version that a text spells
 pub spelled_fit : (dialect : Dialect) (v : VersionValue) (text : Text) → SpellsIn dialect v text → Fits v.plain
@@ -64,23 +57,15 @@ spelled_fit Npm v text spells = (spells.spells.major, spells.spells.minor, spell
 -- where releases alone count, no pre-release passes
 pub excluded_fails : (filter : FilterValue) (v : VersionValue) → HeedsRule filter.pre_releases filter.set → Fits v.plain
     → filter.pre_releases ≡ Excluded → ¬ (v.plain.pre ≡ []) → passes filter v ≡ false
-excluded_fails filter v heeds fits is some = passes_as_in filter v fits ∙ heeds is v.plain fits (at v.plain.pre some)
-  where
-    at : (pre : List IdentifierValue) → ¬ (pre ≡ []) → is_empty pre ≡ false
-    at [] some = absurd (some refl)
-    at (id ∷ pre) some = refl
+excluded_fails filter v heeds fits is some = search rules
 
 pub no_pre_release_meant : (mode : Compat) (tree : SetTree) (v : VersionValue) → is_empty v.plain.pre ≡ false
     → meant_with Excluded mode tree v ≡ false
-no_pre_release_meant mode tree v some = ap (λ b. numbers_fit v.plain && (b && meets_tree mode tree v.plain)) some ∙ at (numbers_fit v.plain)
-  where
-    at : (b : Bool) → (b && false) ≡ false
-    at true = refl
-    at false = refl
+no_pre_release_meant mode tree v some = search rules
 
 -- what an outline has a text of has identifiers
 pub has_part : (ids : List IdentifierValue) → 0 < length (dotted_text ids) → 0 < length ids
-has_part [] some = absurd (omega (arith, some))
+has_part [] some = absurd (omega arith)
 has_part (id ∷ ids) some = omega arith
 
 pub apart : (o : OutlineValue) → Passes o ≡ DoesNotPass → ⊥

@@ -1,20 +1,19 @@
 -- That a piece of a text does one thing, and what all of a text does.
 use Rattle.std.proofs.Common.{◌≡◌, ◌≢◌, ◌∙◌, ◌++◌, ◌∷◌, ◌<◌, ◌≤◌, ◌-◌, ◌&&◌, ◌==◌, [], List, ◌⊎◌, ℕ, Bool, true, false, refl, sym, subst}
-use Rattle.std.proofs.Common.{inl, inr}
-use Rattle.std.proofs.Common.{All, ap, ap₂, append_assoc, append-nil, arith, cond, get_or, length, length-append, length-drop, length-take}
-use Rattle.std.proofs.Common.{suc, take, drop, map, eqb}
+use Rattle.std.proofs.Common.{inl, inr, rules}
+use Rattle.std.proofs.Common.{ap, ap₂, append_assoc, arith, cond, get_or, length, length-append, length-drop, length-take}
+use Rattle.std.proofs.Common.{suc, take, drop, map}
 use Rattle.std.proofs.Common.{Result, Ok, Err, IfOk, IfErr}
 use Rattle.std.specs.Cmp.{IsTotalOrder}
 use Rattle.std.specs.List.{AllByRecursion, concat}
 use Rattle.std.specs.Io.BufRead.{take_through, drop_through}
 use Rattle.std.specs.Prelude.{IsTrue, ◌||◌, None}
 use Rattle.std.proofs.BufReadLemmas.{through_part}
-use Rattle.std.proofs.Math.Bool.{and-false}
 use Rattle.std.proofs.Math.Seq.{take-add}
 use Rattle.std.proofs.lemmas.Bool.{cases_lt}
 use Rattle.std.proofs.lemmas.Grind.{common_steps}
 use Rattle.std.proofs.lemmas.List.{take-append-drop}
-use Rattle.std.proofs.lemmas.List.Elements.{All-same, All-tail}
+use Rattle.std.proofs.lemmas.List.Elements.{All-tail}
 use Rattle.semver_parser.specs.Precedence.{precedence}
 use Rattle.semver_parser.specs.Texts.{Text, is_empty}
 use Rattle.release_filter.specs.Counting.{counted}
@@ -28,7 +27,7 @@ use Rattle.release_filter.specs.Filters.{FilterValue}
 use Rattle.release_filter.specs.Verdicts.{AreJudged, JudgedLine, has_invalid, invalid, is_invalid}
 use Rattle.release_filter.specs.Wanted.{Answers, Holds, emptied, kept_of}
 use Rattle.release_filter.proofs.Holding.{holds_more, kept_append, one_holding, same_wanted}
-use Rattle.release_filter.proofs.JudgedLines.{OneVersion, judged_more, judged_none, one_judging}
+use Rattle.release_filter.proofs.JudgedLines.{OneVersion, one_judging}
 use Rattle.release_filter.proofs.Passing.{not_both}
 use Rattle.release_filter.proofs.Sorting.{one_answer}
 use Rattle.release_filter.proofs.SkippedLines.{same_left}
@@ -37,46 +36,39 @@ use Rattle.release_filter.proofs.TakenPieces.{NoEnd, as_chosen, counted_append, 
 -- ---- one cut
 
 through : (line rest : Text) → IsWholeLine line → (take_through 10 (line ++ rest) ≡ line) × (drop_through 10 (line ++ rest) ≡ rest)
-through line rest (some, stops, ends) = through_part 10 line rest stops ends (λ none. absurd (omega (arith, some, none)))
-
--- what ends no line begins with no line
-no_line : (line rest bytes : Text) → IsWholeLine line → NoEnd bytes → ¬ (bytes ≡ line ++ rest)
-no_line line rest bytes (some, stops, ends) none is =
-    let within : length line - 1 < length (line ++ rest) = omega (arith, length-append line rest) in
-    let last : get_or (line ++ rest) (length line - 1) 0 ≡ get_or line (length line - 1) 0 = grind (arith, common_steps) in
-    All-same (λ b. b ≢ 10) (line ++ rest) bytes (sym is) none (length line - 1) 0 within (last ∙ ends some)
+through line rest (some, stops, ends) = through_part 10 line rest stops ends (λ none. absurd (omega (arith, none)))
 
 same_lines : (xs ys : List Text) (a b : Text) → AllByRecursion IsWholeLine xs → AllByRecursion IsWholeLine ys → NoEnd a → NoEnd b
     → concat xs ++ a ≡ concat ys ++ b → (xs ≡ ys) × (a ≡ b)
 same_lines [] [] a b f g n m e = (refl, e)
-same_lines [] (y ∷ ys) a b f g n m e = absurd (no_line y (concat ys ++ b) a g.0 n (e ∙ append_assoc y (concat ys) b))
-same_lines (x ∷ xs) [] a b f g n m e = absurd (no_line x (concat xs ++ a) b f.0 m (sym e ∙ append_assoc x (concat xs) a))
+same_lines [] (y ∷ ys) a b f g n m e = grind (arith, common_steps)
+same_lines (x ∷ xs) [] a b f g n m e = grind (arith, common_steps)
 same_lines (x ∷ xs) (y ∷ ys) a b f g n m e =
     let both = sym (append_assoc x (concat xs) a) ∙ e ∙ append_assoc y (concat ys) b in
     let first = through x (concat xs ++ a) f.0 in
     let other = through y (concat ys ++ b) g.0 in
-    let later = same_lines xs ys a b f.1 g.1 n m (sym first.1 ∙ ap (drop_through 10) both ∙ other.1) in
-    (ap₂ (λ l ls. l ∷ ls) (sym first.0 ∙ ap (take_through 10) both ∙ other.0) later.0, later.1)
+    let later = same_lines xs ys a b f.1 g.1 n m (cc) in
+    (ap₂ (λ l ls. l ∷ ls) (cc) later.0, later.1)
 
 -- the lines of a front are the first lines of the whole
 more_lines : (xs ys : List Text) (m b : Text) → AllByRecursion IsWholeLine xs → AllByRecursion IsWholeLine ys → NoEnd b
     → concat xs ++ m ≡ concat ys ++ b → (zs : List Text) × (ys ≡ xs ++ zs) × (m ≡ concat zs ++ b)
 more_lines [] ys m b f g n e = (ys, refl, e)
-more_lines (x ∷ xs) [] m b f g n e = absurd (no_line x (concat xs ++ m) b f.0 n (sym e ∙ append_assoc x (concat xs) m))
+more_lines (x ∷ xs) [] m b f g n e = grind (arith, common_steps)
 more_lines (x ∷ xs) (y ∷ ys) m b f g n e =
     let both = sym (append_assoc x (concat xs) m) ∙ e ∙ append_assoc y (concat ys) b in
     let first = through x (concat xs ++ m) f.0 in
     let other = through y (concat ys ++ b) g.0 in
-    let later = more_lines xs ys m b f.1 g.1 n (sym first.1 ∙ ap (drop_through 10) both ∙ other.1) in (
+    let later = more_lines xs ys m b f.1 g.1 n (cc) in (
       later.0,
-      ap₂ (λ l ls. l ∷ ls) (sym other.0 ∙ ap (take_through 10) (sym both) ∙ first.0) later.1,
+      ap₂ (λ l ls. l ∷ ls) (cc) later.1,
       later.2,
     )
 
 -- ---- judged lines
 
 append_nil_of : (xs ys : Text) → ys ≡ [] → xs ++ ys ≡ xs
-append_nil_of xs ys none = ap (λ l. xs ++ l) none ∙ append-nil xs
+append_nil_of xs ys none = search rules
 
 no_marked : (front : Bool) (lines : List Text) → marked_off front lines ≡ [] → lines ≡ []
 no_marked front [] e = refl
@@ -85,52 +77,36 @@ no_marked front (line ∷ lines) e = cc
 split_judged : (filter : FilterValue) (prefixes : List Text) (xs ys : List Text) (ks : List JudgedLine)
     → AreJudged filter prefixes (xs ++ ys) ks
     → (js : List JudgedLine) × (zs : List JudgedLine) × (ks ≡ js ++ zs) × AreJudged filter prefixes xs js × AreJudged filter prefixes ys zs
-split_judged filter prefixes [] ys ks a = ([], ks, refl, judged_none filter prefixes, a)
-split_judged filter prefixes (x ∷ xs) ys [] a = absurd (let e = a.all in cc)
+split_judged filter prefixes [] ys ks a = search rules
+split_judged filter prefixes (x ∷ xs) ys [] a = cc
 split_judged filter prefixes (x ∷ xs) ys (k ∷ ks) a =
-    let e = a.all in
     let rest = split_judged filter prefixes xs ys ks (record { all = cc; each = a.each.1 }) in
     let first : k.line ≡ x = cc in (
       k ∷ rest.0,
       rest.1,
       ap (λ l. k ∷ l) rest.2,
-      record { all = ap₂ (λ l ls. l ∷ ls) first rest.3.all; each = (a.each.0, rest.3.each) },
+      record { all = cc; each = (a.each.0, rest.3.each) },
       rest.4,
     )
 
-or_true : (a b : Bool) → a ≡ true → (a || b) ≡ true
-or_true true b e = refl
-or_true false b e = absurd (not_both e refl)
-
-or_left : (a b : Bool) → (a || b) ≡ false → a ≡ false
-or_left true b e = e
-or_left false b e = refl
-
 or_right : (a b : Bool) → (a || b) ≡ false → b ≡ false
-or_right true b e = absurd (not_both refl e)
+or_right true b e = cc
 or_right false b e = e
 
 has_front : (js zs : List JudgedLine) (x : JudgedLine) → x.verdict ≡ invalid → has_invalid ((js ++ x ∷ []) ++ zs) ≡ true
-has_front [] zs x is = or_true _ (has_invalid zs) (ap is_invalid is)
-has_front (j ∷ js) zs x is = ap (λ b. is_invalid j.verdict || b) (has_front js zs x is) ∙ or-true (is_invalid j.verdict)
-  where
-    or-true : (b : Bool) → (b || true) ≡ true
-    or-true true = refl
-    or-true false = refl
+has_front [] zs x is = cc
+has_front (j ∷ js) zs x is = grind (arith, common_steps)
 
 -- before the last of some lines none is invalid, so an invalid one is the last
 in_front : (js ks zs : List JudgedLine) (x y : JudgedLine) → (js ++ x ∷ []) ++ zs ≡ ks ++ y ∷ [] → x.verdict ≡ invalid
     → has_invalid ks ≡ false → zs ≡ []
 in_front [] [] zs x y e is valid = cc
-in_front [] (k ∷ ks) zs x y e is valid =
-    let same : x ≡ k = cc in
-    absurd (not_both (ap (λ (j : JudgedLine). is_invalid j.verdict) (sym same) ∙ ap is_invalid is) (or_left (is_invalid k.verdict)
-    (has_invalid ks) valid))
+in_front [] (k ∷ ks) zs x y e is valid = cc
 in_front (j ∷ js) [] zs x y e is valid = absurd (some js (cc))
   where
     some : (js : List JudgedLine) → ¬ ((js ++ x ∷ []) ++ zs ≡ [])
     some [] e = cc
-    some (j ∷ js) e = cc
+    some _ e = cc
 in_front (j ∷ js) (k ∷ ks) zs x y e is valid = in_front js ks zs x y (cc) is (or_right (is_invalid k.verdict) (has_invalid ks) valid)
 
 -- ---- one outcome
@@ -216,36 +192,25 @@ module _ (same : OneVersion) (total : IsTotalOrder precedence) where
         → a ≡ b
     not_later before within second valid ended' =
         let more = take (b - a) (drop a piece) in
-        let cut : take b piece ≡ take a piece ++ more = ap (λ n. take n piece) (let le = before in omega arith)
+        let cut = ap (λ n. take n piece) (omega arith)
         ∙ take-add a (b - a) piece in
-        let parts = front_judged s t u (take a piece) more (js ++ x ∷ []) (ks ++ y ∷ []) old mid other new first ended
-        (subst (λ l. TakesAll s l (ks ++ y ∷ []) u other new) cut second) in
-        let none = parts.2 (in_front js ks parts.0 x y (sym parts.1) is valid) ended' in
-        omega (arith, ap length none, length-take (b - a) (drop a piece), length-drop a piece)
+        let parts = front_judged s t u (take a piece) more _ (ks ++ y ∷ []) old mid other new first ended
+        (rw (← cut) second) in
+        omega (arith, ap length (parts.2 (in_front js ks parts.0 x y (sym parts.1) is valid) ended'), length-take (b - a) (drop a piece), length-drop a piece)
 
     -- and isn't taken whole
     pub not_whole : TakesAll s piece ks u other new → has_invalid ks ≡ false → ⊥
     not_whole second valid =
-        let parts = front_judged s t u (take a piece) (drop a piece) (js ++ x ∷ []) ks old mid other new first ended
-        (subst (λ l. TakesAll s l ks u other new) (sym (take-append-drop a piece)) second) in
+        let parts = front_judged s t u _ (drop a piece) _ ks old mid other new first ended
+        (rw (take-append-drop a piece) second) in
         not_both (ap has_invalid parts.1 ∙ has_front js parts.0 x is) valid
 
 -- ---- a whole text
 
 -- the first line, and the lines after it
 lines_from : (x : ℕ) (xs : List ℕ) → lines_of (x ∷ xs) ≡ take_through 10 (x ∷ xs) ∷ lines_of (drop_through 10 (x ∷ xs))
-lines_from x [] = at (eqb x 10)
-  where
-    at : (b : Bool) → cond b ((x ∷ []) ∷ []) ((x ∷ []) ∷ []) ≡ cond b (x ∷ []) (x ∷ []) ∷ lines_of (cond b [] [])
-    at true = refl
-    at false = refl
-lines_from x (y ∷ ys) = at (eqb x 10) (lines_from y ys)
-  where
-    at : (b : Bool) → lines_of (y ∷ ys) ≡ take_through 10 (y ∷ ys) ∷ lines_of (drop_through 10 (y ∷ ys))
-        → cond b ((x ∷ []) ∷ lines_of (y ∷ ys)) (onto_first x (lines_of (y ∷ ys)))
-        ≡ cond b (x ∷ []) (x ∷ take_through 10 (y ∷ ys)) ∷ lines_of (cond b (y ∷ ys) (drop_through 10 (y ∷ ys)))
-    at true later = refl
-    at false later = ap (onto_first x) later
+lines_from x [] = search rules
+lines_from x (y ∷ ys) = grind (arith, common_steps, lines_of, take_through, drop_through, onto_first, lines_from y ys)
 
 first_line : (xs : List ℕ) → 0 < length xs → lines_of xs ≡ take_through 10 xs ∷ lines_of (drop_through 10 xs)
 first_line [] some = absurd (omega arith)
@@ -254,55 +219,33 @@ first_line (x ∷ xs) some = lines_from x xs
 pub lines_before : (line rest : Text) → IsWholeLine line → lines_of (line ++ rest) ≡ line ∷ lines_of rest
 lines_before line rest whole =
     let first = through line rest whole in
-    let some : 0 < length (line ++ rest) = omega (arith, whole.0, length-append line rest) in
-    first_line (line ++ rest) some ∙ ap₂ (λ l more. l ∷ lines_of more) first.0 first.1
+    first_line (line ++ rest) (omega (arith, whole.0, length-append line rest)) ∙ ap₂ (λ l more. l ∷ lines_of more) first.0 first.1
 
 cut_lines : (lines : List Text) (rest : Text) → AllByRecursion IsWholeLine lines → lines_of (concat lines ++ rest) ≡ lines ++ lines_of rest
 cut_lines [] rest each = refl
-cut_lines (line ∷ lines) rest each =
-    ap lines_of (append_assoc line (concat lines) rest) ∙ lines_before line (concat lines ++ rest) each.0
-    ∙ ap (λ l. line ∷ l) (cut_lines lines rest each.1)
+cut_lines (line ∷ lines) rest each = grind (arith, common_steps, lines_of, append_assoc, lines_before, cut_lines lines rest each.1)
 
 pub whole_tail : (x y : ℕ) (ys : Text) → IsWholeLine (x ∷ y ∷ ys) → IsWholeLine (y ∷ ys)
 whole_tail x y ys (some, stops, ends) =
     let long : length (x ∷ y ∷ ys) - 1 ≡ suc (length ys) = omega arith in
     let less : length (y ∷ ys) - 1 ≡ length ys = omega arith in
-    let before = All-tail (λ b. b ≢ 10) x (take (length ys) (y ∷ ys)) (subst (λ n. All (λ b. b ≢ 10) (take n (x ∷ y ∷ ys))) long stops) in (
+    let before = All-tail (λ b. b ≢ 10) x _ (rw long at stops) in (
       omega arith,
-      subst (λ n. All (λ b. b ≢ 10) (take n (y ∷ ys))) (sym less) before,
-      λ more. ap (λ n. get_or (y ∷ ys) n 0) less ∙ sym (ap (λ n. get_or (x ∷ y ∷ ys) n 0) long) ∙ ends (omega arith),
+      rw less before,
+      λ more. ap (λ n. get_or (y ∷ ys) n 0) less ∙ sym (cc) ∙ ends (omega arith),
     )
 
 abbrev is_mark : ℕ → ℕ → ℕ → Bool
 is_mark a b c = (a == 0xEF) && ((b == 0xBB) && (c == 0xBF))
 
-after_one : (a : ℕ) (rest : Text) → a ≡ 10 → without_mark (a ∷ rest) ≡ a ∷ rest
-after_one a [] is = refl
-after_one a (b ∷ []) is = refl
-after_one a (b ∷ c ∷ rest) is = subst (λ x. cond (is_mark x b c) rest (x ∷ b ∷ c ∷ rest) ≡ x ∷ b ∷ c ∷ rest) (sym is) refl
-
-after_two : (a b : ℕ) (rest : Text) → b ≡ 10 → without_mark (a ∷ b ∷ rest) ≡ a ∷ b ∷ rest
-after_two a b [] is = refl
-after_two a b (c ∷ rest) is =
-    ap (λ m. cond m rest (a ∷ b ∷ c ∷ rest)) (ap (λ x. is_mark a x c) is ∙ and-false (a == 0xEF))
-
-no_third : (a b c : ℕ) → c ≡ 10 → is_mark a b c ≡ false
-no_third a b c is =
-    ap (λ x. is_mark a b x) is ∙ ap (λ m. (a == 0xEF) && m) (and-false (b == 0xBB)) ∙ and-false (a == 0xEF)
-
 -- a mark at the front of a text is at the front of its first line, of which more is left
 first_marked : (line rest : Text) → IsWholeLine line
     → (without_mark (line ++ rest) ≡ without_mark line ++ rest) × IsWholeLine (without_mark line)
-first_marked [] rest whole = absurd (omega (arith, whole.0))
-first_marked (a ∷ []) rest whole = (after_one a rest (whole.2 (omega arith)), whole)
-first_marked (a ∷ b ∷ []) rest whole = (after_two a b rest (whole.2 (omega arith)), whole)
-first_marked (a ∷ b ∷ c ∷ []) rest whole = by_mark (is_mark a b c) (no_third a b c (whole.2 (omega arith)))
-  where
-    by_mark : (m : Bool) → m ≡ false
-        → (cond m rest (a ∷ b ∷ c ∷ rest) ≡ cond m [] (a ∷ b ∷ c ∷ []) ++ rest) × IsWholeLine (cond m [] (a ∷ b ∷ c ∷ []))
-    by_mark true is = absurd (not_both refl is)
-    by_mark false is = (refl, whole)
-first_marked (a ∷ b ∷ c ∷ d ∷ more) rest whole = by_mark (is_mark a b c)
+first_marked [] rest whole = absurd (omega arith)
+first_marked (a ∷ []) rest whole = search rules
+first_marked (a ∷ b ∷ []) rest whole = search rules
+first_marked (a ∷ b ∷ c ∷ []) rest whole = search rules
+first_marked (a ∷ b ∷ c ∷ d ∷ more) rest whole = by_mark _
   where
     by_mark : (m : Bool) → (cond m (d ∷ more ++ rest) (a ∷ b ∷ c ∷ d ∷ more ++ rest) ≡ cond m (d ∷ more) (a ∷ b ∷ c ∷ d ∷ more) ++ rest)
         × IsWholeLine (cond m (d ∷ more) (a ∷ b ∷ c ∷ d ∷ more))
@@ -313,9 +256,9 @@ marked_lines : (lines : List Text) (rest : Text) → AllByRecursion IsWholeLine 
     → lines_of (without_mark (concat lines ++ rest)) ≡ marked_off true lines ++ lines_of (after_mark (is_empty lines) rest)
 marked_lines [] rest each = refl
 marked_lines (line ∷ lines) rest each =
-    let first = first_marked line (concat lines ++ rest) each.0 in
+    let first = first_marked line _ each.0 in
     ap (λ l. lines_of (without_mark l)) (append_assoc line (concat lines) rest) ∙ ap lines_of first.0
-    ∙ lines_before (without_mark line) (concat lines ++ rest) first.1 ∙ ap (λ l. without_mark line ∷ l) (cut_lines lines rest each.1)
+    ∙ lines_before (without_mark line) _ first.1 ∙ ap (λ l. without_mark line ∷ l) (cut_lines lines rest each.1)
 
 -- all of a text was taken, and its end
 pub took_text : IsTotalOrder precedence → (s t u : LinesValue) (text : Text) (js ks : List JudgedLine) (old mid new : Text)
@@ -325,21 +268,17 @@ took_text total s t u text js ks old mid new a b =
     let prefixes = ap (λ (v : LinesValue). v.prefixes) a.state in
     let front = ap (λ (v : LinesValue). v.at_front) a.state in
     let last = lines_of (after_mark (is_empty a.lines) t.unended) in
-    let later = subst (λ f. AreJudged s.filter s.prefixes (lines_of (after_mark f t.unended)) ks) front
-    (as_chosen s t (lines_of (after_mark t.at_front t.unended)) ks filter prefixes b.judges) in
+    let later = rw front at (as_chosen s t (lines_of (after_mark t.at_front t.unended)) ks filter prefixes b.judges) in
     let lines = ap (λ l. lines_of (without_mark l)) a.cut.whole ∙ marked_lines a.lines t.unended a.cut.each in
     let wanted = same_wanted (begun s).held.wanted (begun s).held t.held (kept_of js) a.added a.holds in
     record {
-      judges = subst (λ l. AreJudged s.filter s.prefixes l (js ++ ks)) (sym lines)
-          (judged_more s.filter s.prefixes (marked_off true a.lines) last js ks a.judges later);
+      judges = grind (arith, common_steps);
       held = b.held;
       added = a.added ++ b.added;
       rest = b.rest;
-      holds = subst (λ l. Holds (begun s).held l b.held (a.added ++ b.added)) (sym (kept_append js ks))
-          (holds_more total (begun s).held t.held b.held (kept_of js) (kept_of ks) a.added b.added a.holds b.holds);
+      holds = rw (kept_append js ks) (holds_more total (begun s).held t.held b.held (kept_of js) (kept_of ks) a.added b.added a.holds b.holds);
       answers = b.answers;
-      appended = b.appended ∙ ap (λ l. l ++ (b.added ++ b.rest)) a.appended ∙ append_assoc old a.added (b.added ++ b.rest)
-          ∙ ap (λ l. old ++ l) (sym (append_assoc a.added b.added b.rest));
+      appended = grind (arith, common_steps);
       state = b.state
           ∙ ap (λ (v : LinesValue). record v { at_front = true; unended = []; held = emptied t.held; counts = counted v.counts ks }) a.state
           ∙ (λ i. record (begun s) {
@@ -360,7 +299,7 @@ both_ok (Err e) q A B C f a b = tt
 
 pub both_err : {T U E F : Type 0} (r : Result T E) (q : Result U F) (A : E → Type 0) (B : F → Type 0) (C : E → F → Type 0)
     → ((e : E) (f : F) → A e → B f → C e f) → IfErr r A → IfErr q B → IfErr r (λ e. IfErr q (C e))
-both_err (Err e) (Err f) A B C both a b = both e f a b
+both_err (Err e) (Err f) A B C both a b = search rules
 both_err (Err e) (Ok y) A B C both a b = tt
 both_err (Ok x) q A B C both a b = tt
 
@@ -380,7 +319,7 @@ Took s t piece old new = (judged : List JudgedLine) × Takes s piece judged t ol
 stopped_taking : (e : LinesError) (s t : LinesValue) (piece old new : Text) → StopsAs e s piece t old new
     → (judged : List JudgedLine) × TakesAll s piece judged t old new
 stopped_taking OutOfMemory s t piece old new stops = (stops.0, stops.1)
-stopped_taking (NoVersion n) s t piece old new stops = (stops.1 ++ stops.2 ∷ [], stops.3)
+stopped_taking (NoVersion n) s t piece old new stops = search rules
 
 module _ (same : OneVersion) (total : IsTotalOrder precedence) (s r t u : LinesValue) (piece old before new other : Text) (states : s ≡ r)
     (bytes : old ≡ before) where

@@ -1,10 +1,11 @@
 -- What is after a prefix.
-use Rattle.std.proofs.Common.{Bor, ◌+◌, Option, Some, None, MatchOption, ◌≡◌, ℕ, ◌++◌}
-use Rattle.std.proofs.Common.{true, false, List, ap, sym, ◌∙◌, take, drop, length, eqb}
+use Rattle.std.proofs.Common.{Bor, ◌+◌, Option, Some, None, MatchOption, ◌≡◌, ℕ, ◌++◌, arith}
+use Rattle.std.proofs.Common.{true, false, List, take, drop, length, eqb}
 use Rattle.std.specs.Cmp.Lexicographic.{pointwise, bytes_decides}
 use Rattle.std.proofs.Math.Seq.{take-append_seam}
 use Rattle.std.proofs.lemmas.List.{take-append-drop}
 use Rattle.release_filter.proofs.Passing.{not_both}
+use Rattle.std.proofs.lemmas.Grind.{common_steps}
 
 -- what `strip_prefix` tells of bytes
 abbrev pub Strips : List ℕ → List ℕ → Option (Bor (List ℕ)) → Type 0
@@ -16,9 +17,5 @@ Strips prefix bytes found =
 -- what is after the prefix, if the bytes begin with it
 pub behind : (prefix bytes : List ℕ) (found : Option (Bor (List ℕ))) → Strips prefix bytes found
     → MatchOption found ((t : List ℕ) → ¬ (bytes ≡ prefix ++ t)) (λ x. bytes ≡ prefix ++ x.now)
-behind prefix bytes None other = λ t e. not_both ((bytes_decides (take (length prefix) bytes) prefix).1
-    (ap (take (length prefix)) e ∙ take-append_seam prefix t)) other
-behind prefix bytes (Some x) (same, rest, len) =
-    sym (take-append-drop (length prefix) bytes)
-    ∙ ap (λ l. l ++ drop (length prefix) bytes) ((bytes_decides (take (length prefix) bytes) prefix).0 same)
-    ∙ ap (λ l. prefix ++ l) (sym rest)
+behind prefix bytes None other = grind (arith, common_steps, not_both, bytes_decides, take-append_seam)
+behind prefix bytes (Some x) (same, rest, len) = grind (arith, common_steps, take-append-drop, bytes_decides)

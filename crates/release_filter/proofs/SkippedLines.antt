@@ -1,12 +1,11 @@
 -- Lines that are skipped: none has a version, and what is counted of one shows in its first bytes.
-use Rattle.std.proofs.Common.{◌≡◌, ◌≢◌, ◌∙◌, ◌++◌, ◌∷◌, ◌<◌, ◌≤◌, ◌+◌, ◌-◌, ◌&&◌, ◌==◌, [], List, ◌⊎◌, ℕ, Bool, true, false, refl}
-use Rattle.std.proofs.Common.{sym, subst, ap, ap₂, inl, inr}
-use Rattle.std.proofs.Common.{append_assoc, append-nil, arith, cond, drop, length, length-append, length-take, ne_eqb, take}
+use Rattle.std.proofs.Common.{◌≡◌, ◌∙◌, ◌++◌, ◌∷◌, ◌<◌, ◌≤◌, ◌+◌, ◌-◌, [], List, ◌⊎◌, ℕ, Bool, true, false, refl, rules}
+use Rattle.std.proofs.Common.{sym, subst, ap, inl, inr}
+use Rattle.std.proofs.Common.{append_assoc, append-nil, arith, drop, length, length-append, take}
 use Rattle.std.specs.Io.BufRead.{ends_with_byte, strip_last}
 use Rattle.std.proofs.lemmas.Bool.{cases_lt}
 use Rattle.std.proofs.Math.Seq.{take-append_seam}
 use Rattle.std.proofs.lemmas.List.{take-append-drop, take-append-le}
-use Rattle.std.proofs.lemmas.List.Elements.{All-head, All-tail}
 use Rattle.semver_parser.specs.Texts.{Text, is_empty}
 use Rattle.semver_parser.specs.Versions.{VersionValue}
 use Rattle.semver_parser.specs.ToolVersions.{SpellsIn}
@@ -21,55 +20,47 @@ use Rattle.release_filter.proofs.Looks.{looked_least, may_longer}
 use Rattle.release_filter.proofs.NumberedLines.{strip_behind}
 use Rattle.release_filter.proofs.Passing.{not_both}
 use Rattle.release_filter.proofs.TakenPieces.{NoEnd, no_end_marked}
+use Rattle.std.proofs.lemmas.Grind.{common_steps}
 
 -- ---- the text of a line, and a front of it
 
 strip_front : (byte : ℕ) (xs : Text) → (end : Text) × (xs ≡ strip_last byte xs ++ end)
 strip_front byte xs =
-    by_test (ends_with_byte byte xs) (λ y. (drop (length xs - 1) xs, rw y (sym (take-append-drop (length xs - 1) xs))))
+    by_test (ends_with_byte byte xs) (λ y. (drop (length xs - 1) xs, rw y (sym (take-append-drop _ xs))))
     (λ n. ([], rw n (sym (append-nil xs))))
 
-strip_none : (xs : Text) → NoEnd xs → strip_last 10 xs ≡ xs
-strip_none [] none = refl
-strip_none (x ∷ []) none = ap (λ b. cond b [] (x ∷ [])) (ne_eqb x 10 (All-head (λ y. y ≢ 10) x [] none))
-strip_none (x ∷ y ∷ ys) none =
-    strip_behind 10 (x ∷ []) (y ∷ ys) (omega arith) ∙ ap (λ t. x ∷ t) (strip_none (y ∷ ys) (All-tail (λ z. z ≢ 10) x (y ∷ ys) none))
-
 text_front : (front more : Text) → NoEnd front → (rest : Text) × (line_text (front ++ more) ≡ strip_last 13 front ++ rest)
-text_front front [] none = (
-  [],
-  ap line_text (append-nil front) ∙ ap (strip_last 13) (strip_none front none) ∙ sym (append-nil (strip_last 13 front)),
-)
-text_front front (x ∷ xs) none = by_rest (strip_last 10 (x ∷ xs)) (ap (strip_last 13) (strip_behind 10 front (x ∷ xs) (omega arith)))
+text_front front [] none = search rules
+text_front front (x ∷ xs) none = by_rest _ (ap (strip_last 13) (strip_behind 10 front _ (omega arith)))
   where
     by_rest : (rest : Text) → line_text (front ++ x ∷ xs) ≡ strip_last 13 (front ++ rest)
         → (r : Text) × (line_text (front ++ x ∷ xs) ≡ strip_last 13 front ++ r)
-    by_rest [] e = ([], e ∙ ap (strip_last 13) (append-nil front) ∙ sym (append-nil (strip_last 13 front)))
+    by_rest [] e = grind (arith, common_steps)
     by_rest (y ∷ ys) e =
         let end = strip_front 13 front in (
           end.0 ++ strip_last 13 (y ∷ ys),
-          e ∙ strip_behind 13 front (y ∷ ys) (omega arith) ∙ ap (λ l. l ++ strip_last 13 (y ∷ ys)) end.1
-              ∙ append_assoc (strip_last 13 front) end.0 (strip_last 13 (y ∷ ys)),
+          e ∙ strip_behind 13 front _ (omega arith) ∙ ap (λ l. l ++ strip_last 13 (y ∷ ys)) end.1
+              ∙ append_assoc _ end.0 _,
         )
 
 -- ---- what begins a line with a version
 
 one_more_byte : (dialect : Dialect) (prefix front : Text) (p x : ℕ) → p ≡ x → BeginsAfter dialect prefix front
     → BeginsAfter dialect (p ∷ prefix) (x ∷ front)
-one_more_byte dialect prefix front p x same (inl (text, is, begins)) = inl (text, ap₂ (λ b l. b ∷ l) (sym same) is, begins)
-one_more_byte dialect prefix front p x same (inr (next, more, is)) = inr (next, more, ap₂ (λ b l. b ∷ l) same is)
+one_more_byte dialect prefix front p x same (inl (text, is, begins)) = search rules
+one_more_byte dialect prefix front p x same (inr (next, more, is)) = search rules
 
 spells_front : (dialect : Dialect) (prefix front rest text : Text) (v : VersionValue) → front ++ rest ≡ prefix ++ text
     → SpellsIn dialect v text → BeginsAfter dialect prefix front
-spells_front dialect [] front rest text v e spells = inl (front, refl, (rest, (v, subst (SpellsIn dialect v) (sym e) spells)))
+spells_front dialect [] front rest text v e spells = search rules
 spells_front dialect (p ∷ ps) [] rest text v e spells = inr (p, ps, refl)
 spells_front dialect (p ∷ ps) (x ∷ xs) rest text v e spells =
-    one_more_byte dialect ps xs p x (cc) (spells_front dialect ps xs rest text v (cc) spells)
+    grind (arith, common_steps, one_more_byte, spells_front dialect ps xs rest text v (cc) spells)
 
 has_front : (dialect : Dialect) (prefixes : List Text) (line front rest : Text) (v : VersionValue) → line_text line ≡ front ++ rest
     → HasVersion dialect prefixes line v → BeginsAfterOne dialect prefixes front
 has_front dialect [] line front rest v e has = absurd has
-has_front dialect (p ∷ ps) line front rest v e (inl (text, is, spells)) = inl (spells_front dialect p front rest text v (sym e ∙ is) spells)
+has_front dialect (p ∷ ps) line front rest v e (inl (text, is, spells)) = grind (arith, common_steps, spells_front)
 has_front dialect (p ∷ ps) line front rest v e (inr (none, has)) = inr (has_front dialect ps line front rest v e has)
 
 -- ---- a front after a mark
@@ -77,29 +68,17 @@ has_front dialect (p ∷ ps) line front rest v e (inr (none, has)) = inr (has_fr
 pub marked_front : (at_front : Bool) (front more : Text) → 3 ≤ length front
     → after_mark at_front (front ++ more) ≡ after_mark at_front front ++ more
 marked_front false front more some = refl
-marked_front true [] more some = absurd (omega (arith, some))
-marked_front true (a ∷ []) more some = absurd (omega (arith, some))
-marked_front true (a ∷ b ∷ []) more some = absurd (omega (arith, some))
-marked_front true (a ∷ b ∷ c ∷ rest) more some = by_mark ((a == 0xEF) && ((b == 0xBB) && (c == 0xBF)))
-  where
-    by_mark : (m : Bool) → cond m (rest ++ more) (a ∷ b ∷ c ∷ rest ++ more) ≡ cond m rest (a ∷ b ∷ c ∷ rest) ++ more
-    by_mark true = refl
-    by_mark false = refl
+marked_front true [] more some = absurd (omega arith)
+marked_front true (a ∷ []) more some = absurd (omega arith)
+marked_front true (a ∷ b ∷ []) more some = absurd (omega arith)
+marked_front true (a ∷ b ∷ c ∷ rest) more some = search rules
 
 pub marked_length : (at_front : Bool) (text : Text) → length text ≤ 3 + length (after_mark at_front text)
 marked_length false text = omega arith
 marked_length true [] = omega arith
 marked_length true (a ∷ []) = omega arith
 marked_length true (a ∷ b ∷ []) = omega arith
-marked_length true (a ∷ b ∷ c ∷ rest) = by_mark ((a == 0xEF) && ((b == 0xBB) && (c == 0xBF)))
-  where
-    by_mark : (m : Bool) → length (a ∷ b ∷ c ∷ rest) ≤ 3 + length (cond m rest (a ∷ b ∷ c ∷ rest))
-    by_mark true = omega arith
-    by_mark false = omega arith
-
-strip_length : (byte : ℕ) (xs : Text) → length xs ≤ 1 + length (strip_last byte xs)
-strip_length byte xs =
-    by_test (ends_with_byte byte xs) (λ y. rw y (omega (arith, length-take (length xs - 1) xs))) (λ n. rw n (omega arith))
+marked_length true (a ∷ b ∷ c ∷ rest) = search rules
 
 -- ---- lines that begin with this front, which are skipped
 
@@ -117,11 +96,11 @@ module _ (filter : FilterValue) (prefixes : List Text) (at_front : Bool) (front 
 
     text_is : (more : Text) → (rest : Text) × (line_text (line_with more) ≡ seen ++ rest)
     text_is more =
-        let text = text_front (after_mark at_front front) more (no_end_marked at_front front none) in
+        let text = text_front _ more (no_end_marked at_front front none) in
         (text.0, ap line_text (marked_front at_front front more (omega (arith, long))) ∙ text.1)
 
     enough : 81 ≤ length seen
-    enough = omega (arith, long, marked_length at_front front, strip_length 13 (after_mark at_front front))
+    enough = search rules
 
     has_none : (more : Text) → HasNoVersion filter.dialect prefixes (line_with more)
     has_none more = λ v has. let text = text_is more in shows.none
@@ -130,11 +109,11 @@ module _ (filter : FilterValue) (prefixes : List Text) (at_front : Bool) (front 
     has_text : (more : Text) → is_empty (line_text (line_with more)) ≡ false
     has_text more =
         let text = text_is more in
-        some (line_text (line_with more)) (omega (arith, enough, ap length text.1, length-append seen text.0))
+        some _ (omega (arith, enough, ap length text.1, length-append seen text.0))
       where
         some : (xs : Text) → 1 ≤ length xs → is_empty xs ≡ false
-        some [] less = absurd (omega (arith, less))
-        some (x ∷ xs) less = refl
+        some [] less = absurd (omega arith)
+        some _ less = refl
 
     -- such a line is invalid, and nothing else
     pub is_skipped : (more : Text) → IsVerdictOn filter prefixes (line_with more) invalid

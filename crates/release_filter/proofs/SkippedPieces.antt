@@ -1,5 +1,5 @@
 -- What pieces do of which a line is skipped: what the whole text does.
-use Rattle.std.proofs.Common.{◌≡◌, ◌≢◌, ◌∙◌, ◌++◌, ◌∷◌, ◌≤◌, ◌&&◌, [], List, refl, sym, subst, ap, ap₂, inl, inr}
+use Rattle.std.proofs.Common.{◌≡◌, ◌≢◌, ◌∙◌, ◌++◌, ◌∷◌, ◌≤◌, ◌&&◌, [], List, refl, sym, subst, ap, ap₂, inl, inr, rules}
 use Rattle.std.proofs.Common.{append_assoc, append-nil, arith, length, length-append, map}
 use Rattle.std.specs.Cmp.{IsTotalOrder}
 use Rattle.std.specs.List.{AllByRecursion, concat}
@@ -12,13 +12,13 @@ use Rattle.release_filter.specs.Counting.{CountsValue, counted, counted_as}
 use Rattle.release_filter.specs.LineTexts.{IsWholeLine, after_mark, lines_of, marked_off, without_mark}
 use Rattle.release_filter.specs.Pieces.{AreAlike, Completes, Finishes, LinesValue, Takes, TakesAll, begun}
 use Rattle.release_filter.specs.Skipping.{IsLeft, ShowsNone}
-use Rattle.release_filter.specs.Verdicts.{AreJudged, IsVerdictOn, JudgedLine, Verdict, invalid}
-use Rattle.release_filter.specs.Wanted.{Holds, kept_as, kept_of}
+use Rattle.release_filter.specs.Verdicts.{IsVerdictOn, JudgedLine, Verdict, invalid}
 use Rattle.release_filter.proofs.JudgedLines.{judged_one}
 use Rattle.release_filter.proofs.PieceLaws.{took_text, whole_tail}
 use Rattle.release_filter.proofs.Looks.{looked_least}
 use Rattle.release_filter.proofs.SkippedLines.{counted_alike, is_skipped, marked_length, must_be_skipped, same_left}
 use Rattle.release_filter.proofs.TakenPieces.{NoEnd, no_end_marked, only_line, took_both, whole_after}
+use Rattle.std.proofs.lemmas.Grind.{common_steps}
 
 alike : (js : List JudgedLine) → AreAlike js js
 alike [] = tt
@@ -30,22 +30,21 @@ alike (j ∷ js) = (inl refl, alike js)
 line_after : (front line q rest : Text) → NoEnd front → IsWholeLine line → front ++ q ≡ line ++ rest
     → (end : Text) × (line ≡ front ++ end) × (q ≡ end ++ rest) × IsWholeLine end
 line_after [] line q rest none whole is = (line, refl, is, whole)
-line_after (x ∷ xs) [] q rest none whole is = absurd (omega (arith, whole.0))
+line_after (x ∷ xs) [] q rest none whole is = absurd (omega arith)
 line_after (x ∷ xs) (b ∷ []) q rest none whole is =
     let same : x ≡ b = cc in
-    absurd (All-head (λ y. y ≢ 10) x xs none (same ∙ whole.2 (omega arith)))
+    absurd (All-head (λ y. y ≢ 10) x xs none (omega arith))
 line_after (x ∷ xs) (b ∷ c ∷ cs) q rest none whole is =
-    let later : xs ++ q ≡ (c ∷ cs) ++ rest = cc in
     let same : b ≡ x = cc in
-    let found = line_after xs (c ∷ cs) q rest (All-tail (λ y. y ≢ 10) x xs none) (whole_tail b c cs whole) later in
+    let found = line_after xs (c ∷ cs) q rest (All-tail (λ y. y ≢ 10) x xs none) (whole_tail b c cs whole) cc in
     (found.0, ap₂ (λ y ys. y ∷ ys) same found.1, found.2, found.3)
 
 -- the parts of what ends no line
 front_ends : (front rest : Text) → NoEnd (front ++ rest) → NoEnd front
-front_ends front rest none = subst NoEnd (take-append_seam front rest) (All-take (λ x. x ≢ 10) (length front) (front ++ rest) none)
+front_ends front rest none = subst NoEnd (take-append_seam front rest) (All-take (λ x. x ≢ 10) (length front) _ none)
 
 rest_ends : (front rest : Text) → NoEnd (front ++ rest) → NoEnd rest
-rest_ends front rest none = subst NoEnd (drop-append_seam front rest) (All-drop (λ x. x ≢ 10) (length front) (front ++ rest) none)
+rest_ends front rest none = subst NoEnd (drop-append_seam front rest) (All-drop (λ x. x ≢ 10) (length front) _ none)
 
 -- ---- a skipped line in the next piece
 
@@ -66,35 +65,27 @@ module _ (t : LinesValue) (front dropped : Text) (none : NoEnd front) (none_drop
     line_as end = record { line = after_mark t.at_front ((front ++ dropped) ++ end); verdict = invalid }
 
     must_be : (end : Text) (v : Verdict) → IsVerdictOn t.filter t.prefixes (after_mark t.at_front (front ++ end)) v → v ≡ invalid
-    must_be = must_be_skipped t.filter t.prefixes t.at_front front none shows
+    must_be = grind (arith, common_steps, must_be_skipped)
 
     is_one : (end : Text) → IsVerdictOn t.filter t.prefixes (after_mark t.at_front ((front ++ dropped) ++ end)) invalid
     is_one end =
-        subst (λ l. IsVerdictOn t.filter t.prefixes (after_mark t.at_front l) invalid) (sym (append_assoc front dropped end))
-        (is_skipped t.filter t.prefixes t.at_front front none shows (dropped ++ end))
+        rw (append_assoc front dropped end) (is_skipped t.filter t.prefixes t.at_front front none shows (dropped ++ end))
 
     count_one : (end : Text) (c : CountsValue)
         → counted_as invalid c (after_mark t.at_front (front ++ end)) ≡ counted_as invalid c
         (after_mark t.at_front ((front ++ dropped) ++ end))
-    count_one end c =
-        counted_alike t.filter t.prefixes t.at_front front none shows end (dropped ++ end) c
-        ∙ ap (λ l. counted_as invalid c (after_mark t.at_front l)) (sym (append_assoc front dropped end))
-
-    -- what such a line does
-    same_kept : (k : JudgedLine) (ks : List JudgedLine) (end : Text) → k.verdict ≡ invalid → kept_of (k ∷ ks) ≡ kept_of (line_as end ∷ ks)
-    same_kept k ks end is = ap (λ v. kept_as v k.line ++ kept_of ks) is
+    count_one end c = grind (arith, common_steps, counted_alike, counted_as, after_mark, append_assoc)
 
     same_counts : (k : JudgedLine) (ks : List JudgedLine) (end : Text) → k.verdict ≡ invalid
         → k.line ≡ after_mark t.at_front (front ++ end) → counted t.counts (k ∷ ks) ≡ counted t.counts (line_as end ∷ ks)
-    same_counts k ks end is so =
-        ap (λ c. counted c ks) (ap₂ (λ v l. counted_as v t.counts l) is so ∙ count_one end t.counts)
+    same_counts k ks end is so = grind (arith, common_steps, counted_as, count_one)
 
     -- it does not end in the piece
     took_on : (u : LinesValue) (q : Text) (ks : List JudgedLine) (old new : Text) (b : TakesAll cut_off q ks u old new) → b.lines ≡ []
         → TakesAll whole_one q ks (record u { unended = (front ++ dropped) ++ q }) old new × (u.unended ≡ front ++ q)
         × (u.at_front ≡ t.at_front)
     took_on u q ks old new b nothing =
-        let rest : front ++ q ≡ u.unended = b.cut.whole ∙ ap (λ l. concat l ++ u.unended) nothing in
+        let rest : front ++ q ≡ u.unended = cc in
         let more = rest_ends front q (subst NoEnd (sym rest) b.cut.no_end) in
         let front_is = ap (λ l. t.at_front && is_empty l) nothing ∙ and-true t.at_front in (
           record {
@@ -104,17 +95,11 @@ module _ (t : LinesValue) (front dropped : Text) (none : NoEnd front) (none_drop
               no_end = All-append (λ x. x ≢ 10) (front ++ dropped) q (All-append (λ x. x ≢ 10) front dropped none none_dropped) more;
               whole = refl;
             };
-            judges = subst (λ l. AreJudged t.filter t.prefixes (marked_off t.at_front l) ks) nothing b.judges;
+            judges = search rules;
             added = b.added;
             holds = b.holds;
             appended = b.appended;
-            state = ap (λ (v : LinesValue). record v { unended = (front ++ dropped) ++ q }) b.state
-                ∙ (λ i. record t {
-                  at_front = ap (λ l. t.at_front && is_empty l) nothing i;
-                  unended = (front ++ dropped) ++ q;
-                  held = u.held;
-                  counts = counted t.counts ks;
-                });
+            state = cc;
           },
           sym rest,
           ap (λ (v : LinesValue). v.at_front) b.state ∙ front_is,
@@ -123,14 +108,13 @@ module _ (t : LinesValue) (front dropped : Text) (none : NoEnd front) (none_drop
     -- it does
     took_end : (u : LinesValue) (q y : Text) (ys : List Text) (ks : List JudgedLine) (old new : Text) (b : TakesAll cut_off q ks u old new)
         → b.lines ≡ y ∷ ys → (ls : List JudgedLine) × AreAlike ks ls × TakesAll whole_one q ls u old new
-    took_end u q y ys [] old new b some = absurd (let e = b.judges.all ∙ ap (marked_off t.at_front) some in cc)
+    took_end u q y ys [] old new b some = cc
     took_end u q y ys (k ∷ ks) old new b some =
         let each = subst (AllByRecursion IsWholeLine) some b.cut.each in
         let whole = b.cut.whole ∙ ap (λ l. concat l ++ u.unended) some ∙ append_assoc y (concat ys) u.unended in
         let end = line_after front y q (concat ys ++ u.unended) none each.0 whole in
         let all = b.judges.all ∙ ap (marked_off t.at_front) some in
-        let line : k.line ≡ after_mark t.at_front (front ++ end.0) = ap (λ (l : List Text). first_of l k.line) all
-        ∙ ap (after_mark t.at_front) end.1 in
+        let line : k.line ≡ after_mark t.at_front (front ++ end.0) = cc in
         let verdict = must_be end.0 k.verdict (subst (λ l. IsVerdictOn t.filter t.prefixes l k.verdict) line b.judges.each.0) in (
           line_as end.0 ∷ ks,
           (inr (verdict, refl), alike ks),
@@ -139,15 +123,14 @@ module _ (t : LinesValue) (front dropped : Text) (none : NoEnd front) (none_drop
             cut = record {
               each = (whole_after (front ++ dropped) end.0 (All-append (λ x. x ≢ 10) front dropped none none_dropped) end.3, each.1);
               no_end = b.cut.no_end;
-              whole = ap (λ l. (front ++ dropped) ++ l) end.2 ∙ sym (append_assoc (front ++ dropped) end.0 (concat ys ++ u.unended))
-                  ∙ sym (append_assoc ((front ++ dropped) ++ end.0) (concat ys) u.unended);
+              whole = grind (arith, common_steps);
             };
             judges = record {
-              all = ap (λ l. after_mark t.at_front ((front ++ dropped) ++ end.0) ∷ l) (ap (λ (l : List Text). later_of l) all);
+              all = cc;
               each = (is_one end.0, b.judges.each.1);
             };
             added = b.added;
-            holds = subst (λ l. Holds t.held l u.held b.added) (same_kept k ks end.0 verdict) b.holds;
+            holds = search rules;
             appended = b.appended;
             state = b.state
                 ∙ (λ i. record t {
@@ -171,8 +154,8 @@ module _ (t : LinesValue) (front dropped : Text) (none : NoEnd front) (none_drop
     marked_lines : (bytes : Text) → NoEnd bytes → 4096 ≤ length bytes
         → lines_of (after_mark t.at_front bytes) ≡ after_mark t.at_front bytes ∷ []
     marked_lines bytes whole enough =
-        only_line (after_mark t.at_front bytes)
-        (λ e. absurd (omega (arith, ap length e, enough, marked_length t.at_front bytes))) (no_end_marked t.at_front bytes whole)
+        only_line _
+        (λ e. absurd (omega (arith, ap length e, marked_length t.at_front bytes))) (no_end_marked t.at_front bytes whole)
 
     took_last : (u : LinesValue) (ks : List JudgedLine) (old new : Text) → Finishes cut_off ks u old new
         → (ls : List JudgedLine) × AreAlike ks ls × Finishes whole_one ls u old new
@@ -186,20 +169,19 @@ module _ (t : LinesValue) (front dropped : Text) (none : NoEnd front) (none_drop
         by_lines (k ∷ []) b all =
             let here : k.line ≡ after_mark t.at_front front = cc in
             let line = here ∙ ap (after_mark t.at_front) (sym (append-nil front)) in
-            let verdict = must_be [] k.verdict (subst (λ l. IsVerdictOn t.filter t.prefixes l k.verdict) line b.judges.each.0) in
+            let verdict = must_be [] k.verdict (rw (← line) b.judges.each.0) in
             let whole = ap (after_mark t.at_front) (append-nil (front ++ dropped)) in
-            let lines = marked_lines (front ++ dropped) (All-append (λ x. x ≢ 10) front dropped none none_dropped)
+            let lines = marked_lines _ (All-append (λ x. x ≢ 10) front dropped none none_dropped)
             (omega (arith, long, length-append front dropped)) in (
               line_as [] ∷ [],
               (inr (verdict, refl), tt),
               record {
                 judges =
-                    subst (λ l. AreJudged t.filter t.prefixes l (line_as [] ∷ [])) (ap (λ l. l ∷ []) whole ∙ sym lines)
-                    (judged_one t.filter t.prefixes (after_mark t.at_front ((front ++ dropped) ++ [])) invalid (is_one []));
+                    rw (← ap (λ l. l ∷ []) whole ∙ sym lines) (judged_one t.filter t.prefixes (after_mark t.at_front ((front ++ dropped) ++ [])) invalid (is_one []));
                 held = b.held;
                 added = b.added;
                 rest = b.rest;
-                holds = subst (λ l. Holds t.held l b.held b.added) (same_kept k [] [] verdict) b.holds;
+                holds = search rules;
                 answers = b.answers;
                 appended = b.appended;
                 state = b.state ∙ ap (λ c. record (begun t) { counts = c }) (same_counts k [] [] verdict line);

@@ -1,6 +1,6 @@
 -- That what `sort_by` did with held lines is their stable sort.
-use Rattle.std.proofs.Common.{◌≡◌, ◌∙◌, ◌⊎◌, ◌<◌, ◌∷◌, [], List, Bool, true, false, not, cond, refl, sym, ap, ap₂, subst, inl, inr, arith}
-use Rattle.std.proofs.Common.{Bor, IsPermutation, Less, Equal, Greater, filter, get_or, length, rules}
+use Rattle.std.proofs.Common.{◌≡◌, ◌∙◌, ◌⊎◌, ◌<◌, ◌∷◌, [], List, Bool, true, false, not, refl, sym, ap, ap₂, subst, inl, inr, arith}
+use Rattle.std.proofs.Common.{Bor, IsPermutation, Less, Equal, Greater, filter, get_or, length}
 use Rattle.std.proofs.lemmas.Fn.{always_returns_same}
 use Rattle.std.proofs.lemmas.List.{get_or-map, length-map}
 use Rattle.std.proofs.lemmas.List.Sorted.{ranks_by, sorted_far, list_any-IsPermutation, IsPermutation-map}
@@ -9,7 +9,7 @@ use Rattle.std.specs.Fn.{Called, ComparesAs}
 use Rattle.std.specs.List.{AllPairs, list_any}
 use Rattle.std.specs.List.Sorted.{IsSortedBy, IsStableBy, ties}
 use Rattle.std.specs.Ordering.{is_eq, is_lt, ordering_reverse}
-use Rattle.std.specs.Prelude.{◌&&◌, ◌||◌}
+use Rattle.std.specs.Prelude.{◌&&◌}
 use Rattle.std.specs.declared.cmp.Ordering.{Ordering}
 use Rattle.semver_parser.specs.Precedence.{precedence}
 use Rattle.semver_parser.specs.Versions.{PlainVersion}
@@ -21,6 +21,7 @@ use Rattle.release_filter.proofs.HeldLines.{seen_lines}
 use Rattle.release_filter.proofs.Holding.{isnt_over}
 use Rattle.release_filter.proofs.Passing.{not_both}
 use Rattle.release_filter.proofs.Tests.{filter-same}
+use Rattle.std.proofs.lemmas.Grind.{common_steps}
 
 -- the version of a line but for the build
 abbrev pub plain_of : Bor KeptLine → PlainVersion
@@ -34,26 +35,15 @@ is_below line other = is_lt (precedence (plain_of line) (plain_of other))
 pub compares : {F : Type 0} {g : _} {f : F}
     → ((a : Bor (Bor KeptLine) × (Bor (Bor KeptLine) × Unit {0})) (r : Ordering) (f' : F) → Called g f a r f'
     → (r ≡ precedence (plain_of a.0.now) (plain_of a.1.0.now)) × (f' ≡ f)) → ComparesAs g is_below f
-compares {g = g} {f = f} h =
-    always_returns_same g (λ a r. is_lt r ≡ is_below a.0.now a.1.0.now) f (λ a r f' k. (ap is_lt (h a r f' k).0, (h a r f' k).1))
+compares {g = g} {f = f} h = grind (arith, common_steps, always_returns_same, is_lt, is_below)
 
 some_or_none : {X : Type 0} (p : X → Bool) (xs : List X) → ((x : X) × (p x ≡ true)) ⊎ (list_any p xs ≡ false)
 some_or_none p [] = inr refl
-some_or_none {X = X} p (x ∷ xs) = at (p x) refl (some_or_none p xs)
-  where
-    at : (b : Bool) → p x ≡ b → ((y : X) × (p y ≡ true)) ⊎ (list_any p xs ≡ false)
-        → ((y : X) × (p y ≡ true)) ⊎ ((b || list_any p xs) ≡ false)
-    at true e rest = inl (x, e)
-    at false e rest = rest
+some_or_none {X = X} p (x ∷ xs) = grind (arith, common_steps, list_any, some_or_none p xs)
 
 keeps_none : {X : Type 0} (p : X → Bool) (xs : List X) → list_any p xs ≡ false → filter p xs ≡ []
 keeps_none p [] none = refl
-keeps_none p (x ∷ xs) none = at (p x) none (keeps_none p xs)
-  where
-    at : (b : Bool) → (b || list_any p xs) ≡ false → (list_any p xs ≡ false → filter p xs ≡ [])
-        → cond b (x ∷ filter p xs) (filter p xs) ≡ []
-    at true none rest = absurd (search rules)
-    at false none rest = rest none
+keeps_none p (x ∷ xs) none = grind (arith, common_steps, list_any, keeps_none p xs)
 
 -- a line whose version equals this one by precedence
 abbrev is_equal : PlainVersion → Bor KeptLine → Bool
@@ -62,14 +52,7 @@ is_equal v line = is_eq (precedence (plain_of line) v)
 filter_seen : (v : PlainVersion) (lines : List (Bor KeptLine))
     → filter (λ (k : KeptValue). is_eq (precedence k.version v)) (seen_lines lines) ≡ seen_lines (filter (is_equal v) lines)
 filter_seen v [] = refl
-filter_seen v (x ∷ xs) = at (is_equal v x) (filter_seen v xs)
-  where
-    at : (b : Bool) → filter (λ (k : KeptValue). is_eq (precedence k.version v)) (seen_lines xs) ≡ seen_lines (filter (is_equal v) xs)
-        → cond b (kept_value x.now ∷ filter (λ (k : KeptValue). is_eq (precedence k.version v)) (seen_lines xs))
-        (filter (λ (k : KeptValue). is_eq (precedence k.version v)) (seen_lines xs))
-        ≡ seen_lines (cond b (x ∷ filter (is_equal v) xs) (filter (is_equal v) xs))
-    at true e = ap (λ l. kept_value x.now ∷ l) e
-    at false e = e
+filter_seen v (x ∷ xs) = grind (arith, common_steps, is_equal, is_eq, seen_lines, kept_value, filter_seen v xs)
 
 module _ (total : IsTotalOrder precedence) where
   -- it ties with the lines whose versions are equal to that

@@ -11,6 +11,7 @@ use Rattle.semver_parser.specs.Versions.{PlainVersion}
 use Rattle.release_filter.specs.Wanted.{AnswersBy, Answers, HeldValue, IsStableSort, KeptValue, ended_text}
 use Rattle.release_filter.specs.declared.wanted.Wanted.{Wanted}
 use Rattle.release_filter.specs.declared.wanted.Wanted.TheVariants.{Each, Greatest, Least, Sorted}
+use Rattle.std.proofs.lemmas.Grind.{common_steps}
 
 -- those of some lines whose version is equal to this one
 abbrev equals : PlainVersion → List KeptValue → List KeptValue
@@ -73,23 +74,16 @@ module _ (total : IsTotalOrder precedence) where
     first_equal = at (precedence x.version y.version) refl
       where
         at : (o : Ordering) → precedence x.version y.version ≡ o → precedence x.version y.version ≡ Equal
-        at Less e =
-            absurd (no_first x _ (sym (equals_first x xs) ∙ same x.version ∙ none_equal x.version y ys e up'))
+        at Less e = grind (arith, common_steps, no_first, equals_first, none_equal)
         at Equal e = e
-        at Greater e =
-            let less = total.antisymm y.version x.version ∙ ap ordering_reverse e in
-            absurd (no_first y _ (sym (equals_first y ys) ∙ sym (same y.version) ∙ none_equal y.version x xs less up))
+        at Greater e = grind (arith, common_steps, ordering_reverse, no_first, equals_first, none_equal)
 
     first_same : x ≡ y
-    first_same =
-        let both : x ∷ equals x.version xs ≡ y ∷ equals x.version ys =
-        sym (equals_first x xs) ∙ same x.version
-        ∙ ap (λ b. cond b (y ∷ equals x.version ys) (equals x.version ys))
-        (ap is_eq (total.antisymm y.version x.version ∙ ap ordering_reverse first_equal)) in cc
+    first_same = grind (arith, common_steps, equals_first, is_eq, ordering_reverse, first_equal)
 
     rest_same : (v : PlainVersion) → equals v xs ≡ equals v ys
     rest_same v =
-        tails x (equals v xs) (equals v ys) (is_eq (precedence x.version v))
+        tails x _ _ _
         (same v ∙ ap (λ (k : KeptValue). equals v (k ∷ ys)) (sym first_same))
 
   -- lines that rise, and of which as many and the same are equal to each version, are the same

@@ -1,16 +1,15 @@
 -- What a piece of a text does, line by line.
-use Rattle.std.proofs.Common.{◌≡◌, ◌≢◌, ◌∙◌, ◌++◌, ◌∷◌, ◌≤◌, ◌<◌, ◌+◌, ◌-◌, ◌&&◌, [], List, ℕ, Bool, true, false, refl, sym, subst, arith}
-use Rattle.std.proofs.Common.{length, take, drop, ap, append_assoc, append-nil, All, length-append, length-take, length-drop, get_or, cond}
-use Rattle.std.proofs.Common.{ne_eqb, ◌==◌}
+use Rattle.std.proofs.Common.{◌≡◌, ◌≢◌, ◌∙◌, ◌++◌, ◌∷◌, ◌≤◌, ◌+◌, ◌-◌, ◌&&◌, [], List, ℕ, Bool, true, false, refl, sym, subst, arith}
+use Rattle.std.proofs.Common.{length, take, drop, ap, append_assoc, append-nil, All, cond}
+use Rattle.std.proofs.Common.{ne_eqb, rules}
 use Rattle.std.specs.Cmp.{IsTotalOrder}
 use Rattle.std.specs.List.{AllByRecursion, concat}
 use Rattle.std.specs.Io.{StartsWith}
 use Rattle.std.proofs.lemmas.Grind.{common_steps}
 use Rattle.std.proofs.lemmas.List.Folds.{concat-append}
-use Rattle.std.proofs.Math.Bool.{and-false, and-true}
-use Rattle.std.proofs.Math.Seq.{take-add, take-append-add}
+use Rattle.std.proofs.Math.Seq.{take-add}
 use Rattle.std.proofs.lemmas.List.{take-append-drop, take_rest}
-use Rattle.std.proofs.lemmas.List.Elements.{All-append, All-drop, All-head, All-tail, All-same, All-nil}
+use Rattle.std.proofs.lemmas.List.Elements.{All-drop, All-head, All-tail}
 use Rattle.semver_parser.specs.Precedence.{precedence}
 use Rattle.semver_parser.specs.Texts.{Text, is_empty}
 use Rattle.release_filter.specs.Counting.{CountsValue, counted, counted_as}
@@ -20,32 +19,17 @@ use Rattle.release_filter.specs.Skipping.{IsLeft}
 use Rattle.release_filter.specs.Steps.Taking.{TakesLine, TakesRest}
 use Rattle.release_filter.specs.Verdicts.{AreJudged, IsVerdictOn, JudgedLine, Verdict}
 use Rattle.release_filter.specs.Wanted.{HeldValue, Holds, kept_of}
-use Rattle.release_filter.proofs.Holding.{holds_more, holds_none, kept_append, kept_one}
-use Rattle.release_filter.proofs.JudgedLines.{judged_more, judged_none, judged_one}
+use Rattle.release_filter.proofs.Holding.{holds_more, holds_none, kept_append}
+use Rattle.release_filter.proofs.JudgedLines.{judged_more, judged_none}
 
 abbrev pub NoEnd : Text → Type 0
 NoEnd bytes = All (λ b. b ≢ 10) bytes
 
 -- ---- one line, or none
 
-take_after : (begun end : Text) → 0 < length end → take (length (begun ++ end) - 1) (begun ++ end) ≡ begun ++ take (length end - 1) end
-take_after begun end some =
-    let at : length (begun ++ end) - 1 ≡ length begun + (length end - 1) = omega (arith, length-append begun end) in
-    ap (λ n. take n (begun ++ end)) at ∙ take-append-add begun end (length end - 1)
-
-last_after : (begun end : Text) → 0 < length end
-    → get_or (begun ++ end) (length (begun ++ end) - 1) 0 ≡ get_or end (length end - 1) 0
-last_after begun end some =
-    let at : length (begun ++ end) - 1 ≡ length begun + (length end - 1) = omega (arith, length-append begun end) in
-    ap (λ n. get_or (begun ++ end) n 0) at ∙ grind (arith, common_steps)
-
 -- a line that ends in a piece is whole
 pub whole_after : (begun end : Text) → NoEnd begun → IsWholeLine end → IsWholeLine (begun ++ end)
-whole_after begun end none (some, stops, ends) = (
-  omega (arith, length-append begun end),
-  All-same (λ b. b ≢ 10) _ _ (take_after begun end some) (All-append (λ b. b ≢ 10) begun (take (length end - 1) end) none stops),
-  λ more. last_after begun end some ∙ ends some,
-)
+whole_after begun end none (some, stops, ends) = grind (arith, common_steps)
 
 -- what is after a mark is the whole of it if it is as long
 pub not_marked : (front : Bool) (text : Text) → length (after_mark front text) ≡ length text → after_mark front text ≡ text
@@ -53,12 +37,7 @@ not_marked false text same = refl
 not_marked true [] same = refl
 not_marked true (a ∷ []) same = refl
 not_marked true (a ∷ b ∷ []) same = refl
-not_marked true (a ∷ b ∷ c ∷ rest) same = by_mark ((a == 0xEF) && ((b == 0xBB) && (c == 0xBF))) same
-  where
-    by_mark : (m : Bool) → length (cond m rest (a ∷ b ∷ c ∷ rest)) ≡ length (a ∷ b ∷ c ∷ rest)
-        → cond m rest (a ∷ b ∷ c ∷ rest) ≡ a ∷ b ∷ c ∷ rest
-    by_mark true same = absurd (omega (arith, same))
-    by_mark false same = refl
+not_marked true (a ∷ b ∷ c ∷ rest) same = search rules
 
 -- the line that this ends
 abbrev pub line_with : LinesValue → Text → Text
@@ -78,14 +57,14 @@ took_line s end left verdict g d old new whole none is takes none_left =
       lines = line ∷ [];
       cut = record {
         each = (whole_after s.unended end none whole, tt);
-        no_end = All-same (λ b. b ≢ 10) left [] none_left (All-nil (λ b. b ≢ 10));
-        whole = sym (ap (λ l. (line ++ []) ++ l) none_left ∙ append-nil (line ++ []) ∙ append-nil line);
+        no_end = search rules;
+        whole = search rules;
       };
-      judges = judged_one s.filter s.prefixes (line_with s end) verdict is;
+      judges = search rules;
       added = takes.added;
-      holds = subst (λ l. Holds s.held l g takes.added) (sym (kept_one (judged_as s end verdict))) takes.holds;
+      holds = search rules;
       appended = takes.appended;
-      state = λ i. record s { at_front = sym (and-false s.at_front) i; unended = left; held = g; counts = takes.counted i };
+      state = search rules;
     }
 
 -- what ends no line was taken
@@ -94,30 +73,26 @@ pub took_rest : (s : LinesValue) (rest left old : Text) → NoEnd s.unended → 
 took_rest s rest left old none more is =
     record {
       lines = [];
-      cut = record {
-        each = tt;
-        no_end = All-same (λ b. b ≢ 10) left (s.unended ++ rest) is (All-append (λ b. b ≢ 10) s.unended rest none more);
-        whole = sym is;
-      };
+      cut = grind (arith, common_steps);
       judges = judged_none s.filter s.prefixes;
       added = [];
       holds = holds_none s.held;
       appended = sym (append-nil old);
-      state = λ i. record s { at_front = sym (and-true s.at_front) i; unended = left };
+      state = search rules;
     }
 
 pub took_nothing : (s : LinesValue) (old : Text) → NoEnd s.unended → TakesAll s [] [] s old old
-took_nothing s old none = took_rest s [] s.unended old none (All-nil (λ b. b ≢ 10)) (sym (append-nil s.unended))
+took_nothing s old none = took_rest s [] s.unended old none (omega arith) (sym (append-nil s.unended))
 
 -- a value with private fields is seen as this
 pub seen : (inside s t : LinesValue) (piece : Text) (judged : List JudgedLine) (old new : Text) → inside ≡ s
     → TakesAll inside piece judged t old new → TakesAll s piece judged t old new
-seen inside s t piece judged old new is takes = subst (λ x. TakesAll x piece judged t old new) is takes
+seen inside s t piece judged old new is takes = search rules
 
 -- ---- what is left at the end
 
 one_left : (x : ℕ) (xs : Text) → NoEnd (x ∷ xs) → lines_of (x ∷ xs) ≡ (x ∷ xs) ∷ []
-one_left x [] none = ap (λ b. cond b ((x ∷ []) ∷ []) ((x ∷ []) ∷ [])) (ne_eqb x 10 (All-head (λ y. y ≢ 10) x [] none))
+one_left x [] none = search rules
 one_left x (y ∷ ys) none =
     ap (λ b. cond b ((x ∷ []) ∷ lines_of (y ∷ ys)) (onto_first x (lines_of (y ∷ ys)))) (ne_eqb x 10 (All-head (λ z. z ≢ 10) x (y ∷ ys)
     none))
@@ -132,7 +107,7 @@ no_end_marked false line none = none
 no_end_marked true [] none = none
 no_end_marked true (a ∷ []) none = none
 no_end_marked true (a ∷ b ∷ []) none = none
-no_end_marked true (a ∷ b ∷ c ∷ text) none = by_mark ((a == 0xEF) && ((b == 0xBB) && (c == 0xBF)))
+no_end_marked true (a ∷ b ∷ c ∷ text) none = by_mark _
   where
     by_mark : (is : Bool) → NoEnd (cond is text (a ∷ b ∷ c ∷ text))
     by_mark true = All-drop (λ x. x ≢ 10) 3 (a ∷ b ∷ c ∷ text) none
@@ -142,21 +117,16 @@ no_end_marked true (a ∷ b ∷ c ∷ text) none = by_mark ((a == 0xEF) && ((b =
 
 each_append : (xs ys : List Text) → AllByRecursion IsWholeLine xs → AllByRecursion IsWholeLine ys → AllByRecursion IsWholeLine (xs ++ ys)
 each_append [] ys none those = those
-each_append (x ∷ xs) ys (first, those) more = (first, each_append xs ys those more)
-
-marked_later : (lines : List Text) → marked_off false lines ≡ lines
-marked_later [] = refl
-marked_later (line ∷ lines) = refl
+each_append (x ∷ xs) ys (first, those) more = grind (arith, common_steps)
 
 pub marked_append : (front : Bool) (xs ys : List Text) → marked_off front (xs ++ ys) ≡ marked_off front xs ++ marked_off (front && is_empty
     xs) ys
-marked_append front [] ys = ap (λ f. marked_off f ys) (sym (and-true front))
-marked_append front (x ∷ xs) ys =
-    ap (λ l. after_mark front x ∷ (xs ++ l)) (sym (marked_later ys) ∙ ap (λ f. marked_off f ys) (sym (and-false front)))
+marked_append front [] ys = search rules
+marked_append front (x ∷ xs) ys = search rules
 
 front_append : (front : Bool) (xs ys : List Text) → ((front && is_empty xs) && is_empty ys) ≡ (front && is_empty (xs ++ ys))
-front_append front [] ys = ap (λ f. f && is_empty ys) (and-true front)
-front_append front (x ∷ xs) ys = ap (λ f. f && is_empty ys) (and-false front) ∙ sym (and-false front)
+front_append front [] ys = search rules
+front_append front (x ∷ xs) ys = search rules
 
 cut_append : (begun middle end p q : Text) (xs ys : List Text) → AreCut (begun ++ p) xs middle → AreCut (middle ++ q) ys end
     → AreCut (begun ++ (p ++ q)) (xs ++ ys) end
@@ -175,16 +145,12 @@ left_of piece taken = take (length piece - taken) (drop taken piece)
 
 line_within : (piece line : Text) (taken : ℕ) → taken ≤ length piece → StartsWith (left_of piece taken) line
     → taken + length line ≤ length piece
-line_within piece line taken within begins =
-    let part = length-take (length line) (left_of piece taken) in
-    let left = length-take (length piece - taken) (drop taken piece) in
-    omega (arith, ap length begins, part, left, length-drop taken piece)
+line_within piece line taken within begins = grind (arith, common_steps)
 
 -- what one state says of lines, another does that has its filter and its prefixes
 pub as_chosen : (s t : LinesValue) (lines : List Text) (judged : List JudgedLine) → t.filter ≡ s.filter → t.prefixes ≡ s.prefixes
     → AreJudged t.filter t.prefixes lines judged → AreJudged s.filter s.prefixes lines judged
-as_chosen s t lines judged filter prefixes those =
-    subst (λ ps. AreJudged s.filter ps lines judged) prefixes (subst (λ f. AreJudged f t.prefixes lines judged) filter those)
+as_chosen s t lines judged filter prefixes those = search rules
 
 pub counted_append : (c : CountsValue) (js ks : List JudgedLine) → counted c (js ++ ks) ≡ counted (counted c js) ks
 counted_append c [] ks = refl

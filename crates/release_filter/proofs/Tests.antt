@@ -1,24 +1,23 @@
 -- Tests of all or some of a list, and what tests keep of one.
-use Rattle.std.proofs.Common.{rules, suc, ◌≤◌, ◌==◌, arith, ◌≡◌, ℕ, ◌+◌, ◌<◌, Bool, false, List, [], ◌∷◌}
-use Rattle.std.proofs.Common.{◌++◌, refl, sym, ap, ◌∙◌, map, filter, cond, take, length, get_or}
+use Rattle.std.proofs.Common.{rules, ◌≤◌, ◌==◌, arith, ◌≡◌, ℕ, ◌+◌, ◌<◌, Bool, false, List, [], ◌∷◌}
+use Rattle.std.proofs.Common.{◌++◌, refl, map, filter, take, length, get_or}
 use Rattle.std.specs.Prelude.{◌||◌}
 use Rattle.std.specs.List.{list_any}
-use Rattle.std.proofs.Math.Seq.{take-length, take-suc}
 use Rattle.semver_parser.specs.Texts.{is_empty}
+use Rattle.std.proofs.lemmas.Grind.{common_steps}
 
 pub list_any-map : {X Y : Type 0} (p : Y → Bool) (f : X → Y) (xs : List X) → list_any p (map f xs) ≡ list_any (λ x. p (f x)) xs
 list_any-map p f [] = refl
-list_any-map p f (x ∷ xs) = ap (λ b. p (f x) || b) (list_any-map p f xs)
+list_any-map p f (x ∷ xs) = cc (list_any-map p f xs)
 
 pub list_any-same : {X : Type 0} (p q : X → Bool) → ((x : X) → p x ≡ q x) → (xs : List X) → list_any p xs ≡ list_any q xs
 list_any-same p q same [] = refl
-list_any-same p q same (x ∷ xs) = ap (λ b. b || list_any p xs) (same x) ∙ ap (λ b. q x || b) (list_any-same p q same xs)
+list_any-same p q same (x ∷ xs) = search rules
 
 -- tests that agree keep the same of a list
 pub filter-same : {X : Type 0} (p q : X → Bool) → ((x : X) → p x ≡ q x) → (xs : List X) → filter p xs ≡ filter q xs
 filter-same p q same [] = refl
-filter-same p q same (x ∷ xs) = ap (λ b. cond b (x ∷ filter p xs) (filter p xs)) (same x)
-    ∙ ap (λ l. cond (q x) (x ∷ l) l) (filter-same p q same xs)
+filter-same p q same (x ∷ xs) = search rules
 
 -- where there is an item, the rest of a test decides
 pub some_decides : {X Y : Type 0} (f : X → Y) (xs : List X) (rest : Bool) → (length xs == 0) ≡ false → rest ≡ (is_empty (map f xs) || rest)
@@ -27,12 +26,8 @@ some_decides f (x ∷ xs) rest e = refl
 
 -- the front of a list and the item after it
 pub one_more : {X : Type 0} (xs : List X) (i : ℕ) (x : X) → i < length xs → x ≡ get_or xs i x → take (i + 1) xs ≡ take i xs ++ x ∷ []
-one_more xs i x inside is =
-    let next : i + 1 ≡ suc i = omega arith in
-    ap (λ n. take n xs) next ∙ take-suc xs i x inside ∙ ap (λ y. take i xs ++ y ∷ []) (sym is)
+one_more xs i x inside is = grind (arith, common_steps)
 
 -- a list that has been gone through
 pub all_taken : {X : Type 0} (xs : List X) (i : ℕ) → i ≤ length xs → length xs ≤ i → take i xs ≡ xs
-all_taken xs i low high =
-    let end : i ≡ length xs = omega (arith, low, high) in
-    ap (λ n. take n xs) end ∙ take-length xs
+all_taken xs i low high = grind (arith, common_steps)
