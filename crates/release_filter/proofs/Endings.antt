@@ -63,7 +63,7 @@ last_kept said o plain line k is made passes = search rules
 pub takes_other : (h : HeldValue) (c d : CountsValue) (line : Text) (said : Judged) (plain : PlainVersion) (old : Text)
     → ((o : OutlineValue) → said ≡ Passes o → ⊥) → d ≡ counted_as (verdict_of said plain line) c line
     → TakesLine h c line (verdict_of said plain line) h d old old
-takes_other h c d line said plain old isnt counts = grind (arith, common_steps, none_kept, holds_none, append-nil)
+takes_other h c d line said plain old isnt counts = grind (arith, holds_none, append-nil)
 
 -- of a line that is kept and wanted at once, all is appended
 pub takes_each : (h : HeldValue) (c d : CountsValue) (line : Text) (said : Judged) (o : OutlineValue) (plain : PlainVersion) (old new :
@@ -74,8 +74,7 @@ takes_each h c d line said o plain old new each is none whole counts = (
   record {
     added = line;
     holds =
-        subst (λ s. Holds h (kept_as (verdict_of s plain line) line) h line) (sym is)
-        (rw each (refl, sym (append-nil line)));
+        rw (is) (rw each (refl, sym (append-nil line)));
     appended = cc;
     counted = cc;
   },

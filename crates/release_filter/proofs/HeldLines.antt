@@ -87,13 +87,13 @@ stays_with total w best last k told is tells e =
 
 pub stays_alone : (w : Wanted) (best last : Option KeptLine) → last ≡ None
     → IsBest (order_of w) (best_list best ++ best_list last) (option_map kept_value best)
-stays_alone w best last is = grind (arith, common_steps, order_of, best_list, option_map, kept_value, best_of_none)
+stays_alone w best last is = grind (arith, option_map, kept_value, best_of_none)
 
 -- the best line is all that is appended
 pub handed_over : (w : Wanted) (best last : Option KeptLine) (old new : Text) → is_some last ≡ false → (length old == 0) ≡ true
     → new ≡ text_of (best_list best)
     → (x : Option KeptValue) × IsBest (order_of w) (best_list best ++ best_list last) x × (new ≡ old ++ text_of (option_to_list x))
-handed_over w best None old new none empty is = grind (arith, common_steps, option_map, kept_value, best_of_none, order_of, text_of)
+handed_over w best None old new none empty is = grind (arith, common_steps, best_of_none, text_of)
 handed_over w best (Some k) old new none empty is = cc
 
 -- ---- the end of a text

@@ -22,13 +22,13 @@ use Rattle.std.proofs.lemmas.Grind.{common_steps}
 
 pub kept_append : (xs ys : List JudgedLine) → kept_of (xs ++ ys) ≡ kept_of xs ++ kept_of ys
 kept_append [] ys = refl
-kept_append (x ∷ xs) ys = grind (arith, common_steps, kept_as, append_assoc, kept_of, kept_append xs ys)
+kept_append (x ∷ xs) ys = grind (arith, kept_of, kept_append xs ys)
 
 pub kept_one : (j : JudgedLine) → kept_of (j ∷ []) ≡ kept_as j.verdict j.line
 kept_one j = append-nil _
 
 text_append : (xs ys : List KeptValue) → text_of (xs ++ ys) ≡ text_of xs ++ text_of ys
-text_append xs ys = grind (arith, common_steps, map-append, concat-append)
+text_append xs ys = grind (arith, map-append, concat-append)
 
 -- ---- the greatest by an order
 
@@ -105,15 +105,15 @@ module _ (order : PlainVersion → PlainVersion → Ordering) where
         → AllByRecursion (IsUnder x) front → AllByRecursion (IsUnder y) front' → AllByRecursion (IsNotOver x) back
         → AllByRecursion (IsNotOver y) back' → x ≡ y
     same_place x y [] [] back back' e p q p' q' = cc
-    same_place x y [] (z ∷ front) back back' e p q p' q' = grind (arith, common_steps, before_it)
-    same_place x y (z ∷ front) [] back back' e p q p' q' = grind (arith, common_steps, before_it)
+    same_place x y [] (z ∷ front) back back' e p q p' q' = grind (arith, before_it)
+    same_place x y (z ∷ front) [] back back' e p q p' q' = grind (arith, before_it)
     same_place x y (z ∷ front) (z' ∷ front') back back' e p q p' q' = same_place x y front front' back back' (cc) p.1 q.1 p' q'
 
     pub one_best : (xs : List KeptValue) (m n : Option KeptValue) → IsBest order xs m → IsBest order xs n → m ≡ n
     one_best xs None None a b = refl
-    one_best xs None (Some y) none b = grind (arith, common_steps, not_none)
-    one_best xs (Some x) None a none = grind (arith, common_steps, not_none)
-    one_best xs (Some x) (Some y) a b = grind (arith, common_steps, same_place)
+    one_best xs None (Some y) none b = grind (arith, not_none)
+    one_best xs (Some x) None a none = grind (arith, not_none)
+    one_best xs (Some x) (Some y) a b = grind (arith, same_place)
 
 -- ---- what is held
 
@@ -147,7 +147,7 @@ best_both total w h g k xs ys m n a is b so =
 
 holds_more_by : IsTotalOrder precedence → (w : Wanted) (h g k : HeldValue) (xs ys : List KeptValue) (a b : Text) → HoldsBy w h xs g a
     → HoldsBy w g ys k b → HoldsBy w h (xs ++ ys) k (a ++ b)
-holds_more_by total Each h g k xs ys a b p q = grind (arith, common_steps, text_append)
+holds_more_by total Each h g k xs ys a b p q = grind (arith, text_append)
 holds_more_by total Sorted h g k xs ys a b p q = grind (arith, common_steps)
 holds_more_by total Greatest h g k xs ys a b (m, best, is, none) (n, best', so, none') =
     let both = best_both total Greatest h g k xs ys m n best is best' so in (n, both.0, both.1, both_none a b none none')
@@ -157,18 +157,18 @@ holds_more_by total Least h g k xs ys a b (m, best, is, none) (n, best', so, non
 -- of some lines and then of more
 pub holds_more : IsTotalOrder precedence → (h g k : HeldValue) (xs ys : List KeptValue) (a b : Text) → Holds h xs g a → Holds g ys k b
     → Holds h (xs ++ ys) k (a ++ b)
-holds_more total h g k xs ys a b p q = grind (arith, common_steps, holds_more_by, same_wanted)
+holds_more total h g k xs ys a b p q = grind (arith, holds_more_by)
 
 one_holding_by : IsTotalOrder precedence → (w : Wanted) (h g k : HeldValue) (xs : List KeptValue) (a b : Text) → HoldsBy w h xs g a
     → HoldsBy w h xs k b → (g ≡ k) × (a ≡ b)
 one_holding_by total Each h g k xs a b p q = search rules
 one_holding_by total Sorted h g k xs a b p q = search rules
 one_holding_by total Greatest h g k xs a b (m, best, is, none) (n, best', so, none') =
-    grind (arith, common_steps, one_best, order_of, option_to_list)
+    grind (arith, one_best)
 one_holding_by total Least h g k xs a b (m, best, is, none) (n, best', so, none') =
     let same = one_best (order_of Least) (total_of Least total) _ m n best best' in
     (is ∙ ap (λ l. record h { best = l }) same ∙ sym so, none ∙ sym none')
 
 pub one_holding : IsTotalOrder precedence → (h g k : HeldValue) (xs : List KeptValue) (a b : Text) → Holds h xs g a → Holds h xs k b
     → (g ≡ k) × (a ≡ b)
-one_holding total h g k xs a b p q = grind (arith, common_steps, one_holding_by)
+one_holding total h g k xs a b p q = grind (arith, one_holding_by)

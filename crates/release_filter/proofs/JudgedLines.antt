@@ -30,7 +30,7 @@ OneOutlined = (dialect : Dialect) (o : OutlineValue) (v : VersionValue) (text : 
 
 one_after : OneVersion → (dialect : Dialect) (prefix : Text) (line : Text) (v w : VersionValue) → SpellsAfter dialect prefix line v
     → SpellsAfter dialect prefix line w → v ≡ w
-one_after same dialect prefix line v w a b = grind (arith, common_steps, append_cancel_left)
+one_after same dialect prefix line v w a b = grind (arith, append_cancel_left)
 
 pub one_had : OneVersion → (dialect : Dialect) (prefixes : List Text) (line : Text) (v w : VersionValue)
     → HasVersion dialect prefixes line v → HasVersion dialect prefixes line w → v ≡ w
@@ -44,7 +44,7 @@ one_had same dialect (prefix ∷ prefixes) line v w (inr (none, a)) (inr (other,
 pub judged_after : OneOutlined → (filter : FilterValue) (prefix : Text) (line : Text) (text : Text) (r : Judged)
     → line_text line ≡ prefix ++ text → IsJudged filter.dialect (passes filter) text r
     → JudgesBy (SpellsAfter filter.dialect prefix line) filter r
-judged_after same filter prefix line text NoVersion e none = grind (arith, common_steps, append_cancel_left)
+judged_after same filter prefix line text NoVersion e none = grind (arith, append_cancel_left)
 judged_after same filter prefix line text DoesNotPass e j = search rules
 judged_after same filter prefix line text (Passes o) e j = search rules
 
@@ -98,7 +98,7 @@ some_asked filter (prefix ∷ prefixes) line r some j = j
 -- ---- what a filter says of a line, and what the line is
 
 no_plain : PlainVersion
-no_plain = grind (arith, common_steps)
+no_plain = grind arith
 
 pub verdict : (filter : FilterValue) (prefixes : List Text) (line : Text) (said : Judged)
     → JudgesBy (HasVersion filter.dialect (asked prefixes) line) filter said
@@ -114,11 +114,11 @@ verdict filter prefixes line (Passes o) j = search rules
 -- a line is one thing
 one_verdict : OneVersion → (filter : FilterValue) (prefixes : List Text) (line : Text) (v w : Verdict) → IsVerdictOn filter prefixes line v
     → IsVerdictOn filter prefixes line w → v ≡ w
-one_verdict same filter prefixes line (kept a) (kept b) p q = grind (arith, common_steps, one_had)
-one_verdict same filter prefixes line (kept a) dropped p q = grind (arith, common_steps, not_both, one_had)
+one_verdict same filter prefixes line (kept a) (kept b) p q = grind (arith, one_had)
+one_verdict same filter prefixes line (kept a) dropped p q = grind (arith, one_had)
 one_verdict same filter prefixes line (kept a) invalid p q = absurd (q.0 p.0 p.1)
 one_verdict same filter prefixes line (kept a) empty p q = absurd (q.0 p.0 p.1)
-one_verdict same filter prefixes line dropped (kept b) p q = grind (arith, common_steps, not_both, one_had)
+one_verdict same filter prefixes line dropped (kept b) p q = grind (arith, one_had)
 one_verdict same filter prefixes line dropped dropped p q = refl
 one_verdict same filter prefixes line dropped invalid p q = absurd (q.0 p.0 p.1)
 one_verdict same filter prefixes line dropped empty p q = absurd (q.0 p.0 p.1)
@@ -156,11 +156,11 @@ module _ (filter : FilterValue) (prefixes : List Text) where
     same_judged [] [] e p q = refl
     same_judged [] (k ∷ ks) e p q = cc
     same_judged (j ∷ js) [] e p q = cc
-    same_judged (j ∷ js) (k ∷ ks) e p q = grind (arith, common_steps, one_verdict, same_judged js ks (cc) p.1 q.1)
+    same_judged (j ∷ js) (k ∷ ks) e p q = grind (arith, one_verdict, same_judged js ks (cc) p.1 q.1)
 
     pub one_judging : (xs : List Text) (js ks : List JudgedLine) → AreJudged filter prefixes xs js → AreJudged filter prefixes xs ks
         → js ≡ ks
-    one_judging xs js ks a b = grind (arith, common_steps, same_judged)
+    one_judging xs js ks a b = grind (arith, same_judged)
 
 -- ---- a line that is judged by its outline
 

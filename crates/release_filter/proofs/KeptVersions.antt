@@ -23,7 +23,7 @@ pub any_within : {X : Type 0} (P : X → Type 0) (front xs back : List X) → An
 any_within P front xs back (k, x, inside, is, holds) = (
   length front + k,
   x,
-  rw (length-append front (xs ++ back) ∙ ap (λ n. length front + n) (length-append xs back)) (omega (arith, inside)),
+  rw (length-append front (xs ++ back) ∙ ap (λ n. length front + n) (length-append xs back)) (omega arith),
   get_or-append-add front _ k x ∙ get_or_append_left xs back x k inside ∙ is,
   holds,
 )
@@ -37,7 +37,7 @@ some_passes p (x ∷ xs) some = at (p x) refl (some_passes p xs)
     later (k, y, inside, is, holds) = (suc k, y, omega arith, is, holds)
 
     at : (b : Bool) → p x ≡ b → (0 < length (filter p xs) → Any (λ x. IsTrue (p x)) xs) → Any (λ x. IsTrue (p x)) (x ∷ xs)
-    at true e others = grind (arith, common_steps)
+    at true e others = grind arith
     at false e others = later (others (rw e at some))
 
 -- ---- the places of those that pass are put in front

@@ -24,8 +24,8 @@ none_between n m (j, is) (k, so) less = by_order (cases_lt j k)
     by_order : (j < k) ⊎ (k ≤ j) → n * 2 ≤ m
     by_order (inl before) =
         let more : 2 ^ (j + 1) ≤ 2 ^ k = grind (arith, pow-le-pow_right) in
-        omega (arith, so, more, pow_more 2 j)
-    by_order (inr behind) = grind (arith, common_steps, pow-le-pow_right)
+        omega (arith, pow_more 2 j)
+    by_order (inr behind) = grind (arith, pow-le-pow_right)
 
 -- ---- the looks
 

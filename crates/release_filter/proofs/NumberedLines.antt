@@ -30,7 +30,7 @@ is_number_byte b = is_ascii_digit b || (b == 46)
 digits_pass : (xs : List ℕ) → all_ascii_digits xs ≡ true → Passes is_number_byte xs
 digits_pass [] all = tt
 digits_pass (x ∷ xs) all =
-    let both = and_parts (is_ascii_digit x) (all_ascii_digits xs) all in (grind (arith, both.0), digits_pass xs both.1)
+    let both = and_parts (is_ascii_digit x) (all_ascii_digits xs) all in (grind arith, digits_pass xs both.1)
 
 abbrev front_of : ℕ → ℕ → ℕ → Text
 front_of major minor patch = join_with_byte 46 (map decimal (major ∷ minor ∷ patch ∷ []))
@@ -65,7 +65,7 @@ strip_numbers (x ∷ y ∷ ys) pass = grind (arith, common_steps)
 
 -- so the text of a line is the numbers, and the text of what is after them
 text_behind : (front back : List ℕ) → Passes is_number_byte front → 0 < length back → line_text (front ++ back) ≡ front ++ line_text back
-text_behind front back pass some = grind (arith, common_steps, strip_last, strip_behind, append-nil, strip_numbers)
+text_behind front back pass some = grind (arith, common_steps, strip_behind, strip_numbers)
 
 -- a front begins with no digit where the whole doesn't
 front_kept : (k : ℕ) (xs : List ℕ) → is_ascii_digit (slice_index xs 0) ≡ false → is_ascii_digit (slice_index (take k xs) 0) ≡ false
@@ -113,11 +113,11 @@ module _ (bytes rest back : List ℕ) {major minor patch : ℕ} (n : BeginsWithN
       split = text_is;
       ended =
           rw is (strip_kept 13 (strip_last 10 back)
-          (strip_kept 10 back (subst (λ t. is_ascii_digit (slice_index t 0) ≡ false) begins (front_kept (length back) rest n.ended))));
+          (strip_kept 10 back (rw (← begins) (front_kept (length back) rest n.ended))));
     }
 
     text_len : length (line_text line) ≡ length bytes - length rest + length stripped
-    text_len = grind (arith, common_steps, front_len, text_is, length-append, front_of)
+    text_len = grind (arith, text_is, length-append)
 
     pub outlined : (dialect : Dialect) (found : Option OutlineValue)
         → ((text : Text) (o : OutlineValue) → BeginsWithNumbers text major minor patch stripped

@@ -36,7 +36,7 @@ use Rattle.release_filter.proofs.TakenPieces.{NoEnd, as_chosen, counted_append, 
 -- ---- one cut
 
 through : (line rest : Text) → IsWholeLine line → (take_through 10 (line ++ rest) ≡ line) × (drop_through 10 (line ++ rest) ≡ rest)
-through line rest (some, stops, ends) = through_part 10 line rest stops ends (λ none. absurd (omega (arith, none)))
+through line rest (some, stops, ends) = through_part 10 line rest stops ends (λ none. absurd (omega arith))
 
 same_lines : (xs ys : List Text) (a b : Text) → AllByRecursion IsWholeLine xs → AllByRecursion IsWholeLine ys → NoEnd a → NoEnd b
     → concat xs ++ a ≡ concat ys ++ b → (xs ≡ ys) × (a ≡ b)
@@ -210,7 +210,7 @@ module _ (same : OneVersion) (total : IsTotalOrder precedence) where
 -- the first line, and the lines after it
 lines_from : (x : ℕ) (xs : List ℕ) → lines_of (x ∷ xs) ≡ take_through 10 (x ∷ xs) ∷ lines_of (drop_through 10 (x ∷ xs))
 lines_from x [] = search rules
-lines_from x (y ∷ ys) = grind (arith, common_steps, lines_of, take_through, drop_through, onto_first, lines_from y ys)
+lines_from x (y ∷ ys) = grind (arith, drop_through, onto_first, lines_from y ys)
 
 first_line : (xs : List ℕ) → 0 < length xs → lines_of xs ≡ take_through 10 xs ∷ lines_of (drop_through 10 xs)
 first_line [] some = absurd (omega arith)
@@ -219,11 +219,11 @@ first_line (x ∷ xs) some = lines_from x xs
 pub lines_before : (line rest : Text) → IsWholeLine line → lines_of (line ++ rest) ≡ line ∷ lines_of rest
 lines_before line rest whole =
     let first = through line rest whole in
-    first_line (line ++ rest) (omega (arith, whole.0, length-append line rest)) ∙ ap₂ (λ l more. l ∷ lines_of more) first.0 first.1
+    first_line (line ++ rest) (omega (arith, length-append line rest)) ∙ ap₂ (λ l more. l ∷ lines_of more) first.0 first.1
 
 cut_lines : (lines : List Text) (rest : Text) → AllByRecursion IsWholeLine lines → lines_of (concat lines ++ rest) ≡ lines ++ lines_of rest
 cut_lines [] rest each = refl
-cut_lines (line ∷ lines) rest each = grind (arith, common_steps, lines_of, append_assoc, lines_before, cut_lines lines rest each.1)
+cut_lines (line ∷ lines) rest each = grind (arith, append_assoc, lines_before, cut_lines lines rest each.1)
 
 pub whole_tail : (x y : ℕ) (ys : Text) → IsWholeLine (x ∷ y ∷ ys) → IsWholeLine (y ∷ ys)
 whole_tail x y ys (some, stops, ends) =

@@ -17,5 +17,5 @@ Strips prefix bytes found =
 -- what is after the prefix, if the bytes begin with it
 pub behind : (prefix bytes : List ℕ) (found : Option (Bor (List ℕ))) → Strips prefix bytes found
     → MatchOption found ((t : List ℕ) → ¬ (bytes ≡ prefix ++ t)) (λ x. bytes ≡ prefix ++ x.now)
-behind prefix bytes None other = grind (arith, common_steps, not_both, bytes_decides, take-append_seam)
-behind prefix bytes (Some x) (same, rest, len) = grind (arith, common_steps, take-append-drop, bytes_decides)
+behind prefix bytes None other = grind (arith, bytes_decides, take-append_seam)
+behind prefix bytes (Some x) (same, rest, len) = grind (arith, take-append-drop, bytes_decides)

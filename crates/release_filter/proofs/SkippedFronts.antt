@@ -16,7 +16,7 @@ not_longer front text next more e =
 -- a text that is the prefix and more
 pub begins_some : (dialect : Dialect) (prefix front text : Text) (b : Bool) → front ≡ prefix ++ text → (IsTrue b ↔ IsFrontIn dialect text)
     → (IsTrue b ↔ BeginsAfter dialect prefix front)
-begins_some dialect prefix front text b is both = grind (arith, common_steps, append_cancel_left, not_longer)
+begins_some dialect prefix front text b is both = grind (arith, append_cancel_left, not_longer)
 
 -- another one
 pub begins_none : (dialect : Dialect) (prefix front : Text) (found : Option (Bor (List ℕ))) (b : Bool)

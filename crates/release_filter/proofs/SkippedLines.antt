@@ -55,12 +55,12 @@ spells_front : (dialect : Dialect) (prefix front rest text : Text) (v : VersionV
 spells_front dialect [] front rest text v e spells = search rules
 spells_front dialect (p ∷ ps) [] rest text v e spells = inr (p, ps, refl)
 spells_front dialect (p ∷ ps) (x ∷ xs) rest text v e spells =
-    grind (arith, common_steps, one_more_byte, spells_front dialect ps xs rest text v (cc) spells)
+    grind (arith, spells_front dialect ps xs rest text v (cc) spells)
 
 has_front : (dialect : Dialect) (prefixes : List Text) (line front rest : Text) (v : VersionValue) → line_text line ≡ front ++ rest
     → HasVersion dialect prefixes line v → BeginsAfterOne dialect prefixes front
 has_front dialect [] line front rest v e has = absurd has
-has_front dialect (p ∷ ps) line front rest v e (inl (text, is, spells)) = grind (arith, common_steps, spells_front)
+has_front dialect (p ∷ ps) line front rest v e (inl (text, is, spells)) = grind (arith, spells_front)
 has_front dialect (p ∷ ps) line front rest v e (inr (none, has)) = inr (has_front dialect ps line front rest v e has)
 
 -- ---- a front after a mark

@@ -65,7 +65,7 @@ module _ (t : LinesValue) (front dropped : Text) (none : NoEnd front) (none_drop
     line_as end = record { line = after_mark t.at_front ((front ++ dropped) ++ end); verdict = invalid }
 
     must_be : (end : Text) (v : Verdict) → IsVerdictOn t.filter t.prefixes (after_mark t.at_front (front ++ end)) v → v ≡ invalid
-    must_be = grind (arith, common_steps, must_be_skipped)
+    must_be = grind (arith, must_be_skipped)
 
     is_one : (end : Text) → IsVerdictOn t.filter t.prefixes (after_mark t.at_front ((front ++ dropped) ++ end)) invalid
     is_one end =
@@ -74,11 +74,11 @@ module _ (t : LinesValue) (front dropped : Text) (none : NoEnd front) (none_drop
     count_one : (end : Text) (c : CountsValue)
         → counted_as invalid c (after_mark t.at_front (front ++ end)) ≡ counted_as invalid c
         (after_mark t.at_front ((front ++ dropped) ++ end))
-    count_one end c = grind (arith, common_steps, counted_alike, counted_as, after_mark, append_assoc)
+    count_one end c = grind (arith, counted_alike, append_assoc)
 
     same_counts : (k : JudgedLine) (ks : List JudgedLine) (end : Text) → k.verdict ≡ invalid
         → k.line ≡ after_mark t.at_front (front ++ end) → counted t.counts (k ∷ ks) ≡ counted t.counts (line_as end ∷ ks)
-    same_counts k ks end is so = grind (arith, common_steps, counted_as, count_one)
+    same_counts k ks end is so = grind (arith, count_one)
 
     -- it does not end in the piece
     took_on : (u : LinesValue) (q : Text) (ks : List JudgedLine) (old new : Text) (b : TakesAll cut_off q ks u old new) → b.lines ≡ []
@@ -86,7 +86,7 @@ module _ (t : LinesValue) (front dropped : Text) (none : NoEnd front) (none_drop
         × (u.at_front ≡ t.at_front)
     took_on u q ks old new b nothing =
         let rest : front ++ q ≡ u.unended = cc in
-        let more = rest_ends front q (subst NoEnd (sym rest) b.cut.no_end) in
+        let more = rest_ends front q (rw (rest) b.cut.no_end) in
         let front_is = ap (λ l. t.at_front && is_empty l) nothing ∙ and-true t.at_front in (
           record {
             lines = [];
@@ -110,12 +110,12 @@ module _ (t : LinesValue) (front dropped : Text) (none : NoEnd front) (none_drop
         → b.lines ≡ y ∷ ys → (ls : List JudgedLine) × AreAlike ks ls × TakesAll whole_one q ls u old new
     took_end u q y ys [] old new b some = cc
     took_end u q y ys (k ∷ ks) old new b some =
-        let each = subst (AllByRecursion IsWholeLine) some b.cut.each in
+        let each = rw (some) at b.cut.each in
         let whole = b.cut.whole ∙ ap (λ l. concat l ++ u.unended) some ∙ append_assoc y (concat ys) u.unended in
         let end = line_after front y q (concat ys ++ u.unended) none each.0 whole in
         let all = b.judges.all ∙ ap (marked_off t.at_front) some in
         let line : k.line ≡ after_mark t.at_front (front ++ end.0) = cc in
-        let verdict = must_be end.0 k.verdict (subst (λ l. IsVerdictOn t.filter t.prefixes l k.verdict) line b.judges.each.0) in (
+        let verdict = must_be end.0 k.verdict (rw (← line) b.judges.each.0) in (
           line_as end.0 ∷ ks,
           (inr (verdict, refl), alike ks),
           record {

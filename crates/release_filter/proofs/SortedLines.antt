@@ -35,15 +35,15 @@ is_below line other = is_lt (precedence (plain_of line) (plain_of other))
 pub compares : {F : Type 0} {g : _} {f : F}
     → ((a : Bor (Bor KeptLine) × (Bor (Bor KeptLine) × Unit {0})) (r : Ordering) (f' : F) → Called g f a r f'
     → (r ≡ precedence (plain_of a.0.now) (plain_of a.1.0.now)) × (f' ≡ f)) → ComparesAs g is_below f
-compares {g = g} {f = f} h = grind (arith, common_steps, always_returns_same, is_lt, is_below)
+compares {g = g} {f = f} h = grind (arith, always_returns_same)
 
 some_or_none : {X : Type 0} (p : X → Bool) (xs : List X) → ((x : X) × (p x ≡ true)) ⊎ (list_any p xs ≡ false)
 some_or_none p [] = inr refl
-some_or_none {X = X} p (x ∷ xs) = grind (arith, common_steps, list_any, some_or_none p xs)
+some_or_none {X = X} p (x ∷ xs) = grind (arith, some_or_none p xs)
 
 keeps_none : {X : Type 0} (p : X → Bool) (xs : List X) → list_any p xs ≡ false → filter p xs ≡ []
 keeps_none p [] none = refl
-keeps_none p (x ∷ xs) none = grind (arith, common_steps, list_any, keeps_none p xs)
+keeps_none p (x ∷ xs) none = grind (arith, keeps_none p xs)
 
 -- a line whose version equals this one by precedence
 abbrev is_equal : PlainVersion → Bor KeptLine → Bool
@@ -52,7 +52,7 @@ is_equal v line = is_eq (precedence (plain_of line) v)
 filter_seen : (v : PlainVersion) (lines : List (Bor KeptLine))
     → filter (λ (k : KeptValue). is_eq (precedence k.version v)) (seen_lines lines) ≡ seen_lines (filter (is_equal v) lines)
 filter_seen v [] = refl
-filter_seen v (x ∷ xs) = grind (arith, common_steps, is_equal, is_eq, seen_lines, kept_value, filter_seen v xs)
+filter_seen v (x ∷ xs) = grind (arith, seen_lines, kept_value, filter_seen v xs)
 
 module _ (total : IsTotalOrder precedence) where
   -- it ties with the lines whose versions are equal to that

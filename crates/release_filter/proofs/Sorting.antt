@@ -74,12 +74,12 @@ module _ (total : IsTotalOrder precedence) where
     first_equal = at (precedence x.version y.version) refl
       where
         at : (o : Ordering) → precedence x.version y.version ≡ o → precedence x.version y.version ≡ Equal
-        at Less e = grind (arith, common_steps, no_first, equals_first, none_equal)
+        at Less e = grind (arith, equals_first, none_equal)
         at Equal e = e
-        at Greater e = grind (arith, common_steps, ordering_reverse, no_first, equals_first, none_equal)
+        at Greater e = grind (arith, equals_first, none_equal)
 
     first_same : x ≡ y
-    first_same = grind (arith, common_steps, equals_first, is_eq, ordering_reverse, first_equal)
+    first_same = grind (arith, ordering_reverse, first_equal)
 
     rest_same : (v : PlainVersion) → equals v xs ≡ equals v ys
     rest_same v =
