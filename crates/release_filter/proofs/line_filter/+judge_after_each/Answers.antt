@@ -9,9 +9,5 @@ use Rattle.release_filter.proofs.line_filter.+judge_after_each.Goals as goal
 pub returns-in-NoVersion : goal.returns-in-NoVersion
 returns-in-NoVersion t c =
     let none =
-    subst (λ (prefix : Text). JudgesBy (SpellsAfter c.args.filter.now.dialect prefix c.args.line.now) c.args.filter.now NoVersion)
-    c.as_str.ensures.value c.in-NoVersion.ensures in
-    subst (λ (prefixes : List Text). JudgesBy (HasVersion c.args.filter.now.dialect prefixes c.args.line.now) c.args.filter.now
-    c.judge_after_each.result)
-    (sym (first_and_rest c.args.prefixes.now c.prefix-item.result c.in-len1-up.len_at_least c.prefix-item.is))
-    (next c.args.filter.now _ _ c.args.line.now c.judge_after_each.result none c.judge_after_each.ensures)
+    rw (c.as_str.ensures.value) at c.in-NoVersion.ensures in
+    rw (first_and_rest c.args.prefixes.now c.prefix-item.result c.in-len1-up.len_at_least c.prefix-item.is) (next c.args.filter.now _ _ c.args.line.now c.judge_after_each.result none c.judge_after_each.ensures)

@@ -3,14 +3,15 @@ use Rattle.release_filter.specs.Steps.Outlined.{IsOutlined}
 use Rattle.release_filter.proofs.NumberedLines.{is_whole, none_before, outlined}
 use Rattle.release_filter.proofs.Passing.{outlined_as}
 use Rattle.release_filter.proofs.line_filter.first_outlined.Goals as goal
+use Rattle.std.proofs.lemmas.Grind.{common_steps}
+use Rattle.std.proofs.Common.{arith}
 
 pub returns-in_err-behind-clause-none : goal.returns-in_err-behind-clause-none
 returns-in_err-behind-clause-none c = λ _. none_before c.in-Some.ensures (c.in_err-behind.ensures.none refl)
 
 pub returns-in-Some-clause-whole : goal.returns-in-Some-clause-whole
 returns-in-Some-clause-whole c =
-    is_whole c.args.bytes.now c.in-Some.rest.now c.in_ok-behind.behind.now c.in-Some.ensures c.in_ok-behind.ensures.front
-    c.in_ok-behind.ensures.whole
+    grind (arith, common_steps, is_whole)
 
 pub returns-in-Some-clause-outlined : goal.returns-in-Some-clause-outlined
 returns-in-Some-clause-outlined c =
@@ -21,5 +22,4 @@ returns-in-Some-clause-outlined c =
 pub returns-clause-outlined : goal.returns-clause-outlined
 returns-clause-outlined c =
     let found = c.outline_in.result in
-    subst (λ text. IsOutlined c.args.dialect text found) c.text_of.ensures
-    (outlined_as c.args.dialect c.text_of.result.now found c.outline_in.ensures.outlined c.outline_in.ensures.none)
+    rw (← c.text_of.ensures) (outlined_as c.args.dialect c.text_of.result.now found c.outline_in.ensures.outlined c.outline_in.ensures.none)

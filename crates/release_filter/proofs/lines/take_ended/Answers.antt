@@ -25,10 +25,10 @@ returns-then-may_hand_over-clause-takes c =
     let old = c.args.kept.now.items in
     let new = c.swap.new.x.items in
     let marked = c.as_slice-marked.ensures.value in
-    let unmarked = c.after_mark-line.ensures ∙ not_marked c.args.at_front _ (ap length (sym c.after_mark-line.ensures) ∙ may.1) ∙ marked in
-    let whole : new ≡ line = ap (λ (v : Vec ℕ Global). v.items) c.swap.ensures.x_after ∙ sym unmarked in
+    let unmarked = c.after_mark-line.ensures ∙ not_marked c.args.at_front _ (cc) ∙ marked in
+    let whole : new ≡ line = cc in
     takes_judged filter prefixes held held counts (counts_value c.add.new.self) line (after_mark c.args.at_front all)
-    c.judge_line-judged.result old new true (c.after_mark-line.ensures ∙ ap (after_mark c.args.at_front) marked)
+    c.judge_line-judged.result old new true (cc)
     c.judge_line-judged.ensures
     (λ plain passes. takes_each held counts (counts_value c.add.new.self) line c.judge_line-judged.result _ plain old new may.0
     c.in-Passes.is nothing whole c.add.ensures)
@@ -43,15 +43,14 @@ returns-then-may_hold-clause-takes c =
     let line = c.after_mark-line.result.now in
     let all = c.args.bytes.now.items in
     let marked = c.as_slice-marked.ensures.value in
-    let unmarked = c.after_mark-line.ensures ∙ not_marked c.args.at_front _ (ap length (sym c.after_mark-line.ensures) ∙ may.1) ∙ marked in
+    let unmarked = c.after_mark-line.ensures ∙ not_marked c.args.at_front _ (cc) ∙ marked in
     let best = c.hold_whole.ensures.best in
     let version = (version_value c.in_ok-version.version).plain in
     let old = c.args.kept.now.items in
-    let found = subst (λ (l : Text). IsBest (order_of held.wanted)
-    (option_to_list held.best ++ record { version = version; line = l } ∷ []) best.0) (sym unmarked) best.1 in
+    let found = rw (← unmarked) at best.1 in
     takes_judged filter prefixes held (held_value c.hold_whole.new.self) counts (counts_value c.add-then-may_hold.new.self) line
-    (after_mark c.args.at_front all) c.judge_line-judged.result old old true
-    (c.after_mark-line.ensures ∙ ap (after_mark c.args.at_front) marked) c.judge_line-judged.ensures
+    _ c.judge_line-judged.result old old true
+    (cc) c.judge_line-judged.ensures
     (λ plain passes. takes_best held (held_value c.hold_whole.new.self) counts (counts_value c.add-then-may_hold.new.self) line
     c.judge_line-judged.result c.in-Passes.outline plain version old best.0 may.0 c.in-Passes.is passes (c.in_ok-version.ensures plain)
     found best.2 c.add-then-may_hold.ensures)
@@ -65,6 +64,4 @@ returns-clause-takes c =
     let said = c.judge_line-judged.result in
     let told = verdict filter prefixes line said c.judge_line-judged.ensures in
     IfOk-weaker c.take.result _ _
-    (λ valid one. subst (λ l. TakesJudged filter prefixes (held_value c.args.held.now) (counts_value c.args.counts.now) l
-    (held_value c.take.new.held) (counts_value c.take.new.counts) c.args.kept.now.items c.take.new.kept.items valid) is
-    (verdict_of said told.0 line, told.2, one.0, one.1)) (c.take.ensures.takes told.0 told.1)
+    (λ valid one. rw (← is) (verdict_of said told.0 line, told.2, one.0, one.1)) (c.take.ensures.takes told.0 told.1)

@@ -6,10 +6,9 @@ use Rattle.semver_parser.specs.RangeViews.{comparator_of}
 use Rattle.semver_parser.specs.VersionViews.{identifier_value, version_value}
 use Rattle.release_filter.proofs.Tests.{list_any-map, some_decides}
 use Rattle.release_filter.proofs.meeting.counts_beside.Goals as goal
+use Rattle.std.proofs.lemmas.Grind.{common_steps}
+use Rattle.std.proofs.Common.{arith}
 
 pub returns-else-is_empty : goal.returns-else-is_empty
 returns-else-is_empty c =
-    let at = has_pre_release_at (version_value c.args.version.now).plain in
-    c.some_has_pre_release_at.ensures ∙ sym (list_any-map at comparator_of c.deref.result.now)
-    ∙ ap (λ (l : List Comparator). list_any at (map comparator_of l)) c.deref.ensures.value
-    ∙ some_decides identifier_value c.args.version.now.pre.items _ (search rules)
+    grind (arith, common_steps, has_pre_release_at, version_value, list_any-map, comparator_of, list_any)

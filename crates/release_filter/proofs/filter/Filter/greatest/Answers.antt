@@ -10,15 +10,13 @@ use Rattle.release_filter.proofs.Passing.{not_both}
 use Rattle.release_filter.proofs.ExtremeSteps.{IsSoFar, passed_over, begins, stays, replaces, not_above, none_is, greatest_is}
 use Rattle.release_filter.proofs.filter.Filter.greatest.Goals as goal
 use Rattle.release_filter.proofs.filter.Filter.greatest.Goals.{in-Some+then-is_above, in-Some+else-is_above, in-None}
+use Rattle.std.proofs.lemmas.Grind.{common_steps}
+use Rattle.std.proofs.Common.{arith}
+use Rattle.std.proofs.Common.{rules}
 
 pub loop-version-preserved-then-not-meets : goal.loop-version-preserved-then-not-meets
 loop-version-preserved-then-not-meets c =
-    let has = IsOneThat (passes c.args.self.now) in
-    let seen = one_more c.args.versions.now _ c.version-item.result c.loop-version-test.true c.version-item.is in
-    let fails = sym c.meets.ensures.meets ∙ c.if-not-meets.true in
-    subst (λ xs. IsSoFar precedence has xs (option_map (λ g. g.now) c.loop-version.greatest)) (sym seen)
-    (passed_over precedence has (take c.loop-version.version-index c.args.versions.now) c.version-item.result _ c.loop-version.invariant
-    (λ w is. not_both is.1 (ap (passes c.args.self.now) (sym is.0) ∙ fails)))
+    grind (arith, common_steps, one_more, option_map, passed_over, not_both)
 
 pub loop-version-preserved : goal.loop-version-preserved
 loop-version-preserved c =
@@ -28,37 +26,32 @@ loop-version-preserved c =
     let v = version_value x in
     let before = take c.loop-version.version-index c.args.versions.now in
     let seen = one_more c.args.versions.now _ x c.loop-version-test.true c.version-item.is in
-    let is : has x v = (refl, sym c.meets.ensures.meets ∙ c.if-not-meets.false) in
+    let is : has x v = search rules in
     let total = c.precedence_is_total.ensures.total in
     elim c.match-greatest.branch [
       | in-Some+then-is_above w ↦
           let so_far = rw w.in-Some.is at c.loop-version.invariant in
           let above = subst (λ u. precedence u.plain v.plain ≡ Less) so_far.has.0 (w.is_above.ensures.0 w.if-is_above.true) in
-          rw w.greatest-is (subst (λ xs. IsSoFar precedence has xs (Some x)) (sym seen)
-          (replaces precedence has total (λ x v w p q. sym p.0 ∙ q.0) before x w.in-Some.other.now v so_far is above))
+          rw w.greatest-is (rw (seen) (replaces precedence has total (λ x v w p q. sym p.0 ∙ q.0) before x w.in-Some.other.now v so_far is above))
       | in-Some+else-is_above w ↦
           let so_far = rw w.in-Some.is at c.loop-version.invariant in
           let low = not_above precedence total v.plain (version_value w.in-Some.other.now).plain
           (λ e. not_both (w.is_above.ensures.1 e) w.if-is_above.false) in
-          rw (w.greatest-is, w.in-Some.is) (subst (λ xs. IsSoFar precedence has xs (Some w.in-Some.other.now)) (sym seen)
-          (stays precedence has before x w.in-Some.other.now so_far
+          rw (w.greatest-is, w.in-Some.is) (rw (seen) (stays precedence has before x w.in-Some.other.now so_far
           (λ u p. subst (λ u. precedence u.plain so_far.version.plain ≢ Greater) p.0
           (subst (λ u. precedence v.plain u.plain ≢ Greater) so_far.has.0 low))))
       | in-None w ↦
           let so_far = rw w.in-None.is at c.loop-version.invariant in
-          rw w.greatest-is (subst (λ xs. IsSoFar precedence has xs (Some x)) (sym seen) (begins precedence has before x v so_far is))
+          rw w.greatest-is (rw (seen) (begins precedence has before x v so_far is))
     ]
 
 pub returns-clause-greatest : goal.returns-clause-greatest
 returns-clause-greatest c =
     let whole = all_taken c.args.versions.now _ c.loop-version.auto.version-index-end c.loop-version-test.false in
     let has = IsOneThat (passes c.args.self.now) in
-    greatest_is precedence has (λ (g : Bor Version). g.now) c.args.versions.now c.loop-version.greatest
-    (subst (λ xs. IsSoFar precedence has xs (option_map (λ g. g.now) c.loop-version.greatest)) whole c.loop-version.invariant)
+    greatest_is precedence has _ c.args.versions.now c.loop-version.greatest
+    (rw (← whole) c.loop-version.invariant)
 
 pub returns-clause-none : goal.returns-clause-none
 returns-clause-none c =
-    let whole = all_taken c.args.versions.now _ c.loop-version.auto.version-index-end c.loop-version-test.false in
-    let has = IsOneThat (passes c.args.self.now) in
-    none_is precedence has (λ (g : Bor Version). g.now) c.args.versions.now c.loop-version.greatest
-    (subst (λ xs. IsSoFar precedence has xs (option_map (λ g. g.now) c.loop-version.greatest)) whole c.loop-version.invariant)
+    grind (arith, common_steps, all_taken, none_is, option_map)

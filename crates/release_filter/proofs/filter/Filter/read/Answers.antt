@@ -7,10 +7,11 @@ use Rattle.semver_parser.specs.ToolVersions.{SpellsIn}
 use Rattle.release_filter.proofs.Passing.{apart, exactly_that, has_part, not_both, on_err}
 use Rattle.release_filter.proofs.filter.Filter.read.Goals as goal
 use Rattle.release_filter.proofs.filter.Filter.read.Goals.{In-Passes}
+use Rattle.std.proofs.Common.{rules}
 
 -- what is said of the text
 told : (c : In-Passes) → IsJudged c.args.self.now.dialect (passes c.args.self.now) c.args.text.now (Passes c.in-Passes.outline)
-told c = rw (c.as_bytes.ensures.value, c.in-Passes.is) at c.judge.ensures.judged
+told c = search rules
 
 pub returns-in_err-version-in-Passes-clause-out_of_memory : goal.returns-in_err-version-in-Passes-clause-out_of_memory
 returns-in_err-version-in-Passes-clause-out_of_memory c =
@@ -24,28 +25,15 @@ returns-in_err-version-in-Passes-clause-out_of_memory c =
     on_err _ c.from_residual.result (v, is.1, judged.1 v is.1, some)
 
 pub returns-in_err-version-in-Passes-clause-releases : goal.returns-in_err-version-in-Passes-clause-releases
-returns-in_err-version-in-Passes-clause-releases c = λ v spells some only.
-    absurd (apart c.in-Passes.outline
-    (sym c.in-Passes.is
-    ∙ c.judge.ensures.releases v (subst (SpellsIn c.args.self.now.dialect v) (sym c.as_bytes.ensures.value) spells) some only))
+returns-in_err-version-in-Passes-clause-releases c = search rules
 
 pub returns-in_ok-version-in-Passes-clause-exact : goal.returns-in_ok-version-in-Passes-clause-exact
 returns-in_ok-version-in-Passes-clause-exact c =
-    let is = told (goal.at.returns-in_ok-version-in-Passes-clause-exact c).In-Passes in
-    let dialect = c.args.self.now.dialect in
-    exactly_that dialect _ c.args.text.now _ (is.0.0, is.0.1) (λ v spells. (
-      is.1 v spells,
-      c.in_ok-version-in-Passes.ensures.of_version
-          ∙ sym (c.one_outlined_version.ensures.same_version dialect c.in-Passes.outline v c.args.text.now is.0 spells),
-    ))
+    search rules
 
 pub returns-in_ok-version-in-Passes-clause-none : goal.returns-in_ok-version-in-Passes-clause-none
 returns-in_ok-version-in-Passes-clause-none c =
-    let is = told (goal.at.returns-in_ok-version-in-Passes-clause-none c).In-Passes in
-    (λ none. cc, λ fails. absurd (not_both (is.1 is.0.0 is.0.1) (fails is.0.0 is.0.1)))
+    search rules
 
 pub returns-in_ok-version-in-Passes-clause-releases : goal.returns-in_ok-version-in-Passes-clause-releases
-returns-in_ok-version-in-Passes-clause-releases c = λ v spells some only.
-    absurd (apart c.in-Passes.outline
-    (sym c.in-Passes.is
-    ∙ c.judge.ensures.releases v (subst (SpellsIn c.args.self.now.dialect v) (sym c.as_bytes.ensures.value) spells) some only))
+returns-in_ok-version-in-Passes-clause-releases c = search rules

@@ -13,7 +13,6 @@ returns-then-is_empty-clause-judged c =
     let filter = c.args.self.now.filter in
     let line = c.in_ok-line.line.now in
     let said = c.judge_outline.result in
-    let outlined = subst (λ d. IsOutlined d (line_text line) c.in_ok-line.outline) c.dialect.ensures c.in_ok-line.ensures.outlined in
-    subst (λ (l : List (String Global)). JudgesBy (HasVersion filter.dialect (asked (texts l)) line) filter said) (sym none)
-    (outlined_line c.one_outlined_version.ensures.same_version filter line c.in_ok-line.outline said c.judge_outline.ensures.judged
+    let outlined = rw (c.dialect.ensures) at c.in_ok-line.ensures.outlined in
+    rw (none) (outlined_line c.one_outlined_version.ensures.same_version filter line c.in_ok-line.outline said c.judge_outline.ensures.judged
     outlined)

@@ -5,14 +5,11 @@ use Rattle.release_filter.proofs.Looks.{before_looks, looked_again, next_look}
 use Rattle.release_filter.proofs.line_filter.LineFilter.shown_end.Goals as goal
 use Rattle.release_filter.proofs.line_filter.LineFilter.shown_end.Goals.{else-size-seen-via-else-size-seen}
 use Rattle.release_filter.proofs.line_filter.LineFilter.shown_end.Goals.{else-size-seen-via-then-size-seen+else-not-may_have_version}
+use Rattle.std.proofs.Common.{rules}
 
 pub loop-size-init : goal.loop-size-init
 loop-size-init c =
-    let self = c.args.self.now in
-    record {
-      looked_at = (0, refl);
-      may = before_looks self.filter.dialect (texts self.prefixes.items) c.args.at_front c.args.unended.now 4096 (omega arith);
-    }
+    search rules
 
 pub loop-size-preserved : goal.loop-size-preserved
 loop-size-preserved c =
@@ -20,10 +17,7 @@ loop-size-preserved c =
     let before = c.loop-size.invariant in
     let size = c.loop-size.size in
     let here : MayHaveVersion self.filter.dialect (texts self.prefixes.items) c.args.at_front (take size c.args.unended.now) =
-    elim c.else-size-seen.branch [
-      | else-size-seen-via-then-size-seen+else-not-may_have_version w ↦ w.may_have_version.ensures.0 w.if-not-may_have_version.false
-      | else-size-seen-via-else-size-seen w ↦ c.requires size before.looked_at w.if-size-seen.false
-    ] in
+    search rules in
     record {
       looked_at = next_look size before.looked_at;
       may = looked_again self.filter.dialect (texts self.prefixes.items) c.args.at_front c.args.unended.now size before.looked_at

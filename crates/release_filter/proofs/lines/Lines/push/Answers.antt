@@ -11,7 +11,7 @@ pub lines-init : goal.lines-init
 lines-init c = (
   omega arith,
   [],
-  took_nothing c.args.self.now _ (subst (λ (s : LinesValue). NoEnd s.unended) c.self.view_is c.self.invariant.no_end),
+  took_nothing c.args.self.now _ (rw (← c.self.view_is) c.self.invariant.no_end),
   λ strict. refl,
 )
 
@@ -21,7 +21,7 @@ lines-preserved c =
     let so_far = c.lines.invariant in
     let j = found.2.0 in
     let next = took_next c.precedence_is_total.ensures.total c.args.self.now c.lines.self c.take_first.new.self c.args.piece.now
-    c.in-Ok-Some.end.now so_far.1 (j ∷ []) _ c.lines.kept.items _ c.lines.taken so_far.0 found.0 so_far.2 found.2.1 in (
+    c.in-Ok-Some.end.now so_far.1 _ _ c.lines.kept.items _ c.lines.taken so_far.0 found.0 so_far.2 found.2.1 in (
       next.0,
       so_far.1 ++ j ∷ [],
       next.1,
@@ -40,7 +40,7 @@ returns-then-not-is_valid-clause-stops c =
     let so_far = c.lines.invariant in
     let j = found.2.0 in
     let next = took_next c.precedence_is_total.ensures.total c.args.self.now c.lines.self c.take_first.new.self c.args.piece.now
-    c.in-Ok-Some.end.now so_far.1 (j ∷ []) _ c.lines.kept.items _ c.lines.taken so_far.0 found.0 so_far.2 found.2.1 in
+    c.in-Ok-Some.end.now so_far.1 _ _ c.lines.kept.items _ c.lines.taken so_far.0 found.0 so_far.2 found.2.1 in
     let strict = sym (ap (λ (v : LinesValue). v.is_strict) (c.self-in-lines.view_is ∙ next.1.state)) ∙ c.if-self.true in (
       next.0,
       (

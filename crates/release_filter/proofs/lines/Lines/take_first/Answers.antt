@@ -20,8 +20,8 @@ returns-clause-takes c =
     let later = ap (λ (v : LinesValue). v.at_front) same ∙ c.if-self.false in
     let nothing = ap (λ (v : LinesValue). v.unended) same ∙ none in
     let taken = takes_judged value.filter value.prefixes value.held (held_value c.take.new.held) value.counts
-    (counts_value c.take.new.counts) line (after_mark s.at_front (s.unended.items ++ line)) found.judged c.args.kept.now.items
-    c.take.new.kept.items c.in_ok-is_valid-2.is_valid (sym (ap₂ (λ b l. after_mark b (l ++ line)) later nothing)) found.ensures.judged
+    (counts_value c.take.new.counts) line _ found.judged c.args.kept.now.items
+    c.take.new.kept.items c.in_ok-is_valid-2.is_valid (cc) found.ensures.judged
     c.in_ok-is_valid-2.ensures.takes in
     let whole = took_judged value line s.unended.items s.at_front (held_value c.take.new.held) (counts_value c.take.new.counts)
     c.args.kept.now.items c.take.new.kept.items c.in_ok-is_valid-2.is_valid found.ensures.whole c.self-2.invariant.no_end taken nothing

@@ -10,9 +10,7 @@ use Rattle.release_filter.proofs.lines.Lines.take_line.Goals as goal
 pub returns-in-Ok-clause-takes : goal.returns-in-Ok-clause-takes
 returns-in-Ok-clause-takes c =
     let value = view c.self.inside in
-    let taken = subst (λ l. TakesJudged value.filter value.prefixes value.held value.counts (after_mark value.at_front l)
-    (held_value c.take_ended.new.held) (counts_value c.take_ended.new.counts) c.args.kept.now.items c.take_ended.new.kept.items
-    c.in-Ok.is_valid) c.in_ok-extend_from_slice.ensures.items c.in-Ok.ensures.takes in
+    let taken = rw (c.in_ok-extend_from_slice.ensures.items) at c.in-Ok.ensures.takes in
     let whole = took_judged value c.args.end.now c.clear.new.self.items false (held_value c.take_ended.new.held)
     (counts_value c.take_ended.new.counts) c.args.kept.now.items c.take_ended.new.kept.items c.in-Ok.is_valid c.requires
     c.self.invariant.no_end taken c.clear.ensures.items refl in

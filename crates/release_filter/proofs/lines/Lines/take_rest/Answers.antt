@@ -13,7 +13,6 @@ returns-in-Some-clause-takes c =
     let slice = c.as_slice-unended.ensures.value in
     let cut = c.truncate.ensures.items ∙ ap (take c.in-Some.size) (sym slice) in (
       λ i. record (c.self.view_is i) { unended = new },
-      subst (λ (v : LinesValue). IsLeft v.filter.dialect v.prefixes v.at_front (v.unended ++ c.args.rest.now) new) c.self.view_is
-          (left_front s.chosen.filter.dialect value.prefixes s.at_front (s.unended.items ++ c.args.rest.now)
+      rw (← c.self.view_is) (left_front s.chosen.filter.dialect value.prefixes s.at_front (s.unended.items ++ c.args.rest.now)
           c.as_slice-unended.result.now new c.in-Some.size (slice ∙ c.in_ok-extend_from_slice.ensures.items) cut c.in-Some.ensures.some),
     )

@@ -8,14 +8,15 @@ use Rattle.release_filter.proofs.HeldLines.{best_list, seen_lines, sees_next, wi
 use Rattle.release_filter.proofs.SortedLines.{compares, plain_of, is_below, sorts}
 use Rattle.release_filter.proofs.wanted.Held.append_sorted.Goals as goal
 use Rattle.release_filter.proofs.wanted.Held.append_sorted.Goals.{in-Some+in_ok-push-2, in_default}
+use Rattle.std.proofs.lemmas.Grind.{common_steps}
+use Rattle.std.proofs.Common.{arith}
 
 pub loop-line-init : goal.loop-line-init
-loop-line-init c = ap (λ (l : List (Bor KeptLine)). seen_lines l ++ map kept_value c.deref-line-items.result.now) c.new-lines.ensures.items
+loop-line-init c = cc
 
 pub loop-line-preserved : goal.loop-line-preserved
 loop-line-preserved c =
-    sees_next c.deref-line-items.result.now c.loop-line.line-index c.line-item.result c.loop-line.lines.items c.push.new.self.items _
-    c.loop-line-test.true c.line-item.is c.loop-line.invariant c.in_ok-push.ensures.items refl
+    grind (arith, common_steps)
 
 pub returns-clause-sorts : goal.returns-clause-sorts
 returns-clause-sorts c =
@@ -26,21 +27,14 @@ returns-clause-sorts c =
     ∙ ap (λ (l : List KeptLine). seen_lines c.loop-line.lines.items ++ map kept_value l) (sym none) ∙ c.loop-line.invariant
     ∙ ap (map kept_value) c.deref-line-items.ensures.value in
     let lines : seen_lines c.match-last.lines.items ≡ held ++ best_list last =
-    elim c.match-last.branch [
-      | in-Some+in_ok-push-2 w ↦
-          with_last c.loop-line.lines.items c.match-last.lines.items held last w.in-Some.last _ all w.in-Some.is
-          (ap (λ (v : Vec (Bor KeptLine) Global). v.items) w.lines-is ∙ w.in_ok-push-2.ensures.items) refl
-      | in_default w ↦
-          without_last c.match-last.lines.items held last (ap (λ (v : Vec (Bor KeptLine) Global). seen_lines v.items) w.lines-is
-          ∙ all) w.in_default.is
-    ] in
+    grind (arith, common_steps) in
     let weak = ranks_by c.precedence_is_total.ensures.total plain_of in
     let answers = compares (λ a r q k. search rules) in
     let sort = sorts c.precedence_is_total.ensures.total c.match-last.lines.items c.sort_by.new.self.items
     c.in_ok-sort_by.ensures.permutation (c.in_ok-sort_by.ensures.sorted is_below weak answers)
     (c.in_ok-sort_by.ensures.stable is_below weak answers) in (
       seen_lines c.sort_by.new.self.items,
-      subst (λ (l : List KeptValue). IsStableSort l (seen_lines c.sort_by.new.self.items)) lines sort,
+      rw (← lines) sort,
       c.in_ok-append_ended.ensures.appends
           ∙ ap (λ (l : List (Bor KeptLine)). c.args.kept.now.items ++ ended_text (seen_lines l)) c.as_slice.ensures.value,
     )

@@ -9,9 +9,9 @@ use Rattle.release_filter.proofs.wanted.Held.hold_best.Goals as goal
 
 pub returns-then-not-is_better-clause-best : goal.returns-then-not-is_better-clause-best
 returns-then-not-is_better-clause-best c =
-    let k : KeptValue = record { version = (version_value c.args.version).plain; line = c.args.line.now } in (
+    (
       option_map kept_value c.args.self.now.best,
-      stays c.precedence_is_total.ensures.total c.args.self.now.wanted c.args.self.now.best k _ c.is_better.ensures c.if-not-is_better.true,
+      stays c.precedence_is_total.ensures.total c.args.self.now.wanted c.args.self.now.best (record { version = (version_value c.args.version).plain; line = c.args.line.now }) _ c.is_better.ensures c.if-not-is_better.true,
       refl,
     )
 
@@ -20,10 +20,10 @@ returns-in-Some-clause-best c =
     let k : KeptValue = record { version = (version_value c.args.version).plain; line = c.args.line.now } in
     let bytes = ap (λ (v : Vec ℕ Global). v.items) c.replace-bytes.ensures.value ∙ c.in_ok-extend_from_slice.ensures.items
     ∙ ap (λ (l : Text). l ++ c.args.line.now) c.clear.ensures.items in
-    let made = made_best c.replace.new.dest c.args.version c.replace-bytes.result c.args.line.now c.replace.ensures.after bytes in (
+    (
       Some k,
       replaces c.args.self.now.wanted c.args.self.now.best k _ c.is_better.ensures c.if-not-is_better.false,
-      λ i. record (held_value c.args.self.now) { best = made i },
+      λ i. record (held_value c.args.self.now) { best = (made_best c.replace.new.dest c.args.version c.replace-bytes.result c.args.line.now c.replace.ensures.after bytes) i },
     )
 
 pub returns-in_default-clause-best : goal.returns-in_default-clause-best
@@ -31,8 +31,8 @@ returns-in_default-clause-best c =
     let k : KeptValue = record { version = (version_value c.args.version).plain; line = c.args.line.now } in
     let bytes = ap (λ (v : Vec ℕ Global). v.items) c.replace-bytes.ensures.value ∙ c.in_ok-extend_from_slice.ensures.items
     ∙ ap (λ (l : Text). l ++ c.args.line.now) c.clear.ensures.items in
-    let made = made_best c.replace.new.dest c.args.version c.replace-bytes.result c.args.line.now c.replace.ensures.after bytes in (
+    (
       Some k,
       replaces c.args.self.now.wanted c.args.self.now.best k _ c.is_better.ensures c.if-not-is_better.false,
-      λ i. record (held_value c.args.self.now) { best = made i },
+      λ i. record (held_value c.args.self.now) { best = (made_best c.replace.new.dest c.args.version c.replace-bytes.result c.args.line.now c.replace.ensures.after bytes) i },
     )

@@ -9,11 +9,10 @@ use Rattle.release_filter.proofs.wanted.Held.hold_whole.Goals as goal
 
 pub returns-then-not-is_better : goal.returns-then-not-is_better
 returns-then-not-is_better c =
-    let k : KeptValue = record { version = (version_value c.args.version).plain; line = c.args.line.now.items } in
     record {
       best = (
         option_map kept_value c.args.self.now.best,
-        stays c.precedence_is_total.ensures.total c.args.self.now.wanted c.args.self.now.best k _ c.is_better.ensures
+        stays c.precedence_is_total.ensures.total c.args.self.now.wanted c.args.self.now.best (record { version = (version_value c.args.version).plain; line = c.args.line.now.items }) _ c.is_better.ensures
             c.if-not-is_better.true,
         refl,
       );
@@ -22,8 +21,7 @@ returns-then-not-is_better c =
 pub returns : goal.returns
 returns c =
     let k : KeptValue = record { version = (version_value c.args.version).plain; line = c.args.line.now.items } in
-    let bytes = ap (λ (v : Vec ℕ Global). v.items) c.replace-bytes.ensures.value in
-    let made = ap (λ (l : Text). Some (record { version = (version_value c.args.version).plain; line = l })) bytes in
+    let made = ap (λ (l : Text). Some (record { version = (version_value c.args.version).plain; line = l })) (ap (λ (v : Vec ℕ Global). v.items) c.replace-bytes.ensures.value) in
     record {
       best = (
         Some k,

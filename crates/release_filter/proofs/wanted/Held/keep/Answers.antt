@@ -11,11 +11,9 @@ returns-in_ok-hold_best-in-Greatest-clause-holds c = λ plain of.
     let h = held_value c.args.self.now in
     let line = c.args.line.now in
     let held = c.in_ok-hold_best-in-Greatest.ensures.best in
-    let best = subst (λ (v : PlainVersion). IsBest (order_of c.args.self.now.wanted)
-    (best_list c.args.self.now.best ++ record { version = v; line = line } ∷ []) held.0) (c.in_ok-version-in-Greatest.ensures plain of)
-    held.1 in (
+    let best = rw (c.in_ok-version-in-Greatest.ensures plain of) at held.1 in (
       [],
-      holds_best c.args.self.now.wanted c.in-Greatest.is h (held_value c.hold_best.new.self) (record { version = plain; line = line } ∷ [])
+      holds_best c.args.self.now.wanted c.in-Greatest.is h (held_value c.hold_best.new.self) _
           held.0
           best held.2,
       sym (append-nil c.args.kept.now.items),
@@ -24,12 +22,12 @@ returns-in_ok-hold_best-in-Greatest-clause-holds c = λ plain of.
 pub returns-in_ok-push-in-Sorted-clause-holds : goal.returns-in_ok-push-in-Sorted-clause-holds
 returns-in_ok-push-in-Sorted-clause-holds c = λ plain of.
     let h = held_value c.args.self.now in
-    let lines : List KeptValue = record { version = plain; line = c.args.line.now } ∷ [] in
-    let made = map-append kept_value c.args.self.now.sorted.items (c.in_ok-kept_line-in-Sorted.field-0 ∷ [])
+    let lines = record { version = plain; line = c.args.line.now } ∷ [] in
+    let made = map-append kept_value c.args.self.now.sorted.items _
     ∙ ap (λ k. map kept_value c.args.self.now.sorted.items ++ k ∷ []) (c.in_ok-kept_line-in-Sorted.ensures plain of) in
     let sorted = ap (map kept_value) c.in_ok-push-in-Sorted.ensures.items ∙ made in
-    let g : HeldValue = record h { sorted = map kept_value c.push.new.self.items } in (
+    let g = record h { sorted = map kept_value c.push.new.self.items } in (
       [],
-      subst (λ w. HoldsBy w h lines g []) (sym c.in-Sorted.is) ((λ i. record h { sorted = sorted i }), refl),
+      subst (λ w. HoldsBy w h lines g []) (sym c.in-Sorted.is) ((cc), refl),
       sym (append-nil c.args.kept.now.items),
     )
