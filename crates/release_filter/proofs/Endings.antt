@@ -74,7 +74,7 @@ takes_each h c d line said o plain old new each is none whole counts = (
   record {
     added = line;
     holds =
-        rw (is) (rw each (refl, sym (append-nil line)));
+        rw is (rw each (refl, sym (append-nil line)));
     appended = cc;
     counted = cc;
   },

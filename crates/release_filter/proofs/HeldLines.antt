@@ -1,7 +1,7 @@
 -- What holding a kept line does, and what is appended at the end of a text.
-use Rattle.std.proofs.Common.{◌≡◌, ◌∙◌, ◌⊎◌, ◌↔◌, ◌++◌, ◌∷◌, ◌<◌, ◌+◌, [], List, ℕ, Bool, true, false, refl, sym, ap, inl, inr}
-use Rattle.std.proofs.Common.{Option, Some, None, MatchOption, Vec, Global, Bor, append-nil, drop, get_or, length, map, take}
-use Rattle.std.proofs.Common.{Less, ◌==◌, arith, rules}
+use Rattle.std.proofs.Common.{◌≡◌, ◌∙◌, ◌⊎◌, ◌↔◌, ◌++◌, ◌∷◌, [], List, ℕ, Bool, true, false, refl, sym, ap, inl, inr}
+use Rattle.std.proofs.Common.{Option, Some, None, MatchOption, Vec, Global, Bor, append-nil, drop, length, map}
+use Rattle.std.proofs.Common.{Less, ◌==◌, arith}
 use Rattle.std.specs.Cmp.{IsTotalOrder}
 use Rattle.std.specs.Option.{is_some, option_map}
 use Rattle.std.specs.Prelude.{option_to_list}
@@ -11,7 +11,7 @@ use Rattle.semver_parser.specs.Versions.{PlainVersion}
 use Rattle.semver_parser.specs.VersionViews.{version_value}
 use Rattle.semver_parser.specs.declared.version.Version.{Version}
 use Rattle.release_filter.specs.Steps.Taking.{Concludes, kept_value}
-use Rattle.release_filter.specs.Wanted.{AnswersBy, HeldValue, HoldsBy, IsBest, IsStableSort, KeptValue, ended, ended_text, order_of}
+use Rattle.release_filter.specs.Wanted.{AnswersBy, HeldValue, HoldsBy, IsBest, IsStableSort, KeptValue, ended_text, order_of}
 use Rattle.release_filter.specs.Wanted.{text_of}
 use Rattle.release_filter.specs.declared.wanted.KeptLine.{KeptLine}
 use Rattle.release_filter.specs.declared.wanted.Wanted.{Wanted}
@@ -67,15 +67,6 @@ seen_lines lines = map (λ (line : Bor KeptLine). kept_value line.now) lines
 abbrev pub AppendsSome : List (Bor KeptLine) → ℕ → Text → Text → Type 0
 AppendsSome lines count old new =
     (done : Text) × (new ≡ old ++ done) × (done ++ ended_text (seen_lines (drop count lines)) ≡ ended_text (seen_lines lines))
-
-pub appends_next : (lines : List (Bor KeptLine)) (count : ℕ) (line : Bor KeptLine) (old mid new : Text) → count < length lines
-    → line ≡ get_or lines count line → AppendsSome lines count old mid → new ≡ mid ++ ended line.now.bytes.items
-    → AppendsSome lines (count + 1) old new
-appends_next lines count line old mid new inside is (done, so_far, rest) next = grind (arith, common_steps)
-
-pub taken_back : (lines : List (Bor KeptLine)) (count : ℕ) (old mid new : Text) → AppendsSome lines count old mid
-    → ((part : Text) × (new ≡ mid ++ part)) → take (length old) new ≡ old
-taken_back lines count old mid new (done, so_far, rest) (part, more) = grind (arith, common_steps)
 
 -- ---- the best of two
 
@@ -141,16 +132,3 @@ concludes_sorted h is lines sorted old new sort appended = (
 )
 
 -- ---- the lines that are sorted
-
-pub sees_next : (lines : List KeptLine) (count : ℕ) (line : KeptLine) (old new : List (Bor KeptLine)) (added : Bor KeptLine)
-    → count < length lines → line ≡ get_or lines count line → seen_lines old ++ map kept_value (drop count lines) ≡ map kept_value lines
-    → new ≡ old ++ added ∷ [] → added.now ≡ line → seen_lines new ++ map kept_value (drop (count + 1) lines) ≡ map kept_value lines
-sees_next lines count line old new added inside is so_far next same = grind (arith, common_steps)
-
-pub with_last : (lines new : List (Bor KeptLine)) (all : List KeptValue) (last : Option KeptLine) (line : KeptLine) (added : Bor KeptLine)
-    → seen_lines lines ≡ all → last ≡ Some line → new ≡ lines ++ added ∷ [] → added.now ≡ line → seen_lines new ≡ all ++ best_list last
-with_last lines new all last line added so_far is next same = grind (arith, common_steps)
-
-pub without_last : (lines : List (Bor KeptLine)) (all : List KeptValue) (last : Option KeptLine) → seen_lines lines ≡ all → last ≡ None
-    → seen_lines lines ≡ all ++ best_list last
-without_last lines all last so_far is = search rules

@@ -163,8 +163,7 @@ one_holding_by : IsTotalOrder precedence → (w : Wanted) (h g k : HeldValue) (x
     → HoldsBy w h xs k b → (g ≡ k) × (a ≡ b)
 one_holding_by total Each h g k xs a b p q = search rules
 one_holding_by total Sorted h g k xs a b p q = search rules
-one_holding_by total Greatest h g k xs a b (m, best, is, none) (n, best', so, none') =
-    grind (arith, one_best)
+one_holding_by total Greatest h g k xs a b (m, best, is, none) (n, best', so, none') = grind (arith, one_best)
 one_holding_by total Least h g k xs a b (m, best, is, none) (n, best', so, none') =
     let same = one_best (order_of Least) (total_of Least total) _ m n best best' in
     (is ∙ ap (λ l. record h { best = l }) same ∙ sym so, none ∙ sym none')

@@ -19,7 +19,6 @@ use Rattle.release_filter.specs.Verdicts.{kept, dropped, invalid, empty}
 use Rattle.release_filter.specs.declared.judging.Judged.{Judged}
 use Rattle.release_filter.specs.declared.judging.Judged.TheVariants.{NoVersion, DoesNotPass, Passes}
 use Rattle.release_filter.proofs.ExtremeSteps.{all_append}
-use Rattle.release_filter.proofs.Passing.{not_both}
 
 abbrev pub OneVersion : Type 0
 OneVersion = (dialect : Dialect) (v w : VersionValue) (text : Text) → SpellsIn dialect v text → SpellsIn dialect w text → v ≡ w

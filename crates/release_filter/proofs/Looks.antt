@@ -8,7 +8,6 @@ use Rattle.std.proofs.lemmas.List.{take-append-drop, take-append-le}
 use Rattle.semver_parser.specs.Texts.{Text}
 use Rattle.semver_parser.specs.declared.version.Dialect.{Dialect}
 use Rattle.release_filter.specs.Skipping.{IsLeft, IsLookedAt, MayHaveVersion, MayUpTo, ShowsNone}
-use Rattle.std.proofs.lemmas.Grind.{common_steps}
 
 -- ---- the sizes
 

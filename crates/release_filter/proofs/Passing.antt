@@ -1,6 +1,6 @@
 -- What passes a filter, and what is said of a text by it.
 use Rattle.std.proofs.Common.{◌≡◌, ◌<◌, ◌==◌, ◌∷◌, arith, length, ℕ, List, [], Option, Some, None, IfErr, Result, Ok, Err}
-use Rattle.std.proofs.Common.{◌↔◌, IsTrue, Bool, true, false, refl, rules}
+use Rattle.std.proofs.Common.{◌↔◌, Bool, true, false, refl, rules}
 use Rattle.semver_parser.specs.Texts.{Text, is_empty}
 use Rattle.semver_parser.specs.Versions.{IdentifierValue, PlainVersion, VersionValue}
 use Rattle.semver_parser.specs.ToolVersions.{SpellsIn, IsVersionTextIn}
@@ -15,7 +15,6 @@ use Rattle.release_filter.specs.Steps.Outlined.{IsOutlined}
 use Rattle.version_sets.specs.VersionSets.{has, Fits}
 use Rattle.version_sets.specs.declared.PreReleases.TheVariants.{Excluded}
 use Rattle.release_filter.specs.Filters.{FilterValue, passes}
-use Rattle.release_filter.specs.Steps.Rules.{HeedsRule}
 
 -- what is so, is so where an error is answered
 pub on_err : {T E : Type 0} (P : Type 0) (r : Result T E) → P → IfErr r (λ e. P)
@@ -33,12 +32,6 @@ pub no_length : (xs : List ℕ) → (length xs == 0) ≡ true → xs ≡ []
 no_length [] e = refl
 no_length (x ∷ xs) e = absurd (search rules)
 
--- the result of a text is each version that it spells, and that passes
-pub exactly_that : (dialect : Dialect) (test : VersionValue → Bool) (text : Text) (u : VersionValue) → IsVersionTextIn dialect text
-    → ((v : VersionValue) → SpellsIn dialect v text → (test v ≡ true) × (u ≡ v)) → (v : VersionValue)
-    → (Some u ≡ Some v) ↔ (SpellsIn dialect v text × IsTrue (test v))
-exactly_that dialect test text u some told v = search rules
-
 -- ---- versions whose numbers fit
 
 pub fit : (v : PlainVersion) → Fits v → numbers_fit v ≡ true
@@ -53,11 +46,6 @@ pub spelled_fit : (dialect : Dialect) (v : VersionValue) (text : Text) → Spell
 spelled_fit Crate v text spells = (spells.spells.major, spells.spells.minor, spells.spells.patch)
 spelled_fit Cargo v text spells = (spells.major, spells.minor, spells.patch)
 spelled_fit Npm v text spells = (spells.spells.major, spells.spells.minor, spells.spells.patch)
-
--- where releases alone count, no pre-release passes
-pub excluded_fails : (filter : FilterValue) (v : VersionValue) → HeedsRule filter.pre_releases filter.set → Fits v.plain
-    → filter.pre_releases ≡ Excluded → ¬ (v.plain.pre ≡ []) → passes filter v ≡ false
-excluded_fails filter v heeds fits is some = search rules
 
 pub no_pre_release_meant : (mode : Compat) (tree : SetTree) (v : VersionValue) → is_empty v.plain.pre ≡ false
     → meant_with Excluded mode tree v ≡ false

@@ -4,8 +4,6 @@ use Rattle.std.proofs.Common.{true, false, List, take, drop, length, eqb}
 use Rattle.std.specs.Cmp.Lexicographic.{pointwise, bytes_decides}
 use Rattle.std.proofs.Math.Seq.{take-append_seam}
 use Rattle.std.proofs.lemmas.List.{take-append-drop}
-use Rattle.release_filter.proofs.Passing.{not_both}
-use Rattle.std.proofs.lemmas.Grind.{common_steps}
 
 -- what `strip_prefix` tells of bytes
 abbrev pub Strips : List ℕ → List ℕ → Option (Bor (List ℕ)) → Type 0

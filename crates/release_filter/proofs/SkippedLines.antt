@@ -45,17 +45,11 @@ text_front front (x ∷ xs) none = by_rest _ (ap (strip_last 13) (strip_behind 1
 
 -- ---- what begins a line with a version
 
-one_more_byte : (dialect : Dialect) (prefix front : Text) (p x : ℕ) → p ≡ x → BeginsAfter dialect prefix front
-    → BeginsAfter dialect (p ∷ prefix) (x ∷ front)
-one_more_byte dialect prefix front p x same (inl (text, is, begins)) = search rules
-one_more_byte dialect prefix front p x same (inr (next, more, is)) = search rules
-
 spells_front : (dialect : Dialect) (prefix front rest text : Text) (v : VersionValue) → front ++ rest ≡ prefix ++ text
     → SpellsIn dialect v text → BeginsAfter dialect prefix front
 spells_front dialect [] front rest text v e spells = search rules
 spells_front dialect (p ∷ ps) [] rest text v e spells = inr (p, ps, refl)
-spells_front dialect (p ∷ ps) (x ∷ xs) rest text v e spells =
-    grind (arith, spells_front dialect ps xs rest text v (cc) spells)
+spells_front dialect (p ∷ ps) (x ∷ xs) rest text v e spells = grind (arith, spells_front dialect ps xs rest text v (cc) spells)
 
 has_front : (dialect : Dialect) (prefixes : List Text) (line front rest : Text) (v : VersionValue) → line_text line ≡ front ++ rest
     → HasVersion dialect prefixes line v → BeginsAfterOne dialect prefixes front

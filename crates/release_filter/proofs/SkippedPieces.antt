@@ -2,7 +2,7 @@
 use Rattle.std.proofs.Common.{◌≡◌, ◌≢◌, ◌∙◌, ◌++◌, ◌∷◌, ◌≤◌, ◌&&◌, [], List, refl, sym, subst, ap, ap₂, inl, inr, rules}
 use Rattle.std.proofs.Common.{append_assoc, append-nil, arith, length, length-append, map}
 use Rattle.std.specs.Cmp.{IsTotalOrder}
-use Rattle.std.specs.List.{AllByRecursion, concat}
+use Rattle.std.specs.List.{concat}
 use Rattle.std.proofs.Math.Bool.{and-true}
 use Rattle.std.proofs.Math.Seq.{drop-append_seam, take-append_seam}
 use Rattle.std.proofs.lemmas.List.Elements.{All-append, All-drop, All-head, All-tail, All-take}
@@ -86,7 +86,7 @@ module _ (t : LinesValue) (front dropped : Text) (none : NoEnd front) (none_drop
         × (u.at_front ≡ t.at_front)
     took_on u q ks old new b nothing =
         let rest : front ++ q ≡ u.unended = cc in
-        let more = rest_ends front q (rw (rest) b.cut.no_end) in
+        let more = rest_ends front q (rw rest b.cut.no_end) in
         let front_is = ap (λ l. t.at_front && is_empty l) nothing ∙ and-true t.at_front in (
           record {
             lines = [];
@@ -110,7 +110,7 @@ module _ (t : LinesValue) (front dropped : Text) (none : NoEnd front) (none_drop
         → b.lines ≡ y ∷ ys → (ls : List JudgedLine) × AreAlike ks ls × TakesAll whole_one q ls u old new
     took_end u q y ys [] old new b some = cc
     took_end u q y ys (k ∷ ks) old new b some =
-        let each = rw (some) at b.cut.each in
+        let each = rw some at b.cut.each in
         let whole = b.cut.whole ∙ ap (λ l. concat l ++ u.unended) some ∙ append_assoc y (concat ys) u.unended in
         let end = line_after front y q (concat ys ++ u.unended) none each.0 whole in
         let all = b.judges.all ∙ ap (marked_off t.at_front) some in

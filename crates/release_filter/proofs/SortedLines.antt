@@ -21,7 +21,6 @@ use Rattle.release_filter.proofs.HeldLines.{seen_lines}
 use Rattle.release_filter.proofs.Holding.{isnt_over}
 use Rattle.release_filter.proofs.Passing.{not_both}
 use Rattle.release_filter.proofs.Tests.{filter-same}
-use Rattle.std.proofs.lemmas.Grind.{common_steps}
 
 -- the version of a line but for the build
 abbrev pub plain_of : Bor KeptLine → PlainVersion

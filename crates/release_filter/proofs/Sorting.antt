@@ -11,7 +11,6 @@ use Rattle.semver_parser.specs.Versions.{PlainVersion}
 use Rattle.release_filter.specs.Wanted.{AnswersBy, Answers, HeldValue, IsStableSort, KeptValue, ended_text}
 use Rattle.release_filter.specs.declared.wanted.Wanted.{Wanted}
 use Rattle.release_filter.specs.declared.wanted.Wanted.TheVariants.{Each, Greatest, Least, Sorted}
-use Rattle.std.proofs.lemmas.Grind.{common_steps}
 
 -- those of some lines whose version is equal to this one
 abbrev equals : PlainVersion → List KeptValue → List KeptValue
@@ -67,9 +66,6 @@ module _ (total : IsTotalOrder precedence) where
 
   module _ (x y : KeptValue) (xs ys : List KeptValue) (up : Rises (x ∷ xs)) (up' : Rises (y ∷ ys))
       (same : (v : PlainVersion) → equals v (x ∷ xs) ≡ equals v (y ∷ ys)) where
-    no_first : (a : KeptValue) (others : List KeptValue) → ¬ (a ∷ others ≡ [])
-    no_first a others e = cc
-
     first_equal : precedence x.version y.version ≡ Equal
     first_equal = at (precedence x.version y.version) refl
       where

@@ -1,9 +1,7 @@
 -- Tests of all or some of a list, and what tests keep of one.
-use Rattle.std.proofs.Common.{rules, ◌≤◌, ◌==◌, arith, ◌≡◌, ℕ, ◌+◌, ◌<◌, Bool, false, List, [], ◌∷◌}
+use Rattle.std.proofs.Common.{rules, ◌≤◌, arith, ◌≡◌, ℕ, ◌+◌, ◌<◌, Bool, List, [], ◌∷◌}
 use Rattle.std.proofs.Common.{◌++◌, refl, map, filter, take, length, get_or}
-use Rattle.std.specs.Prelude.{◌||◌}
 use Rattle.std.specs.List.{list_any}
-use Rattle.semver_parser.specs.Texts.{is_empty}
 use Rattle.std.proofs.lemmas.Grind.{common_steps}
 
 pub list_any-map : {X Y : Type 0} (p : Y → Bool) (f : X → Y) (xs : List X) → list_any p (map f xs) ≡ list_any (λ x. p (f x)) xs
@@ -18,11 +16,6 @@ list_any-same p q same (x ∷ xs) = search rules
 pub filter-same : {X : Type 0} (p q : X → Bool) → ((x : X) → p x ≡ q x) → (xs : List X) → filter p xs ≡ filter q xs
 filter-same p q same [] = refl
 filter-same p q same (x ∷ xs) = search rules
-
--- where there is an item, the rest of a test decides
-pub some_decides : {X Y : Type 0} (f : X → Y) (xs : List X) (rest : Bool) → (length xs == 0) ≡ false → rest ≡ (is_empty (map f xs) || rest)
-some_decides f [] rest e = absurd (search rules)
-some_decides f (x ∷ xs) rest e = refl
 
 -- the front of a list and the item after it
 pub one_more : {X : Type 0} (xs : List X) (i : ℕ) (x : X) → i < length xs → x ≡ get_or xs i x → take (i + 1) xs ≡ take i xs ++ x ∷ []

@@ -1,13 +1,8 @@
-use Rattle.std.proofs.Common.{List, subst, sym}
-use Rattle.semver_parser.specs.Texts.{Text}
-use Rattle.release_filter.specs.Verdicts.{HasVersion, SpellsAfter}
-use Rattle.release_filter.specs.Steps.Outlined.{JudgesBy}
-use Rattle.release_filter.specs.declared.judging.Judged.TheVariants.{NoVersion}
 use Rattle.release_filter.proofs.JudgedLines.{first_and_rest, next}
 use Rattle.release_filter.proofs.line_filter.+judge_after_each.Goals as goal
 
 pub returns-in-NoVersion : goal.returns-in-NoVersion
 returns-in-NoVersion t c =
     let none =
-    rw (c.as_str.ensures.value) at c.in-NoVersion.ensures in
+    rw c.as_str.ensures.value at c.in-NoVersion.ensures in
     rw (first_and_rest c.args.prefixes.now c.prefix-item.result c.in-len1-up.len_at_least c.prefix-item.is) (next c.args.filter.now _ _ c.args.line.now c.judge_after_each.result none c.judge_after_each.ensures)

@@ -1,17 +1,14 @@
-use Rattle.std.proofs.Common.{refl, subst}
-use Rattle.release_filter.specs.Steps.Outlined.{IsOutlined}
+use Rattle.std.proofs.Common.{refl, arith}
 use Rattle.release_filter.proofs.NumberedLines.{is_whole, none_before, outlined}
 use Rattle.release_filter.proofs.Passing.{outlined_as}
 use Rattle.release_filter.proofs.line_filter.first_outlined.Goals as goal
 use Rattle.std.proofs.lemmas.Grind.{common_steps}
-use Rattle.std.proofs.Common.{arith}
 
 pub returns-in_err-behind-clause-none : goal.returns-in_err-behind-clause-none
 returns-in_err-behind-clause-none c = λ _. none_before c.in-Some.ensures (c.in_err-behind.ensures.none refl)
 
 pub returns-in-Some-clause-whole : goal.returns-in-Some-clause-whole
-returns-in-Some-clause-whole c =
-    grind (arith, common_steps, is_whole)
+returns-in-Some-clause-whole c = grind (arith, common_steps, is_whole)
 
 pub returns-in-Some-clause-outlined : goal.returns-in-Some-clause-outlined
 returns-in-Some-clause-outlined c =

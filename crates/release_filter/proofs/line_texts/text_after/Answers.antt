@@ -1,11 +1,8 @@
-use Rattle.std.proofs.Common.{◌∙◌, ap, ◌++◌, sym, subst}
+use Rattle.std.proofs.Common.{subst, arith, rules}
 use Rattle.release_filter.specs.LineTexts.{line_text}
-use Rattle.release_filter.proofs.Passing.{no_length}
 use Rattle.release_filter.proofs.Prefixes.{Strips, behind}
 use Rattle.release_filter.proofs.line_texts.text_after.Goals as goal
 use Rattle.std.proofs.lemmas.Grind.{common_steps}
-use Rattle.std.proofs.Common.{arith}
-use Rattle.std.proofs.Common.{rules}
 
 pub returns : goal.returns
 returns c =
@@ -15,5 +12,4 @@ returns c =
     (subst (λ bytes. Strips c.args.prefix.now bytes c.strip_prefix.result) c.text_of-text.ensures bytes)
 
 pub returns-then-is_empty : goal.returns-then-is_empty
-returns-then-is_empty c =
-    grind (arith, common_steps)
+returns-then-is_empty c = grind (arith, common_steps)

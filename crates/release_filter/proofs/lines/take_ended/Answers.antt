@@ -1,12 +1,9 @@
-use Rattle.std.proofs.Common.{[], ◌∷◌, subst, ◌≡◌, ◌∙◌, ◌++◌, ℕ, Global, Vec, ap, length, sym, true}
+use Rattle.std.proofs.Common.{◌≡◌, ◌∙◌, ap, sym, true}
 use Rattle.std.proofs.lemmas.Result.{IfOk-weaker}
-use Rattle.std.specs.Prelude.{option_to_list}
-use Rattle.semver_parser.specs.Texts.{Text}
 use Rattle.semver_parser.specs.VersionViews.{version_value}
 use Rattle.release_filter.specs.Counting.{counts_value}
 use Rattle.release_filter.specs.LineTexts.{after_mark}
-use Rattle.release_filter.specs.Steps.Taking.{TakesJudged, held_value, texts, verdict_of}
-use Rattle.release_filter.specs.Wanted.{IsBest, order_of}
+use Rattle.release_filter.specs.Steps.Taking.{held_value, texts, verdict_of}
 use Rattle.release_filter.proofs.Endings.{takes_best, takes_each, takes_judged}
 use Rattle.release_filter.proofs.JudgedLines.{verdict}
 use Rattle.release_filter.proofs.TakenPieces.{not_marked}

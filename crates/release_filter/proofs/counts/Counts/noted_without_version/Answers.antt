@@ -1,8 +1,7 @@
-use Rattle.std.proofs.Common.{◌≡◌, ◌∙◌, arith, length, min, sym, take}
+use Rattle.std.proofs.Common.{arith}
 use Rattle.std.proofs.lemmas.Grind.{common_steps}
 use Rattle.release_filter.proofs.NotedLines.{noted_first, take_min}
 use Rattle.release_filter.proofs.counts.Counts.noted_without_version.Goals as goal
 
 pub returns : goal.returns
-returns c =
-    grind (arith, common_steps, noted_first, take_min)
+returns c = grind (arith, common_steps, noted_first, take_min)

@@ -1,22 +1,18 @@
-use Rattle.std.proofs.Common.{◌≡◌, take, sym, subst, ◌∙◌, refl, ap, Some, Less, Greater, ◌≢◌, Bor}
+use Rattle.std.proofs.Common.{◌≡◌, take, sym, subst, ◌∙◌, Less, Greater, ◌≢◌, arith, rules}
 use Rattle.std.specs.Option.{option_map}
-use Rattle.semver_parser.specs.declared.version.Version.{Version}
 use Rattle.semver_parser.specs.Precedence.{precedence}
 use Rattle.semver_parser.specs.VersionViews.{version_value}
 use Rattle.release_filter.specs.Filters.{passes}
 use Rattle.release_filter.specs.Extremes.{IsOneThat}
 use Rattle.release_filter.proofs.Tests.{one_more, all_taken}
 use Rattle.release_filter.proofs.Passing.{not_both}
-use Rattle.release_filter.proofs.ExtremeSteps.{IsSoFar, passed_over, begins, stays, replaces, not_above, none_is, greatest_is}
+use Rattle.release_filter.proofs.ExtremeSteps.{passed_over, begins, stays, replaces, not_above, none_is, greatest_is}
 use Rattle.release_filter.proofs.filter.Filter.greatest.Goals as goal
 use Rattle.release_filter.proofs.filter.Filter.greatest.Goals.{in-Some+then-is_above, in-Some+else-is_above, in-None}
 use Rattle.std.proofs.lemmas.Grind.{common_steps}
-use Rattle.std.proofs.Common.{arith}
-use Rattle.std.proofs.Common.{rules}
 
 pub loop-version-preserved-then-not-meets : goal.loop-version-preserved-then-not-meets
-loop-version-preserved-then-not-meets c =
-    grind (arith, common_steps, one_more, option_map, passed_over, not_both)
+loop-version-preserved-then-not-meets c = grind (arith, common_steps, one_more, option_map, passed_over, not_both)
 
 pub loop-version-preserved : goal.loop-version-preserved
 loop-version-preserved c =
@@ -32,17 +28,17 @@ loop-version-preserved c =
       | in-Some+then-is_above w ↦
           let so_far = rw w.in-Some.is at c.loop-version.invariant in
           let above = subst (λ u. precedence u.plain v.plain ≡ Less) so_far.has.0 (w.is_above.ensures.0 w.if-is_above.true) in
-          rw w.greatest-is (rw (seen) (replaces precedence has total (λ x v w p q. sym p.0 ∙ q.0) before x w.in-Some.other.now v so_far is above))
+          rw w.greatest-is (rw seen (replaces precedence has total (λ x v w p q. sym p.0 ∙ q.0) before x w.in-Some.other.now v so_far is above))
       | in-Some+else-is_above w ↦
           let so_far = rw w.in-Some.is at c.loop-version.invariant in
           let low = not_above precedence total v.plain (version_value w.in-Some.other.now).plain
           (λ e. not_both (w.is_above.ensures.1 e) w.if-is_above.false) in
-          rw (w.greatest-is, w.in-Some.is) (rw (seen) (stays precedence has before x w.in-Some.other.now so_far
+          rw (w.greatest-is, w.in-Some.is) (rw seen (stays precedence has before x w.in-Some.other.now so_far
           (λ u p. subst (λ u. precedence u.plain so_far.version.plain ≢ Greater) p.0
           (subst (λ u. precedence v.plain u.plain ≢ Greater) so_far.has.0 low))))
       | in-None w ↦
           let so_far = rw w.in-None.is at c.loop-version.invariant in
-          rw w.greatest-is (rw (seen) (begins precedence has before x v so_far is))
+          rw w.greatest-is (rw seen (begins precedence has before x v so_far is))
     ]
 
 pub returns-clause-greatest : goal.returns-clause-greatest
@@ -53,5 +49,4 @@ returns-clause-greatest c =
     (rw (← whole) c.loop-version.invariant)
 
 pub returns-clause-none : goal.returns-clause-none
-returns-clause-none c =
-    grind (arith, common_steps, all_taken, none_is, option_map)
+returns-clause-none c = grind (arith, common_steps, all_taken, none_is, option_map)

@@ -1,9 +1,8 @@
-use Rattle.std.proofs.Common.{[], ap, ◌∙◌}
+use Rattle.std.proofs.Common.{ap, ◌∙◌, rules}
 use Rattle.semver_parser.specs.Versions.{VersionValue}
 use Rattle.version_sets.specs.PreReleaseRules.{meant_with}
 use Rattle.release_filter.proofs.Passing.{no_pre_release_meant}
 use Rattle.release_filter.proofs.filter.Filter.new.Goals as goal
-use Rattle.std.proofs.Common.{rules}
 
 pub invariant_of-result : goal.invariant_of-result
 invariant_of-result c = λ only plain fits some.

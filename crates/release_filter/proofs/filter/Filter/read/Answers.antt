@@ -1,13 +1,11 @@
-use Rattle.std.proofs.Common.{◌<◌, sym, subst, ◌∙◌, inl, inr, length, ⊎_elim, ◌⊎◌}
+use Rattle.std.proofs.Common.{◌<◌, subst, inl, inr, length, ⊎_elim, ◌⊎◌, rules}
 use Rattle.semver_parser.specs.Outlines.{OutlineValue}
 use Rattle.release_filter.specs.Filters.{passes}
 use Rattle.release_filter.specs.Judging.{IsJudged}
 use Rattle.release_filter.specs.declared.judging.Judged.TheVariants.{Passes}
-use Rattle.semver_parser.specs.ToolVersions.{SpellsIn}
-use Rattle.release_filter.proofs.Passing.{apart, exactly_that, has_part, not_both, on_err}
+use Rattle.release_filter.proofs.Passing.{has_part, on_err}
 use Rattle.release_filter.proofs.filter.Filter.read.Goals as goal
 use Rattle.release_filter.proofs.filter.Filter.read.Goals.{In-Passes}
-use Rattle.std.proofs.Common.{rules}
 
 -- what is said of the text
 told : (c : In-Passes) → IsJudged c.args.self.now.dialect (passes c.args.self.now) c.args.text.now (Passes c.in-Passes.outline)
@@ -28,12 +26,10 @@ pub returns-in_err-version-in-Passes-clause-releases : goal.returns-in_err-versi
 returns-in_err-version-in-Passes-clause-releases c = search rules
 
 pub returns-in_ok-version-in-Passes-clause-exact : goal.returns-in_ok-version-in-Passes-clause-exact
-returns-in_ok-version-in-Passes-clause-exact c =
-    search rules
+returns-in_ok-version-in-Passes-clause-exact c = search rules
 
 pub returns-in_ok-version-in-Passes-clause-none : goal.returns-in_ok-version-in-Passes-clause-none
-returns-in_ok-version-in-Passes-clause-none c =
-    search rules
+returns-in_ok-version-in-Passes-clause-none c = search rules
 
 pub returns-in_ok-version-in-Passes-clause-releases : goal.returns-in_ok-version-in-Passes-clause-releases
 returns-in_ok-version-in-Passes-clause-releases c = search rules

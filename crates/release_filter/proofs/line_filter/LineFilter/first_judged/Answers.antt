@@ -1,9 +1,5 @@
-use Rattle.std.proofs.Common.{subst, sym, ◌≡◌, [], List, String, Global, arith}
+use Rattle.std.proofs.Common.{◌≡◌, [], arith}
 use Rattle.std.proofs.lemmas.Grind.{common_steps}
-use Rattle.release_filter.specs.LineTexts.{line_text}
-use Rattle.release_filter.specs.Steps.Outlined.{IsOutlined, JudgesBy}
-use Rattle.release_filter.specs.Steps.Taking.{texts}
-use Rattle.release_filter.specs.Verdicts.{HasVersion, asked}
 use Rattle.release_filter.proofs.JudgedLines.{outlined_line}
 use Rattle.release_filter.proofs.line_filter.LineFilter.first_judged.Goals as goal
 
@@ -13,6 +9,6 @@ returns-then-is_empty-clause-judged c =
     let filter = c.args.self.now.filter in
     let line = c.in_ok-line.line.now in
     let said = c.judge_outline.result in
-    let outlined = rw (c.dialect.ensures) at c.in_ok-line.ensures.outlined in
-    rw (none) (outlined_line c.one_outlined_version.ensures.same_version filter line c.in_ok-line.outline said c.judge_outline.ensures.judged
+    let outlined = rw c.dialect.ensures at c.in_ok-line.ensures.outlined in
+    rw none (outlined_line c.one_outlined_version.ensures.same_version filter line c.in_ok-line.outline said c.judge_outline.ensures.judged
     outlined)

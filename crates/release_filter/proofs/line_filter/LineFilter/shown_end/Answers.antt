@@ -1,15 +1,13 @@
-use Rattle.std.proofs.Common.{refl, arith, take}
+use Rattle.std.proofs.Common.{take, rules}
 use Rattle.release_filter.specs.Skipping.{MayHaveVersion}
 use Rattle.release_filter.specs.Steps.Taking.{texts}
-use Rattle.release_filter.proofs.Looks.{before_looks, looked_again, next_look}
+use Rattle.release_filter.proofs.Looks.{looked_again, next_look}
 use Rattle.release_filter.proofs.line_filter.LineFilter.shown_end.Goals as goal
 use Rattle.release_filter.proofs.line_filter.LineFilter.shown_end.Goals.{else-size-seen-via-else-size-seen}
 use Rattle.release_filter.proofs.line_filter.LineFilter.shown_end.Goals.{else-size-seen-via-then-size-seen+else-not-may_have_version}
-use Rattle.std.proofs.Common.{rules}
 
 pub loop-size-init : goal.loop-size-init
-loop-size-init c =
-    search rules
+loop-size-init c = search rules
 
 pub loop-size-preserved : goal.loop-size-preserved
 loop-size-preserved c =

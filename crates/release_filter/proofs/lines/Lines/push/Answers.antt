@@ -1,9 +1,9 @@
-use Rattle.std.proofs.Common.{◌∙◌, ◌++◌, ◌∷◌, [], ap, arith, refl, subst, sym}
+use Rattle.std.proofs.Common.{◌∙◌, ◌++◌, ◌∷◌, [], ap, arith, refl, sym}
 use Rattle.release_filter.specs.Pieces.{LinesValue}
 use Rattle.release_filter.specs.Verdicts.{is_invalid}
 use Rattle.release_filter.proofs.Endings.{bad_verdict, one_more_valid, opposite, opposite_bad}
 use Rattle.release_filter.proofs.Passing.{not_both}
-use Rattle.release_filter.proofs.TakenPieces.{NoEnd, took_next, took_nothing, took_piece}
+use Rattle.release_filter.proofs.TakenPieces.{took_next, took_nothing, took_piece}
 use Rattle.release_filter.proofs.lines.Lines.push.Goals as goal
 use Rattle.release_filter.proofs.lines.Lines.push.Goals.{else-self-via-then-self+else-not-is_valid, else-self-via-else-self}
 

@@ -1,7 +1,6 @@
-use Rattle.std.proofs.Common.{◌≡◌, ◌∙◌, ◌++◌, [], ap, ap₂, arith, sym}
+use Rattle.std.proofs.Common.{◌≡◌, ◌∙◌, [], ap, arith, sym}
 use Rattle.std.proofs.lemmas.Grind.{common_steps}
 use Rattle.release_filter.specs.Counting.{counts_value}
-use Rattle.release_filter.specs.LineTexts.{after_mark}
 use Rattle.release_filter.specs.declared.lines.Lines.TheView.{view}
 use Rattle.release_filter.specs.Pieces.{LinesValue}
 use Rattle.release_filter.specs.Steps.Taking.{held_value}

@@ -1,7 +1,5 @@
-use Rattle.std.proofs.Common.{◌∙◌, ◌++◌, ap, sym, subst, take}
+use Rattle.std.proofs.Common.{◌∙◌, ◌++◌, ap, sym, take}
 use Rattle.release_filter.specs.declared.lines.Lines.TheView.{view}
-use Rattle.release_filter.specs.Pieces.{LinesValue}
-use Rattle.release_filter.specs.Skipping.{IsLeft}
 use Rattle.release_filter.proofs.Looks.{left_front}
 use Rattle.release_filter.proofs.lines.Lines.take_rest.Goals as goal
 

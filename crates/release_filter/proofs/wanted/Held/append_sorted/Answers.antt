@@ -1,22 +1,20 @@
-use Rattle.std.proofs.Common.{◌≡◌, ◌∙◌, ◌++◌, Bor, Global, List, Vec, ap, append-nil, map, refl, sym, subst, rules}
+use Rattle.std.proofs.Common.{◌≡◌, ◌∙◌, ◌++◌, Bor, List, ap, append-nil, map, sym, rules, arith}
 use Rattle.std.proofs.lemmas.List.{drop_all}
 use Rattle.std.proofs.lemmas.List.Sorted.{ranks_by}
 use Rattle.release_filter.specs.Steps.Taking.{kept_value}
-use Rattle.release_filter.specs.Wanted.{IsStableSort, KeptValue, ended_text}
+use Rattle.release_filter.specs.Wanted.{ended_text}
 use Rattle.release_filter.specs.declared.wanted.KeptLine.{KeptLine}
-use Rattle.release_filter.proofs.HeldLines.{best_list, seen_lines, sees_next, with_last, without_last}
+use Rattle.release_filter.proofs.HeldLines.{best_list, seen_lines}
 use Rattle.release_filter.proofs.SortedLines.{compares, plain_of, is_below, sorts}
 use Rattle.release_filter.proofs.wanted.Held.append_sorted.Goals as goal
 use Rattle.release_filter.proofs.wanted.Held.append_sorted.Goals.{in-Some+in_ok-push-2, in_default}
 use Rattle.std.proofs.lemmas.Grind.{common_steps}
-use Rattle.std.proofs.Common.{arith}
 
 pub loop-line-init : goal.loop-line-init
 loop-line-init c = cc
 
 pub loop-line-preserved : goal.loop-line-preserved
-loop-line-preserved c =
-    grind (arith, common_steps)
+loop-line-preserved c = grind (arith, common_steps)
 
 pub returns-clause-sorts : goal.returns-clause-sorts
 returns-clause-sorts c =

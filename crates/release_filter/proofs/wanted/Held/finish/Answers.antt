@@ -1,11 +1,10 @@
-use Rattle.std.proofs.Common.{◌∙◌, ◌++◌, [], List, ap, append-nil, subst, sym}
-use Rattle.release_filter.specs.Steps.Taking.{Concludes, held_value, verdict_of}
-use Rattle.release_filter.specs.Wanted.{IsBest, IsStableSort, KeptValue, kept_as, order_of}
+use Rattle.std.proofs.Common.{append-nil, arith}
+use Rattle.release_filter.specs.Steps.Taking.{held_value, verdict_of}
+use Rattle.release_filter.specs.Wanted.{kept_as}
 use Rattle.release_filter.proofs.Endings.{fails_kept, text_kept}
-use Rattle.release_filter.proofs.HeldLines.{best_list, concludes_best, concludes_each, concludes_sorted}
+use Rattle.release_filter.proofs.HeldLines.{concludes_best, concludes_each, concludes_sorted}
 use Rattle.release_filter.proofs.wanted.Held.finish.Goals as goal
 use Rattle.std.proofs.lemmas.Grind.{common_steps}
-use Rattle.std.proofs.Common.{arith}
 
 pub returns-in_ok-extend_from_slice-in-Passes-clause-answers : goal.returns-in_ok-extend_from_slice-in-Passes-clause-answers
 returns-in_ok-extend_from_slice-in-Passes-clause-answers c = grind (arith, common_steps, concludes_each, held_value, kept_as, verdict_of, text_kept)

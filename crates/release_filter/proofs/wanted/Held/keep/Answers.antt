@@ -1,9 +1,8 @@
-use Rattle.std.proofs.Common.{◌∙◌, ◌++◌, ◌∷◌, [], List, ap, append-nil, map, refl, sym, subst}
+use Rattle.std.proofs.Common.{◌∙◌, ◌++◌, ◌∷◌, [], ap, append-nil, map, refl, sym, subst}
 use Rattle.std.proofs.lemmas.List.{map-append}
-use Rattle.semver_parser.specs.Versions.{PlainVersion}
 use Rattle.release_filter.specs.Steps.Taking.{held_value, kept_value}
-use Rattle.release_filter.specs.Wanted.{HeldValue, HoldsBy, IsBest, KeptValue, order_of}
-use Rattle.release_filter.proofs.HeldLines.{best_list, holds_best}
+use Rattle.release_filter.specs.Wanted.{HoldsBy}
+use Rattle.release_filter.proofs.HeldLines.{holds_best}
 use Rattle.release_filter.proofs.wanted.Held.keep.Goals as goal
 
 pub returns-in_ok-hold_best-in-Greatest-clause-holds : goal.returns-in_ok-hold_best-in-Greatest-clause-holds
