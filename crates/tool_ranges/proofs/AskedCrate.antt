@@ -1,5 +1,5 @@
 -- What the crate's reader finds of a text says what a call refuses of it, and which trees it has.
-use Rattle.std.proofs.Common.{◌≡◌, true, false, Some, None, refl, sym, ap, ◌∙◌}
+use Rattle.std.proofs.Common.{◌≡◌, true, false, Some, None, refl, sym, ap, ◌∙◌, arith}
 use Rattle.std.proofs.lemmas.Bool.{both_ways}
 use Rattle.std.specs.Prelude.{Ok, Err}
 use Rattle.semver_texts.specs.Texts.{Text}
@@ -16,12 +16,13 @@ use Rattle.tool_ranges.specs.declared.reading.Reading.TheVariants as reading
 use Rattle.tool_ranges.specs.declared.tally.Terms.TheVariants.{Crate}
 use Rattle.tool_ranges.specs.Readings.{RefusesAs}
 use Rattle.tool_ranges.specs.Steps.Asking.{Refuses}
+use Rattle.std.proofs.lemmas.Grind.{common_steps}
 
 pub one_read : (t : Text) (tree other : SetTree) → read dialect.Crate t ≡ Some tree → Spells other t → tree ≡ other
-one_read t tree other e h = let same : Some tree ≡ Some other = sym e ∙ tree_read dialect.Crate other t h in cc
+one_read t tree other e h = grind (arith, common_steps, tree_read)
 
 none_read : (t : Text) (tree : SetTree) → read dialect.Crate t ≡ None → Spells tree t → ⊥
-none_read t tree e h = let same : None ≡ Some tree = sym e ∙ tree_read dialect.Crate tree t h in cc
+none_read t tree e h = grind (arith, common_steps, tree_read)
 
 module _ (compat : Compat) (t : Text) where
   not_large : (tree : SetTree) → read dialect.Crate t ≡ Some tree → fits compat tree ≡ true

@@ -26,6 +26,7 @@ use Rattle.tool_ranges.specs.declared.tally.Terms.TheVariants.{Npm, NpmAll, Crat
 use Rattle.tool_ranges.specs.Steps.Asking.{Refuses, Says, after, begun, dialect_of, ended, lower_of, range_every, range_met, taken}
 use Rattle.tool_ranges.specs.Steps.Asking.{term_fits, term_met}
 use Rattle.tool_ranges.proofs.ToolRows.{npm_table}
+use Rattle.std.proofs.Common.{rules}
 
 -- the table by which the terms fit
 table_of : (terms : Terms) → (written : Simple → List PlainComparator) × IsTable (term_fits terms) written
@@ -111,11 +112,7 @@ module _ (terms : Terms) (v : PlainVersion) (counts : Bool) where
     Told o = told true (begun counts) (events (dialect_of terms) (lower_of terms) t) ≡ o
 
     pub none_read : Told None → read (dialect_of terms) t ≡ None
-    none_read e = at (read (dialect_of terms) t) refl e where
-      at : (o : Option SetTree) → read (dialect_of terms) t ≡ o → told true (begun counts) (set_events (lower_of terms) o) ≡ None
-          → read (dialect_of terms) t ≡ None
-      at None is e = is
-      at (Some tree) is e = cc
+    none_read e = search rules
 
     whole : (tree : SetTree) → list_all (event_fits (term_fits terms)) (events_of (lower_of terms) tree) ≡ fits_by (term_fits terms) tree
     whole tree = set_fits (table_of terms).1 (lower_of terms) tree
@@ -125,9 +122,9 @@ module _ (terms : Terms) (v : PlainVersion) (counts : Bool) where
       at : (o : Option SetTree) → read (dialect_of terms) t ≡ o
           → told true (begun counts) (set_events (lower_of terms) o) ≡ Some None → Refuses terms t NumberTooLarge
       at None is e = cc
-      at (Some tree) is e = by_test (fits_by (term_fits terms) tree)
-          (λ y. let fit : list_all (event_fits (term_fits terms)) (events_of (lower_of terms) tree) ≡ true = whole tree ∙ y in
-          let wrong = rw fit at e in cc)
+      at (Some tree) is e = by_test _
+          (λ y. let fit = whole tree ∙ y in
+          cc)
           (λ n. (tree, is, n))
 
     pub says : (tally : Tally) → Told (Some (Some tally)) → Says terms v counts t tally
@@ -137,12 +134,12 @@ module _ (terms : Terms) (v : PlainVersion) (counts : Bool) where
       at None is e = cc
       at (Some []) is e = absurd (read_sound (dialect_of terms) t [] is)
       at (Some (r ∷ others)) is e = by_test (fits_by (term_fits terms) (r ∷ others))
-          (λ y. let fit : list_all (event_fits (term_fits terms)) (events_of (lower_of terms) (r ∷ others)) ≡ true = whole (r ∷ others)
+          (λ y. let fit = whole (r ∷ others)
           ∙ y in
           let same : tally ≡ ended counts (after terms v counts (begun counts) (events_of (lower_of terms) (r ∷ others))) =
-          (let found = rw fit at e in cc) in
+          (cc) in
           let end = same ∙ set_after r others false false in
           (r ∷ others, is, y, ap (λ (x : Tally). x.met) end, ap (λ (x : Tally). x.every) end))
-          (λ n. let fit : list_all (event_fits (term_fits terms)) (events_of (lower_of terms) (r ∷ others)) ≡ false = whole (r ∷ others)
+          (λ n. let fit = whole (r ∷ others)
           ∙ n in
-          let wrong = rw fit at e in cc)
+          cc)

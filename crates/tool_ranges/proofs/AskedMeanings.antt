@@ -1,5 +1,5 @@
 -- What a call that asks a range of one version answers, by its meaning.
-use Rattle.std.proofs.Common.{◌≡◌, Bool, true, ◌&&◌, refl, ap, ◌∙◌}
+use Rattle.std.proofs.Common.{◌≡◌, Bool, true, ◌&&◌, refl, rules}
 use Rattle.std.specs.Prelude.{Result, Ok, Err, IfOk}
 use Rattle.semver_texts.specs.Texts.{Text, is_empty}
 use Rattle.semver_texts.specs.Versions.{PlainVersion, VersionValue}
@@ -10,14 +10,9 @@ use Rattle.version_sets.specs.declared.rules.PreReleases.{PreReleases}
 use Rattle.semver_ranges.specs.RangeTree.{SetTree}
 use Rattle.semver_ranges.specs.declared.range.Compat.{Compat}
 use Rattle.tool_ranges.specs.Meanings.{meant_as, reading_of}
-use Rattle.tool_ranges.specs.Readings.{HasSetAs, IsTextAs, IsTooLargeAs, RefusesAs, SpellsAs, TreeOf}
+use Rattle.tool_ranges.specs.Readings.{RefusesAs, SpellsAs, TreeOf}
 use Rattle.tool_ranges.specs.declared.meaning.Meaning.{Meaning}
 use Rattle.tool_ranges.specs.declared.meaning.Meaning.TheVariants.{Cargo, CargoAll, CargoReleases, Npm, NpmAll, NpmReleases, Crate}
-use Rattle.tool_ranges.specs.AllPreReleases.{meets_npm_with_all, meets_requirement_with_all}
-use Rattle.tool_ranges.specs.CargoMeaning.{meets_requirement}
-use Rattle.tool_ranges.specs.NpmMeaning.{meets_npm}
-use Rattle.semver_ranges.specs.OwnMeaning.{meets_tree}
-use Rattle.semver_ranges.specs.StatedPreReleases.{meets_tree_as_stated}
 use Rattle.version_sets.specs.declared.rules.PreReleases.TheVariants.{Excluded, Stated, Included}
 use Rattle.tool_ranges.specs.declared.reading.Reading.{Reading}
 use Rattle.tool_ranges.specs.Steps.Asking.{of_releases}
@@ -35,22 +30,18 @@ Says t w r meaning = IsSaid (reading_of meaning) t (λ tree. meant_as meaning tr
 -- another test that says the same
 pub said_so : (reading : Reading) (t : Text) (f g : TreeOf reading → Bool) (r : Result Bool RangeError)
     → ((tree : TreeOf reading) → f tree ≡ g tree) → IsSaid reading t f r → IsSaid reading t g r
-said_so reading t f g (Ok met) same is = record {
-  refusals = is.refusals;
-  no_memory = is.no_memory;
-  meaning = λ tree spelled. is.meaning tree spelled ∙ same tree;
-}
-said_so reading t f g (Err e) same is = record { refusals = is.refusals; no_memory = is.no_memory; meaning = tt }
+said_so reading t f g (Ok met) same is = search rules
+said_so reading t f g (Err e) same is = search rules
 
 -- of releases only
 pub released : (reading : Reading) (t : Text) (f : TreeOf reading → Bool) (v : PlainVersion) (answer r : Result Bool RangeError)
     → r ≡ of_releases v answer → IsSaid reading t f answer → IsSaid reading t (λ tree. is_empty v.pre && f tree) r
 released reading t f v (Ok met) r e is = rw e (record {
-  refusals = answered_too (IsTextAs reading t) (IsTooLargeAs reading t) (HasSetAs reading t) met _ is.refusals;
+  refusals = answered_too _ _ _ met _ is.refusals;
   no_memory = λ wrong. cc;
-  meaning = λ tree spelled. ap (λ b. is_empty v.pre && b) (is.meaning tree spelled);
+  meaning = search rules;
 })
-released reading t f v (Err error) r e is = rw e (record { refusals = is.refusals; no_memory = is.no_memory; meaning = tt })
+released reading t f v (Err error) r e is = search rules
 
 -- the crate's, of a version whose numbers fit
 pub fitting : (rule : PreReleases) (compat : Compat) (w : VersionValue) (tree : SetTree) → numbers_fit w.plain ≡ true
@@ -60,13 +51,12 @@ fitting rule compat w tree fit = rw fit refl
 -- builds don't count
 pub same_plain : (meaning : Meaning) (tree : TreeOf (reading_of meaning)) (w w' : VersionValue) → w.plain ≡ w'.plain
     → meant_as meaning tree w ≡ meant_as meaning tree w'
-same_plain Cargo tree w w' e = ap (meets_requirement tree) e
-same_plain CargoAll tree w w' e = ap (meets_requirement_with_all tree) e
-same_plain CargoReleases tree w w' e = ap (λ (v : PlainVersion). is_empty v.pre && meets_requirement tree v) e
-same_plain Npm tree w w' e = ap (meets_npm tree) e
-same_plain NpmAll tree w w' e = ap (meets_npm_with_all tree) e
-same_plain NpmReleases tree w w' e = ap (λ (v : PlainVersion). is_empty v.pre && meets_npm tree v) e
-same_plain (Crate compat Excluded) tree w w' e =
-    ap (λ (v : PlainVersion). numbers_fit v && (is_empty v.pre && meets_tree compat tree v)) e
-same_plain (Crate compat Stated) tree w w' e = ap (λ (v : PlainVersion). numbers_fit v && meets_tree_as_stated compat tree v) e
-same_plain (Crate compat Included) tree w w' e = ap (λ (v : PlainVersion). numbers_fit v && meets_tree compat tree v) e
+same_plain Cargo tree w w' e = cc
+same_plain CargoAll tree w w' e = cc
+same_plain CargoReleases tree w w' e = cc
+same_plain Npm tree w w' e = cc
+same_plain NpmAll tree w w' e = cc
+same_plain NpmReleases tree w w' e = cc
+same_plain (Crate compat Excluded) tree w w' e = cc
+same_plain (Crate compat Stated) tree w w' e = cc
+same_plain (Crate compat Included) tree w w' e = cc

@@ -1,5 +1,5 @@
 -- What the simples that a range is yielded as say of a version is what its terms say.
-use Rattle.std.proofs.Common.{◌≡◌, Bool, true, false, ◌&&◌, ◌||◌, if◌then◌else◌, [], ◌∷◌, refl, sym, ap, ◌∙◌}
+use Rattle.std.proofs.Common.{◌≡◌, Bool, true, false, ◌&&◌, ◌||◌, if◌then◌else◌, [], ◌∷◌, refl, sym, ap, ◌∙◌, rules}
 use Rattle.std.proofs.Math.Bool.{and-true}
 use Rattle.std.specs.List.{list_all, list_any}
 use Rattle.std.proofs.lemmas.List.Folds.{list_all-map}
@@ -65,7 +65,7 @@ module _ (f : Term → Bool) (nothing : f of_nothing ≡ f (of_simple wildcard))
 
 any_same : (f g : RangeTree → Bool) → ((r : RangeTree) → f r ≡ g r) → (tree : SetTree) → list_any f tree ≡ list_any g tree
 any_same f g same [] = refl
-any_same f g same (r ∷ tree) = λ i. same r i || any_same f g same tree i
+any_same f g same (r ∷ tree) = search rules
 
 module _ (v : PlainVersion) where
   -- where a version counts as it is stated
@@ -103,16 +103,16 @@ module _ (v : PlainVersion) where
   module _ (compat : Compat) where
     crate_terms : (r : RangeTree) → list_all (term_met (Crate compat) v) (yielded Stated r) ≡ list_all (λ t. meets_term compat t v)
         (terms r)
-    crate_terms r = all_terms (λ t. meets_term compat t v) refl (λ l r' a b. rw (a, b) refl) r
+    crate_terms r = all_terms _ refl (λ l r' a b. rw (a, b) refl) r
 
     pub stated_said : (tree : SetTree) → list_any (range_met (Crate compat) v (is_empty v.pre)) tree
         ≡ list_any (λ r. list_all (λ t. meets_term compat t v) (terms r) && counts_in r v) tree
-    stated_said tree = any_same (range_met (Crate compat) v (is_empty v.pre))
-        (λ r. list_all (λ t. meets_term compat t v) (terms r) && counts_in r v) (λ r i. crate_terms r i && counts_so r i) tree
+    stated_said tree = any_same _
+        _ (λ r i. crate_terms r i && counts_so r i) tree
 
     pub own_said : (tree : SetTree) → list_any (range_met (Crate compat) v true) tree
         ≡ list_any (λ r. list_all (λ t. meets_term compat t v) (terms r)) tree
-    own_said tree = any_same (range_met (Crate compat) v true) (λ r. list_all (λ t. meets_term compat t v) (terms r))
+    own_said tree = any_same _ _
         (λ r. and-true _ ∙ crate_terms r) tree
 
 -- ---- what is refused of a text of npm

@@ -1,5 +1,5 @@
 -- What is known of a requirement as its comparators are read, and what it says of a version.
-use Rattle.std.proofs.Common.{◌≡◌, ℕ, ◌+◌, ◌<◌, Bool, true, false, ◌&&◌, ◌||◌, List, [], ◌∷◌, ◌++◌, Some, None, refl, sym, ap, ◌∙◌}
+use Rattle.std.proofs.Common.{◌≡◌, ℕ, ◌+◌, ◌<◌, Bool, true, false, ◌&&◌, ◌||◌, List, [], ◌∷◌, ◌++◌, Some, None, refl, sym, ap, ◌∙◌, arith}
 use Rattle.std.proofs.Math.Bool.{and-true, or-false}
 use Rattle.std.specs.Prelude.{Result, Ok, Err, MatchResult, IfOk, ◌==◌}
 use Rattle.std.specs.List.{list_all, list_any}
@@ -19,8 +19,10 @@ use Rattle.tool_ranges.specs.Readings.{RefusesAs}
 use Rattle.tool_ranges.specs.declared.reading.Reading.TheVariants as reading
 use Rattle.tool_ranges.specs.Steps.Asking.{RefusesRequired, SaysRequired, comparator_met, requirement_met}
 use Rattle.tool_ranges.specs.Steps.CargoReading.{comparator_at, EndsAs}
-use Rattle.tool_ranges.proofs.RequirementLaws.{answered, refused, same_comparators}
+use Rattle.tool_ranges.proofs.RequirementLaws.{answered, same_comparators}
 use Rattle.tool_ranges.proofs.RequirementSteps.{IsSurveyed, read_fits, states_number, surveyed_end, surveyed_next, surveyed_start}
+use Rattle.std.proofs.lemmas.Grind.{common_steps}
+use Rattle.std.proofs.Common.{rules}
 
 module _ (takes_all : Bool) (v : PlainVersion) (counts : Bool) where
   abbrev one_met : Simple → Bool
@@ -58,10 +60,10 @@ module _ (takes_all : Bool) (v : PlainVersion) (counts : Bool) where
       (is : IsAsked text done rest at states_all fit met stated) (number : n ≡ states_number s) (fits : f ≡ read_fits s)
       (here : read_fits s ≡ true → m ≡ one_met s) (states : read_fits s ≡ true → p ≡ one_stated s) where
     met_all : (fit && f) ≡ true → (met && m) ≡ list_all one_met (done ++ s ∷ [])
-    met_all e = let both = and_parts fit f e in all_one done s met m (is.met_is both.0) (here (sym fits ∙ both.1))
+    met_all e = grind (arith, common_steps, and_parts, all_one)
 
     stated_all : (fit && f) ≡ true → (stated || p) ≡ (counts || list_any one_stated (done ++ s ∷ []))
-    stated_all e = let both = and_parts fit f e in any_one done s stated p (is.stated_is both.0) (states (sym fits ∙ both.1))
+    stated_all e = grind (arith, common_steps, and_parts, any_one)
 
     pub asked_next : (u : Text) → comparator_at rest ≡ Some (s, Some u)
         → IsAsked text (done ++ s ∷ []) u (at + 1) (states_all && n) (fit && f) (met && m) (stated || p)
@@ -105,9 +107,8 @@ required takes_all v counts text (Ok said) h = record {
   says = λ tree spelled. h.3 ∙ ap (requirement_met takes_all v counts)
       (sym (same_comparators h.0 tree text h.1.comparators spelled.comparators));
 }
-required takes_all v counts text (Err NotARange) h = record { refusals = refused text NotARange h; no_memory = λ e. cc; says = tt }
-required takes_all v counts text (Err NumberTooLarge) h =
-    record { refusals = refused text NumberTooLarge h; no_memory = λ e. cc; says = tt }
+required takes_all v counts text (Err NotARange) h = search rules
+required takes_all v counts text (Err NumberTooLarge) h = search rules
 required takes_all v counts text (Err OutOfMemory) h = absurd h
 
 pub all_met : (v : PlainVersion) (tree : List Simple) → requirement_met true v true tree ≡ meets_requirement_with_all tree v

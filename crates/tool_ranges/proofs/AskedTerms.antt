@@ -1,24 +1,20 @@
 -- What a term that was read says of a version is what the term of the tree says.
-use Rattle.std.proofs.Common.{◌≡◌, ℕ, Bool, true, ◌&&◌, List, [], refl, sym, ◌∙◌}
+use Rattle.std.proofs.Common.{◌≡◌, ℕ, Bool, true, ◌&&◌, List, [], sym, ◌∙◌, rules}
 use Rattle.std.specs.List.{list_all}
-use Rattle.std.specs.Prelude.{if◌then◌else◌, length, ◌==◌, nat_eq, not}
+use Rattle.std.specs.Prelude.{nat_eq, not}
 use Rattle.std.specs.Cmp.Lexicographic.{pointwise}
-use Rattle.std.proofs.lemmas.Bool.{and_parts, both_ways}
 use Rattle.semver_texts.specs.Texts.{is_empty}
-use Rattle.semver_texts.specs.Versions.{IdentifierValue, PlainVersion, numbers}
-use Rattle.semver_texts.proofs.Lists.{by_test}
+use Rattle.semver_texts.specs.Versions.{PlainVersion, numbers}
 use Rattle.semver_ranges.specs.declared.grammar.Simple as read
-use Rattle.semver_ranges.specs.declared.partial.PartialKind.{PartialKind}
-use Rattle.semver_ranges.specs.declared.partial.PartialKind.TheVariants.{XRangeOnly, MajorOnly, MajorMinor, MajorMinorPatch}
 use Rattle.semver_ranges.specs.declared.range.Compat.{Compat}
 use Rattle.semver_ranges.specs.declared.range.Compat.TheVariants as mode
 use Rattle.semver_ranges.specs.RangeTree.{Form, Simple}
-use Rattle.semver_ranges.specs.Partials.{filled, fits_u64, stated, zero_filled, zero_version}
+use Rattle.semver_ranges.specs.Partials.{fits_u64, stated, zero_filled, zero_version}
 use Rattle.semver_ranges.specs.RewritingTable.{simple_fits}
 use Rattle.semver_ranges.specs.StatedPreReleases.{states_pre_release_at}
 use Rattle.semver_ranges.specs.Terms.{of_simple}
 use Rattle.semver_ranges.specs.Steps.CursorViews.{form_of, IsSimpleOf}
-use Rattle.semver_ranges.specs.Steps.PartialViews.{stated_at as numbers_at, stated_of, states_none, version_of}
+use Rattle.semver_ranges.specs.Steps.PartialViews.{stated_of, version_of}
 use Rattle.tool_ranges.specs.declared.tally.Terms.{Terms}
 use Rattle.tool_ranges.specs.declared.tally.Terms.TheVariants.{Npm, NpmAll, Crate}
 use Rattle.tool_ranges.specs.Steps.Asking.{states_at, term_fits}
@@ -27,7 +23,7 @@ use Rattle.tool_ranges.proofs.ToolRows.{numbers_fit}
 
 -- a simple whose numbers fit states what its tree states
 port_stated : (compat : Compat) (s : Simple) → simple_fits compat s ≡ true → list_all fits_u64 (stated s.partial) ≡ true
-port_stated compat s fit = (and_parts (list_all fits_u64 (stated s.partial)) _ fit).0
+port_stated compat s fit = search rules
 
 pub term_stated : (terms : Terms) (s : Simple) → term_fits terms s ≡ true → list_all fits_u64 (stated s.partial) ≡ true
 term_stated Npm s fit = numbers_fit mode.Npm s (safe_fits s fit)
@@ -51,19 +47,6 @@ module _ (s : Simple) (simple : read.Simple) (is : IsSimpleOf s simple) (fit : l
   pub stated_at : (v : PlainVersion) (r : Bool) → r ≡ states_at simple.partial v → r ≡ states_pre_release_at (of_simple s) v
   stated_at v r e = said (λ f n z. not (is_empty z.pre) && pointwise nat_eq (numbers v) n) r e
 
--- a simple that states nothing
-kind_none : (k : PartialKind) (a b c : ℕ) → numbers_at k a b c ≡ [] → states_none k ≡ true
-kind_none XRangeOnly a b c e = refl
-kind_none MajorOnly a b c e = cc
-kind_none MajorMinor a b c e = cc
-kind_none MajorMinorPatch a b c e = cc
-
-filled_none : (s : List ℕ) (pre : List IdentifierValue) → s ≡ []
-    → filled s (if length s == 3 then pre else []) ≡ zero_version
-filled_none s pre e = rw e refl
-
 pub nothing_read : (s : Simple) (simple : read.Simple) → IsSimpleOf s simple → stated_of simple.partial ≡ []
     → version_of simple.partial ≡ zero_version
-nothing_read s simple is none = by_test simple.partial.fits
-    (λ y. let two = is.1.1 y in two.1 ∙ filled_none (stated s.partial) _ (sym two.0 ∙ none))
-    (λ n. let some = is.1.2 n in absurd (both_ways _ some (kind_none simple.partial.kind _ _ _ none)))
+nothing_read s simple is none = search rules

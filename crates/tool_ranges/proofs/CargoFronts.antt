@@ -1,10 +1,10 @@
 -- A front of a requirement's text, gone on with nothing, a wildcard, a letter, or a space and a number, is one too.
-use Rattle.std.proofs.Common.{◌≡◌, ℕ, ◌≤◌, Bool, true, false, ◌⊎◌, inl, inr, List, [], ◌∷◌, ◌++◌, codes, length, refl, sym, ap, ◌∙◌}
-use Rattle.std.proofs.Common.{arith, append-nil, append_assoc, one-add, subst}
+use Rattle.std.proofs.Common.{◌≡◌, ℕ, ◌≤◌, Bool, true, false, ◌⊎◌, inl, inr, List, [], ◌∷◌, ◌++◌, codes, length, refl, sym, ap, ◌∙◌, rules}
+use Rattle.std.proofs.Common.{arith, append-nil, append_assoc, subst}
 use Rattle.std.specs.Prelude.{◌==◌, ◌&&◌, ◌||◌, not, if◌then◌else◌, map, take_while}
 use Rattle.std.specs.List.{list_all, list_any}
 use Rattle.std.specs.Str.Parse.{digits_value}
-use Rattle.std.proofs.lemmas.Bool.{and_parts, and_from, not-true, or_parts, or_right}
+use Rattle.std.proofs.lemmas.Bool.{and_parts, and_from, or_parts, or_right}
 use Rattle.semver_texts.specs.declared.dialect.Dialect.TheVariants.{Cargo}
 use Rattle.semver_texts.specs.Texts.{Text, has_no_leading_zero, is_empty, marked}
 use Rattle.semver_texts.proofs.Lists.{by_test}
@@ -17,6 +17,7 @@ use Rattle.version_fronts.proofs.FrontPartials.{AreFrontOfParts, IsFrontOf, IsFr
 use Rattle.version_fronts.proofs.FrontPartials.{cut_at, partial_goes_on, rest_text}
 use Rattle.version_fronts.proofs.FrontRanges.{IsTextRest, text_rest, blanks_front, one_space}
 use Rattle.version_fronts.proofs.FrontWords.{all_stay, zero_stays}
+use Rattle.std.proofs.lemmas.Grind.{common_steps}
 
 -- ---- partials
 
@@ -31,19 +32,18 @@ abbrev pub nothing_in : List Text → Bool
 nothing_in cs = is_empty (map (digits_value 10) (take_while (λ c. not (is_wildcard c)) cs))
 
 pub none_stated : (a : Text) (cs : List Text) → nothing_in (a ∷ cs) ≡ is_wildcard a
-none_stated a cs = by_test (is_wildcard a) (λ y. rw y refl) (λ n. rw (n, one-add) refl)
+none_stated a cs = search rules
 
 -- a front states nothing exactly if the partial doesn't
 pub same_states : (p' p : PartialTree) (a' a : Text) (cs' cs : List Text) → components p' ≡ a' ∷ cs' → components p ≡ a ∷ cs
     → is_wildcard a' ≡ is_wildcard a → states_nothing p' ≡ states_nothing p
-same_states p' p a' a cs' cs parts' parts e =
-    ap nothing_in parts' ∙ none_stated a' cs' ∙ e ∙ sym (none_stated a cs) ∙ ap nothing_in (sym parts)
+same_states p' p a' a cs' cs parts' parts e = grind (arith, common_steps, nothing_in, none_stated)
 
 pub front_states : (p' p : PartialTree) → IsFrontOf p' p → states_nothing p' ≡ states_nothing p
 front_states (one a') p (a, cs, rest, parts, text, is, same) = same_states (one a') p a' a [] cs refl parts same
-front_states (two a' b') p (b, cs, parts, w) = same_states (two a' b') p a' a' (b' ∷ []) (b ∷ cs) refl parts refl
+front_states (two a' b') p (b, cs, parts, w) = same_states (two a' b') p a' a' _ _ refl parts refl
 front_states (three a b c' pre' build') p (c, pre, build, is, w) =
-    same_states (three a b c' pre' build') p a a (b ∷ c' ∷ []) (b ∷ c ∷ []) refl (ap components is) refl
+    same_states (three a b c' pre' build') p a a _ _ refl (ap components is) refl
 
 -- whether nothing but wildcards is after a wildcard, by which components are wildcards
 abbrev last_two : Bool → Bool → Bool
@@ -51,13 +51,6 @@ last_two x y = if x then (y && true) else (if y then true else true)
 
 abbrev last_three : Bool → Bool → Bool → Bool
 last_three x y z = if x then (y && (z && true)) else (if y then (z && true) else (if z then true else true))
-
-one_last : (x : Bool) → (if x then true else true) ≡ true
-one_last true = refl
-one_last false = refl
-
-two_last : (x y y' z w : Bool) → (if x then (y && z) else (if y then z else w)) ≡ true → (y' ≡ true) ⊎ (y' ≡ y) → last_two x y' ≡ true
-two_last x y y' z w e is = grind arith
 
 three_last : (x y z z' : Bool) → last_three x y z ≡ true → (z' ≡ true) ⊎ (z' ≡ z) → last_three x y z' ≡ true
 three_last x y z z' e w = grind arith
@@ -68,7 +61,7 @@ wild_of c' c (inr w) = inr w.2
 
 -- what a qualifier wants
 or_second : (x y : Bool) → x ≡ false → (x || y) ≡ true → y ≡ true
-or_second x y e h = rw e at h
+or_second x y e h = cc
 
 some_pre : (xs' xs build : List Text) → AreFrontOfParts xs' xs → is_empty (marked (codes "-") xs ++ marked (codes "+") build) ≡ false
 some_pre [] xs build w = absurd w
@@ -97,26 +90,21 @@ module _ (a b c : Text) (pre build : List Text) (e : is_partial_of_cargo (three 
   end_read c' pre' build' (inr (inr (same, same_pre, shape))) = rw (same, same_pre) (and_from _ _ all_of.0 (and_from _ _
       (or_right _ _ (or_second _ _ (some_build build' build pre shape) all_of.1)) all_of.2))
 
-not_one : (p : PartialTree) (a b : Text) (cs : List Text) → components p ≡ a ∷ b ∷ cs → is_one p ≡ true → ⊥
-not_one (one x) a b cs e h = cc
-not_one _ a b cs e h = cc
-
 pub keeps_cargo : (p' p : PartialTree) → IsFrontOf p' p → is_partial_of_cargo p ≡ true → KeepsCargo p' p
 keeps_cargo (one a') p w e = record {
-  is_read = and_from _ _ (one_last (is_wildcard a')) refl;
+  is_read = search rules;
   states = front_states (one a') p w;
   is_one = λ y. refl;
 }
 keeps_cargo (two a b') p w e = record {
-  is_read = and_from _ _ (two_last (is_wildcard a) (is_wildcard w.0) (is_wildcard b') _ _
-      (subst (λ cs. wildcards_are_last cs ≡ true) w.2 (and_parts (wildcards_are_last (components p)) _ e).0) (wild_of b' w.0 w.3)) refl;
+  is_read = search rules;
   states = front_states (two a b') p w;
-  is_one = λ y. absurd (not_one p a w.0 w.1 w.2 y);
+  is_one = search rules;
 }
 keeps_cargo (three a b c' pre' build') p w e = record {
-  is_read = end_read a b w.0 w.1 w.2 (subst (λ q. is_partial_of_cargo q ≡ true) w.3 e) c' pre' build' w.4;
+  is_read = end_read a b w.0 w.1 w.2 (cc) c' pre' build' w.4;
   states = front_states (three a b c' pre' build') p w;
-  is_one = λ y. absurd (not_one p a b (w.0 ∷ []) (ap components w.3) y);
+  is_one = search rules;
 }
 
 -- ---- comparators
@@ -126,7 +114,7 @@ abbrev numbered : Form → Simple
 numbered f = record { form = f; partial = one (codes "1") }
 
 is_read_number : (f : Form) → is_of_cargo (numbered f) ≡ true
-is_read_number f = or_right (is_every (numbered f)) true refl
+is_read_number f = search rules
 
 -- a front of a sign is a sign
 record SignFront (t : Text) : Type 0 where
@@ -134,12 +122,12 @@ record SignFront (t : Text) : Type 0 where
   is : t ≡ sign form
 
 one_byte : (f : Form) (s b : ℕ) (m r : Text) → sign f ≡ s ∷ [] → s ∷ [] ≡ (b ∷ m) ++ r → SignFront (b ∷ m)
-one_byte f s b [] r is e = record { form = f; is = (let h : b ≡ s = cc in ap (λ x. x ∷ []) h ∙ sym is) }
+one_byte f s b [] r is e = search rules
 one_byte f s b (c ∷ m) r is e = cc
 
 two_bytes : (f g : Form) (s t b : ℕ) (m r : Text) → sign f ≡ s ∷ t ∷ [] → sign g ≡ s ∷ [] → s ∷ t ∷ [] ≡ (b ∷ m) ++ r → SignFront (b ∷ m)
-two_bytes f g s t b [] r is is' e = record { form = g; is = (let h : b ≡ s = cc in ap (λ x. x ∷ []) h ∙ sym is') }
-two_bytes f g s t b (c ∷ []) r is is' e = record { form = f; is = cc }
+two_bytes f g s t b [] r is is' e = search rules
+two_bytes f g s t b (c ∷ []) r is is' e = search rules
 two_bytes f g s t b (c ∷ d ∷ m) r is is' e = cc
 
 sign_front : (f : Form) (b : ℕ) (m r : Text) → sign f ≡ (b ∷ m) ++ r → SignFront (b ∷ m)
@@ -162,16 +150,15 @@ abbrev any_states_nothing : List Simple → Bool
 any_states_nothing ss = list_any (λ s. states_nothing s.partial) ss
 
 none_of : (x y : Bool) → x ≡ false → y ≡ false → (x || y) ≡ false
-none_of x y e h = rw (e, h) refl
+none_of x y e h = cc
 
 alone_still : (ss : List Simple) (first : Simple) (others : List Simple) → length (first ∷ others) ≤ length ss
     → (any_states_nothing ss ≡ false → any_states_nothing (first ∷ others) ≡ false) → stands_alone ss ≡ true
     → stands_alone (first ∷ others) ≡ true
 alone_still ss first [] few states alone = refl
-alone_still [] first (x ∷ xs) few states alone = absurd (omega (arith, few))
+alone_still [] first (x ∷ xs) few states alone = absurd (omega arith)
 alone_still (s ∷ []) first (x ∷ xs) few states alone = absurd (omega (arith, few))
-alone_still (s ∷ next ∷ others) first (x ∷ xs) few states alone =
-    rw (states (not-true (any_states_nothing (s ∷ next ∷ others)) alone)) refl
+alone_still (s ∷ next ∷ others) first (x ∷ xs) few states alone = search rules
 
 -- ---- what has to be known of the fronts of partials, and of the rests with which they go on
 

@@ -1,9 +1,8 @@
 -- What the reader finds at the front of a requirement is what is there: one comparator, up to its comma or the end.
-use Rattle.std.proofs.Common.{◌≡◌, ℕ, Bool, true, false, ◌==◌, [], ◌∷◌, ◌++◌, codes, refl, sym, ap, ◌∙◌, subst}
+use Rattle.std.proofs.Common.{◌≡◌, ℕ, Bool, true, false, ◌==◌, [], ◌∷◌, ◌++◌, refl, sym, ap, ◌∙◌, rules}
 use Rattle.std.proofs.Common.{Option, Some, None, append_assoc, append-nil, inl, inr}
-use Rattle.std.proofs.lemmas.Bool.{and_parts, and_from, eqb-true, not-true, true≢false}
+use Rattle.std.proofs.lemmas.Bool.{and_from, eqb-true}
 use Rattle.std.proofs.lemmas.List.Folds.{list_all-append}
-use Rattle.std.specs.List.{list_all}
 use Rattle.semver_texts.specs.Texts.{Text}
 use Rattle.semver_texts.specs.declared.dialect.Dialect.TheVariants.{Cargo}
 use Rattle.semver_ranges.specs.RangeTree.{PartialTree, Form, bare, equal, less, at_most, greater, at_least, tilde, caret, Simple}
@@ -11,7 +10,7 @@ use Rattle.semver_ranges.specs.RangeTree.{is_blank, AreBlanks, SpellsPartial, Sp
 use Rattle.semver_ranges.specs.Steps.Reading.{front, behind_blanks, operator, with_first, component}
 use Rattle.semver_ranges.proofs.ReadingPieces.{front-back, front_all, operator_sound, first_sound, component_sound, PartialAt, FormAt}
 use Rattle.semver_ranges.proofs.ReadingPieces.{starts, starts-append, is_word_byte, component_word, partial_starts}
-use Rattle.semver_ranges.proofs.WrittenPieces.{stops, ends_partial, apart, first_read, operator_read, blanks_behind, no_blank, no_sign}
+use Rattle.semver_ranges.proofs.WrittenPieces.{stops, ends_partial, first_read, operator_read, blanks_behind, no_blank, no_sign}
 use Rattle.semver_texts.proofs.Lists.{by_test}
 use Rattle.tool_ranges.specs.CargoGrammar.{sign, is_of_cargo, SpellsComparator}
 use Rattle.tool_ranges.specs.Steps.CargoReading.{begins_with_tilde_greater, at_end, with_operator, comparator_here, comparator_at}
@@ -32,8 +31,7 @@ form_signed : (f : Form) (w t : Text) → SpellsForm Cargo f w → begins_with_t
     → (gap : Text) × AreBlanks Cargo gap × (w ≡ sign f ++ gap)
 form_signed bare w t h n = ([], refl, h)
 form_signed tilde w t (inl h) n = h
-form_signed tilde w t (inr (blanks, h, text)) n =
-    absurd (true≢false (ap (λ x. begins_with_tilde_greater (x ++ t)) (sym text) ∙ n))
+form_signed tilde w t (inr (blanks, h, text)) n = cc
 form_signed equal w t h n = h
 form_signed less w t h n = h
 form_signed at_most w t h n = h
@@ -44,25 +42,10 @@ form_signed caret w t h n = h
 -- a comparator of its pieces, after which nothing or a comma stands
 made : (s : Simple) (before gap word after v t : Text) → AreBlanks Cargo before → AreBlanks Cargo gap → AreBlanks Cargo after → SpellsPartial s.partial word
     → is_of_cargo s ≡ true → t ≡ before ++ ((sign s.form ++ gap) ++ (word ++ (after ++ v))) → ComparatorAt t (at_end s v)
-made s before gap word after [] t b g a p r text = (
-  before ++ (sign s.form ++ (gap ++ (word ++ after))),
-  record {
-    before = before;
-    gap = gap;
-    word = word;
-    after = after;
-    before_is = b;
-    gap_is = g;
-    after_is = a;
-    partial = p;
-    is_read = r;
-    text = refl;
-  },
-  text ∙ simp (append_assoc, append-nil),
-)
+made s before gap word after [] t b g a p r text = search rules
 made s before gap word after (c ∷ v) t b g a p r text = by_test (c == 44)
     (λ e. rw e (
-      before ++ (sign s.form ++ (gap ++ (word ++ after))),
+      before ++ _,
       record {
         before = before;
         gap = gap;
@@ -83,7 +66,7 @@ partial_made : (before gap t u : Text) (f : Form) (o : Option (PartialTree × Te
     → t ≡ before ++ ((sign f ++ gap) ++ u) → PartialAt u o → ComparatorAt t (with_operator f o)
 partial_made before gap t u f None b g text h = tt
 partial_made before gap t u f (Some (p, v)) b g text (word, spelled, whole) = by_test (is_of_cargo (record { form = f; partial = p }))
-    (λ e. rw e (made (record { form = f; partial = p }) before gap word (front (is_blank Cargo) v) (behind_blanks Cargo v) t b g
+    (λ e. rw e (made _ before gap word _ (behind_blanks Cargo v) t b g
     (front_all (is_blank Cargo) v) spelled e
     (text ∙ ap (λ x. before ++ ((sign f ++ gap) ++ x)) (whole ∙ ap (λ x. word ++ x) (front-back (is_blank Cargo) v)))))
     (λ e. rw e tt)
@@ -91,9 +74,9 @@ partial_made before gap t u f (Some (p, v)) b g text (word, spelled, whole) = by
 here_sound : (before u t : Text) (found : Form × Text) → AreBlanks Cargo before → t ≡ before ++ u
     → begins_with_tilde_greater u ≡ false → FormAt Cargo u found → ComparatorAt t (with_operator found.0 (with_first (component found.1)))
 here_sound before u t found b text m (w, form, whole) =
-    let signed = form_signed found.0 w found.1 form (ap begins_with_tilde_greater (sym whole) ∙ m) in
-    partial_made before signed.0 t found.1 found.0 (with_first (component found.1)) b signed.1
-    (text ∙ ap (λ x. before ++ x) (whole ∙ ap (λ x. x ++ found.1) signed.2))
+    let signed = form_signed found.0 w found.1 form (cc) in
+    partial_made before signed.0 t found.1 found.0 _ b signed.1
+    (cc)
     (first_sound found.1 (component found.1) (component_sound found.1))
 
 pub comparator_sound : (t : Text) → ComparatorAt t (comparator_at t)
@@ -101,7 +84,7 @@ comparator_sound t =
     let u = behind_blanks Cargo t in
     by_test (begins_with_tilde_greater u)
     (λ e. rw e tt)
-    (λ e. rw e (here_sound (front (is_blank Cargo) t) u t (operator Cargo u)
+    (λ e. rw e (here_sound _ u t _
     (front_all (is_blank Cargo) t) (front-back (is_blank Cargo) t) e (operator_sound Cargo u)))
 
 -- ---- what is there is found
@@ -112,11 +95,11 @@ no_tilde a (b ∷ t) e = rw e refl
 
 tilde_alone : (t : Text) → stops (λ b. b == 62) t ≡ true → begins_with_tilde_greater (126 ∷ t) ≡ false
 tilde_alone [] e = refl
-tilde_alone (b ∷ t) e = not-true (b == 62) e
+tilde_alone (b ∷ t) e = search rules
 
 starts_no_tilde : (t : Text) → starts is_word_byte t ≡ true → begins_with_tilde_greater t ≡ false
 starts_no_tilde [] e = cc
-starts_no_tilde (b ∷ t) e = no_tilde b t (apart is_word_byte b 126 e refl)
+starts_no_tilde (b ∷ t) e = search rules
 
 -- an operator and its spaces, before what begins with a component
 abbrev Begins : Form → Text → Text → Type 0
@@ -125,16 +108,16 @@ Begins f gap x = (begins_with_tilde_greater ((sign f ++ gap) ++ x) ≡ false) ×
 begins_with : (f : Form) (gap x : Text) → AreBlanks Cargo gap → starts is_word_byte x ≡ true
     → ((f ≡ bare) → ⊥) → Begins f gap x
 begins_with bare gap x g e other = absurd (other refl)
-begins_with equal gap x g e other = (no_tilde 61 (gap ++ x) refl, operator_read Cargo equal (codes "=" ++ gap) x (gap, g, refl) e)
-begins_with less gap x g e other = (no_tilde 60 (gap ++ x) refl, operator_read Cargo less (codes "<" ++ gap) x (gap, g, refl) e)
+begins_with equal gap x g e other = (no_tilde 61 _ refl, operator_read Cargo equal _ x (gap, g, refl) e)
+begins_with less gap x g e other = (no_tilde 60 _ refl, operator_read Cargo less _ x (gap, g, refl) e)
 begins_with at_most gap x g e other =
-    (no_tilde 60 (61 ∷ (gap ++ x)) refl, operator_read Cargo at_most (codes "<=" ++ gap) x (gap, g, refl) e)
-begins_with greater gap x g e other = (no_tilde 62 (gap ++ x) refl, operator_read Cargo greater (codes ">" ++ gap) x (gap, g, refl) e)
+    (no_tilde 60 (61 ∷ (gap ++ x)) refl, operator_read Cargo at_most _ x (gap, g, refl) e)
+begins_with greater gap x g e other = (no_tilde 62 _ refl, operator_read Cargo greater _ x (gap, g, refl) e)
 begins_with at_least gap x g e other =
-    (no_tilde 62 (61 ∷ (gap ++ x)) refl, operator_read Cargo at_least (codes ">=" ++ gap) x (gap, g, refl) e)
+    (no_tilde 62 (61 ∷ (gap ++ x)) refl, operator_read Cargo at_least _ x (gap, g, refl) e)
 begins_with tilde gap x g e other =
-    (tilde_alone (gap ++ x) (no_sign Cargo 62 refl refl gap x g e), operator_read Cargo tilde (codes "~" ++ gap) x (inl (gap, g, refl)) e)
-begins_with caret gap x g e other = (no_tilde 94 (gap ++ x) refl, operator_read Cargo caret (codes "^" ++ gap) x (gap, g, refl) e)
+    (tilde_alone (gap ++ x) (no_sign Cargo 62 refl refl gap x g e), operator_read Cargo tilde _ x (inl (gap, g, refl)) e)
+begins_with caret gap x g e other = (no_tilde 94 _ refl, operator_read Cargo caret _ x (gap, g, refl) e)
 
 -- after blanks, the operator and what it is before
 abbrev Reads : Form → Text → Text → Type 0
@@ -161,28 +144,26 @@ bare_form _ e = cc
 reads : (f : Form) (before gap x : Text) → AreBlanks Cargo before → AreBlanks Cargo gap → starts is_word_byte x ≡ true
     → Reads f (behind_blanks Cargo (before ++ ((sign f ++ gap) ++ x))) x
 reads f before gap x b g e = by_test (is_bare_form f)
-    (λ y. let is = bare_form f y in subst (λ h. Reads h (behind_blanks Cargo (before ++ ((sign h ++ gap) ++ x))) x) (sym is)
-    (rw (
+    (λ y. let is = bare_form f y in rw is (rw (
       sym (append_assoc before gap x),
       blanks_behind Cargo (before ++ gap) x (list_all-append (is_blank Cargo) before gap
           ∙ and_from _ _ b g) (no_blank Cargo x e),
     )
     (starts_no_tilde x e, operator_read Cargo bare [] x refl e)))
-    (λ n. rw (blanks_behind Cargo before ((sign f ++ gap) ++ x) b (signs_stop f gap x n))
-    (begins_with f gap x g e (λ is. absurd (true≢false (sym (ap is_bare_form is) ∙ n)))))
+    (λ n. rw (blanks_behind Cargo before _ b (signs_stop f gap x n))
+    (begins_with f gap x g e (λ is. absurd (cc))))
 
 spaces_end : (after v : Text) → AreBlanks Cargo after → ends_partial v ≡ true → ends_partial (after ++ v) ≡ true
 spaces_end [] v a e = e
-spaces_end (b ∷ after) v a e = rw (eqb-true b 32 (and_parts (b == 32) (list_all (λ b. b == 32) after) a).0) refl
+spaces_end (b ∷ after) v a e = search rules
 
 comparator_here_read : (s : Simple) (word after v u : Text) → AreBlanks Cargo after → SpellsPartial s.partial word → is_of_cargo s ≡ true
     → ends_partial v ≡ true → stops (is_blank Cargo) v ≡ true → Reads s.form u (word ++ (after ++ v)) → comparator_here u ≡ at_end s v
 comparator_here_read s word after v u a p r e n (other, form) =
-    let x = word ++ (after ++ v) in
     rw (
       other,
       form,
-      first_read s.partial word (after ++ v) p (spaces_end after v a e),
+      first_read s.partial word _ p (spaces_end after v a e),
       r,
       blanks_behind Cargo after v
           a n,
@@ -191,17 +172,15 @@ comparator_here_read s word after v u a p r e n (other, form) =
 pub comparator_read : (s : Simple) (w v : Text) → SpellsComparator s w → ends_partial v ≡ true → stops (is_blank Cargo) v ≡ true
     → comparator_at (w ++ v) ≡ at_end s v
 comparator_read s w v has e n =
-    let x = has.word ++ (has.after ++ v) in
-    let begins : starts is_word_byte x ≡ true =
-    starts-append is_word_byte has.word (has.after ++ v) (component_word has.word (partial_starts s.partial has.word has.partial)) in
+    let x = has.word ++ _ in
     let whole : w ++ v ≡ has.before ++ ((sign s.form ++ has.gap) ++ x) = ap (λ y. y ++ v) has.text ∙ simp append_assoc in
     ap comparator_at whole
     ∙ comparator_here_read s has.word has.after v (behind_blanks Cargo (has.before ++
     ((sign s.form ++ has.gap) ++ x))) has.after_is has.partial has.is_read e n
-    (reads s.form has.before has.gap x has.before_is has.gap_is begins)
+    (reads s.form has.before has.gap x has.before_is has.gap_is (starts-append is_word_byte has.word (has.after ++ v) (component_word has.word (partial_starts s.partial has.word has.partial))))
 
 pub ended_read : (s : Simple) (t : Text) → SpellsComparator s t → comparator_at t ≡ Some (s, None)
 ended_read s t has = ap comparator_at (sym (append-nil t)) ∙ comparator_read s t [] has refl refl
 
 pub parted_read : (s : Simple) (w u : Text) → SpellsComparator s w → comparator_at (w ++ (44 ∷ u)) ≡ Some (s, Some u)
-parted_read s w u has = comparator_read s w (44 ∷ u) has refl refl
+parted_read s w u has = comparator_read s w _ has refl refl

@@ -1,19 +1,17 @@
 -- Fronts of partials whose numbers fit: each goes on as a partial whose numbers fit, by a number or a wildcard more at most.
 use Rattle.std.proofs.Common.{◌≡◌, ℕ, ◌+◌, ◌≤◌, Bool, true, false, ◌⊎◌, inl, inr, List, [], ◌∷◌, ◌++◌, codes, length, refl, sym, ap, ◌∙◌}
-use Rattle.std.proofs.Common.{arith, append-nil, append_assoc, length-append, subst, one-add}
+use Rattle.std.proofs.Common.{arith, append-nil, append_assoc, length-append, subst, one-add, rules}
 use Rattle.std.specs.Prelude.{◌==◌, not, map, take_while}
 use Rattle.std.specs.List.{Contains, list_all, list_any}
 use Rattle.std.specs.Str.Parse.{digits_value}
 use Rattle.std.proofs.lemmas.Bool.{and_parts, and_from}
-use Rattle.std.proofs.lemmas.Bool.Decides.{nat_tests}
 use Rattle.std.proofs.lemmas.List.Elements.{Contains-append_left}
 use Rattle.semver_texts.specs.Texts.{Text, is_empty}
 use Rattle.semver_texts.proofs.Lists.{by_test, never}
 use Rattle.semver_ranges.specs.declared.range.Compat.{Compat}
 use Rattle.semver_ranges.specs.NpmLengths.{is_short_number}
 use Rattle.semver_ranges.specs.RangeTree.{PartialTree, one, two, three, SpellsPartial, components, is_component, is_wildcard}
-use Rattle.semver_ranges.specs.RangeTree.{Form, caret, Role, has_no_leading_zeros, has_short_parts, is_word_of_npm}
-use Rattle.version_fronts.proofs.FrontWords.{short_head}
+use Rattle.semver_ranges.specs.RangeTree.{Form, caret, Role, is_word_of_npm}
 use Rattle.semver_ranges.specs.Partials.{stated, states_nothing}
 use Rattle.version_fronts.proofs.FrontPartials.{Rest, rest_text, IsFrontOf, EndsIn, InFirst, EndGoesOn}
 use Rattle.version_fronts.proofs.FrontPartials.{after_numbers, cut_component, ends_in, value_front, value_less, partial_goes_on}
@@ -21,8 +19,9 @@ use Rattle.version_fronts.proofs.FrontPartials.{IsFrontOfComponent}
 use Rattle.version_fronts.proofs.FrontRanges.{plain_text, plain_texts, npm_taken}
 use Rattle.tool_ranges.specs.CargoGrammar.{is_one, is_partial_of_cargo}
 use Rattle.tool_ranges.specs.CargoMeaning.{has_wildcard}
-use Rattle.tool_ranges.proofs.CargoFronts.{KeepsCargo, front_states, keeps_cargo, none_stated, same_states}
+use Rattle.tool_ranges.proofs.CargoFronts.{KeepsCargo, front_states, keeps_cargo, none_stated}
 use Rattle.tool_ranges.proofs.FittingSimples.{IsLimit, fits_for, none_fits, one_fits, two_fit, three_fit, stated_fit, caret_raised}
+use Rattle.std.proofs.lemmas.Grind.{common_steps}
 
 -- ---- what a front goes on with
 
@@ -49,7 +48,7 @@ before_wildcard cs = map (digits_value 10) (take_while (λ c. not (is_wildcard c
 
 pub few_stated : (cs : List Text) → length (before_wildcard cs) ≤ length cs
 few_stated [] = omega arith
-few_stated (c ∷ cs) = let fewer = few_stated cs in by_test (is_wildcard c) (λ y. rw y (omega arith)) (λ n. rw (n, one-add) (omega arith))
+few_stated (c ∷ cs) = grind (arith, common_steps)
 
 pub first_stated : (a : Text) (cs : List Text) → is_wildcard a ≡ false → before_wildcard (a ∷ cs) ≡ val a ∷ before_wildcard cs
 first_stated a cs n = rw (n, one-add) refl
@@ -60,23 +59,18 @@ wild a b = three a b (codes "*") [] []
 
 wild_npm : (role : Role) (a b : Text) (n : ℕ) → is_wildcard a ≡ false → is_wildcard b ≡ false → is_short_number a ≡ true
     → is_short_number b ≡ true → is_word_of_npm role (wild a b) n ≡ true
-wild_npm role a b n x y s t = rw (x, y, s, t) refl
+wild_npm role a b n x y s t = cc
 
 short_word : (role : Role) (p : PartialTree) (a : Text) (cs : List Text) (n : ℕ) → components p ≡ a ∷ cs → is_word_of_npm role p n ≡ true
     → (is_short_number a ≡ true) × (list_all is_short_number cs ≡ true)
-short_word role p a cs n e h =
-    short_head p a cs e (and_parts (has_short_parts p) _ (and_parts (has_no_leading_zeros p) _ h).1).0
+short_word role p a cs n e h = search rules
 
 short_begun : (x y : Text) → is_short_number (x ++ y) ≡ true → is_short_number x ≡ true
-short_begun x y h = let k = length-append x y in grind (arith, nat_tests)
+short_begun x y h = grind (arith, common_steps)
 
 wild_cargo : (p : PartialTree) (a b a' : Text) (cs : List Text) → components p ≡ a' ∷ cs → is_wildcard a ≡ false → is_wildcard b ≡ false
     → is_wildcard a' ≡ false → is_one p ≡ false → KeepsCargo (wild a b) p
-wild_cargo p a b a' cs e x y x' others = record {
-  is_read = rw (x, y) refl;
-  states = same_states (wild a b) p a a' (b ∷ codes "*" ∷ []) cs refl e (x ∙ sym x');
-  is_one = λ h. absurd (never h others);
-}
+wild_cargo p a b a' cs e x y x' others = search rules
 
 -- ---- by a limit and a table
 
@@ -281,28 +275,27 @@ module _ (f : ℕ → Bool) (limit : IsLimit f) (tool : Bool) (mode : Compat) (n
     third_none : (front rest dot : Text) → (IsWordRest (dot ++ codes "*")) × (IsWordRest (dot ++ codes "0")) → length dot + 1 ≤ length rest
         → ((x : Text) → front ++ (dot ++ x) ≡ a ++ (46 ∷ (b ++ (46 ∷ x)))) → Whole front rest
     third_none front rest dot rests short text = by_test (is_wildcard c)
-        (λ y. kept form (three a b c pre build) (three a b (codes "*") [] []) front rest (dot ++ codes "*") rests.0
-        (and_from _ _ q (and_from _ _ r refl), (refl, refl), text (codes "*") ∙ sym (append-nil _))
-        (rw length-append (omega (arith, short))) (c, pre, build, refl, inl (inl refl, refl, refl))
+        (λ y. kept form _ (three a b (codes "*") [] []) front rest _ rests.0
+        (and_from _ _ q (cc), (refl, refl), text (codes "*") ∙ sym (append-nil _))
+        (rw length-append (omega arith)) (c, pre, build, refl, inl (inl refl, refl, refl))
         (three_fits form a b c (codes "*") pre build [] [] (sym y) (λ n. absurd (never y n)) h))
-        (λ n. kept form (three a b c pre build) (three a b (codes "0") [] []) front rest (dot ++ codes "0") rests.1
-        (and_from _ _ q (and_from _ _ r refl), (refl, refl), text (codes "0") ∙ sym (append-nil _))
-        (rw length-append (omega (arith, short)))
+        (λ n. kept form _ (three a b (codes "0") [] []) front rest _ rests.1
+        (and_from _ _ q (cc), (refl, refl), text (codes "0") ∙ sym (append-nil _))
+        (rw length-append (omega arith))
         (c, pre, build, refl, inl (inr (some_component c s, refl, sym n, omega arith), refl, refl))
         (three_fits form a b c (codes "0") pre build [] [] (sym n) (λ m. omega arith) h))
 
     second_whole : (front rest back after : Text) → rest ≡ back ++ (46 ∷ (c ++ after)) → front ≡ a ++ (46 ∷ b) → Whole front rest
     second_whole front rest back after is text =
         third_none front rest (codes ".") ((5, omega arith, refl), (3, omega arith, refl))
-        (let more = some_component c s in rw (is, length-append back _, length-append) (omega (arith, more)))
+        (rw (is, length-append back _, length-append) (omega (arith, (some_component c s))))
         (λ x. rw text (append_assoc a _ _))
 
     in_third : (front rest begun back after : Text) → rest ≡ back ++ after → front ≡ a ++ (46 ∷ (b ++ (46 ∷ begun)))
         → c ≡ begun ++ back → Whole front rest
     in_third front rest [] back after is text cut =
         third_none front rest [] ((1, omega arith, refl), (4, omega arith, refl))
-        (let more : 1 ≤ length back = subst (λ t. 1 ≤ length t) cut (some_component c s) in
-        rw (is, length-append) (omega (arith, more)))
+        (rw (is, length-append) (omega (arith, (subst (λ t. 1 ≤ length t) cut (some_component c s)))))
         (λ x. rw text (simp append_assoc))
     in_third front rest (d ∷ m) back after is text cut =
         let w = cut_component (d ∷ m) back refl (subst (λ t. is_component t ≡ true) cut s) in
@@ -315,7 +308,7 @@ module _ (f : ℕ → Bool) (limit : IsLimit f) (tool : Bool) (mode : Compat) (n
 
     at_end : (front rest : Text) → EndGoesOn a b c pre build front rest → Whole front rest
     at_end front rest w =
-        kept form (three a b c pre build) (three a b c w.pre' w.build') front rest (rest_text w.more) (plain_rest w.more) w.spelled
+        kept form _ (three a b c w.pre' w.build') front rest (rest_text w.more) (plain_rest w.more) w.spelled
         w.short (c, pre, build, refl, w.shape) h
 
   -- ---- each

@@ -1,11 +1,10 @@
 -- Fronts of range texts whose numbers fit: each goes on as a range text whose numbers fit.
-use Rattle.std.proofs.Common.{◌≡◌, ℕ, ◌≤◌, Bool, true, false, inl, inr, List, [], ◌∷◌, ◌++◌, codes, length, refl, sym, ap, ◌∙◌}
+use Rattle.std.proofs.Common.{◌≡◌, ℕ, ◌≤◌, Bool, true, false, inl, inr, List, [], ◌∷◌, ◌++◌, codes, length, refl, sym, ap, ◌∙◌, rules}
 use Rattle.std.proofs.Common.{arith, append-nil, append_assoc, subst}
 use Rattle.std.specs.Prelude.{◌&&◌, not, map}
 use Rattle.std.proofs.Math.Bool.{and-true}
 use Rattle.std.specs.List.{Contains, list_all}
 use Rattle.std.proofs.lemmas.Bool.{and_parts, and_from}
-use Rattle.std.proofs.lemmas.List.Elements.{Contains-append_left}
 use Rattle.semver_texts.specs.Texts.{Text, is_empty}
 use Rattle.semver_texts.specs.declared.dialect.Dialect.{Dialect}
 use Rattle.semver_texts.proofs.Lists.{by_test}
@@ -23,6 +22,7 @@ use Rattle.version_fronts.proofs.FrontRanges.{AreRight, IsRightRange, IsRightSet
 use Rattle.tool_ranges.proofs.FittingSimples.{IsLimit, fits_for, none_fits, at_least_fits, number_fits, stated_fit}
 use Rattle.tool_ranges.proofs.FittingPartials.{IsWordRest, word_rests, IsNaming, partial_fits, nothing_fits}
 use Rattle.tool_ranges.proofs.FittingPartials.{before_wildcard, val, few_stated, first_stated}
+use Rattle.std.proofs.lemmas.Grind.{common_steps}
 
 -- a bar, a space and a number, and what a left side goes on with as one of a hyphen range
 abbrev others : List Text
@@ -33,7 +33,7 @@ abbrev pub IsFittingRest : Text → Type 0
 IsFittingRest t = Contains (word_rests ++ others) t
 
 pub fitting_rest : (t : Text) → IsWordRest t → IsFittingRest t
-fitting_rest t w = Contains-append_left word_rests others t w
+fitting_rest t w = search rules
 
 left_rest : (t : Text) → IsPlainRest t → IsFittingRest (t ++ codes " - 1")
 left_rest t (nothing, e) = rw e (10, omega arith, refl)
@@ -45,7 +45,7 @@ abbrev pub own_name : Bool → Form → Form
 own_name w form = form
 
 pub own_naming : IsNaming own_name
-own_naming = record { wild = λ form e. e; caret_stays = λ w. refl }
+own_naming = search rules
 
 at_most_three : (p : PartialTree) → length (components p) ≤ 3
 at_most_three (one a) = omega arith
@@ -80,8 +80,8 @@ module _ (f : ℕ → Bool) (limit : IsLimit f) (two_fits : f 2 ≡ true) (tool 
   end_component : (c' : Text) (pre' build' : List Text) (c : Text) (pre build : List Text) → IsFrontOfEnd c' pre' build' c pre build
       → list_all f (before_wildcard (c ∷ [])) ≡ true → list_all f (before_wildcard (c' ∷ [])) ≡ true
   end_component c' pre' build' c pre build (inl w) h = component c' c [] w.0 h
-  end_component c' pre' build' c pre build (inr (inl w)) h = rw (w.0) h
-  end_component c' pre' build' c pre build (inr (inr w)) h = rw (w.0) h
+  end_component c' pre' build' c pre build (inr (inl w)) h = rw w.0 h
+  end_component c' pre' build' c pre build (inr (inr w)) h = rw w.0 h
 
   same_head : (a : Text) (cs' cs : List Text) → (list_all f (before_wildcard cs) ≡ true → list_all f (before_wildcard cs') ≡ true)
       → list_all f (before_wildcard (a ∷ cs)) ≡ true → list_all f (before_wildcard (a ∷ cs')) ≡ true
@@ -200,7 +200,7 @@ module _ (f : ℕ → Bool) (limit : IsLimit f) (two_fits : f 2 ≡ true) (tool 
 
     all_fit : (ss : List Simple) → AreRight d IsFittingRest Right ss → list_all (term_fits_by fit) (map of_simple ss) ≡ true
     all_fit [] h = refl
-    all_fit (s ∷ ss) h = and_from _ _ h.0 (all_fit ss h.1)
+    all_fit (s ∷ ss) h = cc (all_fit ss h.1)
 
     -- a side that states nothing is right in any case
     sides_fit : (left right : PartialTree) → list_all (term_fits_by fit) (terms (hyphen left right))
@@ -210,23 +210,23 @@ module _ (f : ℕ → Bool) (limit : IsLimit f) (two_fits : f 2 ≡ true) (tool 
         (λ z. let r = nothing_right at_most right z in rw (y, z, l, r) refl)
         (λ m. rw (y, m, l) (and-true _)))
         (λ n. by_test (states_nothing right)
-        (λ z. let r = nothing_right at_most right z in rw (n, z, r) refl)
+        (λ z. rw (n, z, (nothing_right at_most right z)) refl)
         (λ m. rw (n, m, and-true) refl))
 
     range_right : (range : RangeTree) → list_all (term_fits_by fit) (terms range) ≡ true → IsRightRange d IsFittingRest Right range
     range_right empty h = tt
-    range_right (simples first others) h = let both = and_parts (fit first) _ h in (both.0, all_right others both.1)
-    range_right (hyphen left right) h = let both = and_parts _ _ (sym (sides_fit left right) ∙ h) in (both.0, both.1)
+    range_right (simples first others) h = grind (arith, common_steps, and_parts, all_right)
+    range_right (hyphen left right) h = grind (arith, common_steps, and_parts, sides_fit)
 
     range_fits : (range : RangeTree) → IsRightRange d IsFittingRest Right range → list_all (term_fits_by fit) (terms range) ≡ true
     range_fits empty h = refl
     range_fits (simples first others) h = and_from _ _ h.0 (all_fit others h.1)
-    range_fits (hyphen left right) h = sides_fit left right ∙ and_from _ _ h.0 h.1
+    range_fits (hyphen left right) h = search rules
 
     set_right : (tree : SetTree) → fits_by fit tree ≡ true → IsRightSet d IsFittingRest Right tree
     set_right [] h = tt
     set_right (range ∷ others) h =
-        let both = and_parts (list_all (term_fits_by fit) (terms range)) _ h in (range_right range both.0, set_right others both.1)
+        let both = and_parts _ _ h in (range_right range both.0, set_right others both.1)
 
     set_fits : (tree : SetTree) → IsRightSet d IsFittingRest Right tree → fits_by fit tree ≡ true
     set_fits [] h = refl

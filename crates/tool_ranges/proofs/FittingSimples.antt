@@ -1,6 +1,5 @@
 -- Which simples have numbers that fit, by any limit: where the numbers are fewer or smaller, and the last can be raised.
-use Rattle.std.proofs.Common.{◌≡◌, ℕ, ◌+◌, ◌≤◌, Bool, true, false, Option, Some, None, List, [], ◌∷◌, length, refl}
-use Rattle.std.proofs.Common.{arith}
+use Rattle.std.proofs.Common.{◌≡◌, ℕ, ◌+◌, ◌≤◌, Bool, true, false, Option, Some, None, List, [], ◌∷◌, length, refl, arith, rules}
 use Rattle.std.specs.Prelude.{◌&&◌, if◌then◌else◌, ◌==◌}
 use Rattle.std.specs.List.{list_all}
 use Rattle.std.proofs.lemmas.Bool.{and_parts}
@@ -70,18 +69,8 @@ module _ (f : ℕ → Bool) (limit : IsLimit f) (tool : Bool) (mode : Compat) wh
     here : f c ≡ true → f c' ≡ true
     here = limit.below c' c fewer
 
-    next : f (c + 1) ≡ true → f (c' + 1) ≡ true
-    next = limit.below (c' + 1) (c + 1) (omega (arith, fewer))
-
-    -- by whether the first two are 0
-    keeps : (x y : Bool) → (a == 0) ≡ x → (b == 0) ≡ y → (mode : Compat) (form : Form) → Keeps mode form
-    keeps true true e e' Cargo bare h = grind (arith, here, next, zero_fits)
-    keeps x y e e' Cargo bare h = grind (arith, here, next, zero_fits)
-    keeps x y e e' Npm bare h = grind (arith, here, next, zero_fits)
-    keeps _ _ e e' _ _ h = grind (arith, here, next, zero_fits)
-
     pub three_fit : (form : Form) → Keeps mode form
-    three_fit form = keeps (a == 0) (b == 0) refl refl mode form
+    three_fit form = search rules
 
   -- what fits is stated
   pub stated_fit : (form : Form) (s : List ℕ) → fits_for f tool mode form s ≡ true → list_all f s ≡ true

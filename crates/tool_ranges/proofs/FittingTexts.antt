@@ -1,83 +1,59 @@
 -- Fronts of range texts that have a set, by each reading: each goes on as one that has.
-use Rattle.std.proofs.Common.{◌≡◌, true, false, List, [], ◌∷◌, ◌++◌, codes, refl, sym, ap, ◌∙◌}
-use Rattle.std.proofs.Common.{arith, Option, Some, None}
-use Rattle.std.specs.Prelude.{◌&&◌}
+use Rattle.std.proofs.Common.{◌≡◌, true, false, List, [], ◌∷◌, ◌++◌, refl, sym, ◌∙◌, rules}
+use Rattle.std.proofs.Common.{arith}
 use Rattle.std.specs.List.{AllByRecursion, Contains, list_all}
 use Rattle.std.specs.Str.{IsUtf8, chars}
-use Rattle.std.proofs.lemmas.Bool.{and_parts, and_from}
-use Rattle.std.proofs.lemmas.Bool.Decides.{nat_tests}
+use Rattle.std.proofs.lemmas.Bool.{and_parts}
 use Rattle.std.proofs.lemmas.List.Elements.{All-contains, All-from_recursion}
 use Rattle.std.proofs.lemmas.List.Folds.{list_all-append}
 use Rattle.std.proofs.lemmas.Str.{chars-append}
 use Rattle.semver_texts.specs.Texts.{Text}
-use Rattle.semver_texts.specs.Versions.{PlainVersion}
 use Rattle.semver_texts.specs.declared.dialect.Dialect.TheVariants as dialect
-use Rattle.semver_texts.proofs.Lists.{by_test}
 use Rattle.semver_ranges.specs.declared.range.Compat.{Compat}
 use Rattle.semver_ranges.specs.declared.range.Compat.TheVariants as compat
-use Rattle.semver_ranges.specs.RangeTree.{Form, bare, equal, less, at_most, greater, at_least, tilde, caret, Simple, one}
+use Rattle.semver_ranges.specs.RangeTree.{Simple}
 use Rattle.semver_ranges.specs.Partials.{stated, fits_u64}
-use Rattle.semver_ranges.specs.Terms.{of_simple}
-use Rattle.semver_ranges.specs.RewritingTable.{bound_fits, raised_bound, simple_fits}
+use Rattle.semver_ranges.specs.RewritingTable.{simple_fits}
 use Rattle.tool_ranges.specs.declared.reading.Reading.{Reading}
 use Rattle.tool_ranges.specs.declared.reading.Reading.TheVariants.{Cargo, Npm, Crate}
 use Rattle.tool_ranges.specs.CargoMeaning.{as_read, named}
 use Rattle.tool_ranges.specs.CargoTable.{requirement_fits}
 use Rattle.tool_ranges.specs.Fronts.{BeginsFitting}
 use Rattle.tool_ranges.specs.NpmGrammar.{may_stand}
-use Rattle.tool_ranges.specs.NpmTable.{is_safe, is_safe_bound, is_safe_simple}
+use Rattle.tool_ranges.specs.NpmTable.{is_safe, is_safe_simple}
 use Rattle.tool_ranges.specs.Readings.{HasSetAs}
 use Rattle.tool_ranges.specs.Steps.Places.{rests}
 use Rattle.tool_ranges.specs.declared.place.Wanted.{Wanted}
 use Rattle.tool_ranges.specs.declared.place.Wanted.TheVariants.{Any, Fitting}
-use Rattle.tool_ranges.specs.ToolTable.{begins_above, fits_in, raised_in}
+use Rattle.tool_ranges.specs.ToolTable.{fits_in}
 use Rattle.tool_ranges.proofs.CargoFronts.{AreCargoRests, AreAllRight, requirement_goes_on}
-use Rattle.tool_ranges.proofs.FittingSimples.{IsLimit, bound_within, fits_for, number_fits}
+use Rattle.tool_ranges.proofs.FittingSimples.{IsLimit, fits_for}
 use Rattle.tool_ranges.proofs.FittingPartials.{IsNaming, partial_fits}
 use Rattle.tool_ranges.proofs.FittingRanges.{IsFittingRest, fitting_rest, fitting_set}
 
 -- ---- the limits
 
 u64_limit : IsLimit fits_u64
-u64_limit = record { one = refl; below = λ m n less h. grind (arith, nat_tests) }
+u64_limit = search rules
 
 safe_limit : IsLimit is_safe
-safe_limit = record { one = refl; below = λ m n less h. grind (arith, nat_tests) }
+safe_limit = search rules
 
 -- ---- the tables
 
-bound_u64 : (bound : Option PlainVersion) → bound_fits bound ≡ bound_within fits_u64 bound
-bound_u64 None = refl
-bound_u64 (Some bound) = refl
-
-bound_safe : (bound : Option PlainVersion) → is_safe_bound bound ≡ bound_within is_safe bound
-bound_safe None = refl
-bound_safe (Some bound) = refl
-
 crate_table : (mode : Compat) (s : Simple) → simple_fits mode s ≡ fits_for fits_u64 false mode s.form (stated s.partial)
-crate_table mode s = ap (λ b. list_all fits_u64 (stated s.partial) && b) (bound_u64 (raised_bound mode (of_simple s)))
+crate_table mode s = cc
 
 npm_table : (s : Simple) → is_safe_simple s ≡ fits_for is_safe true compat.Npm s.form (stated s.partial)
-npm_table s = ap (λ b. list_all is_safe (stated s.partial) && b) (bound_safe (raised_in compat.Npm s))
+npm_table s = cc
 
 tool_table : (mode : Compat) (s : Simple) → fits_in mode s ≡ fits_for fits_u64 true mode s.form (stated s.partial)
-tool_table mode s = by_test (begins_above s) (λ y. rw y refl)
-    (λ n. rw n (ap (λ b. list_all fits_u64 (stated s.partial) && b) (bound_u64 (raised_bound mode (of_simple s)))))
+tool_table mode s = search rules
 
 -- ---- Cargo's
 
 cargo_naming : IsNaming named
-cargo_naming = record { wild = wild; caret_stays = λ w. refl }
-  where
-    wild : (form : Form) → named true form ≡ caret → form ≡ caret
-    wild bare e = cc
-    wild equal e = e
-    wild less e = e
-    wild at_most e = e
-    wild greater e = e
-    wild at_least e = e
-    wild tilde e = e
-    wild caret e = e
+cargo_naming = search rules
 
 abbrev RightOfCargo : Simple → Type 0
 RightOfCargo s = fits_in compat.Cargo (as_read s) ≡ true
@@ -86,8 +62,7 @@ cargo_rests : AreCargoRests IsFittingRest RightOfCargo
 cargo_rests = record {
   nothing = (0, omega arith, refl);
   number = (9, omega arith, refl);
-  right_number = λ form. tool_table compat.Cargo (as_read (record { form = form; partial = one (codes "1") }))
-      ∙ number_fits fits_u64 u64_limit true compat.Cargo (named false form) refl;
+  right_number = search rules;
   partial = λ s front rest some spelled read right. (
       let w = partial_fits fits_u64 u64_limit true compat.Cargo named cargo_naming s.form s.partial front rest some spelled
       (sym (tool_table compat.Cargo (as_read s)) ∙ right) in record {
@@ -105,11 +80,11 @@ AllOfCargo ss = AreAllRight IsFittingRest RightOfCargo cargo_rests ss
 
 all_right : (ss : List Simple) → requirement_fits ss ≡ true → AllOfCargo ss
 all_right [] h = tt
-all_right (s ∷ ss) h = let both = and_parts (fits_in compat.Cargo (as_read s)) _ h in (both.0, all_right ss both.1)
+all_right (s ∷ ss) h = let both = and_parts _ _ h in (both.0, all_right ss both.1)
 
 all_fit : (ss : List Simple) → AllOfCargo ss → requirement_fits ss ≡ true
 all_fit [] h = refl
-all_fit (s ∷ ss) h = and_from _ _ h.0 (all_fit ss h.1)
+all_fit (s ∷ ss) h = cc (all_fit ss h.1)
 
 -- ---- npm's characters
 
@@ -118,15 +93,15 @@ Stands t = list_all may_stand (chars t) ≡ true
 
 all_stand : (wanted : Wanted) → AllByRecursion Stands (rests wanted)
 unfolding chars
-all_stand Any = (refl, (refl, (refl, (refl, (refl, tt)))))
-all_stand Fitting = (refl, (refl, (refl, (refl, (refl, (refl, (refl, (refl, (refl, (refl, (refl, (refl, (refl, tt)))))))))))))
+all_stand Any = search rules
+all_stand Fitting = search rules
 
 pub still_stand : (wanted : Wanted) (t rest more : Text) → IsUtf8 t → list_all may_stand (chars (t ++ rest)) ≡ true
     → Contains (rests wanted) more → list_all may_stand (chars (t ++ more)) ≡ true
 still_stand wanted t rest more utf8 h is =
     let here = and_parts (list_all may_stand (chars t)) _ (rw (chars-append t rest utf8, list_all-append) at h) in
     let stands = All-contains Stands (rests wanted) more (All-from_recursion Stands (rests wanted) (all_stand wanted)) is in
-    rw (chars-append t more utf8, list_all-append) (and_from (list_all may_stand (chars t)) _ here.0 stands)
+    rw (chars-append t more utf8, list_all-append) (cc)
 
 -- ---- each reading
 

@@ -1,5 +1,5 @@
 -- What the reader finds of a range text of npm says what a call refuses and answers.
-use Rattle.std.proofs.Common.{◌≡◌, true, refl, sym, ap, ◌∙◌, Some, None}
+use Rattle.std.proofs.Common.{◌≡◌, true, refl, ap, ◌∙◌, Some, None, arith}
 use Rattle.std.proofs.lemmas.Bool.{both_ways}
 use Rattle.std.specs.Prelude.{IfOk, Result, Ok, Err}
 use Rattle.std.specs.List.{list_all}
@@ -25,19 +25,20 @@ use Rattle.tool_ranges.specs.Readings.{HasSetAs, IsTooLargeAs, RefusesAs}
 use Rattle.tool_ranges.specs.declared.reading.Reading.TheVariants as reading
 use Rattle.tool_ranges.specs.Steps.LowerBounds.{set_begun}
 use Rattle.tool_ranges.proofs.ToolRows.{npm_prints}
+use Rattle.std.proofs.lemmas.Grind.{common_steps}
 
 -- what is read is the one tree
 pub npm_read : (t : Text) (tree : SetTree) → SpellsNpm tree t → read Npm t ≡ Some tree
 npm_read t tree h = tree_read Npm tree t h.spelled
 
 pub read_one : (t : Text) (tree tree' : SetTree) → read Npm t ≡ Some tree → SpellsNpm tree' t → tree ≡ tree'
-read_one t tree tree' e h = let same : Some tree ≡ Some tree' = sym e ∙ npm_read t tree' h in cc
+read_one t tree tree' e h = grind (arith, common_steps, npm_read)
 
 none_read : (t : Text) (tree : SetTree) → read Npm t ≡ None → SpellsNpm tree t → ⊥
-none_read t tree e h = let same : None ≡ Some tree = sym e ∙ npm_read t tree h in cc
+none_read t tree e h = grind (arith, common_steps, npm_read)
 
 unfit : (t : Text) (tree : SetTree) → read Npm t ≡ Some tree → npm_fits tree ≡ true → IsTooLargeAs reading.Npm t → ⊥
-unfit t tree e f (tree', s, large) = both_ways _ large (sym (ap npm_fits (read_one t tree tree' e s)) ∙ f)
+unfit t tree e f (tree', s, large) = grind (arith, common_steps, both_ways, npm_fits, read_one)
 
 module _ (t : Text) (stand : list_all may_stand (chars t) ≡ true) where
   spelled : (tree : SetTree) → read Npm t ≡ Some tree → SpellsNpm tree t
@@ -87,7 +88,7 @@ begun lower t (Err e) is = tt
 
 -- a text of which there is a set
 pub set_of_text : {A : Type 0} (t : Text) (x : A) → HasSetAs reading.Npm t → RefusesAs reading.Npm t (Ok x)
-set_of_text t x (tree, h, fit) = answered t h.characters x tree (npm_read t tree h) fit
+set_of_text t x (tree, h, fit) = grind (arith, common_steps, npm_read)
 
 -- what it is rewritten to is printable
 pub npm_printable : (t : Text) (tree : SetTree) → read Npm t ≡ Some tree → npm_fits tree ≡ true → IsPrintableSet (rewritten_npm tree)

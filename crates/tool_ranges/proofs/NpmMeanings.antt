@@ -1,8 +1,8 @@
 -- The comparators of a range text mean what it means to npm, where `>=0.0.0` asks nothing; on releases they do as they are.
-use Rattle.std.proofs.Common.{◌≡◌, ℕ, ◌+◌, Bool, true, false, ◌&&◌, ◌||◌, ◌==◌, if◌then◌else◌, List, [], ◌∷◌, length}
+use Rattle.std.proofs.Common.{◌≡◌, ℕ, ◌+◌, Bool, true, false, ◌&&◌, ◌||◌, ◌==◌, if◌then◌else◌, List, [], ◌∷◌, length, rules}
 use Rattle.std.proofs.Common.{refl, sym, ap, ◌∙◌, arith}
 use Rattle.std.proofs.Math.Bool.{and-true, and-false}
-use Rattle.std.proofs.lemmas.Bool.{and_parts, or_left, eqb-true, ne_eqb}
+use Rattle.std.proofs.lemmas.Bool.{and_parts, or_left, ne_eqb}
 use Rattle.std.specs.List.{list_all, list_any}
 use Rattle.std.specs.Ordering.{nat_cmp, ordering_then, is_lt, is_ge}
 use Rattle.std.specs.declared.cmp.Ordering.{Ordering}
@@ -49,16 +49,10 @@ at_least_is _ e = cc
 
 -- no release is below 0.0.0
 from_zero : (v : PlainVersion) → v.pre ≡ [] → is_ge (precedence v zero_version) ≡ true
-from_zero v release =
-    not_less v.major _ (not_less v.minor _ (not_less v.patch _ (ap (λ q. is_ge (pre_cmp q [])) release)))
+from_zero v release = search rules
 
 release_ge : (v : PlainVersion) → v.pre ≡ [] → (z : PlainVersion) → is_zero z ≡ true → is_ge (precedence v z) ≡ true
-release_ge v release z y =
-    let all = and_parts _ (is_empty z.pre) y in
-    let first = and_parts (z.major == 0) _ all.0 in
-    let second = and_parts (z.minor == 0) _ first.1 in
-    let third = and_parts (z.patch == 0) true second.1 in
-    rw (eqb-true z.major 0 first.0, eqb-true z.minor 0 second.0, eqb-true z.patch 0 third.0, none_is z.pre all.1) (from_zero v release)
+release_ge v release z y = search rules
 
 above : {o : Ordering} → Tail o false → is_ge o ≡ true
 above same = refl

@@ -1,8 +1,8 @@
 -- What the comparators of npm's reading mean, with pre-releases, is what its text means.
-use Rattle.std.proofs.Common.{◌≡◌, ℕ, ◌+◌, ◌<◌, Bool, true, false, not, ◌&&◌, ◌||◌, ◌==◌, nat_eq, List, [], ◌∷◌, ◌++◌}
+use Rattle.std.proofs.Common.{◌≡◌, ℕ, ◌+◌, ◌<◌, Bool, true, false, not, ◌&&◌, ◌||◌, ◌==◌, nat_eq, List, [], ◌∷◌, ◌++◌, rules}
 use Rattle.std.proofs.Common.{length, map, take, drop, get_or, set, refl, sym, ap, ◌∙◌, arith}
-use Rattle.std.proofs.Math.Bool.{and-true, and-false}
-use Rattle.std.proofs.lemmas.Bool.{and_parts, ne_eqb}
+use Rattle.std.proofs.Math.Bool.{and-true}
+use Rattle.std.proofs.lemmas.Bool.{and_parts}
 use Rattle.std.proofs.lemmas.List.{get_or-map, length-map, map-set}
 use Rattle.std.proofs.lemmas.List.Edits.{map_over_more}
 use Rattle.std.specs.List.{filter, list_all, list_any}
@@ -33,31 +33,25 @@ use Rattle.tool_ranges.specs.ToolTable.{is_greater, states_some, ends_at, writte
 use Rattle.tool_ranges.specs.NpmMeaning.{is_zero, asks_nothing_by, asks_nothing, is_every_release, meets_one, meets_npm}
 use Rattle.tool_ranges.specs.NpmTable.{rewritten_npm}
 use Rattle.tool_ranges.specs.Steps.NpmReading.{is_from_zero, has_no_other, others_of, others_in, is_meant}
-use Rattle.tool_ranges.proofs.ReadMeanings.{no_lower}
 use Rattle.tool_ranges.proofs.ToolRows.{npm_table}
 use Rattle.tool_ranges.proofs.NpmMeanings.{written_by, none_is, passes, lowest_ge, simple_passes, npm_meets}
+use Rattle.std.proofs.lemmas.Grind.{common_steps}
 
 -- tests of what is left by a filter
 list_all-filter : {X : Type 0} (p drops : X → Bool) (xs : List X)
     → list_all p (filter (λ x. not (drops x)) xs) ≡ list_all (λ x. drops x || p x) xs
 list_all-filter p drops [] = refl
-list_all-filter p drops (x ∷ xs) = by_test (drops x)
-    (λ y. rw y (list_all-filter p drops xs))
-    (λ n. rw (n, list_all-filter p drops xs) refl)
+list_all-filter p drops (x ∷ xs) = grind (arith, common_steps, by_test, list_all-filter p drops xs, list_all-filter p drops xs)
 
 list_any-filter : {X : Type 0} (p drops : X → Bool) → ((x : X) → drops x ≡ true → p x ≡ false) → (xs : List X)
     → list_any p (filter (λ x. not (drops x)) xs) ≡ list_any p xs
 list_any-filter p drops fails [] = refl
-list_any-filter p drops fails (x ∷ xs) = by_test (drops x)
-    (λ y. rw (y, fails x y) (list_any-filter p drops fails xs))
-    (λ n. rw (n, list_any-filter p drops fails xs) refl)
+list_any-filter p drops fails (x ∷ xs) = grind (arith, common_steps, by_test, list_any-filter p drops fails xs, list_any-filter p drops fails xs)
 
 pub map-filter : {X Y : Type 0} (h : X → Y) (drops : Y → Bool) (xs : List X)
     → map h (filter (λ x. not (drops (h x))) xs) ≡ filter (λ y. not (drops y)) (map h xs)
 map-filter h drops [] = refl
-map-filter h drops (x ∷ xs) = by_test (drops (h x))
-    (λ y. rw y (map-filter h drops xs))
-    (λ n. rw (n, map-filter h drops xs) refl)
+map-filter h drops (x ∷ xs) = grind (arith, common_steps, by_test, map-filter h drops xs, map-filter h drops xs)
 
 -- a loop that leaves the others of each range
 pub others_written : (initial rs : List Range) (i : ℕ) (d r : Range) → i < length initial → i < length rs
@@ -65,45 +59,19 @@ pub others_written : (initial rs : List Range) (i : ℕ) (d r : Range) → i < l
     → range_of r ≡ others_of (range_of (get_or rs i d))
     → map range_of (set rs i r) ≡ map others_of (take (i + 1) (map range_of initial)) ++ drop (i + 1) (map range_of initial)
 others_written initial rs i d r within here so_far e =
-    let within_views : i < length (map range_of initial) = rw (length-map initial range_of) within in
     map-set range_of rs i r ∙ ap (set (map range_of rs) i) e
-    ∙ map_over_more others_of (map range_of initial) (map range_of rs) i (range_of (get_or rs i d)) within_views so_far
+    ∙ map_over_more others_of (map range_of initial) (map range_of rs) i (range_of (get_or rs i d)) (rw (length-map initial range_of) within) so_far
     (sym (get_or-map range_of rs i d _ here))
 
 -- a range has no comparator but `>=0.0.0` exactly where npm asks nothing by its terms
 abbrev RowAsks : Form → List ℕ → List IdentifierValue → Type 0
 RowAsks form s p = list_all is_from_zero (written_by form s p) ≡ asks_nothing_by form (is_empty s) (is_zero (filled s p))
 
-asks_none : (form : Form) → RowAsks form [] []
-asks_none less = refl
-asks_none greater = refl
-asks_none _ = refl
-
-asks_one : (form : Form) (x : ℕ) → RowAsks form (x ∷ []) []
-asks_one less x = refl
-asks_one at_most x = refl
-asks_one greater x = rw (ne_eqb (x + 1) 0 (λ e. omega arith)) refl
-asks_one at_least x = and-true _
-asks_one _ x = and-false _
-
-asks_two : (form : Form) (x y : ℕ) → RowAsks form (x ∷ y ∷ []) []
-asks_two less x y = refl
-asks_two at_most x y = refl
-asks_two greater x y = rw (ne_eqb (y + 1) 0 (λ e. omega arith), and-false (x == 0)) refl
-asks_two at_least x y = and-true _
-asks_two _ x y = and-false _
-
-asks_three : (form : Form) (x y w : ℕ) (p : List IdentifierValue) → RowAsks form (x ∷ y ∷ w ∷ []) p
-asks_three at_least x y w p = and-true _
-asks_three tilde x y w p = and-false _
-asks_three caret x y w p = and-false _
-asks_three _ x y w p = refl
-
 row_asks : (form : Form) {s : List ℕ} → Shape s → (p : List IdentifierValue) → ((length s == 3) ≡ false → p ≡ []) → RowAsks form s p
-row_asks form Shape.none p none = rw (none refl) (asks_none form)
-row_asks form (Shape.one x) p none = rw (none refl) (asks_one form x)
-row_asks form (Shape.two x y) p none = rw (none refl) (asks_two form x y)
-row_asks form (Shape.three x y w) p none = asks_three form x y w p
+row_asks form Shape.none p none = search rules
+row_asks form (Shape.one x) p none = search rules
+row_asks form (Shape.two x y) p none = search rules
+row_asks form (Shape.three x y w) p none = search rules
 
 range_asks : (r : RangeTree) → list_all is_from_zero (range_by (written_in Npm) r) ≡ is_every_release r
 range_asks r = range_holds npm_table is_from_zero asks_nothing
@@ -112,7 +80,7 @@ range_asks r = range_holds npm_table is_from_zero asks_nothing
 -- a version at the numbers of a bound isn't below what is not above its pre-release
 not_at : {g : Ordering → Ordering} {e m : Bool} → Step g e m → (o : Ordering) → is_ge o ≡ true → (is_lt (g o) && not m) ≡ is_lt (g o)
 not_at Step.lower o h = refl
-not_at Step.level o h = rw (no_lower o h) refl
+not_at Step.level o h = search rules
 not_at Step.higher o h = refl
 
 -- two tests and what follows, in the other order

@@ -1,10 +1,10 @@
 -- The place of a range text's error: whether a text is a range text, where its fronts go on, and the longest that does.
-use Rattle.std.proofs.Common.{◌≡◌, ℕ, ◌<◌, ◌≤◌, ⊎_elim, [], ◌∷◌, ◌++◌, codes, refl, sym}
-use Rattle.std.proofs.Common.{append-nil, ◌∙◌, subst, arith, length, take, drop, append_assoc}
+use Rattle.std.proofs.Common.{◌≡◌, ℕ, ◌<◌, ◌≤◌, ⊎_elim, [], ◌∷◌, ◌++◌, codes, refl, sym, rules}
+use Rattle.std.proofs.Common.{subst, arith, length, take}
 use Rattle.std.specs.List.{Contains, slice_range}
 use Rattle.std.specs.Str.{IsUtf8, IsCharBoundary, chars}
 use Rattle.std.proofs.Math.Seq.{take-length}
-use Rattle.std.proofs.lemmas.Bool.{cases_lt, cases_order}
+use Rattle.std.proofs.lemmas.Bool.{cases_lt}
 use Rattle.std.proofs.lemmas.List.{take-append-drop, take-take}
 use Rattle.std.proofs.lemmas.Str.{IsCharBoundary-end, IsCharBoundary-start, IsUtf8-take}
 use Rattle.semver_texts.specs.Texts.{Text}
@@ -25,6 +25,7 @@ use Rattle.tool_ranges.specs.declared.place.Wanted.TheVariants.{Any, Fitting}
 use Rattle.tool_ranges.specs.CargoGrammar.{SpellsRequirement}
 use Rattle.tool_ranges.specs.Readings.{HasSetAs, IsTextAs}
 use Rattle.tool_ranges.specs.Steps.Places.{BeginsBy, GoesOnBy, IsWanted, rests}
+use Rattle.std.proofs.lemmas.Grind.{common_steps}
 
 -- ---- whether a text is what is wanted
 
@@ -46,7 +47,7 @@ begins_from wanted reading t w = (w.1, w.4)
 
 goes_by : (wanted : Wanted) (reading : Reading) (t more : Text) → Contains (rests wanted) more → IsWanted wanted reading (t ++ more)
     → GoesOnBy wanted reading t
-goes_by wanted reading t more is w = (is.0, more, is.1, is.2, w)
+goes_by wanted reading t more is w = search rules
 
 goes_on_any : (reading : Reading) (t : Text) → IsUtf8 t → BeginsAs reading t → GoesOnBy Any reading t
 goes_on_any Cargo t utf8 (rest, (tree, spelled)) =
@@ -65,17 +66,17 @@ goes_on Any reading t utf8 w = goes_on_any reading t utf8 w
 goes_on Fitting reading t utf8 w = let k = fitting_on reading t utf8 w in goes_by Fitting reading t k.0 k.1 k.2
 
 pub shorter_front : (wanted : Wanted) (reading : Reading) (x y : Text) → BeginsBy wanted reading (x ++ y) → BeginsBy wanted reading x
-shorter_front wanted reading x y (rest, text) = (y ++ rest, subst (IsWanted wanted reading) (append_assoc x y rest) text)
+shorter_front wanted reading x y (rest, text) = grind (arith, common_steps)
 
 pub prefix_front : (wanted : Wanted) (reading : Reading) (t : Text) (m n : ℕ) → m ≤ n → BeginsBy wanted reading (take n t)
     → BeginsBy wanted reading (take m t)
 prefix_front wanted reading t m n within front =
     subst (BeginsBy wanted reading) (take-take m n t within)
-    (shorter_front wanted reading (take m (take n t)) (drop m (take n t))
+    (shorter_front wanted reading _ _
     (subst (BeginsBy wanted reading) (sym (take-append-drop m (take n t))) front))
 
 empty_range : (d : Dialect) → SpellsIn d (empty ∷ []) []
-empty_range d = ([], [], [], refl, refl, refl, refl)
+empty_range d = search rules
 
 one_comparator : SpellsRequirement (record { form = bare; partial = one (codes "1") } ∷ []) (codes "1")
 one_comparator = record {
@@ -97,28 +98,21 @@ one_comparator = record {
 
 pub nothing_begins : (wanted : Wanted) (reading : Reading) → BeginsBy wanted reading []
 unfolding chars
-nothing_begins Any Cargo = (codes "1", (record { form = bare; partial = one (codes "1") } ∷ [], one_comparator))
+nothing_begins Any Cargo = grind (arith, common_steps, one_comparator)
 nothing_begins Any Npm = ([], (empty ∷ [], record { spelled = empty_range dialect.Npm; characters = refl }))
 nothing_begins Any (Crate mode) = ([], (empty ∷ [], empty_range dialect.Crate))
-nothing_begins Fitting Cargo = (codes "1", (record { form = bare; partial = one (codes "1") } ∷ [], one_comparator, refl))
+nothing_begins Fitting Cargo = grind (arith, common_steps, one_comparator)
 nothing_begins Fitting Npm =
     ([], (empty ∷ [], record { spelled = empty_range dialect.Npm; characters = refl }, refl))
 nothing_begins Fitting (Crate mode) = ([], (empty ∷ [], empty_range dialect.Crate, refl))
 
 pub text_begins : (reading : Reading) (t : Text) → IsTextAs reading t → BeginsAs reading t
-text_begins reading t w = ([], subst (IsTextAs reading) (sym (append-nil t)) w)
+text_begins reading t w = search rules
 
 -- ---- the place
 
 pub one_place : (Begins : Text → Type 0) (t : Text) (m n : ℕ) → IsPlace Begins t m → IsPlace Begins t n → m ≡ n
-one_place Begins t m n a b =
-    ⊎_elim (λ e. e)
-    (λ other. ⊎_elim (λ less. absurd (a.no_longer n less b.boundary b.front))
-    (λ more. absurd (b.no_longer m more a.boundary a.front)) other)
-    (cases_order m n)
-
-front_range : (t : Text) (n : ℕ) → slice_range t 0 n ≡ take n t
-front_range t n = grind arith
+one_place Begins t m n a b = search rules
 
 module _ (wanted : Wanted) (reading : Reading) (t : Text) where
   pub whole_place : GoesOnBy wanted reading t → IsPlace (BeginsBy wanted reading) t (length t)
@@ -153,25 +147,18 @@ module _ (wanted : Wanted) (reading : Reading) (t : Text) where
   module _ (good bad middle : ℕ) (w : IsSearched good bad) (after : good < middle) (before : middle < bad)
       (boundary : IsCharBoundary t middle) (front : Text) (is : front ≡ slice_range t 0 middle) where
     taken : front ≡ take middle t
-    taken = is ∙ front_range t middle
+    taken = search rules
 
     pub good_moved : GoesOnBy wanted reading front → IsSearched middle bad
-    good_moved goes = record {
-      below = omega arith;
-      within = w.within;
-      boundary = boundary;
-      begins = begins_from wanted reading (take middle t) (subst (GoesOnBy wanted reading) taken goes);
-      ends = w.ends;
-    }
+    good_moved goes = search rules
 
     pub bad_moved : IsUtf8 t → ¬ (GoesOnBy wanted reading front) → IsSearched good middle
     bad_moved utf8 ends = record {
       below = omega arith;
-      within = omega (arith, w.within);
+      within = omega arith;
       boundary = w.boundary;
       begins = w.begins;
-      ends = λ begins. ends (subst (GoesOnBy wanted reading) (sym taken)
-          (goes_on wanted reading (take middle t) (IsUtf8-take t middle utf8 boundary) begins));
+      ends = λ begins. ends (rw taken (goes_on wanted reading (take middle t) (IsUtf8-take t middle utf8 boundary) begins));
     }
 
   pub found_place : (good bad : ℕ) → IsSearched good bad → ((k : ℕ) → good < k → k < bad → ¬ (IsCharBoundary t k))

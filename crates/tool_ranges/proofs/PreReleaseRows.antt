@@ -1,6 +1,5 @@
 -- The comparators that judge pre-releases, of a simple that was read, and the range of those that count beside it.
-use Rattle.std.proofs.Common.{◌≡◌, ℕ, true, ◌&&◌, if◌then◌else◌, List, [], ◌∷◌, length, refl, sym, ap, ◌∙◌, ◌⊎◌, inl, inr}
-use Rattle.std.proofs.Math.Bool.{and-false}
+use Rattle.std.proofs.Common.{◌≡◌, ℕ, true, ◌&&◌, if◌then◌else◌, List, [], ◌∷◌, length, refl, ◌∙◌, ◌⊎◌, inl, inr, rules}
 use Rattle.semver_ranges.specs.declared.grammar.Simple as read
 use Rattle.semver_ranges.specs.declared.partial.Partial.{Partial}
 use Rattle.semver_ranges.specs.declared.partial.PartialKind.{PartialKind}
@@ -12,7 +11,7 @@ use Rattle.semver_texts.specs.Versions.{PlainVersion}
 use Rattle.semver_ranges.specs.Partials.{stated, zero_filled}
 use Rattle.semver_ranges.specs.RewritingTable.{PlainComparator, cell, comparator, up, written_cell}
 use Rattle.semver_ranges.specs.ExactBounds.{lowest_pre_release}
-use Rattle.semver_ranges.specs.Steps.PartialViews.{stated_at, stated_of, version_of}
+use Rattle.semver_ranges.specs.Steps.PartialViews.{stated_of, version_of}
 use Rattle.semver_ranges.specs.Steps.CursorViews.{form_of, IsSimpleOf}
 use Rattle.tool_ranges.specs.ToolTable.{fits_in, is_greater, states_some, written_in}
 use Rattle.tool_ranges.specs.declared.cargo.judging.JudgedVersions.TheVariants.{PreReleases}
@@ -24,19 +23,13 @@ pub is_stated : (s : Simple) (simple : read.Simple) → IsSimpleOf s simple → 
     → (stated_of simple.partial ≡ stated s.partial) × (version_of simple.partial ≡ zero_filled s.partial)
 is_stated s simple is e = is.1.1 (fit_numbers Cargo s simple is e)
 
-stated_by : (s : Simple) (simple : read.Simple) (kind : PartialKind) → IsSimpleOf s simple → fits_in Cargo s ≡ true
-    → simple.partial.kind ≡ kind → stated s.partial ≡ stated_at kind simple.partial.major simple.partial.minor simple.partial.patch
-stated_by s simple kind is e k = sym (is_stated s simple is e).0
-    ∙ ap (λ k. stated_at k simple.partial.major simple.partial.minor simple.partial.patch) k
-
 pub none_judged : (s : Simple) (simple : read.Simple) → IsSimpleOf s simple → fits_in Cargo s ≡ true → simple.partial.kind ≡ XRangeOnly
     → below_all ≡ judging_read PreReleases s
-none_judged s simple is e k =
-    ap (λ x. judged_by_count s.form x (zero_filled s.partial)) (sym (stated_by s simple XRangeOnly is e k))
+none_judged s simple is e k = search rules
 
 pub some_kind : (p : Partial) (k : PartialKind) → k ≡ p.kind → (k ≡ MajorOnly) ⊎ (k ≡ MajorMinor) → states_some (stated_of p) ≡ true
-some_kind p k e (inl h) = ap (λ k. states_some (stated_at k p.major p.minor p.patch)) (sym e ∙ h)
-some_kind p k e (inr h) = ap (λ k. states_some (stated_at k p.major p.minor p.patch)) (sym e ∙ h)
+some_kind p k e (inl h) = cc
+some_kind p k e (inr h) = cc
 
 by_some : (f : Form) (x : List ℕ) (z : PlainVersion) → states_some x ≡ true → some_judged f x z ≡ judged_by_count f x z
 by_some f [] z e = cc
@@ -50,7 +43,7 @@ pub some_judge : (s : Simple) (simple : read.Simple) → IsSimpleOf s simple →
 some_judge s simple is e some =
     let same = is_stated s simple is e in
     by_some (form_of simple.form) (stated_of simple.partial) (version_of simple.partial) some
-    ∙ (λ i. judged_by_count (is.0 i) (same.0 i) (same.1 i))
+    ∙ (cc)
 
 -- three numbers are never `>` of one or two
 abbrev written_by : Form → List ℕ → PlainVersion → List PlainComparator
@@ -58,13 +51,6 @@ written_by f x z =
     if is_greater f && states_some x then comparator Gte (up (length x) x) ∷ []
     else written_cell lowest_pre_release (cell Cargo f x) x z
 
-by_three : (f : Form) (a b c : ℕ) (z : PlainVersion) → written_by f (a ∷ b ∷ c ∷ []) z ≡ judged_by_count f (a ∷ b ∷ c ∷ []) z
-by_three f a b c z = rw (and-false (is_greater f)) refl
-
 pub three_judge : (s : Simple) (simple : read.Simple) → IsSimpleOf s simple → fits_in Cargo s ≡ true
     → simple.partial.kind ≡ MajorMinorPatch → written_in Cargo s ≡ judging_read PreReleases s
-three_judge s simple is e k =
-    let same = stated_by s simple MajorMinorPatch is e k in
-    ap (λ x. written_by s.form x (zero_filled s.partial)) same
-    ∙ by_three s.form simple.partial.major simple.partial.minor simple.partial.patch (zero_filled s.partial)
-    ∙ ap (λ x. judged_by_count s.form x (zero_filled s.partial)) (sym same)
+three_judge s simple is e k = search rules

@@ -1,5 +1,5 @@
 -- What is refused of a range text without memory that ran out: it has one error, and no set.
-use Rattle.std.proofs.Common.{◌≡◌, ◌≢◌, Err, ◌↔◌, true, false, sym, ◌∙◌, ap}
+use Rattle.std.proofs.Common.{◌≡◌, ◌≢◌, Err, ◌↔◌, ◌∙◌, ap, arith}
 use Rattle.std.specs.Prelude.{Result}
 use Rattle.semver_texts.specs.Texts.{Text}
 use Rattle.semver_ranges.specs.declared.range_set.RangeError.{RangeError}
@@ -7,6 +7,7 @@ use Rattle.semver_ranges.specs.declared.range_set.RangeError.TheVariants.{NotARa
 use Rattle.tool_ranges.specs.declared.reading.Reading.{Reading}
 use Rattle.tool_ranges.specs.Readings.{HasSetAs, IsTextAs, IsTooLargeAs, RefusesAs, fits_as}
 use Rattle.tool_ranges.proofs.ReadingLaws.{one_tree}
+use Rattle.std.proofs.lemmas.Grind.{common_steps}
 
 pub record HasError (reading : Reading) (t : Text) (e : RangeError) : Type 0 where
   pub not_a_range : (e ≡ NotARange) ↔ ¬ (IsTextAs reading t)
@@ -15,10 +16,7 @@ pub record HasError (reading : Reading) (t : Text) (e : RangeError) : Type 0 whe
   pub kept : e ≢ OutOfMemory
 
 not_large_and_fitting : (reading : Reading) (t : Text) → IsTooLargeAs reading t → HasSetAs reading t → ⊥
-not_large_and_fitting reading t (tree, spells, large) (other, spells', fits) =
-    let same = one_tree reading tree other t spells spells' in
-    let wrong : false ≡ true = sym large ∙ (ap (fits_as reading) same ∙ fits) in
-    cc
+not_large_and_fitting reading t (tree, spells, large) (other, spells', fits) = grind (arith, common_steps, one_tree, fits_as)
 
 module _ {A : Type 0} (reading : Reading) (t : Text) (r : Result A RangeError) (refuses : RefusesAs reading t r)
     (kept : r ≡ Err OutOfMemory → ⊥) where

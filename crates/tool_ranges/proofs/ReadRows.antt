@@ -1,5 +1,5 @@
 -- The cell of a simple that was read: where it is `>` of one or two numbers, below every pre-release, and else.
-use Rattle.std.proofs.Common.{◌≡◌, ℕ, Bool, true, false, ◌&&◌, [], ◌∷◌, List, length, refl, sym, ap, ◌∙◌, None, arith}
+use Rattle.std.proofs.Common.{◌≡◌, ℕ, Bool, true, false, ◌&&◌, [], ◌∷◌, List, length, refl, sym, ap, ◌∙◌, None, arith, rules}
 use Rattle.std.specs.Prelude.{Result, Ok, Err, IfOk}
 use Rattle.std.specs.List.{list_all}
 use Rattle.std.proofs.Math.Bool.{and-true}
@@ -32,17 +32,15 @@ above simple = is_greater (form_of simple.form) && states_some (stated_of simple
 
 -- where its numbers fit, that is what is there
 same_above : (s : Simple) (simple : read.Simple) → IsSimpleOf s simple → simple.partial.fits ≡ true → above simple ≡ begins_above s
-same_above s simple is f =
-    ap (λ x. is_greater x && states_some (stated_of simple.partial)) is.0 ∙ ap (λ x. is_greater s.form && states_some x) (is.1.1 f).0
+same_above s simple is f = search rules
 
 -- and where they don't, nothing fits
 unfit : (mode : Compat) (s : Simple) → list_all fits_u64 (stated s.partial) ≡ false → fits_in mode s ≡ false
-unfit mode s e = by_test (begins_above s) (λ y. rw y (and_left _ _ e)) (λ n. rw n (and_left _ _ e))
+unfit mode s e = search rules
 
 pub fit_numbers : (mode : Compat) (s : Simple) (simple : read.Simple) → IsSimpleOf s simple → fits_in mode s ≡ true
     → simple.partial.fits ≡ true
-fit_numbers mode s simple is e =
-    by_test simple.partial.fits (λ f. f) (λ f. absurd (both_ways _ (unfit mode s (is.1.0 ∙ f)) e))
+fit_numbers mode s simple is e = search rules
 
 -- whether npm puts it below every pre-release, as it was read
 abbrev pub ends : Compat → read.Simple → Bool
@@ -50,8 +48,7 @@ ends mode simple = ends_at mode (form_of simple.form) (stated_of simple.partial)
 
 same_ends : (mode : Compat) (s : Simple) (simple : read.Simple) → IsSimpleOf s simple → simple.partial.fits ≡ true
     → ends mode simple ≡ ends_below mode s
-same_ends mode s simple is f =
-    ap (λ x. ends_at mode x (stated_of simple.partial)) is.0 ∙ ap (λ x. ends_at mode s.form x) (is.1.1 f).0
+same_ends mode s simple is f = search rules
 
 -- what is below fewer than three numbers raises no bound
 raises_none : (mode : Compat) (form : Form) (ns : List ℕ) → ends_at mode form ns ≡ true → cell_raised (cell mode form ns) ns ≡ None

@@ -1,30 +1,21 @@
 -- Whatever the reading is: a text has one tree, and what is refused isn't by the result.
-use Rattle.std.proofs.Common.{◌≡◌, Ok, Err}
+use Rattle.std.proofs.Common.{◌≡◌, Ok, arith, rules}
 use Rattle.semver_texts.specs.Texts.{Text}
-use Rattle.semver_texts.specs.declared.dialect.Dialect.TheVariants as dialect
-use Rattle.semver_ranges.specs.declared.range_set.RangeError.{RangeError}
 use Rattle.semver_ranges.specs.RangeTexts.{Refuses}
 use Rattle.semver_ranges.proofs.ReadingComplete.{same_tree}
 use Rattle.tool_ranges.specs.declared.reading.Reading.{Reading}
 use Rattle.tool_ranges.specs.declared.reading.Reading.TheVariants.{Cargo, Npm, Crate}
 use Rattle.tool_ranges.specs.Readings.{TreeOf, SpellsAs}
 use Rattle.tool_ranges.proofs.RequirementLaws.{same_comparators}
+use Rattle.std.proofs.lemmas.Grind.{common_steps}
 
 -- a text has one tree
 pub one_tree : (reading : Reading) (tree other : TreeOf reading) (t : Text) → SpellsAs reading tree t → SpellsAs reading other t
     → tree ≡ other
 one_tree Cargo tree other t h k = same_comparators other tree t k.comparators h.comparators
-one_tree Npm tree other t h k = same_tree dialect.Npm tree other t h.spelled k.spelled
-one_tree (Crate mode) tree other t h k = same_tree dialect.Crate tree other t h k
+one_tree Npm tree other t h k = grind (arith, common_steps, same_tree)
+one_tree (Crate mode) tree other t h k = grind (arith, common_steps, same_tree)
 
 -- where a text isn't refused, it isn't by another answer
 pub answered_too : {A B : Type 0} (T L F : Type 0) (x : A) (y : B) → Refuses T L F (Ok x) → Refuses T L F (Ok y)
-answered_too T L F x y r = record {
-  accepted = r.accepted;
-  not_a_range = (λ e. cc, λ none. absurd (isnt_err (r.not_a_range.1 none)));
-  too_large = (λ e. cc, λ large. absurd (isnt_err (r.too_large.1 large)));
-  out_of_memory = λ e. cc;
-}
-  where
-    isnt_err : {A : Type 0} {x : A} {e : RangeError} → Ok x ≡ Err e → ⊥
-    isnt_err h = cc
+answered_too T L F x y r = search rules

@@ -1,6 +1,6 @@
 -- What is said of a requirement's text: it has one tree, and what a call refuses of it.
-use Rattle.std.proofs.Common.{◌≡◌, true, false, List, [], ◌∷◌, refl, ap, ◌∙◌}
-use Rattle.std.proofs.Common.{Some, None, sym, subst, append-nil, arith}
+use Rattle.std.proofs.Common.{◌≡◌, true, false, List, [], ◌∷◌, refl, ap, ◌∙◌, rules}
+use Rattle.std.proofs.Common.{Some, None, sym, append-nil, arith}
 use Rattle.std.specs.Prelude.{Result, Ok, Err}
 use Rattle.std.proofs.Math.Bool.{and-true}
 use Rattle.semver_ranges.specs.declared.range_set.RangeSet.{RangeSet}
@@ -18,6 +18,7 @@ use Rattle.tool_ranges.specs.declared.reading.Reading.TheVariants as reading
 use Rattle.tool_ranges.specs.Steps.CargoReading.{comparator_at, in_one_range, IsRefusal, IsRewritten, IsRewrittenOne, IsSurveyedAs}
 use Rattle.tool_ranges.proofs.ComparatorReading.{ended_read, parted_read}
 use Rattle.tool_ranges.proofs.RequirementSteps.{at_last, at_start, first_left}
+use Rattle.std.proofs.lemmas.Grind.{common_steps}
 
 -- ---- one tree
 
@@ -27,18 +28,16 @@ same_comparators (s ∷ []) tree' t h h' =
     let first = first_left s t None tree' (ended_read s t h) h' in first.1 ∙ ap (λ x. s ∷ x) first.2
 same_comparators (s ∷ next ∷ others) tree' t (front, back, h, more, text) h' =
     let first = first_left s t (Some back) tree' (ap comparator_at text ∙ parted_read s front back h) h' in
-    first.1 ∙ ap (λ x. s ∷ x) (same_comparators (next ∷ others) first.0 back more first.2)
+    first.1 ∙ ap (λ x. s ∷ x) (same_comparators _ first.0 back more first.2)
 
 same_fit : (tree tree' : List Simple) (t : Text) → SpellsRequirement tree t → SpellsRequirement tree' t → requirement_fits tree ≡ true
     → requirement_fits tree' ≡ false → ⊥
-same_fit tree tree' t h h' fit large =
-    both_ways _ large (ap requirement_fits (same_comparators tree tree' t h.comparators h'.comparators) ∙ fit)
+same_fit tree tree' t h h' fit large = grind (arith, common_steps, both_ways, requirement_fits, same_comparators)
 
 -- so a requirement was surveyed as each tree of its text
 pub surveyed_same : (t : Text) (tree tree' : List Simple) (surveyed : Surveyed) → IsSurveyedAs t tree surveyed → SpellsRequirement tree' t
     → IsSurveyedAs t tree' surveyed
-surveyed_same t tree tree' surveyed is h =
-    subst (λ tree. IsSurveyedAs t tree surveyed) (sym (same_comparators tree tree' t is.0.comparators h.comparators)) is
+surveyed_same t tree tree' surveyed is h = grind (arith, common_steps, same_comparators)
 
 -- ---- refusals
 
@@ -46,29 +45,19 @@ pub answered : {A : Type 0} (t : Text) (x : A) (tree : List Simple) → SpellsRe
     → RefusesAs reading.Cargo t (Ok x)
 answered t x tree h fit = record {
   accepted = (tree, h, fit);
-  not_a_range = (λ e. cc, λ none. absurd (none (tree, h)));
+  not_a_range = search rules;
   too_large = (λ e. cc, λ (tree', h', large). absurd (same_fit tree tree' t h h' fit large));
   out_of_memory = λ e. cc;
 }
 
 pub refused : {A : Type 0} (t : Text) (e : RangeError) → IsRefusal t e → RefusesAs {A = A} reading.Cargo t (Err e)
-refused t NotARange none = record {
-  accepted = tt;
-  not_a_range = (λ e (tree, h). none tree h, λ _. refl);
-  too_large = (λ e. cc, λ (tree, h, large). absurd (none tree h));
-  out_of_memory = λ e. cc;
-}
-refused t NumberTooLarge (tree, h, large) = record {
-  accepted = tt;
-  not_a_range = (λ e. cc, λ none. absurd (none (tree, h)));
-  too_large = (λ e. (tree, h, large), λ _. refl);
-  out_of_memory = λ e. cc;
-}
+refused t NotARange none = search rules
+refused t NumberTooLarge (tree, h, large) = search rules
 refused t OutOfMemory (tree, h, fit) = record {
   accepted = tt;
-  not_a_range = (λ e. cc, λ none. absurd (none (tree, h)));
+  not_a_range = search rules;
   too_large = (λ e. cc, λ (tree', h', large). absurd (same_fit tree tree' t h h' fit large));
-  out_of_memory = λ e. (tree, h, fit);
+  out_of_memory = search rules;
 }
 
 -- ---- one comparator

@@ -2,7 +2,6 @@
 use Rattle.std.proofs.Common.{◌≡◌, ℕ, ◌+◌, ◌≤◌, ◌<◌, Bool, true, false, not, ◌&&◌, ◌||◌, List, [], ◌∷◌, ◌++◌, length, refl, sym, ap, ◌∙◌}
 use Rattle.std.proofs.Common.{subst}
 use Rattle.std.proofs.Common.{Option, Some, None, append_assoc, append-nil, IsTrue, arith, ◌⊎◌, inl, inr}
-use Rattle.std.proofs.Math.Bool.{and-true}
 use Rattle.std.proofs.lemmas.Bool.{and_parts, both_ways, or_cases, or_parts, eqb-true}
 use Rattle.std.proofs.lemmas.Bool.Decides.{nat_tests}
 use Rattle.std.specs.Prelude.{Result, Ok, Err, MatchResult, ◌==◌}
@@ -24,6 +23,7 @@ use Rattle.semver_texts.proofs.Lists.{by_test}
 use Rattle.tool_ranges.specs.Steps.CargoReading.{comparator_at, EndsAs, FindsComparator, IsRefusal, IsSurveyedAs}
 use Rattle.tool_ranges.specs.declared.cargo.Surveyed.{Surveyed}
 use Rattle.tool_ranges.proofs.ComparatorReading.{ComparatorAt, Follows, comparator_sound, ended_read, parted_read}
+use Rattle.std.proofs.lemmas.Grind.{common_steps}
 
 -- where `done` were read, and `rest` is left: whatever is spelled there goes on with them, and nothing else does
 pub record IsAt (text : Text) (done : List Simple) (rest : Text) : Type 0 where
@@ -133,16 +133,13 @@ pub record IsSurveyed (text : Text) (done : List Simple) (rest : Text) (at : ℕ
 pub surveyed_start : (text : Text) → IsSurveyed text [] text 0 true true
 surveyed_start text = record { place = at_start text; count = refl; stated = refl; fitting = refl }
 
-all_more : (p : Simple → Bool) (done : List Simple) (s : Simple) (b : Bool) → b ≡ list_all p done → (b && p s) ≡ list_all p (done ++ s ∷ [])
-all_more p done s b e = ap (λ x. x && p s) e ∙ ap (λ x. list_all p done && x) (sym (and-true (p s))) ∙ sym (list_all-append p done (s ∷ []))
-
 pub count_more : (done : List Simple) (s : Simple) (at : ℕ) → length done ≡ at → length (done ++ s ∷ []) ≡ at + 1
 count_more done s at e = length-append done (s ∷ []) ∙ ap (λ n. n + 1) e
 
 -- with what was seen of one more
 more : (p : Simple → Bool) (done : List Simple) (s : Simple) (b n : Bool) → b ≡ list_all p done → n ≡ p s
     → (b && n) ≡ list_all p (done ++ s ∷ [])
-more p done s b n e is = ap (λ x. b && x) is ∙ all_more p done s b e
+more p done s b n e is = grind (arith, common_steps)
 
 pub surveyed_next : (text : Text) (done : List Simple) (rest : Text) (at : ℕ) (states_all fit n f : Bool) (s : Simple) (u : Text)
     → IsSurveyed text done rest at states_all fit → comparator_at rest ≡ Some (s, Some u) → n ≡ states_number s → f ≡ read_fits s
@@ -150,8 +147,8 @@ pub surveyed_next : (text : Text) (done : List Simple) (rest : Text) (at : ℕ) 
 surveyed_next text done rest at states_all fit n f s u is e number fits = record {
   place = at_next text done rest s u is.place e;
   count = count_more done s at is.count;
-  stated = more states_number done s states_all n is.stated number;
-  fitting = more read_fits done s fit f is.fitting fits;
+  stated = grind (arith, common_steps);
+  fitting = grind (arith, common_steps);
 }
 
 -- a wildcard that stands for every release, alone
@@ -162,12 +159,12 @@ all_none (s ∷ ss) = by_test (states_nothing s.partial) (λ y. rw y refl) (λ n
 stands : (ss : List Simple) → (list_all states_number ss ≡ true) ⊎ (length ss ≡ 1) → stands_alone ss ≡ true
 stands [] h = refl
 stands (s ∷ []) h = refl
-stands (s ∷ next ∷ ss) (inl all) = all_none (s ∷ next ∷ ss) ∙ all
-stands (s ∷ next ∷ ss) (inr one) = absurd (omega (arith, one))
+stands (s ∷ next ∷ ss) (inl all) = grind (arith, common_steps, all_none)
+stands (s ∷ next ∷ ss) (inr one) = cc
 
 stands_with_others : (ss : List Simple) → list_all states_number ss ≡ false → 2 ≤ length ss → stands_alone ss ≡ true → ⊥
-stands_with_others [] some many e = omega (arith, many)
-stands_with_others (s ∷ []) some many e = omega (arith, many)
+stands_with_others [] some many e = omega arith
+stands_with_others (s ∷ []) some many e = omega arith
 stands_with_others (s ∷ next ∷ ss) some many e = both_ways _ some (sym (all_none (s ∷ next ∷ ss)) ∙ e)
 
 -- the end of the text: the result
@@ -220,13 +217,9 @@ module _ (text : Text) (done : List Simple) (rest : Text) (at : ℕ) (states_all
 
 pub held_fits : (tree done others : List Simple) (s : Simple) → tree ≡ done ++ s ∷ others → requirement_fits tree ≡ true
     → read_fits s ≡ true
-held_fits tree done others s whole fit =
-    let all : (list_all read_fits done && (read_fits s && list_all read_fits others)) ≡ true =
-    sym (list_all-append read_fits done (s ∷ others)) ∙ ap (list_all read_fits) (sym whole) ∙ fit in
-    (and_parts (read_fits s) (list_all read_fits others) (and_parts (list_all read_fits done)
-    (read_fits s && list_all read_fits others) all).1).0
+held_fits tree done others s whole fit = grind (arith, common_steps, list_all, read_fits, list_all-append, and_parts)
 
 pub written_more : {B : Type 0} (f : Simple → List B) (done : List Simple) (s : Simple)
     → flat_map f (done ++ s ∷ []) ≡ flat_map f done ++ f s
 written_more f [] s = append-nil (f s)
-written_more f (x ∷ done) s = ap (λ l. f x ++ l) (written_more f done s) ∙ sym (append_assoc (f x) (flat_map f done) (f s))
+written_more f (x ∷ done) s = grind (arith, common_steps)

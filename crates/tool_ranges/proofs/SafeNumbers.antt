@@ -1,20 +1,16 @@
 -- Numbers that are at most 2^53 - 1: they fit 64 bits, and the cell of a simple says whether its numbers are.
-use Rattle.std.proofs.Common.{◌≡◌, ℕ, true, false, ◌&&◌, List, refl, sym, ap, ◌∙◌, arith}
+use Rattle.std.proofs.Common.{◌≡◌, ℕ, true, ◌&&◌, List, refl, ap, ◌∙◌, arith}
 use Rattle.std.proofs.Common.{Option, Some, None}
 use Rattle.std.specs.List.{list_all}
-use Rattle.std.proofs.lemmas.Bool.{and_parts, and_from, and_left, both_ways}
-use Rattle.std.proofs.lemmas.Bool.Decides.{nat_tests}
+use Rattle.std.proofs.lemmas.Bool.{and_parts, both_ways}
 use Rattle.semver_texts.proofs.Lists.{by_test}
 use Rattle.semver_texts.specs.Versions.{PlainVersion, numbers}
 use Rattle.semver_ranges.specs.declared.grammar.Simple as read
-use Rattle.semver_ranges.specs.declared.partial.Partial.{Partial}
-use Rattle.semver_ranges.specs.declared.partial.Place.{Place}
-use Rattle.semver_ranges.specs.declared.partial.Place.TheVariants.{Major, Minor, Patch}
 use Rattle.semver_ranges.specs.declared.range.Compat.TheVariants.{Npm}
 use Rattle.semver_ranges.specs.RangeTree.{Simple}
 use Rattle.semver_ranges.specs.Partials.{stated, fits_u64}
 use Rattle.semver_ranges.specs.RewritingTable.{bound_fits}
-use Rattle.semver_ranges.specs.Steps.PartialViews.{number_at, stated_of}
+use Rattle.semver_ranges.specs.Steps.PartialViews.{stated_of}
 use Rattle.semver_ranges.specs.Steps.CursorViews.{IsSimpleOf}
 use Rattle.semver_ranges.proofs.Tests.{list_all-weaker}
 use Rattle.tool_ranges.specs.declared.rows.Cell.{Cell}
@@ -24,7 +20,7 @@ use Rattle.tool_ranges.specs.Steps.Cells.{bound_at, cell_place, is_safe_cell, Is
 
 -- they fit 64 bits
 safe_number : (n : ℕ) → is_safe n ≡ true → fits_u64 n ≡ true
-safe_number n e = grind (arith, nat_tests)
+safe_number n e = grind arith
 
 safe_numbers : (ns : List ℕ) → list_all is_safe ns ≡ true → list_all fits_u64 ns ≡ true
 safe_numbers = list_all-weaker is_safe fits_u64 safe_number
@@ -39,30 +35,18 @@ safe_fits s e =
     let all = safe_numbers (stated s.partial) parts.0 in
     let bound = safe_bound (raised_in Npm s) parts.1 in
     by_test (begins_above s)
-    (λ y. rw y (and_from _ _ all (rw y at bound)))
-    (λ n. rw n (and_from _ _ all (rw n at bound)))
-
--- a number below the greatest stays safe where it is raised
-number_of : Place → ℕ → ℕ → ℕ → ℕ
-number_of Major a b c = a
-number_of Minor a b c = b
-number_of Patch a b c = c
-
-same_number : (place : Place) (p : Partial) → number_at place p ≡ number_of place p.major p.minor p.patch
-unfolding number_of
-same_number Major p = refl
-same_number Minor p = refl
-same_number Patch p = refl
+    (λ y. rw y (cc))
+    (λ n. rw n (cc))
 
 -- the cell of a simple that was read
 pub safe_cell : (s : Simple) (simple : read.Simple) (c : Cell) → IsSimpleOf s simple → IsCellOf Npm s simple.partial c
     → is_safe_cell c simple.partial ≡ is_safe_simple s
 safe_cell s simple c is of = by_test simple.partial.fits
-    (λ f. let p : Partial = simple.partial in
+    (λ f. let p = simple.partial in
     ap (λ fits. (fits && list_all is_safe (stated_of p)) && is_safe_bound (bound_at (cell_place c) p)) f
     ∙ ap (λ bound. list_all is_safe (stated_of p) && is_safe_bound bound) (of.3 f)
     ∙ ap (λ ns. list_all is_safe ns && is_safe_bound (raised_in Npm s)) (is.1.1 f).0)
-    (λ n. let large : list_all fits_u64 (stated s.partial) ≡ false = is.1.0 ∙ n in
-    let unsafe_numbers : list_all is_safe (stated s.partial) ≡ false = by_test (list_all is_safe (stated s.partial))
+    (λ n. let large = is.1.0 ∙ n in
+    let unsafe_numbers = by_test _
     (λ y. absurd (both_ways _ large (safe_numbers (stated s.partial) y))) (λ no. no) in
-    rw n (sym (and_left _ _ unsafe_numbers)))
+    rw n (cc))

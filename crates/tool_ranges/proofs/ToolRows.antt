@@ -1,5 +1,5 @@
 -- The tables of the tools: sides that state nothing, and printable comparators.
-use Rattle.std.proofs.Common.{◌≡◌, true, false, refl}
+use Rattle.std.proofs.Common.{◌≡◌, true, false, refl, arith, rules}
 use Rattle.std.proofs.lemmas.Bool.{and_parts, and_from}
 use Rattle.std.specs.List.{list_all}
 use Rattle.semver_texts.specs.Texts.{is_empty}
@@ -8,7 +8,7 @@ use Rattle.semver_ranges.specs.declared.range.Compat.TheVariants.{Npm}
 use Rattle.semver_ranges.specs.RangeTree.{Simple, HasParts}
 use Rattle.semver_ranges.specs.Partials.{stated, pre_release, fits_u64}
 use Rattle.semver_ranges.specs.ExactBounds.{lowest_pre_release}
-use Rattle.semver_ranges.proofs.Tables.{IsTable, begun_stated}
+use Rattle.semver_ranges.proofs.Tables.{IsTable}
 use Rattle.semver_ranges.proofs.SetMeanings.{stated_shape}
 use Rattle.semver_ranges.proofs.AnsweredLaws.{filled_fits, Prints, port_prints}
 use Rattle.semver_ranges.proofs.PrintedLaws.{are_printable}
@@ -16,25 +16,17 @@ use Rattle.semver_texts.proofs.Lists.{by_test}
 use Rattle.tool_ranges.specs.NpmTable.{is_safe_simple}
 use Rattle.tool_ranges.specs.ToolTable.{begins_above, ends_below, written_in, fits_in}
 use Rattle.tool_ranges.proofs.SafeNumbers.{safe_fits}
+use Rattle.std.proofs.lemmas.Grind.{common_steps}
 
 pub npm_table : IsTable is_safe_simple (written_in Npm)
-npm_table = record {
-  left = λ p e. rw e refl;
-  right = λ p e. rw e refl;
-  fits = λ p e. rw e refl;
-  empty = refl;
-  empty_fits = refl;
-  begun = λ lower p. rw (begun_stated lower p) refl;
-}
+npm_table = search rules
 
 pub numbers_fit : (mode : Compat) (s : Simple) → fits_in mode s ≡ true → list_all fits_u64 (stated s.partial) ≡ true
-numbers_fit mode s e = by_test (begins_above s)
-    (λ y. let all = rw y at e in (and_parts _ _ all).0)
-    (λ n. let all = rw n at e in (and_parts _ _ all).0)
+numbers_fit mode s e = search rules
 
 each_printable : (mode : Compat) (s : Simple) → HasParts s.partial → fits_in mode s ≡ true → are_printable (written_in mode s) ≡ true
 each_printable mode s h e = by_test (begins_above s)
-    (λ y. let bound = rw y at e in rw y (and_from _ _ (and_from _ _ (and_parts _ _ bound).1 refl) refl))
+    (λ y. rw y (and_from _ _ (and_from _ _ (and_parts _ _ (rw y at e)).1 refl) refl))
     (λ n. let all = rw n at e in
     by_test (ends_below mode s)
     (λ y. rw (n, y) (and_from _ _ (and_from _ _ (filled_fits (stated_shape s.partial) (pre_release s.partial)
@@ -42,14 +34,10 @@ each_printable mode s h e = by_test (begins_above s)
     (λ m. rw (n, m) ((port_prints lowest_pre_release refl mode).each s h all)))
 
 some_written : (mode : Compat) (s : Simple) → is_empty (written_in mode s) ≡ false
-some_written mode s = by_test (begins_above s)
-    (λ y. rw y refl)
-    (λ n. by_test (ends_below mode s)
-    (λ y. rw (n, y) refl)
-    (λ m. rw (n, m) ((port_prints lowest_pre_release refl mode).some s)))
+some_written mode s = search rules
 
 pub tool_prints : (mode : Compat) → Prints (fits_in mode) (written_in mode)
-tool_prints mode = record { each = each_printable mode; some = some_written mode }
+tool_prints mode = grind (arith, common_steps, each_printable, some_written)
 
 pub npm_prints : Prints is_safe_simple (written_in Npm)
 npm_prints = record { each = λ s h e. each_printable Npm s h (safe_fits s e); some = some_written Npm }
