@@ -219,7 +219,7 @@ const char *semver_parser_library_version(void) {
 
 const char *semver_parser_fault_text(int32_t answer) {
     switch (answer) {
-    case SEMVER_PARSER_OK: return "no fault";
+    case SEMVER_PARSER_OK: return "no error";
     case SEMVER_PARSER_VERSION_NOT_UTF8: return "the version isn't UTF-8";
     case SEMVER_PARSER_UNEXPECTED_END: return "the version ends too early";
     case SEMVER_PARSER_UNEXPECTED_TOKEN: return "the version has an unexpected token";
@@ -232,13 +232,13 @@ const char *semver_parser_fault_text(int32_t answer) {
     case SEMVER_PARSER_NOT_A_RANGE: return "not a range";
     case SEMVER_PARSER_NUMBER_TOO_LARGE: return "the range has a number that is too large";
     case SEMVER_PARSER_RANGE_OUT_OF_MEMORY: return "out of memory at the range";
-    case SEMVER_PARSER_NO_ROOM: return "the room is too small";
-    case SEMVER_PARSER_NO_SUCH_RULE: return "the reading has no such rule for pre-releases";
+    case SEMVER_PARSER_NO_ROOM: return "the buffer is too small";
+    case SEMVER_PARSER_NO_SUCH_RULE: return "the dialect has no such rule for pre-releases";
     case SEMVER_PARSER_NEW_RANGE_NOT_UTF8: return "the new range isn't UTF-8";
     case SEMVER_PARSER_NEW_NOT_A_RANGE: return "the new range is not a range";
     case SEMVER_PARSER_NEW_NUMBER_TOO_LARGE: return "the new range has a number that is too large";
     case SEMVER_PARSER_NEW_RANGE_OUT_OF_MEMORY: return "out of memory at two ranges";
-    case SEMVER_PARSER_NO_SUCH_READING: return "no reading of range texts has this number";
+    case SEMVER_PARSER_NO_SUCH_READING: return "no dialect has this number";
     case SEMVER_PARSER_NOT_A_VERSION: return "not a version";
     case SEMVER_PARSER_VERSION_EMPTY: return "the version is empty";
     case SEMVER_PARSER_VERSION_NOT_THREE_NUMBERS: return "the version has not three numbers";
@@ -267,6 +267,6 @@ const char *semver_parser_fault_text(int32_t answer) {
     case SEMVER_PARSER_HINT_LIMIT: return "numbers and raised bounds are at most 2^64 - 1";
     case SEMVER_PARSER_HINT_NPM_LIMIT:
         return "npm's numbers and raised bounds are at most 2^53 - 1";
-    default: return "no call answers this number";
+    default: return "no function returns this number";
     }
 }
