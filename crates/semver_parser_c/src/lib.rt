@@ -2,9 +2,9 @@
 //! is refused, how two versions compare, which versions meet a range, the least of them, how two
 //! ranges compare, and sets of versions as flat data. `include/semver_parser.h` says them in C's
 //! words, without `proved_` in their names, and `c/calls.c` makes those of these: there null with a
-//! length of 0 is an empty text or an empty room.
+//! length of 0 is an empty text or an empty buffer.
 //!
-//! A text is bytes, and bytes that are no UTF-8 are an error of their own. Each call answers one of
+//! A text is bytes, and bytes that are no UTF-8 are an error of their own. Each call returns one of
 //! the numbers in `numbers`. Nothing is kept between calls, and nothing is left for the caller to
 //! free.
 #![tactic(auto)]
@@ -74,7 +74,7 @@ use std::cmp::Ordering;
 use version_fronts::reasons::refused;
 use version_sets::{FlatSet, FlatSwitch};
 
-/// Where a part of a text lies: `length` bytes from `offset` on. Both are 0 where there is no such
+/// Where a part of a text is: `length` bytes from `offset` on. Both are 0 where there is no such
 /// part.
 #[repr(C)]
 #[derive(Clone, Copy)]
@@ -116,7 +116,7 @@ pub struct RewrittenComparator {
     pub minor: u64,
     /// The third number.
     pub patch: u64,
-    /// Where the room of pre-releases has the identifiers of its pre-release, joined by dots. The
+    /// Where the buffer of pre-releases has the identifiers of its pre-release, joined by dots. The
     /// offset is the sum of the lengths before it, also where there is none and the length is 0.
     pub pre: Part,
 }
@@ -298,9 +298,9 @@ pub extern "C" fn semver_parser_proved_explain_range(
 /// `<2.0.0-0`; else they are so by a tool's reading, and by the crate's those of the Rust crate, as
 /// `<2.0.0`.
 ///
-/// `length` becomes the length of the printed set, also where `out` has no room for it (`NO_ROOM`);
+/// `length` becomes the length of the printed set, also if `out` is too small for it (`NO_ROOM`);
 /// so a call with an empty `out` asks for the length. `out` is as it was after the printed set,
-/// and all of it after any answer but `OK`. `length` is as it was after an error of the text.
+/// and all of it after any result but `OK`. `length` is as it was after an error of the text.
 ///
 /// # Errors
 ///
@@ -318,13 +318,13 @@ pub extern "C" fn semver_parser_proved_rewrite(
 ) -> i32
     ensures numbers { IsOneOf (number.ok ∷ number.no_room ∷ number.no_such_reading ∷ range_faults)
         result }
-    // What is put into the room is the printed text of what the text is rewritten to.
+    // What is put into the buffer is the printed text of what the text is rewritten to.
     ensures rewritten { (result ≡ number.ok) ⊎ (result ≡ number.no_room)
         → (r : Reading) × (reading ≡ reading_number r)
         × (tree : TreeOf r) × SpellsAs r tree text.now × IsTrue (fits_as r tree)
         × Puts (set_text (set_for exact r tree)) out.old out.new length.new result }
 
-    // Errors of the reading and of the text, whatever the room.
+    // Errors of the reading and of the text, whatever the buffer.
     ensures refusals { RefusesText reading text.now result }
     ensures room_unchanged { result ≢ number.ok → out.new ≡ out.old }
     ensures length_unchanged { IsOneOf (number.no_such_reading ∷ range_faults) result
@@ -341,7 +341,7 @@ pub extern "C" fn semver_parser_proved_rewrite(
 }
 
 // Answer: law semver_parser_c::laws::one_comparators.
-/// Rewrites a range text into plain comparators, as `semver_parser_proved_rewrite` does, and tells
+/// Rewrites a range text into plain comparators, as `semver_parser_proved_rewrite` does, and gives
 /// them as plain data: `OK` with the comparators at the front of `comparators`, and at the front of
 /// `out` the identifiers of their pre-releases, joined by dots, those of one comparator right
 /// after those of the one before.
@@ -350,10 +350,10 @@ pub extern "C" fn semver_parser_proved_rewrite(
 /// with a pre-release at offset 0 with length 4 and `<` 2.0.0 with one at offset 4 with length 1,
 /// and of range 1 `<` 2.0.0 with one at offset 5 with length 1.
 ///
-/// `count` and `length` become how many comparators and how many bytes there are, also where one of
-/// the rooms is too small (`NO_ROOM`); then both rooms are as they were. So a call with two empty
-/// rooms asks for both. After an error of the text both rooms are as they were, and so are `count`
-/// and `length`. What is after what was put into a room is as it was.
+/// `count` and `length` become how many comparators and how many bytes there are, also if one of
+/// the buffers is too small (`NO_ROOM`); then both buffers are as they were. So a call with two
+/// empty buffers asks for both. After an error of the text both buffers are as they were, and so
+/// are `count` and `length`. What is after what was put into a buffer is as it was.
 ///
 /// # Errors
 ///
@@ -371,8 +371,8 @@ pub extern "C" fn semver_parser_proved_comparators(
 ) -> i32
     ensures numbers { IsOneOf (number.ok ∷ number.no_room ∷ number.no_such_reading ∷ range_faults)
         result }
-    // What is put into the rooms are the comparators that the text is rewritten to, in order, each
-    // with the number of its range, and the texts of their pre-releases, one after the other.
+    // What is put into the buffers are the comparators that the text is rewritten to, in order,
+    // each with the number of its range, and the texts of their pre-releases, one after the other.
     ensures rewritten { (result ≡ number.ok) ⊎ (result ≡ number.no_room)
         → (r : Reading) × (reading ≡ reading_number r)
         × (tree : TreeOf r) × SpellsAs r tree text.now × IsTrue (fits_as r tree)
@@ -390,13 +390,13 @@ pub extern "C" fn semver_parser_proved_comparators(
           told = length.new;
         })
         result }
-    // At the place that is told of each stands its pre-release, its identifiers joined by dots.
+    // At the place that each names is its pre-release, its identifiers joined by dots.
     ensures pre_releases { result ≡ number.ok → (r : Reading) → reading ≡ reading_number r
         → (tree : TreeOf r) → SpellsAs r tree text.now
         → HasPreReleases out.new (take count.new comparators.new)
         (comparators_of (set_for exact r tree)) }
 
-    // Errors of the reading and of the text, whatever the rooms.
+    // Errors of the reading and of the text, whatever the buffers.
     ensures refusals { RefusesText reading text.now result }
     ensures rooms_unchanged { result ≢ number.ok
         → (comparators.new ≡ comparators.old) × (out.new ≡ out.old) }
@@ -486,8 +486,8 @@ pub extern "C" fn semver_parser_proved_meets(
 /// as it was. Each of at most three is judged as the range is read. For more the set of the range
 /// is made once, which takes less time from about four on.
 ///
-/// A byte is `DOES_NOT_MEET`, `MEETS`, or the number of the version's error. Where `versions` and
-/// `answers` differ in length, as many are answered as the shorter has.
+/// A byte is `DOES_NOT_MEET`, `MEETS`, or the number of the version's error. If `versions` and
+/// `answers` differ in length, as many are written as the shorter has.
 ///
 /// # Errors
 ///
@@ -528,14 +528,14 @@ pub extern "C" fn semver_parser_proved_meets_each(
 }
 
 // Answer: law semver_parser_c::laws::one_least.
-/// Puts the text of the least version that a range means into a room, by the reading and by the
+/// Puts the text of the least version that a range means into a buffer, by the reading and by the
 /// rule for pre-releases that numbers name, as in `semver_parser_proved_meets`: `OK` with the text
 /// at the front of `out`. Least is it by precedence (SemVer 2.0.0, section 11), and it has no
 /// build; numbers go up to 2^64 - 1.
 ///
-/// `length` becomes the length of the text, also where `out` has no room for it (`NO_ROOM`). It is
-/// 0 exactly where the range means no version. `out` is as it was after the text, and all of it
-/// after any answer but `OK`. `length` is as it was after an error of the numbers or of the text.
+/// `length` becomes the length of the text, also if `out` is too small for it (`NO_ROOM`). It is
+/// 0 exactly if the range means no version. `out` is as it was after the text, and all of it
+/// after any result but `OK`. `length` is as it was after an error of the numbers or of the text.
 ///
 /// # Errors
 ///
@@ -551,8 +551,8 @@ pub extern "C" fn semver_parser_proved_least(
     length: &mut usize,
 ) -> i32
     ensures numbers { IsOneOf (number.ok ∷ number.no_room ∷ named_faults) result }
-    // What is put into the room is the text of the least version that the range means, and an empty
-    // one exactly where it means none.
+    // What is put into the buffer is the text of the least version that the range means, and an
+    // empty one exactly where it means none.
     ensures least { (result ≡ number.ok) ⊎ (result ≡ number.no_room)
         → (m : Meaning) → IsNamed m reading pre_releases
         → (tree : TreeOf (reading_of m)) → SpellsAs (reading_of m) tree range.now
@@ -561,7 +561,7 @@ pub extern "C" fn semver_parser_proved_least(
     ensures read { (result ≡ number.ok) ⊎ (result ≡ number.no_room)
         → RangeIsRead reading pre_releases range.now result }
 
-    // Errors of the reading, of the rule, and of the range, whatever the room.
+    // Errors of the reading, of the rule, and of the range, whatever the buffer.
     ensures refusals { RefusesRange reading pre_releases range.now result }
     ensures room_unchanged { result ≢ number.ok → out.new ≡ out.old }
     ensures length_unchanged { IsOneOf named_faults result → length.new ≡ length.old }
@@ -579,16 +579,16 @@ pub extern "C" fn semver_parser_proved_least(
 // Answer: law semver_parser_c::laws::one_comparison.
 /// Compares what an old range means with what a new one means, both by the reading and by the rule
 /// for pre-releases that numbers name, as in `semver_parser_proved_meets`: `OK` with three texts at
-/// the front of `out`, one after the other, and where each lies in `comparison`. They are the
-/// least version that the old range means and the new one doesn't, the least that the new one means
-/// and the old one doesn't, and the least that both mean. Least are they by precedence (SemVer
-/// 2.0.0, section 11), and they have no build; numbers go up to 2^64 - 1.
+/// the front of `out`, one after the other, and in `comparison` where each is. They are the least
+/// version that the old range means and the new one doesn't, the least that the new one means and
+/// the old one doesn't, and the least that both mean. Least are they by precedence (SemVer 2.0.0,
+/// section 11), and they have no build; numbers go up to 2^64 - 1.
 ///
 /// `^1.2.0` and `>=1.4.0` give `1.2.02.0.01.4.0`: 1.2.0 is lost, 2.0.0 is gained, 1.4.0 is shared.
 ///
-/// `length` becomes the length of the three texts together and `comparison` where they lie, also
-/// where `out` has no room for them (`NO_ROOM`), so a call with an empty `out` asks which there
-/// are. `out` is as it was after the texts, and all of it after any answer but `OK`. `length` and
+/// `length` becomes the length of the three texts together and `comparison` where they are, also
+/// if `out` is too small for them (`NO_ROOM`), so a call with an empty `out` asks which there
+/// are. `out` is as it was after the texts, and all of it after any result but `OK`. `length` and
 /// `comparison` are as they were after an error of the numbers or of a text.
 ///
 /// # Errors
@@ -611,8 +611,8 @@ pub extern "C" fn semver_parser_proved_compare(
 ) -> i32
     ensures numbers { IsOneOf (number.ok ∷ number.no_room ∷ named_faults ++ new_range_faults)
         result }
-    // What is put into the room are the texts of what is lost, gained and shared by what both
-    // ranges themselves mean, and where each lies is told.
+    // What is put into the buffer are the texts of what is lost, gained and shared by what both
+    // ranges themselves mean, and `comparison` says where each is.
     ensures told { (result ≡ number.ok) ⊎ (result ≡ number.no_room)
         → (m : Meaning) → IsNamed m reading pre_releases → (old new : TreeOf (reading_of m))
         → SpellsAs (reading_of m) old old_range.now → SpellsAs (reading_of m) new new_range.now
@@ -629,12 +629,12 @@ pub extern "C" fn semver_parser_proved_compare(
         × NewRangeIsRead reading pre_releases new_range.now result }
 
     // Errors of the reading, of the rule, of the old range, and where that is accepted of the new
-    // one, whatever the room and the memory.
+    // one, whatever the buffer and the memory.
     ensures refusals { RefusesRange reading pre_releases old_range.now result }
     ensures new_refusals { RefusesNewRange
         (IsAccepted reading pre_releases old_range.now)
         reading pre_releases new_range.now result }
-    // Wherever memory runs out, one number tells it.
+    // Wherever memory runs out, one number says so.
     ensures one_memory { result ≢ number.range_out_of_memory }
     ensures room_unchanged { result ≢ number.ok → out.new ≡ out.old }
     ensures length_unchanged { IsOneOf (named_faults ++ new_range_faults) result
@@ -857,7 +857,7 @@ pub extern "C" fn semver_parser_proved_set_has(
 }
 
 // Answer: law semver_parser_c::laws::one_combination.
-/// Puts what an operation keeps of two sets into the rooms, as `semver_parser_proved_set` puts a
+/// Puts what an operation keeps of two sets into the buffers, as `semver_parser_proved_set` puts a
 /// set: `UNION`, `INTERSECTION`, or `DIFFERENCE`, which is what the first has and the other hasn't.
 ///
 /// # Errors
@@ -879,7 +879,7 @@ pub extern "C" fn semver_parser_proved_combine(
 ) -> i32
     ensures numbers { IsOneOf (number.ok ∷ number.no_room ∷ number.no_such_operation
         ∷ number.not_a_set ∷ number.range_out_of_memory ∷ []) result }
-    // What is put into the rooms is what the operation keeps of both sets.
+    // What is put into the buffers is what the operation keeps of both sets.
     ensures made { (result ≡ number.ok) ⊎ (result ≡ number.no_room)
         → (a b set : SetValue) × (o : Operation) × (operation ≡ operation_number o)
         × IsFlat switches.now bytes.now a × IsFlat other_switches.now other_bytes.now b
@@ -976,7 +976,7 @@ pub extern "C" fn semver_parser_proved_compare_sets(
 ///
 /// # Errors
 ///
-/// `NOT_A_SET`, `RANGE_OUT_OF_MEMORY` and `NO_ROOM`. `out` is as it was after any answer but `OK`,
+/// `NOT_A_SET`, `RANGE_OUT_OF_MEMORY` and `NO_ROOM`. `out` is as it was after any result but `OK`,
 /// and `length` after the first two.
 #[unsafe(no_mangle)]
 pub extern "C" fn semver_parser_proved_set_least(
