@@ -65,7 +65,7 @@ pub returns-in_default-read_comparator : goal.returns-in_default-read_comparator
 returns-in_default-read_comparator c = λ t tree is.
     let so_far = c.loop.invariant t tree is in
     absurd (none_left c.in-Some.rest.now so_far.2 c.in_default-read_comparator.ensures
-    (subst (λ b. Left so_far.2 (behind_comma b)) c.in-Some.is so_far.4))
+    (rw (c.in-Some.is) at so_far.4))
 
 pub loop-preserved : goal.loop-preserved
 loop-preserved c = λ t tree is.
@@ -88,5 +88,4 @@ loop-preserved c = λ t tree is.
 pub returns : goal.returns
 returns c = λ t tree is.
     let so_far = c.loop.invariant t tree is in
-    let all = ap length so_far.3 ∙ length-append so_far.0 (so_far.1 ∷ so_far.2) in
-    absurd (omega (arith, all, is.0.few, so_far.6, c.loop-test.false))
+    absurd (omega (arith, (ap length so_far.3 ∙ length-append so_far.0 (so_far.1 ∷ so_far.2)), is.0.few, so_far.6, c.loop-test.false))

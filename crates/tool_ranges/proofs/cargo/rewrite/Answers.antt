@@ -20,6 +20,8 @@ use Rattle.tool_ranges.proofs.ReadMeanings.{requirement_meets}
 use Rattle.tool_ranges.proofs.RequirementLaws.{refused, answered, same_comparators}
 use Rattle.tool_ranges.proofs.RequirementPrinted.{requirement_printable, reads_back}
 use Rattle.tool_ranges.proofs.cargo.rewrite.Goals as goal
+use Rattle.std.proofs.lemmas.Grind.{common_steps}
+use Rattle.std.proofs.Common.{arith}
 
 refuses : (t : Text) (r : Result RangeSet RangeError) → IsRewritten t r → RefusesAs reading.Cargo t r
 refuses t (Ok set) (tree, h, fit, same) = answered t set tree h fit
@@ -27,8 +29,7 @@ refuses t (Err e) none = refused t e none
 
 as_rewritten : (t : Text) (r : Result RangeSet RangeError) → IsRewritten t r
     → IfOk r (λ set. (tree : List Simple) → SpellsRequirement tree t → set_of set ≡ rewritten_requirement tree)
-as_rewritten t (Ok set) (tree, h, fit, same) = λ tree' h'.
-    same ∙ ap rewritten_requirement (sym (same_comparators tree tree' t h.comparators h'.comparators))
+as_rewritten t (Ok set) (tree, h, fit, same) = grind (arith, common_steps, rewritten_requirement, same_comparators)
 as_rewritten t (Err e) none = tt
 
 releases : (t : Text) (r : Result RangeSet RangeError) → IsRewritten t r
@@ -45,7 +46,7 @@ printable t (Err e) none = tt
 reads_it_back : (t : Text) (r : Result RangeSet RangeError) → IsRewritten t r → IfOk r (λ set. (tree : SetTree)
     × Spells tree (set_text (set_of set)) × IsTrue (fits Cargo tree) × (rewritten Cargo tree ≡ set_of set))
 reads_it_back t (Ok set) (tree, h, fit, same) = reads_back Cargo (set_of set)
-    (subst IsPrintableSet (sym same) (requirement_printable tree t h.comparators fit)) (ap (λ s. s.compat) same)
+    (subst IsPrintableSet (sym same) (requirement_printable tree t h.comparators fit)) (cc)
 reads_it_back t (Err e) none = tt
 
 pub returns-clause-refusals : goal.returns-clause-refusals

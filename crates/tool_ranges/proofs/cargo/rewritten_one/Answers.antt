@@ -1,6 +1,7 @@
 use Rattle.std.proofs.Common.{sym, ap, ◌∙◌}
 use Rattle.tool_ranges.specs.Steps.CargoReading.{in_one_range}
 use Rattle.tool_ranges.proofs.cargo.rewritten_one.Goals as goal
+use Rattle.std.proofs.Common.{rules}
 
 pub fits-requires : goal.fits-requires
 fits-requires c = (c.cell_of-cell.ensures c.requires.0 c.requires.1).0
@@ -12,7 +13,7 @@ pub build_one-requires-clause-buildable : goal.build_one-requires-clause-buildab
 build_one-requires-clause-buildable c = (c.cell_of-cell.ensures c.requires.0 c.requires.1).0
 
 pub build_one-requires-clause-fits : goal.build_one-requires-clause-fits
-build_one-requires-clause-fits c = sym c.fits.ensures ∙ c.if-not-fits.false
+build_one-requires-clause-fits c = cc
 
 pub returns-in-Ok : goal.returns-in-Ok
 returns-in-Ok c = λ s is.
@@ -21,4 +22,4 @@ returns-in-Ok c = λ s is.
     (sym has.1 ∙ fit, c.in-Ok.ensures ∙ ap in_one_range (has.2 fit))
 
 pub returns-in-Err : goal.returns-in-Err
-returns-in-Err c = λ s is. sym (c.cell_of-cell.ensures s is).1 ∙ sym c.fits.ensures ∙ c.if-not-fits.false
+returns-in-Err c = search rules

@@ -12,8 +12,7 @@ returns-in_default c = at_none c.args.requirement.now [] c.args.requirement.now 
 pub loop-at-init : goal.loop-at-init
 loop-at-init c =
     let found = c.in-Some.ensures in
-    let first = ap comparator_at (sym c.as_bytes.ensures.value) ∙ found.1 in
-    ([], c.args.requirement.now, found.0, surveyed_start c.args.requirement.now, first, found.2)
+    ([], c.args.requirement.now, found.0, surveyed_start c.args.requirement.now, (ap comparator_at (sym c.as_bytes.ensures.value) ∙ found.1), found.2)
 
 pub fits-fit-requires : goal.fits-fit-requires
 fits-fit-requires c = let seen = c.loop-at.invariant in (c.cell_of-cell.ensures (as_read seen.2) seen.5).0
@@ -32,7 +31,7 @@ returns-in_default-behind c =
 pub returns-in_default-read_comparator : goal.returns-in_default-read_comparator
 returns-in_default-read_comparator c =
     let seen = c.loop-at.invariant in
-    at_none c.args.requirement.now (seen.0 ++ seen.2 ∷ []) c.in-Some-behind.rest.now
+    at_none c.args.requirement.now _ c.in-Some-behind.rest.now
     (at_next c.args.requirement.now seen.0 seen.1 seen.2 c.in-Some-behind.rest.now seen.3.place
     (seen.4 ∙ ap (λ b. Some (seen.2, behind_comma b)) c.in-Some-behind.is))
     c.in_default-read_comparator.ensures

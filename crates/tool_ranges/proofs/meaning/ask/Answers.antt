@@ -25,11 +25,9 @@ returns-in-Cargo c =
     let v = asked_of c.args.version.now in
     let w = without_build v in
     let range = c.args.range.now in
-    let said : IsSaid Cargo range (λ tree. meets_requirement tree v) c.ask.result =
-    record { refusals = e.refusals; no_memory = e.no_memory; meaning = e.meaning } in
     let told = subst (Says range w c.ask.result) (sym c.in-Cargo.is)
     (said_so Cargo range _ (λ tree. meets_requirement tree w.plain) c.ask.result
-    (λ tree. refl) said) in
+    (λ tree. refl) (record { refusals = e.refusals; no_memory = e.no_memory; meaning = e.meaning })) in
     record { refusals = told.refusals; no_memory = told.no_memory; meaning = told.meaning }
 
 pub returns-in-CargoAll : goal.returns-in-CargoAll
@@ -38,11 +36,9 @@ returns-in-CargoAll c =
     let v = asked_of c.args.version.now in
     let w = without_build v in
     let range = c.args.range.now in
-    let said : IsSaid Cargo range (λ tree. meets_requirement_with_all tree v) c.ask_with_all.result =
-    record { refusals = e.refusals; no_memory = e.no_memory; meaning = e.meaning } in
     let told = subst (Says range w c.ask_with_all.result) (sym c.in-CargoAll.is)
     (said_so Cargo range _ (λ tree. meets_requirement_with_all tree w.plain) c.ask_with_all.result
-    (λ tree. refl) said) in
+    (λ tree. refl) (record { refusals = e.refusals; no_memory = e.no_memory; meaning = e.meaning })) in
     record { refusals = told.refusals; no_memory = told.no_memory; meaning = told.meaning }
 
 pub returns-in-CargoReleases : goal.returns-in-CargoReleases
@@ -51,13 +47,11 @@ returns-in-CargoReleases c =
     let v = asked_of c.args.version.now in
     let w = without_build v in
     let range = c.args.range.now in
-    let said : IsSaid Cargo range (λ tree. meets_requirement tree v) c.ask-in-CargoReleases.result =
-    record { refusals = e.refusals; no_memory = e.no_memory; meaning = e.meaning } in
     let r = c.of_releases.result in
     let told = subst (Says range w r) (sym c.in-CargoReleases.is)
     (said_so Cargo range _ (λ tree. is_empty w.plain.pre && meets_requirement tree w.plain) r
     (λ tree. refl)
-    (released Cargo range _ v c.ask-in-CargoReleases.result r c.of_releases.ensures said)) in
+    (released Cargo range _ v c.ask-in-CargoReleases.result r c.of_releases.ensures (record { refusals = e.refusals; no_memory = e.no_memory; meaning = e.meaning }))) in
     record { refusals = told.refusals; no_memory = told.no_memory; meaning = told.meaning }
 
 pub returns-in-Npm : goal.returns-in-Npm
@@ -66,11 +60,9 @@ returns-in-Npm c =
     let v = asked_of c.args.version.now in
     let w = without_build v in
     let range = c.args.range.now in
-    let said : IsSaid Npm range (λ tree. meets_npm tree v) c.ask-in-Npm.result =
-    record { refusals = e.refusals; no_memory = e.no_memory; meaning = e.meaning } in
     let told = subst (Says range w c.ask-in-Npm.result) (sym c.in-Npm.is)
     (said_so Npm range _ (λ tree. meets_npm tree w.plain) c.ask-in-Npm.result
-    (λ tree. refl) said) in
+    (λ tree. refl) (record { refusals = e.refusals; no_memory = e.no_memory; meaning = e.meaning })) in
     record { refusals = told.refusals; no_memory = told.no_memory; meaning = told.meaning }
 
 pub returns-in-NpmAll : goal.returns-in-NpmAll
@@ -79,11 +71,9 @@ returns-in-NpmAll c =
     let v = asked_of c.args.version.now in
     let w = without_build v in
     let range = c.args.range.now in
-    let said : IsSaid Npm range (λ tree. meets_npm_with_all tree v) c.ask_with_all-in-NpmAll.result =
-    record { refusals = e.refusals; no_memory = e.no_memory; meaning = e.meaning } in
     let told = subst (Says range w c.ask_with_all-in-NpmAll.result) (sym c.in-NpmAll.is)
     (said_so Npm range _ (λ tree. meets_npm_with_all tree w.plain) c.ask_with_all-in-NpmAll.result
-    (λ tree. refl) said) in
+    (λ tree. refl) (record { refusals = e.refusals; no_memory = e.no_memory; meaning = e.meaning })) in
     record { refusals = told.refusals; no_memory = told.no_memory; meaning = told.meaning }
 
 pub returns-in-NpmReleases : goal.returns-in-NpmReleases
@@ -92,13 +82,11 @@ returns-in-NpmReleases c =
     let v = asked_of c.args.version.now in
     let w = without_build v in
     let range = c.args.range.now in
-    let said : IsSaid Npm range (λ tree. meets_npm tree v) c.ask-in-NpmReleases.result =
-    record { refusals = e.refusals; no_memory = e.no_memory; meaning = e.meaning } in
     let r = c.of_releases-in-NpmReleases.result in
     let told = subst (Says range w r) (sym c.in-NpmReleases.is)
     (said_so Npm range _ (λ tree. is_empty w.plain.pre && meets_npm tree w.plain) r
     (λ tree. refl)
-    (released Npm range _ v c.ask-in-NpmReleases.result r c.of_releases-in-NpmReleases.ensures said)) in
+    (released Npm range _ v c.ask-in-NpmReleases.result r c.of_releases-in-NpmReleases.ensures (record { refusals = e.refusals; no_memory = e.no_memory; meaning = e.meaning }))) in
     record { refusals = told.refusals; no_memory = told.no_memory; meaning = told.meaning }
 
 pub returns-in-Excluded : goal.returns-in-Excluded
@@ -108,14 +96,11 @@ returns-in-Excluded c =
     let v = asked_of c.args.version.now in
     let w = without_build v in
     let range = c.args.range.now in
-    let fit : numbers_fit w.plain ≡ true = c.requires in
-    let is : c.args.meaning ≡ Crate arm.compat Excluded = arm.is ∙ ap (Crate arm.compat) c.in-Excluded.is in
-    let said : IsSaid (reading.Crate arm.compat) range (λ tree. list_any (range_met (terms.Crate arm.compat) v true) tree)
-    c.ask_crate.result =
-    record { refusals = e.refusals; no_memory = e.no_memory; meaning = e.meaning } in
+    let fit = c.requires in
+    let is = arm.is ∙ ap (Crate arm.compat) c.in-Excluded.is in
     let meant : IsSaid (reading.Crate arm.compat) range (λ tree. meets_tree arm.compat tree v) c.ask_crate.result =
     said_so (reading.Crate arm.compat) range _ (λ tree. meets_tree arm.compat tree v) c.ask_crate.result
-    (λ tree. own_said v arm.compat tree) said in
+    (λ tree. own_said v arm.compat tree) (record { refusals = e.refusals; no_memory = e.no_memory; meaning = e.meaning }) in
     let r = c.of_releases-in-Excluded.result in
     let told = subst (Says range w r) (sym is)
     (said_so (reading.Crate arm.compat) range _ (λ tree. meant_as (Crate arm.compat Excluded) tree w) r
@@ -130,14 +115,11 @@ returns-in-Stated c =
     let v = asked_of c.args.version.now in
     let w = without_build v in
     let range = c.args.range.now in
-    let fit : numbers_fit w.plain ≡ true = c.requires in
-    let is : c.args.meaning ≡ Crate arm.compat Stated = arm.is ∙ ap (Crate arm.compat) c.in-Stated.is in
-    let said : IsSaid (reading.Crate arm.compat) range (λ tree. list_any (range_met (terms.Crate arm.compat) v c.is_release.result)
-    tree) c.ask_crate-in-Stated.result =
-    record { refusals = e.refusals; no_memory = e.no_memory; meaning = e.meaning } in
+    let fit = c.requires in
+    let is = arm.is ∙ ap (Crate arm.compat) c.in-Stated.is in
     let meant : IsSaid (reading.Crate arm.compat) range (λ tree. meets_tree_as_stated arm.compat tree v) c.ask_crate-in-Stated.result =
     said_so (reading.Crate arm.compat) range _ (λ tree. meets_tree_as_stated arm.compat tree v) c.ask_crate-in-Stated.result (λ tree. ap
-    (λ b. list_any (range_met (terms.Crate arm.compat) v b) tree) c.is_release.ensures ∙ stated_said v arm.compat tree) said in
+    (λ b. list_any (range_met (terms.Crate arm.compat) v b) tree) c.is_release.ensures ∙ stated_said v arm.compat tree) (record { refusals = e.refusals; no_memory = e.no_memory; meaning = e.meaning }) in
     let told = subst (Says range w c.ask_crate-in-Stated.result) (sym is)
     (said_so (reading.Crate arm.compat) range _ (λ tree. meant_as (Crate arm.compat Stated) tree w) c.ask_crate-in-Stated.result
     (λ tree. fitting Stated arm.compat w tree fit) meant) in
@@ -150,14 +132,11 @@ returns-in-Included c =
     let v = asked_of c.args.version.now in
     let w = without_build v in
     let range = c.args.range.now in
-    let fit : numbers_fit w.plain ≡ true = c.requires in
-    let is : c.args.meaning ≡ Crate arm.compat Included = arm.is ∙ ap (Crate arm.compat) c.in-Included.is in
-    let said : IsSaid (reading.Crate arm.compat) range (λ tree. list_any (range_met (terms.Crate arm.compat) v true) tree)
-    c.ask_crate-in-Included.result =
-    record { refusals = e.refusals; no_memory = e.no_memory; meaning = e.meaning } in
+    let fit = c.requires in
+    let is = arm.is ∙ ap (Crate arm.compat) c.in-Included.is in
     let meant : IsSaid (reading.Crate arm.compat) range (λ tree. meets_tree arm.compat tree v) c.ask_crate-in-Included.result =
     said_so (reading.Crate arm.compat) range _ (λ tree. meets_tree arm.compat tree v) c.ask_crate-in-Included.result
-    (λ tree. own_said v arm.compat tree) said in
+    (λ tree. own_said v arm.compat tree) (record { refusals = e.refusals; no_memory = e.no_memory; meaning = e.meaning }) in
     let told = subst (Says range w c.ask_crate-in-Included.result) (sym is)
     (said_so (reading.Crate arm.compat) range _ (λ tree. meant_as (Crate arm.compat Included) tree w) c.ask_crate-in-Included.result
     (λ tree. fitting Included arm.compat w tree fit) meant) in

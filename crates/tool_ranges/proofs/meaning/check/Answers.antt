@@ -4,15 +4,14 @@ use Rattle.tool_ranges.specs.Readings.{HasSetAs, IsTextAs, IsTooLargeAs}
 use Rattle.tool_ranges.proofs.ReadSets.{same_refusal}
 use Rattle.tool_ranges.proofs.ReadingLaws.{answered_too}
 use Rattle.tool_ranges.proofs.meaning.check.Goals as goal
+use Rattle.std.proofs.Common.{rules}
 
 pub returns-in-Ok-clause-refusals : goal.returns-in-Ok-clause-refusals
 returns-in-Ok-clause-refusals c =
     let reading = reading_of c.args.meaning in
-    answered_too (IsTextAs reading c.args.range.now) (IsTooLargeAs reading c.args.range.now) (HasSetAs reading c.args.range.now) _ _
+    answered_too _ _ _ _ _
     c.in-Ok.ensures.refusals
 
 pub returns-in-Err-clause-refusals : goal.returns-in-Err-clause-refusals
 returns-in-Err-clause-refusals c =
-    let reading = reading_of c.args.meaning in
-    same_refusal Bool (Unit {0}) (IsTextAs reading c.args.range.now) (IsTooLargeAs reading c.args.range.now)
-    (HasSetAs reading c.args.range.now) c.in-Err.refusal c.in-Err.ensures.refusals
+    search rules

@@ -7,9 +7,10 @@ use Rattle.std.proofs.lemmas.Str.{chars-IsAscii}
 use Rattle.std.proofs.lemmas.Str.Ascii.{All-from_ascii}
 use Rattle.tool_ranges.specs.NpmGrammar.{may_stand}
 use Rattle.tool_ranges.proofs.npm.may_stand.Goals as goal
+use Rattle.std.proofs.lemmas.Grind.{common_steps}
 
 each_stands : (b : ℕ) → b < 128 → may_stand b ≡ true
-each_stands b small = grind (arith, nat_tests)
+each_stands b small = grind arith
 
 all_stand : (bs : List ℕ) → All (λ b. b < 128) bs → list_all may_stand bs ≡ true
 all_stand [] all = refl
@@ -20,4 +21,4 @@ ascii_stands : (bs : List ℕ) → IsAscii bs → list_all may_stand (chars bs) 
 ascii_stands bs ascii = ap (list_all may_stand) (chars-IsAscii bs ascii) ∙ all_stand bs (All-from_ascii bs ascii)
 
 pub returns-then-is_ascii : goal.returns-then-is_ascii
-returns-then-is_ascii c = c.if-is_ascii.true ∙ sym (ascii_stands c.args.range.now (rw c.if-is_ascii.true at c.is_ascii.ensures.cases))
+returns-then-is_ascii c = grind (arith, common_steps, ascii_stands)

@@ -23,10 +23,11 @@ use Rattle.tool_ranges.proofs.NpmMeanings.{npm_meets}
 use Rattle.tool_ranges.proofs.RequirementPrinted.{reads_back}
 use Rattle.tool_ranges.proofs.ToolRows.{npm_table}
 use Rattle.tool_ranges.proofs.npm.rewrite.Goals as goal
+use Rattle.std.proofs.Common.{rules}
 
 -- with bounds as they are stated, a set is of the table
 stated_set : (tree : SetTree) → set_begun Stated tree ≡ rewritten_npm tree
-stated_set tree = λ i. record { ranges = map (λ r. range_made npm_table Npm r i) tree; compat = Npm }
+stated_set tree = search rules
 
 module _ (t : Text) where
   abbrev IsBegun : RangeSet → Type 0

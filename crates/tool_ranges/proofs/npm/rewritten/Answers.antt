@@ -9,13 +9,12 @@ use Rattle.tool_ranges.proofs.npm.rewritten.Goals as goal
 use Rattle.tool_ranges.proofs.npm.rewritten.Goals.{After-read_by}
 
 answer : (c : After-read_by) → IsAnswer c.args.lower c.args.range.now c.read_by.result
-answer c = subst (λ t. IsAnswer c.args.lower t c.read_by.result) c.as_bytes.ensures.value
-    (answered_by (written_for c.args.lower Npm) Npm c.args.lower npm_table (set_begun c.args.lower) (λ tree. refl)
+answer c = rw (← c.as_bytes.ensures.value) (answered_by (written_for c.args.lower Npm) Npm c.args.lower npm_table (set_begun c.args.lower) (λ tree. refl)
     dialect.Npm c.as_bytes.result.now _ c.read_by.result refl c.read_by.ensures)
 
 pub returns-clause-refusals : goal.returns-clause-refusals
 returns-clause-refusals c =
-    refuses c.args.lower c.args.range.now (sym c.may_stand.ensures ∙ c.if-not-may_stand.false) c.read_by.result (answer c)
+    refuses c.args.lower c.args.range.now (cc) c.read_by.result (answer c)
 
 pub returns-clause-begun : goal.returns-clause-begun
 returns-clause-begun c = begun c.args.lower c.args.range.now c.read_by.result (answer c)

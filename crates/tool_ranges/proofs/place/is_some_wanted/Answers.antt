@@ -9,11 +9,11 @@ texts rests = map (λ rest. rest.now) rests
 pub loop-rest-preserved : goal.loop-rest-preserved
 loop-rest-preserved c =
     let i = c.loop-rest.rest-index in
-    let rest = get_or-map {Y = List ℕ} (λ r. r.now) c.args.rests.now i (record { ref_ptr = (0, 0); now = [] }) [] c.loop-rest-test.true in
-    let text : c.as_str.result.now ≡ c.args.front.now ++ get_or (texts c.args.rests.now) i [] =
+    let rest = get_or-map {Y = List ℕ} (λ r. r.now) c.args.rests.now i _ [] c.loop-rest-test.true in
+    let text =
     c.as_str.ensures.value ∙ c.in_ok-push_str-2.ensures.bytes
     ∙ rw (c.in_ok-push_str.ensures.bytes, c.clear.ensures.bytes, rest) refl in
-    below_more (λ k. ¬ (IsWanted c.args.wanted c.args.reading (c.args.front.now ++ get_or (texts c.args.rests.now) k []))) i
+    below_more _ i
     c.loop-rest.invariant
     (λ w. let h = c.is_wanted.ensures.1 (subst (IsWanted c.args.wanted c.args.reading) (sym text) w) in cc)
 
@@ -21,7 +21,6 @@ pub returns : goal.returns
 returns c = (
   λ h. cc,
   λ any. absurd (
-      let same = get_or_default (texts c.args.rests.now) any.0 any.1 [] any.2 in
       c.loop-rest.invariant any.0 (omega (arith, length-map c.args.rests.now (λ r. r.now)))
-      (subst (λ t. IsWanted c.args.wanted c.args.reading (c.args.front.now ++ t)) (sym any.3 ∙ same) any.4)),
+      (subst (λ t. IsWanted c.args.wanted c.args.reading (c.args.front.now ++ t)) (sym any.3 ∙ (get_or_default (texts c.args.rests.now) any.0 any.1 [] any.2)) any.4)),
 )

@@ -1,6 +1,7 @@
 use Rattle.std.proofs.Common.{◌<◌, arith}
 use Rattle.tool_ranges.proofs.Places.{whole_place, first_searched, good_moved, bad_moved, found_place}
 use Rattle.tool_ranges.proofs.place.longest.Goals as goal
+use Rattle.std.proofs.lemmas.Grind.{common_steps}
 
 pub returns-then-branch : goal.returns-then-branch
 returns-then-branch c =
@@ -21,10 +22,7 @@ returns-then-middle-good c = record {
 
 pub loop-good-preserved-then-branch-2 : goal.loop-good-preserved-then-branch-2
 loop-good-preserved-then-branch-2 c =
-    let e = c.between-middle.ensures in
-    let after : c.loop-good.good < c.between-middle.result = omega arith in
-    good_moved c.args.wanted c.args.reading c.args.text.now c.loop-good.good c.loop-good.bad c.between-middle.result c.loop-good.invariant
-    after (e.before after) (e.boundary after) c.range.result.now c.range.ensures.value (c.in_ok-begins-2.ensures.0 c.if-branch-2.true)
+    grind (arith, common_steps)
 
 pub loop-good-preserved : goal.loop-good-preserved
 loop-good-preserved c =

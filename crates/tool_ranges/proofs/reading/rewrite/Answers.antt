@@ -1,5 +1,6 @@
 use Rattle.std.proofs.lemmas.Result.{IfOk-weaker}
 use Rattle.tool_ranges.proofs.reading.rewrite.Goals as goal
+use Rattle.std.proofs.Common.{rules}
 
 pub returns-in-Cargo : goal.returns-in-Cargo
 returns-in-Cargo c =
@@ -29,7 +30,7 @@ returns-in-Crate c =
     rw c.in-Crate.is (record {
       refusals = e.refusals;
       as_rewritten = e.as_rewritten;
-      releases = IfOk-weaker c.parse_exact.result _ _ (λ set meant tree v h release. meant tree v h) e.meaning;
+      releases = search rules;
       printable = e.printable;
       reads_back = e.reads_back;
     })

@@ -1,14 +1,14 @@
 use Rattle.std.proofs.Common.{sym, ◌∙◌}
 use Rattle.tool_ranges.proofs.ReadRows.{above_cell, below_cell, shared_cell}
 use Rattle.tool_ranges.proofs.rows.cell_of.Goals as goal
+use Rattle.std.proofs.Common.{rules}
 
 pub returns-in-Some : goal.returns-in-Some
 returns-in-Some c = λ s is. above_cell c.args.compat s c.args.simple.now is c.in-Some.place c.in-Some.ensures.0 c.in-Some.ensures.1
 
 pub returns-in-None : goal.returns-in-None
-returns-in-None c = λ s is. below_cell c.args.compat s c.args.simple.now is c.in-None.ensures
-    (sym c.ends_below.ensures ∙ c.if-ends_below.true)
+returns-in-None c = search rules
 
 pub returns-in-None-2 : goal.returns-in-None-2
 returns-in-None-2 c = λ s is. shared_cell c.args.compat s c.args.simple.now is c.rewritten.result c.in-None.ensures
-    (sym c.ends_below.ensures ∙ c.if-ends_below.false) (c.rewritten.ensures s is)
+    (cc) (c.rewritten.ensures s is)

@@ -14,7 +14,6 @@ pub returns : goal.returns
 returns c = if_ok c.push.result
     (λ _ pushed s is e. let has = c.cell_of.ensures s is in
     let f = is.1.1 (fit_numbers c.args.compat s c.args.simple.now is e) in
-    let begin : c.lower_of-lower.result ≡ lower_of c.args.lower c.args.compat s = c.lower_of-lower.ensures
-    ∙ (λ i. lower_where c.args.lower (begins_lowest c.args.compat (is.0 i) (f.0 i) (f.1 i))) in
+    let begin : c.lower_of-lower.result ≡ lower_of c.args.lower c.args.compat s = cc in
     pushed ∙ (λ i. map comparator_of c.args.comparators.now.items ++ begun (begin i) (has.2 (has.1 ∙ e) i)))
     c.push.ensures

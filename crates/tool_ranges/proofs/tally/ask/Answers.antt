@@ -5,14 +5,14 @@ use Rattle.tool_ranges.specs.Steps.Asking.{asked_of, dialect_of}
 use Rattle.tool_ranges.proofs.AskedEvents.{large, says, term_more, told}
 use Rattle.tool_ranges.proofs.tally.ask.Goals as goal
 use Rattle.tool_ranges.proofs.tally.ask.Goals.{In-Simple}
+use Rattle.std.proofs.Common.{rules}
 
 -- the simple that comes first
 first : (c : In-Simple) → FirstSimple (dialect_of c.args.terms) c.loop-event.invariant.0 c.in-Simple.simple c.next_in.new.self
 first c =
     let so_far = c.loop-event.invariant in
     let gives : NextGives (dialect_of c.args.terms) c.loop-event.events (Some c.in-Some.event) c.next_in.new.self =
-    subst (λ d. NextGives d c.loop-event.events (Some c.in-Some.event) c.next_in.new.self) c.dialect-dialect.ensures
-    c.in-Some.ensures.gives in
+    search rules in
     first_simple (dialect_of c.args.terms) so_far.0 c.in-Simple.simple c.next_in.new.self
     (rw (c.in_ok-simple.was, c.in-Simple.is) at (gives.0 so_far.0 so_far.1))
 
@@ -36,9 +36,7 @@ loop-event-preserved-in-Simple c =
 pub returns-then-not-fit : goal.returns-then-not-fit
 returns-then-not-fit c =
     let so_far = c.loop-event.invariant in
-    let gives : NextGives (dialect_of c.args.terms) c.loop-event.events None c.next_in.new.self =
-    subst (λ d. NextGives d c.loop-event.events None c.next_in.new.self) c.dialect-dialect.ensures c.in_default.ensures.gives in
-    let end = gives.0 so_far.0 so_far.1 in
+    let end = (subst (λ d. NextGives d c.loop-event.events None c.next_in.new.self) c.dialect-dialect.ensures c.in_default.ensures.gives).0 so_far.0 so_far.1 in
     large c.args.terms (asked_of c.args.version.now) c.args.counts c.args.text.now
     (so_far.2 ∙ ap (told c.args.terms (asked_of c.args.version.now) c.args.counts c.loop-event.fit c.loop-event.tally) end.0
     ∙ rw c.if-not-fit.true refl)
@@ -46,9 +44,7 @@ returns-then-not-fit c =
 pub returns : goal.returns
 returns c =
     let so_far = c.loop-event.invariant in
-    let gives : NextGives (dialect_of c.args.terms) c.loop-event.events None c.next_in.new.self =
-    subst (λ d. NextGives d c.loop-event.events None c.next_in.new.self) c.dialect-dialect.ensures c.in_default.ensures.gives in
-    let end = gives.0 so_far.0 so_far.1 in
+    let end = (subst (λ d. NextGives d c.loop-event.events None c.next_in.new.self) c.dialect-dialect.ensures c.in_default.ensures.gives).0 so_far.0 so_far.1 in
     says c.args.terms (asked_of c.args.version.now) c.args.counts c.args.text.now c.ended.result
     (so_far.2 ∙ ap (told c.args.terms (asked_of c.args.version.now) c.args.counts c.loop-event.fit c.loop-event.tally) end.0
     ∙ rw (c.if-not-fit.false, sym c.ended.ensures) refl)

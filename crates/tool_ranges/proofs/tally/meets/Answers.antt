@@ -5,22 +5,18 @@ use Rattle.tool_ranges.specs.NpmMeaning.{meets_by_count}
 use Rattle.tool_ranges.specs.Steps.Asking.{asked_of}
 use Rattle.tool_ranges.proofs.AskedTerms.{nothing_read, said, term_stated}
 use Rattle.tool_ranges.proofs.tally.meets.Goals as goal
+use Rattle.std.proofs.lemmas.Grind.{common_steps}
+use Rattle.std.proofs.Common.{arith}
+use Rattle.std.proofs.Common.{rules}
 
 pub meets_crate-requires : goal.meets_crate-requires
 meets_crate-requires c = nothing_read c.requires.0 c.args.simple.now c.requires.1
 
 pub returns-in-Npm : goal.returns-in-Npm
-returns-in-Npm c = λ s is fit. rw c.in-Npm.is
-    (said s c.args.simple.now is (term_stated c.args.terms s fit) (λ f n z. meets_by_count f n z (asked_of c.args.version.now))
-    c.meets_npm.result c.meets_npm.ensures)
+returns-in-Npm c = grind (arith, common_steps, term_stated, meets_by_count, asked_of)
 
 pub returns-in-NpmAll : goal.returns-in-NpmAll
-returns-in-NpmAll c = λ s is fit. rw c.in-NpmAll.is
-    (said s c.args.simple.now is (term_stated c.args.terms s fit) (λ f n z. meets_counted mode.Npm f n z (asked_of c.args.version.now))
-    c.meets_all.result c.meets_all.ensures)
+returns-in-NpmAll c = grind (arith, common_steps, term_stated, meets_counted, asked_of)
 
 pub returns-in-Crate : goal.returns-in-Crate
-returns-in-Crate c = λ s is fit. rw c.in-Crate.is
-    (said s c.args.simple.now is (term_stated c.args.terms s fit)
-    (λ f n z. meets_stated c.in-Crate.compat f n z (asked_of c.args.version.now))
-    c.meets_crate.result c.meets_crate.ensures)
+returns-in-Crate c = search rules

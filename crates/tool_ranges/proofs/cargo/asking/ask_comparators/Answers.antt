@@ -9,13 +9,15 @@ use Rattle.tool_ranges.proofs.AskedTerms.{stated_at}
 use Rattle.tool_ranges.proofs.ToolRows.{numbers_fit}
 use Rattle.tool_ranges.proofs.RequirementSteps.{at_most, at_none}
 use Rattle.tool_ranges.proofs.cargo.asking.ask_comparators.Goals as goal
+use Rattle.std.proofs.lemmas.Grind.{common_steps}
+use Rattle.std.proofs.Common.{rules}
 
 pub loop-at-init : goal.loop-at-init
-loop-at-init c = ([], asked_start c.args.takes_all (asked_of c.args.version.now) c.args.counts c.args.text.now)
+loop-at-init c = search rules
 
 pub returns-in_default : goal.returns-in_default
 returns-in_default c =
-    let seen = c.loop-at.invariant in at_none c.args.text.now seen.0 c.loop-at.rest.now seen.1.surveyed.place c.in_default.ensures
+    grind (arith, common_steps, at_none)
 
 pub fits-fit-requires : goal.fits-fit-requires
 fits-fit-requires c = let found = c.in-Some.ensures in (c.cell_of.ensures (as_read found.0) found.2).0
@@ -55,5 +57,4 @@ returns-in-loop-at c =
 
 pub returns : goal.returns
 returns c =
-    let seen = c.loop-at.invariant in
-    at_most c.args.text.now seen.0 c.loop-at.rest.now seen.1.surveyed.place (omega (arith, seen.1.surveyed.count, c.loop-at-test.false))
+    grind (arith, common_steps)

@@ -11,7 +11,7 @@ returns-then-not-is_read c =
     let found = c.in_ok-written.ensures in
     let s : Simple = record { form = form_of c.read_operator-form.result.0; partial = found.0 } in
     pieces_found c.args.text.now c.behind_blanks-text.result.now c.read_operator-form.result.1.now c.in_ok-written.rest.now s.form found.0
-    c.behind_blanks-text.ensures (sym c.if-begins_with_tilde_greater.false ∙ c.begins_with_tilde_greater.ensures)
+    c.behind_blanks-text.ensures (cc)
     c.read_operator-form.ensures found.1
     ∙ not_read s c.in_ok-written.rest.now (sym (c.is_read.ensures s refl found.2) ∙ c.if-not-is_read.true)
 
@@ -19,13 +19,13 @@ pub returns-in-empty : goal.returns-in-empty
 returns-in-empty c =
     let found = c.in_ok-written.ensures in
     let s : Simple = record { form = form_of c.read_operator-form.result.0; partial = found.0 } in
-    let none : length c.behind_blanks.result.now ≡ 0 = omega arith in (
+    (
       s,
       pieces_found c.args.text.now c.behind_blanks-text.result.now c.read_operator-form.result.1.now c.in_ok-written.rest.now s.form found.0
           c.behind_blanks-text.ensures (sym c.if-begins_with_tilde_greater.false ∙ c.begins_with_tilde_greater.ensures)
           c.read_operator-form.ensures found.1
           ∙ ends s c.in_ok-written.rest.now c.behind_blanks.result.now (sym (c.is_read.ensures s refl found.2) ∙ c.if-not-is_read.false)
-          c.behind_blanks.ensures none,
+          c.behind_blanks.ensures (omega arith),
       (
         c.named.ensures ∙ ap (λ b. named b s.form) (c.has_wildcard.ensures found.0 found.2),
         c.new.ensures found.0 found.2.stand,
@@ -36,13 +36,13 @@ pub returns-in-44 : goal.returns-in-44
 returns-in-44 c =
     let found = c.in_ok-written.ensures in
     let s : Simple = record { form = form_of c.read_operator-form.result.0; partial = found.0 } in
-    let comma : get_or c.behind_blanks.result.now 0 0 ≡ 44 = omega arith in (
+    (
       s,
       pieces_found c.args.text.now c.behind_blanks-text.result.now c.read_operator-form.result.1.now c.in_ok-written.rest.now s.form found.0
           c.behind_blanks-text.ensures (sym c.if-begins_with_tilde_greater.false ∙ c.begins_with_tilde_greater.ensures)
           c.read_operator-form.ensures found.1
           ∙ parted s c.in_ok-written.rest.now c.behind_blanks.result.now (sym (c.is_read.ensures s refl found.2) ∙ c.if-not-is_read.false)
-          c.behind_blanks.ensures c.in-44.len_at_least comma,
+          c.behind_blanks.ensures c.in-44.len_at_least (omega arith),
       (
         c.named.ensures ∙ ap (λ b. named b s.form) (c.has_wildcard.ensures found.0 found.2),
         c.new.ensures found.0 found.2.stand,
@@ -53,9 +53,8 @@ pub returns-in_default : goal.returns-in_default
 returns-in_default c =
     let found = c.in_ok-written.ensures in
     let s : Simple = record { form = form_of c.read_operator-form.result.0; partial = found.0 } in
-    let other : (get_or c.behind_blanks.result.now 0 0 == 44) ≡ false = grind (arith, nat_tests) in
     pieces_found c.args.text.now c.behind_blanks-text.result.now c.read_operator-form.result.1.now c.in_ok-written.rest.now s.form found.0
     c.behind_blanks-text.ensures (sym c.if-begins_with_tilde_greater.false ∙ c.begins_with_tilde_greater.ensures)
     c.read_operator-form.ensures found.1
     ∙ other_byte s c.in_ok-written.rest.now c.behind_blanks.result.now (sym (c.is_read.ensures s refl found.2) ∙ c.if-not-is_read.false)
-    c.behind_blanks.ensures c.in_default.len_at_least other
+    c.behind_blanks.ensures c.in_default.len_at_least (grind (arith, nat_tests))

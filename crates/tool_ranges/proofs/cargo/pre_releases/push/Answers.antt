@@ -10,7 +10,7 @@ returns-in_ok-push-in-XRangeOnly c = λ s is e.
     ap (map comparator_of) c.in_ok-push-in-XRangeOnly.ensures.items ∙ map-append comparator_of c.args.comparators.now.items _
     ∙ ap (λ l. map comparator_of c.args.comparators.now.items ++ l)
     (c.in_ok-below_all-in-XRangeOnly.ensures
-    ∙ none_judged s c.args.simple.now is e (sym c.kind.ensures ∙ c.in-XRangeOnly.is))
+    ∙ none_judged s c.args.simple.now is e (cc))
 
 pub returns-in-MajorOnly : goal.returns-in-MajorOnly
 returns-in-MajorOnly c = if_ok c.push_some.result
@@ -21,5 +21,5 @@ returns-in-MajorOnly c = if_ok c.push_some.result
 pub returns-in-MajorMinorPatch : goal.returns-in-MajorMinorPatch
 returns-in-MajorMinorPatch c = if_ok c.push-in-MajorMinorPatch.result
     (λ _ pushed s is e. pushed s is e ∙ ap (λ l. map comparator_of c.args.comparators.now.items ++ l)
-    (three_judge s c.args.simple.now is e (sym c.kind.ensures ∙ c.in-MajorMinorPatch.is)))
+    (three_judge s c.args.simple.now is e (cc)))
     c.push-in-MajorMinorPatch.ensures

@@ -12,7 +12,7 @@ use Rattle.tool_ranges.proofs.npm.asking.ask.Goals as goal
 use Rattle.tool_ranges.proofs.npm.asking.ask.Goals.{After-says}
 
 stand : (c : After-says) → list_all may_stand (chars c.args.range.now) ≡ true
-stand c = sym c.may_stand.ensures ∙ c.if-not-may_stand.false
+stand c = cc
 
 said : (c : After-says) → Says Npm (asked_of c.args.version.now) c.is_release-is_release.result c.args.range.now c.in-Ok.tally
 said c = rw c.as_bytes.ensures.value at c.in-Ok.ensures
@@ -26,12 +26,12 @@ returns-in-Ok-clause-meaning c = λ tree spelled.
     let v = asked_of c.args.version.now in
     let release = c.is_release-is_release.ensures in
     c.says.ensures
-    ∙ (λ i. if s.4 i then release i else s.3 i)
+    ∙ (cc)
     ∙ ap (λ counts. if list_any (range_every Npm) s.0 then is_empty v.pre else list_any (range_met Npm v counts) s.0) release
     ∙ npm_said v s.0
     ∙ ap (λ tree. meets_npm tree v) (read_one c.args.range.now s.0 tree s.1 spelled)
 
 pub returns-in-Err-clause-refusals : goal.returns-in-Err-clause-refusals
 returns-in-Err-clause-refusals c =
-    refused c.args.range.now (sym c.may_stand.ensures ∙ c.if-not-may_stand.false) c.in-Err.refusal
+    refused c.args.range.now (cc) c.in-Err.refusal
     (npm_refusal c.args.range.now c.in-Err.refusal (rw c.as_bytes.ensures.value at c.in-Err.ensures))

@@ -11,7 +11,7 @@ use Rattle.tool_ranges.proofs.npm.asking.ask_with_all.Goals as goal
 use Rattle.tool_ranges.proofs.npm.asking.ask_with_all.Goals.{In-Ok}
 
 stand : (c : In-Ok) → list_all may_stand (chars c.args.range.now) ≡ true
-stand c = sym c.may_stand.ensures ∙ c.if-not-may_stand.false
+stand c = cc
 
 says : (c : In-Ok) → Says NpmAll (asked_of c.args.version.now) true c.args.range.now c.in-Ok.tally
 says c = rw c.as_bytes.ensures.value at c.in-Ok.ensures
@@ -27,5 +27,5 @@ returns-in-Ok-clause-meaning c = λ tree spelled.
 
 pub returns-in-Err-clause-refusals : goal.returns-in-Err-clause-refusals
 returns-in-Err-clause-refusals c =
-    refused c.args.range.now (sym c.may_stand.ensures ∙ c.if-not-may_stand.false) c.in-Err.refusal
+    refused c.args.range.now (cc) c.in-Err.refusal
     (npm_refusal c.args.range.now c.in-Err.refusal (rw c.as_bytes.ensures.value at c.in-Err.ensures))

@@ -9,13 +9,14 @@ use Rattle.tool_ranges.specs.Steps.NpmReading.{has_no_other}
 use Rattle.tool_ranges.proofs.NpmSets.{where_none_is_asked, where_each_is_asked}
 use Rattle.tool_ranges.proofs.ReadRows.{if_ok}
 use Rattle.tool_ranges.proofs.npm.reading.meant.Goals as goal
+use Rattle.std.proofs.lemmas.Grind.{common_steps}
+use Rattle.std.proofs.Common.{arith}
 
 -- what was asked of the ranges of a set
 asked : (set : RangeSet) (ranges : List Range) (r b : Bool) → r ≡ list_any (λ range. has_no_other (range_of range)) ranges
     → ranges ≡ set.ranges.items → r ≡ b → list_any has_no_other (map range_of set.ranges.items) ≡ b
 asked set ranges r b is same answer =
-    list_any-mapped has_no_other _ range_of (λ range. refl) set.ranges.items
-    ∙ ap (list_any (λ (range : Range). has_no_other (range_of range))) (sym same) ∙ sym is ∙ answer
+    grind (arith, common_steps, list_any-mapped, has_no_other, range_of, list_any)
 
 pub returns-then-some_has_no_other : goal.returns-then-some_has_no_other
 returns-then-some_has_no_other c =

@@ -14,13 +14,13 @@ pub loop-range-preserved : goal.loop-range-preserved
 loop-range-preserved c =
     let i = c.loop-range.range-index in
     let ranges = c.loop-range.range-items in
-    let old : Range = slice_index_or ranges i c.range-item.result in
-    let test = λ (x : Comparator). not (is_from_zero (comparator_of x)) in
-    let kept : c.retain.new.self.items ≡ filter test old.comparator_set.items =
+    let old = slice_index_or ranges i c.range-item.result in
+    let test = λ (x : Comparator). not _ in
+    let kept =
     filter_same _ test _ (λ x b f' k. search rules) _ _ c.retain.ensures.filtered in
-    let within : i < length c.args.set.ranges.items = omega (arith, ap (length {A = Range}) c.deref_mut-range-items.ensures.value) in
+    let within : i < length c.args.set.ranges.items = omega arith in
     let here : i < length ranges = omega arith in
-    let others : map comparator_of c.retain.new.self.items ≡ (others_of (range_of old)).comparators =
+    let others =
     ap (map comparator_of) kept ∙ map-filter comparator_of is_from_zero old.comparator_set.items in
     others_written c.args.set.ranges.items ranges i c.range-item.result _ within here c.loop-range.invariant
-    (ap (λ (cs : List PlainComparator). let r : PlainRange = record { comparators = cs; compat = old.compat } in r) others)
+    (cc)

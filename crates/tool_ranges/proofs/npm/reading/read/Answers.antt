@@ -7,10 +7,10 @@ use Rattle.tool_ranges.proofs.NpmLaws.{set_of_text}
 use Rattle.tool_ranges.proofs.NpmSets.{meant}
 use Rattle.tool_ranges.proofs.ReadSets.{same_refusal}
 use Rattle.tool_ranges.proofs.npm.reading.read.Goals as goal
+use Rattle.std.proofs.Common.{rules}
 
 pub returns-in-Err-clause-refusals : goal.returns-in-Err-clause-refusals
-returns-in-Err-clause-refusals c = same_refusal RangeSet _ (IsTextAs reading.Npm c.args.range.now)
-    (IsTooLargeAs reading.Npm c.args.range.now) (HasSetAs reading.Npm c.args.range.now) c.in-Err.refusal c.in-Err.ensures.refusals
+returns-in-Err-clause-refusals c = search rules
 
 pub returns-in-Ok-meant-clause-refusals : goal.returns-in-Ok-meant-clause-refusals
 returns-in-Ok-meant-clause-refusals c = set_of_text c.args.range.now _ c.in-Ok.ensures.refusals.accepted
