@@ -12,7 +12,7 @@ use Rattle.semver_parser.specs.Texts.{Text}
 use Rattle.semver_parser.specs.Versions.{PlainVersion}
 use Rattle.release_filter.specs.Verdicts.{JudgedLine}
 use Rattle.release_filter.specs.Wanted.{HeldValue, Holds, HoldsBy, IsBest, IsFirstGreatest, KeptValue}
-use Rattle.release_filter.specs.Wanted.{kept_as, kept_of, order_of, text_of}
+use Rattle.release_filter.specs.Wanted.{kept_as, kept_of, order_of}
 use Rattle.release_filter.specs.declared.wanted.Wanted.{Wanted}
 use Rattle.release_filter.specs.declared.wanted.Wanted.TheVariants.{Each, Greatest, Least, Sorted}
 use Rattle.release_filter.proofs.ExtremeSteps.{all_append, all_map}
@@ -26,9 +26,6 @@ kept_append (x ∷ xs) ys = grind (arith, kept_of, kept_append xs ys)
 
 pub kept_one : (j : JudgedLine) → kept_of (j ∷ []) ≡ kept_as j.verdict j.line
 kept_one j = append-nil _
-
-text_append : (xs ys : List KeptValue) → text_of (xs ++ ys) ≡ text_of xs ++ text_of ys
-text_append xs ys = grind (arith, map-append, concat-append)
 
 -- ---- the greatest by an order
 
@@ -147,7 +144,7 @@ best_both total w h g k xs ys m n a is b so =
 
 holds_more_by : IsTotalOrder precedence → (w : Wanted) (h g k : HeldValue) (xs ys : List KeptValue) (a b : Text) → HoldsBy w h xs g a
     → HoldsBy w g ys k b → HoldsBy w h (xs ++ ys) k (a ++ b)
-holds_more_by total Each h g k xs ys a b p q = grind (arith, text_append)
+holds_more_by total Each h g k xs ys a b p q = grind (arith, common_steps, map-append, concat-append)
 holds_more_by total Sorted h g k xs ys a b p q = grind (arith, common_steps)
 holds_more_by total Greatest h g k xs ys a b (m, best, is, none) (n, best', so, none') =
     let both = best_both total Greatest h g k xs ys m n best is best' so in (n, both.0, both.1, both_none a b none none')

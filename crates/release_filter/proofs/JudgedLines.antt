@@ -27,14 +27,10 @@ abbrev pub OneOutlined : Type 0
 OneOutlined = (dialect : Dialect) (o : OutlineValue) (v : VersionValue) (text : Text) → IsOutlineIn dialect text o → SpellsIn dialect v text
     → v ≡ version_of o
 
-one_after : OneVersion → (dialect : Dialect) (prefix : Text) (line : Text) (v w : VersionValue) → SpellsAfter dialect prefix line v
-    → SpellsAfter dialect prefix line w → v ≡ w
-one_after same dialect prefix line v w a b = grind (arith, append_cancel_left)
-
 pub one_had : OneVersion → (dialect : Dialect) (prefixes : List Text) (line : Text) (v w : VersionValue)
     → HasVersion dialect prefixes line v → HasVersion dialect prefixes line w → v ≡ w
 one_had same dialect [] line v w a b = absurd a
-one_had same dialect (prefix ∷ prefixes) line v w (inl a) (inl b) = one_after same dialect prefix line v w a b
+one_had same dialect (prefix ∷ prefixes) line v w (inl a) (inl b) = grind (arith, common_steps, append_cancel_left)
 one_had same dialect (prefix ∷ prefixes) line v w (inl a) (inr (none, b)) = absurd (none v a)
 one_had same dialect (prefix ∷ prefixes) line v w (inr (none, a)) (inl b) = absurd (none w b)
 one_had same dialect (prefix ∷ prefixes) line v w (inr (none, a)) (inr (other, b)) = one_had same dialect prefixes line v w a b

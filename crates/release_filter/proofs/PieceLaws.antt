@@ -7,7 +7,7 @@ use Rattle.std.proofs.Common.{Result, Ok, Err, IfOk, IfErr}
 use Rattle.std.specs.Cmp.{IsTotalOrder}
 use Rattle.std.specs.List.{AllByRecursion, concat}
 use Rattle.std.specs.Io.BufRead.{take_through, drop_through}
-use Rattle.std.specs.Prelude.{IsTrue, ◌||◌, None}
+use Rattle.std.specs.Prelude.{IsTrue, None}
 use Rattle.std.proofs.BufReadLemmas.{through_part}
 use Rattle.std.proofs.Math.Seq.{take-add}
 use Rattle.std.proofs.lemmas.Bool.{cases_lt}
@@ -89,10 +89,6 @@ split_judged filter prefixes (x ∷ xs) ys (k ∷ ks) a =
       rest.4,
     )
 
-or_right : (a b : Bool) → (a || b) ≡ false → b ≡ false
-or_right true b e = cc
-or_right false b e = e
-
 has_front : (js zs : List JudgedLine) (x : JudgedLine) → x.verdict ≡ invalid → has_invalid ((js ++ x ∷ []) ++ zs) ≡ true
 has_front [] zs x is = cc
 has_front (j ∷ js) zs x is = grind (arith, common_steps)
@@ -107,7 +103,7 @@ in_front (j ∷ js) [] zs x y e is valid = absurd (some js (cc))
     some : (js : List JudgedLine) → ¬ ((js ++ x ∷ []) ++ zs ≡ [])
     some [] e = cc
     some _ e = cc
-in_front (j ∷ js) (k ∷ ks) zs x y e is valid = in_front js ks zs x y (cc) is (or_right (is_invalid k.verdict) (has_invalid ks) valid)
+in_front (j ∷ js) (k ∷ ks) zs x y e is valid = grind (arith, common_steps, is_invalid, has_invalid, in_front js ks zs x y (cc) is)
 
 -- ---- one outcome
 

@@ -8,7 +8,7 @@ use Rattle.std.proofs.Math.Seq.{drop-append_seam, take-append_seam}
 use Rattle.std.proofs.lemmas.List.Elements.{All-append, All-drop, All-head, All-tail, All-take}
 use Rattle.semver_parser.specs.Precedence.{precedence}
 use Rattle.semver_parser.specs.Texts.{Text, is_empty}
-use Rattle.release_filter.specs.Counting.{CountsValue, counted, counted_as}
+use Rattle.release_filter.specs.Counting.{counted, counted_as}
 use Rattle.release_filter.specs.LineTexts.{IsWholeLine, after_mark, lines_of, marked_off, without_mark}
 use Rattle.release_filter.specs.Pieces.{AreAlike, Completes, Finishes, LinesValue, Takes, TakesAll, begun}
 use Rattle.release_filter.specs.Skipping.{IsLeft, ShowsNone}
@@ -71,14 +71,9 @@ module _ (t : LinesValue) (front dropped : Text) (none : NoEnd front) (none_drop
     is_one end =
         rw (append_assoc front dropped end) (is_skipped t.filter t.prefixes t.at_front front none shows (dropped ++ end))
 
-    count_one : (end : Text) (c : CountsValue)
-        → counted_as invalid c (after_mark t.at_front (front ++ end)) ≡ counted_as invalid c
-        (after_mark t.at_front ((front ++ dropped) ++ end))
-    count_one end c = grind (arith, counted_alike, append_assoc)
-
     same_counts : (k : JudgedLine) (ks : List JudgedLine) (end : Text) → k.verdict ≡ invalid
         → k.line ≡ after_mark t.at_front (front ++ end) → counted t.counts (k ∷ ks) ≡ counted t.counts (line_as end ∷ ks)
-    same_counts k ks end is so = grind (arith, count_one)
+    same_counts k ks end is so = grind (arith, common_steps, counted_as, after_mark, counted_alike)
 
     -- it does not end in the piece
     took_on : (u : LinesValue) (q : Text) (ks : List JudgedLine) (old new : Text) (b : TakesAll cut_off q ks u old new) → b.lines ≡ []
