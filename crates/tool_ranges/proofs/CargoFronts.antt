@@ -7,11 +7,10 @@ use Rattle.std.specs.Str.Parse.{digits_value}
 use Rattle.std.proofs.lemmas.Bool.{and_parts, and_from, or_parts, or_right}
 use Rattle.semver_texts.specs.declared.dialect.Dialect.TheVariants.{Cargo}
 use Rattle.semver_texts.specs.Texts.{Text, has_no_leading_zero, is_empty, marked}
-use Rattle.semver_texts.proofs.Lists.{by_test}
 use Rattle.semver_ranges.specs.RangeTree.{Form, bare, equal, less, at_most, greater, at_least, tilde, caret, is_bare, AreBlanks}
 use Rattle.semver_ranges.specs.RangeTree.{PartialTree, one, two, three, Simple, SpellsPartial, components, is_wildcard}
 use Rattle.semver_ranges.specs.Partials.{stated, states_nothing}
-use Rattle.tool_ranges.specs.CargoGrammar.{SpellsComparator, SpellsComparators, SpellsRequirement, is_every}
+use Rattle.tool_ranges.specs.CargoGrammar.{SpellsComparator, SpellsComparators, SpellsRequirement}
 use Rattle.tool_ranges.specs.CargoGrammar.{is_of_cargo, is_one, is_partial_of_cargo, sign, stands_alone, wildcards_are_last}
 use Rattle.version_fronts.proofs.FrontPartials.{AreFrontOfParts, IsFrontOf, IsFrontOfComponent, IsFrontOfEnd}
 use Rattle.version_fronts.proofs.FrontPartials.{cut_at, partial_goes_on, rest_text}

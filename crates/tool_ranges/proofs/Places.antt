@@ -23,15 +23,11 @@ use Rattle.tool_ranges.proofs.RangeErrors.{HasError}
 use Rattle.tool_ranges.specs.declared.place.Wanted.{Wanted}
 use Rattle.tool_ranges.specs.declared.place.Wanted.TheVariants.{Any, Fitting}
 use Rattle.tool_ranges.specs.CargoGrammar.{SpellsRequirement}
-use Rattle.tool_ranges.specs.Readings.{HasSetAs, IsTextAs}
+use Rattle.tool_ranges.specs.Readings.{IsTextAs}
 use Rattle.tool_ranges.specs.Steps.Places.{BeginsBy, GoesOnBy, IsWanted, rests}
 use Rattle.std.proofs.lemmas.Grind.{common_steps}
 
 -- ---- whether a text is what is wanted
-
-pub wanted_fits : (wanted : Wanted) (reading : Reading) (t : Text) → HasSetAs reading t → IsWanted wanted reading t
-wanted_fits Any reading t (tree, spells, fits) = (tree, spells)
-wanted_fits Fitting reading t set = set
 
 pub wanted_refused : (wanted : Wanted) (reading : Reading) (t : Text) (e : RangeError) → HasError reading t e → IsWanted wanted reading t
     → (e ≡ NumberTooLarge) × (wanted ≡ Any)
@@ -148,9 +144,6 @@ module _ (wanted : Wanted) (reading : Reading) (t : Text) where
       (boundary : IsCharBoundary t middle) (front : Text) (is : front ≡ slice_range t 0 middle) where
     taken : front ≡ take middle t
     taken = search rules
-
-    pub good_moved : GoesOnBy wanted reading front → IsSearched middle bad
-    good_moved goes = search rules
 
     pub bad_moved : IsUtf8 t → ¬ (GoesOnBy wanted reading front) → IsSearched good middle
     bad_moved utf8 ends = record {

@@ -1,5 +1,5 @@
 -- The releases that meet what a requirement is rewritten to, and the pre-releases that count and are judged so, are what it means.
-use Rattle.std.proofs.Common.{◌≡◌, ℕ, ◌==◌, Bool, true, false, not, ◌&&◌, ◌||◌, List, [], ◌∷◌, length, map, refl, sym, ap, ◌∙◌}
+use Rattle.std.proofs.Common.{◌≡◌, ℕ, ◌==◌, Bool, true, false, not, ◌&&◌, ◌||◌, List, [], ◌∷◌, length, map, refl, sym, ap, ◌∙◌, rules}
 use Rattle.std.specs.Prelude.{Result, Err}
 use Rattle.std.proofs.Math.Bool.{and-false, or-false}
 use Rattle.std.specs.List.{list_any, flat_map}
@@ -19,7 +19,6 @@ use Rattle.tool_ranges.specs.declared.cargo.judging.JudgedVersions.TheVariants.{
 use Rattle.tool_ranges.specs.Steps.CargoPreReleases.{counting, counting_one, judging}
 use Rattle.tool_ranges.proofs.ReadMeanings.{requirement_meets}
 use Rattle.tool_ranges.proofs.PreReleaseMeanings.{judged, counted}
-use Rattle.std.proofs.Common.{rules}
 
 none_of : {X : Type 0} (xs : List X) → is_empty xs ≡ true → xs ≡ []
 none_of [] e = refl

@@ -1,5 +1,5 @@
 -- A means of proof, which no public clause cites: which versions npm's comparators mean.
-use Rattle.std.specs.Prelude.{Bool, true, false, not, ◌&&◌, if◌then◌else◌, map}
+use Rattle.std.specs.Prelude.{Bool, not, ◌&&◌, if◌then◌else◌, map}
 use Rattle.std.specs.List.{filter, list_all, list_any}
 use Rattle.semver_texts.specs.Texts.{is_empty}
 use Rattle.semver_texts.specs.Versions.{PlainVersion}

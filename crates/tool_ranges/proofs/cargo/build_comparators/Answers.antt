@@ -65,7 +65,7 @@ pub returns-in_default-read_comparator : goal.returns-in_default-read_comparator
 returns-in_default-read_comparator c = λ t tree is.
     let so_far = c.loop.invariant t tree is in
     absurd (none_left c.in-Some.rest.now so_far.2 c.in_default-read_comparator.ensures
-    (rw (c.in-Some.is) at so_far.4))
+    (rw c.in-Some.is at so_far.4))
 
 pub loop-preserved : goal.loop-preserved
 loop-preserved c = λ t tree is.

@@ -1,4 +1,4 @@
-use Rattle.std.proofs.Common.{◌≡◌, ap, sym, ◌∙◌, subst, List, []}
+use Rattle.std.proofs.Common.{◌≡◌, ap, sym, ◌∙◌, subst, List, [], arith}
 use Rattle.std.specs.Prelude.{IfOk, IsTrue, Result, Ok, Err}
 use Rattle.semver_texts.specs.Texts.{Text}
 use Rattle.semver_texts.specs.Versions.{PlainVersion}
@@ -21,7 +21,6 @@ use Rattle.tool_ranges.proofs.RequirementLaws.{refused, answered, same_comparato
 use Rattle.tool_ranges.proofs.RequirementPrinted.{requirement_printable, reads_back}
 use Rattle.tool_ranges.proofs.cargo.rewrite.Goals as goal
 use Rattle.std.proofs.lemmas.Grind.{common_steps}
-use Rattle.std.proofs.Common.{arith}
 
 refuses : (t : Text) (r : Result RangeSet RangeError) → IsRewritten t r → RefusesAs reading.Cargo t r
 refuses t (Ok set) (tree, h, fit, same) = answered t set tree h fit

@@ -1,7 +1,6 @@
-use Rattle.std.proofs.Common.{sym, ap, ◌∙◌}
+use Rattle.std.proofs.Common.{sym, ap, ◌∙◌, rules}
 use Rattle.tool_ranges.specs.Steps.CargoReading.{in_one_range}
 use Rattle.tool_ranges.proofs.cargo.rewritten_one.Goals as goal
-use Rattle.std.proofs.Common.{rules}
 
 pub fits-requires : goal.fits-requires
 fits-requires c = (c.cell_of-cell.ensures c.requires.0 c.requires.1).0

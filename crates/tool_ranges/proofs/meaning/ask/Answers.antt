@@ -1,10 +1,9 @@
-use Rattle.std.proofs.Common.{◌≡◌, true, ◌&&◌, refl, sym, ap, ◌∙◌, subst}
+use Rattle.std.proofs.Common.{◌&&◌, refl, sym, ap, ◌∙◌, subst}
 use Rattle.semver_texts.specs.Texts.{is_empty}
 use Rattle.semver_texts.specs.Versions.{without_build}
 use Rattle.std.specs.List.{list_any}
 use Rattle.semver_ranges.specs.OwnMeaning.{meets_tree}
 use Rattle.semver_ranges.specs.StatedPreReleases.{meets_tree_as_stated}
-use Rattle.version_sets.specs.PreReleaseRules.{numbers_fit}
 use Rattle.version_sets.specs.declared.rules.PreReleases.TheVariants.{Excluded, Stated, Included}
 use Rattle.tool_ranges.specs.AllPreReleases.{meets_npm_with_all, meets_requirement_with_all}
 use Rattle.tool_ranges.specs.CargoMeaning.{meets_requirement}

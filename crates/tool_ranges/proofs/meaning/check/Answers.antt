@@ -1,10 +1,7 @@
-use Rattle.std.proofs.Common.{Bool}
+use Rattle.std.proofs.Common.{rules}
 use Rattle.tool_ranges.specs.Meanings.{reading_of}
-use Rattle.tool_ranges.specs.Readings.{HasSetAs, IsTextAs, IsTooLargeAs}
-use Rattle.tool_ranges.proofs.ReadSets.{same_refusal}
 use Rattle.tool_ranges.proofs.ReadingLaws.{answered_too}
 use Rattle.tool_ranges.proofs.meaning.check.Goals as goal
-use Rattle.std.proofs.Common.{rules}
 
 pub returns-in-Ok-clause-refusals : goal.returns-in-Ok-clause-refusals
 returns-in-Ok-clause-refusals c =
@@ -13,5 +10,4 @@ returns-in-Ok-clause-refusals c =
     c.in-Ok.ensures.refusals
 
 pub returns-in-Err-clause-refusals : goal.returns-in-Err-clause-refusals
-returns-in-Err-clause-refusals c =
-    search rules
+returns-in-Err-clause-refusals c = search rules

@@ -1,4 +1,4 @@
-use Rattle.std.proofs.Common.{◌≡◌, [], ap, sym, ◌∙◌, map, subst}
+use Rattle.std.proofs.Common.{◌≡◌, [], ap, sym, ◌∙◌, subst, rules}
 use Rattle.std.specs.Prelude.{IfOk, IsTrue, Result, Ok, Err}
 use Rattle.semver_texts.specs.Texts.{Text}
 use Rattle.semver_texts.specs.Versions.{PlainVersion}
@@ -11,7 +11,6 @@ use Rattle.semver_ranges.specs.PrintedRanges.{IsPrintableSet, set_text}
 use Rattle.semver_ranges.specs.RangeTree.{SetTree, Spells}
 use Rattle.semver_ranges.specs.RangeViews.{set_of}
 use Rattle.semver_ranges.specs.RewritingTable.{fits, rewritten}
-use Rattle.semver_ranges.proofs.EventLists.{range_made}
 use Rattle.tool_ranges.specs.NpmGrammar.{SpellsNpm}
 use Rattle.tool_ranges.specs.NpmMeaning.{meets_npm}
 use Rattle.tool_ranges.specs.NpmTable.{rewritten_npm}
@@ -21,9 +20,7 @@ use Rattle.tool_ranges.specs.Steps.LowerBounds.{set_begun}
 use Rattle.tool_ranges.proofs.NpmLaws.{npm_read, npm_printable}
 use Rattle.tool_ranges.proofs.NpmMeanings.{npm_meets}
 use Rattle.tool_ranges.proofs.RequirementPrinted.{reads_back}
-use Rattle.tool_ranges.proofs.ToolRows.{npm_table}
 use Rattle.tool_ranges.proofs.npm.rewrite.Goals as goal
-use Rattle.std.proofs.Common.{rules}
 
 -- with bounds as they are stated, a set is of the table
 stated_set : (tree : SetTree) → set_begun Stated tree ≡ rewritten_npm tree

@@ -1,4 +1,4 @@
-use Rattle.std.proofs.Common.{refl, sym, ◌∙◌, subst}
+use Rattle.std.proofs.Common.{refl}
 use Rattle.semver_texts.specs.declared.dialect.Dialect.TheVariants as dialect
 use Rattle.semver_ranges.specs.declared.range.Compat.TheVariants.{Npm}
 use Rattle.semver_ranges.proofs.EventSums.{answered_by}

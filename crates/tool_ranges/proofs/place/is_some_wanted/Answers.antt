@@ -1,4 +1,4 @@
-use Rattle.std.proofs.Common.{◌≡◌, ◌++◌, ◌∙◌, ℕ, Bor, List, [], map, get_or, arith, below_more, refl, subst, sym}
+use Rattle.std.proofs.Common.{◌++◌, ◌∙◌, ℕ, Bor, List, [], map, arith, below_more, refl, subst, sym}
 use Rattle.std.proofs.lemmas.List.{get_or-map, get_or_default, length-map}
 use Rattle.tool_ranges.specs.Steps.Places.{IsWanted}
 use Rattle.tool_ranges.proofs.place.is_some_wanted.Goals as goal

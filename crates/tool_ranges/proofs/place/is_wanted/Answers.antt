@@ -1,16 +1,13 @@
-use Rattle.std.proofs.Common.{refl, subst, sym}
-use Rattle.tool_ranges.specs.Steps.Places.{IsWanted}
-use Rattle.tool_ranges.proofs.Places.{wanted_fits, wanted_refused}
+use Rattle.std.proofs.Common.{rules}
+use Rattle.tool_ranges.proofs.Places.{wanted_refused}
 use Rattle.tool_ranges.proofs.RangeErrors.{has_error}
 use Rattle.tool_ranges.proofs.place.is_wanted.Goals as goal
-use Rattle.std.proofs.Common.{rules}
 
 pub returns-in-Ok : goal.returns-in-Ok
 returns-in-Ok c = search rules
 
 pub returns-in-Any : goal.returns-in-Any
-returns-in-Any c =
-    search rules
+returns-in-Any c = search rules
 
 pub returns-in_default : goal.returns-in_default
 returns-in_default c =
@@ -18,8 +15,7 @@ returns-in_default c =
     (λ h. cc, λ h. absurd (c.in_default.not-Any (wanted_refused c.args.wanted c.args.reading c.args.text.now k.field-0 (has_error c.args.reading c.args.text.now c.check.result c.check.ensures.refusals c.check.ensures.no_memory k.field-0 k.is) h).1))
 
 pub returns-in-Err-NotARange : goal.returns-in-Err-NotARange
-returns-in-Err-NotARange c =
-    search rules
+returns-in-Err-NotARange c = search rules
 
 pub returns-in-Err-OutOfMemory : goal.returns-in-Err-OutOfMemory
 returns-in-Err-OutOfMemory c = search rules

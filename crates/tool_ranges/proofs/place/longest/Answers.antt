@@ -1,5 +1,5 @@
 use Rattle.std.proofs.Common.{◌<◌, arith}
-use Rattle.tool_ranges.proofs.Places.{whole_place, first_searched, good_moved, bad_moved, found_place}
+use Rattle.tool_ranges.proofs.Places.{whole_place, first_searched, bad_moved, found_place}
 use Rattle.tool_ranges.proofs.place.longest.Goals as goal
 use Rattle.std.proofs.lemmas.Grind.{common_steps}
 
@@ -21,8 +21,7 @@ returns-then-middle-good c = record {
 }
 
 pub loop-good-preserved-then-branch-2 : goal.loop-good-preserved-then-branch-2
-loop-good-preserved-then-branch-2 c =
-    grind (arith, common_steps)
+loop-good-preserved-then-branch-2 c = grind (arith, common_steps)
 
 pub loop-good-preserved : goal.loop-good-preserved
 loop-good-preserved c =

@@ -1,4 +1,3 @@
-use Rattle.std.proofs.lemmas.Result.{IfOk-weaker}
 use Rattle.tool_ranges.proofs.reading.rewrite.Goals as goal
 use Rattle.std.proofs.Common.{rules}
 

@@ -1,12 +1,10 @@
-use Rattle.std.proofs.Common.{IfErr, Ok, Err, refl}
+use Rattle.std.proofs.Common.{IfErr, Ok, Err, rules}
 use Rattle.std.specs.Prelude.{Result}
 use Rattle.tool_ranges.proofs.RangeErrors.{HasError, has_error}
 use Rattle.tool_ranges.proofs.refusals.refused.Goals as goal
-use Rattle.std.proofs.Common.{rules}
 
 pub returns-in_default-clause-range : goal.returns-in_default-clause-range
-returns-in_default-clause-range c =
-    search rules
+returns-in_default-clause-range c = search rules
 
 pub returns-in_err-place-clause-out_of_memory : goal.returns-in_err-place-clause-out_of_memory
 returns-in_err-place-clause-out_of_memory c = any_err c.from_residual.result

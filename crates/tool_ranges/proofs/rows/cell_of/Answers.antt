@@ -1,7 +1,6 @@
-use Rattle.std.proofs.Common.{sym, ◌∙◌}
-use Rattle.tool_ranges.proofs.ReadRows.{above_cell, below_cell, shared_cell}
-use Rattle.tool_ranges.proofs.rows.cell_of.Goals as goal
 use Rattle.std.proofs.Common.{rules}
+use Rattle.tool_ranges.proofs.ReadRows.{above_cell, shared_cell}
+use Rattle.tool_ranges.proofs.rows.cell_of.Goals as goal
 
 pub returns-in-Some : goal.returns-in-Some
 returns-in-Some c = λ s is. above_cell c.args.compat s c.args.simple.now is c.in-Some.place c.in-Some.ensures.0 c.in-Some.ensures.1

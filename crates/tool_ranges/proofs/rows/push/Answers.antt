@@ -1,6 +1,6 @@
 use Rattle.std.proofs.Common.{◌≡◌, ◌∙◌, ◌++◌, map}
 use Rattle.semver_ranges.specs.RangeViews.{comparator_of}
-use Rattle.tool_ranges.specs.Steps.LowerBounds.{begins_lowest, begun, lower_of, lower_where}
+use Rattle.tool_ranges.specs.Steps.LowerBounds.{begun, lower_of}
 use Rattle.tool_ranges.proofs.ReadRows.{fit_numbers, if_ok}
 use Rattle.tool_ranges.proofs.rows.push.Goals as goal
 

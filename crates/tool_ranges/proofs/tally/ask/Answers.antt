@@ -1,11 +1,10 @@
-use Rattle.std.proofs.Common.{Some, None, refl, subst, sym, ap, ◌∙◌}
+use Rattle.std.proofs.Common.{Some, None, refl, subst, sym, ap, ◌∙◌, rules}
 use Rattle.semver_ranges.specs.Steps.CursorViews.{NextGives}
 use Rattle.semver_ranges.proofs.FoundEvents.{FirstSimple, first_simple}
 use Rattle.tool_ranges.specs.Steps.Asking.{asked_of, dialect_of}
 use Rattle.tool_ranges.proofs.AskedEvents.{large, says, term_more, told}
 use Rattle.tool_ranges.proofs.tally.ask.Goals as goal
 use Rattle.tool_ranges.proofs.tally.ask.Goals.{In-Simple}
-use Rattle.std.proofs.Common.{rules}
 
 -- the simple that comes first
 first : (c : In-Simple) → FirstSimple (dialect_of c.args.terms) c.loop-event.invariant.0 c.in-Simple.simple c.next_in.new.self

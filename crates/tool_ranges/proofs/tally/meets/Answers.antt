@@ -1,13 +1,10 @@
-use Rattle.semver_ranges.specs.declared.range.Compat.TheVariants as mode
-use Rattle.semver_ranges.specs.OwnMeaning.{meets_stated}
 use Rattle.tool_ranges.specs.AllPreReleases.{meets_counted}
 use Rattle.tool_ranges.specs.NpmMeaning.{meets_by_count}
 use Rattle.tool_ranges.specs.Steps.Asking.{asked_of}
-use Rattle.tool_ranges.proofs.AskedTerms.{nothing_read, said, term_stated}
+use Rattle.tool_ranges.proofs.AskedTerms.{nothing_read, term_stated}
 use Rattle.tool_ranges.proofs.tally.meets.Goals as goal
 use Rattle.std.proofs.lemmas.Grind.{common_steps}
-use Rattle.std.proofs.Common.{arith}
-use Rattle.std.proofs.Common.{rules}
+use Rattle.std.proofs.Common.{rules, arith}
 
 pub meets_crate-requires : goal.meets_crate-requires
 meets_crate-requires c = nothing_read c.requires.0 c.args.simple.now c.requires.1

@@ -1,23 +1,21 @@
-use Rattle.std.proofs.Common.{Some, ap, sym, ◌∙◌, not, ◌∷◌, ◌++◌, [], arith}
+use Rattle.std.proofs.Common.{Some, ap, sym, ◌∙◌, not, ◌∷◌, ◌++◌, [], arith, rules}
 use Rattle.semver_ranges.specs.declared.range.Compat.TheVariants.{Cargo}
 use Rattle.semver_ranges.proofs.StatedNumbers.{states_kind}
 use Rattle.tool_ranges.specs.CargoMeaning.{as_read}
 use Rattle.tool_ranges.specs.Steps.Asking.{asked_of}
 use Rattle.tool_ranges.specs.Steps.CargoReading.{behind_comma}
-use Rattle.tool_ranges.proofs.AskedRequirements.{asked_end, asked_next, asked_start}
+use Rattle.tool_ranges.proofs.AskedRequirements.{asked_end, asked_next}
 use Rattle.tool_ranges.proofs.AskedTerms.{stated_at}
 use Rattle.tool_ranges.proofs.ToolRows.{numbers_fit}
-use Rattle.tool_ranges.proofs.RequirementSteps.{at_most, at_none}
+use Rattle.tool_ranges.proofs.RequirementSteps.{at_none}
 use Rattle.tool_ranges.proofs.cargo.asking.ask_comparators.Goals as goal
 use Rattle.std.proofs.lemmas.Grind.{common_steps}
-use Rattle.std.proofs.Common.{rules}
 
 pub loop-at-init : goal.loop-at-init
 loop-at-init c = search rules
 
 pub returns-in_default : goal.returns-in_default
-returns-in_default c =
-    grind (arith, common_steps, at_none)
+returns-in_default c = grind (arith, common_steps, at_none)
 
 pub fits-fit-requires : goal.fits-fit-requires
 fits-fit-requires c = let found = c.in-Some.ensures in (c.cell_of.ensures (as_read found.0) found.2).0
@@ -56,5 +54,4 @@ returns-in-loop-at c =
     (found.1 ∙ ap (λ b. Some (s, behind_comma b)) c.in_default-behind.is) c.loop-at-test.true c.ended.result c.ended.ensures
 
 pub returns : goal.returns
-returns c =
-    grind (arith, common_steps)
+returns c = grind (arith, common_steps)

@@ -1,13 +1,9 @@
-use Rattle.semver_ranges.specs.declared.range.Compat.TheVariants.{Cargo}
 use Rattle.tool_ranges.specs.AllPreReleases.{meets_counted}
-use Rattle.tool_ranges.specs.CargoMeaning.{meets_by_count}
 use Rattle.tool_ranges.specs.Steps.Asking.{asked_of}
-use Rattle.tool_ranges.proofs.AskedTerms.{said}
 use Rattle.tool_ranges.proofs.ToolRows.{numbers_fit}
 use Rattle.tool_ranges.proofs.cargo.asking.meets.Goals as goal
 use Rattle.std.proofs.lemmas.Grind.{common_steps}
-use Rattle.std.proofs.Common.{arith}
-use Rattle.std.proofs.Common.{rules}
+use Rattle.std.proofs.Common.{rules, arith}
 
 pub returns-then-takes_all : goal.returns-then-takes_all
 returns-then-takes_all c = grind (arith, common_steps, numbers_fit, meets_counted, asked_of)

@@ -1,4 +1,4 @@
-use Rattle.std.proofs.Common.{◌≡◌, ◌==◌, false, get_or, length, ◌∙◌, ap, sym, refl, arith}
+use Rattle.std.proofs.Common.{◌∙◌, ap, sym, refl, arith}
 use Rattle.std.proofs.lemmas.Bool.Decides.{nat_tests}
 use Rattle.semver_ranges.specs.RangeTree.{Simple}
 use Rattle.semver_ranges.specs.Steps.CursorViews.{form_of}
@@ -18,8 +18,7 @@ returns-then-not-is_read c =
 pub returns-in-empty : goal.returns-in-empty
 returns-in-empty c =
     let found = c.in_ok-written.ensures in
-    let s : Simple = record { form = form_of c.read_operator-form.result.0; partial = found.0 } in
-    (
+    let s : Simple = record { form = form_of c.read_operator-form.result.0; partial = found.0 } in (
       s,
       pieces_found c.args.text.now c.behind_blanks-text.result.now c.read_operator-form.result.1.now c.in_ok-written.rest.now s.form found.0
           c.behind_blanks-text.ensures (sym c.if-begins_with_tilde_greater.false ∙ c.begins_with_tilde_greater.ensures)
@@ -35,8 +34,7 @@ returns-in-empty c =
 pub returns-in-44 : goal.returns-in-44
 returns-in-44 c =
     let found = c.in_ok-written.ensures in
-    let s : Simple = record { form = form_of c.read_operator-form.result.0; partial = found.0 } in
-    (
+    let s : Simple = record { form = form_of c.read_operator-form.result.0; partial = found.0 } in (
       s,
       pieces_found c.args.text.now c.behind_blanks-text.result.now c.read_operator-form.result.1.now c.in_ok-written.rest.now s.form found.0
           c.behind_blanks-text.ensures (sym c.if-begins_with_tilde_greater.false ∙ c.begins_with_tilde_greater.ensures)

@@ -1,4 +1,4 @@
-use Rattle.std.proofs.Common.{◌∙◌, ap, sym, ◌++◌, map}
+use Rattle.std.proofs.Common.{◌∙◌, ap, ◌++◌, map}
 use Rattle.std.proofs.lemmas.List.{map-append}
 use Rattle.semver_ranges.specs.RangeViews.{comparator_of}
 use Rattle.tool_ranges.proofs.ReadRows.{if_ok}

@@ -1,4 +1,4 @@
-use Rattle.std.proofs.Common.{◌≡◌, [], List, Bool, refl, sym, ap, ◌∙◌, map}
+use Rattle.std.proofs.Common.{◌≡◌, [], List, Bool, ap, ◌∙◌, map, arith}
 use Rattle.std.specs.List.{list_any}
 use Rattle.semver_ranges.specs.declared.range.Range.{Range}
 use Rattle.semver_ranges.specs.declared.range_set.RangeSet.{RangeSet}
@@ -10,13 +10,11 @@ use Rattle.tool_ranges.proofs.NpmSets.{where_none_is_asked, where_each_is_asked}
 use Rattle.tool_ranges.proofs.ReadRows.{if_ok}
 use Rattle.tool_ranges.proofs.npm.reading.meant.Goals as goal
 use Rattle.std.proofs.lemmas.Grind.{common_steps}
-use Rattle.std.proofs.Common.{arith}
 
 -- what was asked of the ranges of a set
 asked : (set : RangeSet) (ranges : List Range) (r b : Bool) → r ≡ list_any (λ range. has_no_other (range_of range)) ranges
     → ranges ≡ set.ranges.items → r ≡ b → list_any has_no_other (map range_of set.ranges.items) ≡ b
-asked set ranges r b is same answer =
-    grind (arith, common_steps, list_any-mapped, has_no_other, range_of, list_any)
+asked set ranges r b is same answer = grind (arith, common_steps, list_any-mapped, has_no_other, range_of, list_any)
 
 pub returns-then-some_has_no_other : goal.returns-then-some_has_no_other
 returns-then-some_has_no_other c =

@@ -1,12 +1,9 @@
-use Rattle.std.proofs.Common.{rules, ◌≡◌, ◌<◌, List, length, map, ap, ◌∙◌, arith}
+use Rattle.std.proofs.Common.{rules, ◌<◌, length, map, ap, ◌∙◌, arith}
 use Rattle.std.specs.Prelude.{not, slice_index_or}
-use Rattle.std.specs.List.{filter}
 use Rattle.std.proofs.lemmas.Fn.{filter_same}
 use Rattle.semver_ranges.specs.declared.range.Comparator.{Comparator}
-use Rattle.semver_ranges.specs.declared.range.Range.{Range}
-use Rattle.semver_ranges.specs.RewritingTable.{PlainComparator, PlainRange}
-use Rattle.semver_ranges.specs.RangeViews.{comparator_of, range_of}
-use Rattle.tool_ranges.specs.Steps.NpmReading.{is_from_zero, others_of}
+use Rattle.semver_ranges.specs.RangeViews.{comparator_of}
+use Rattle.tool_ranges.specs.Steps.NpmReading.{is_from_zero}
 use Rattle.tool_ranges.proofs.NpmSets.{map-filter, others_written}
 use Rattle.tool_ranges.proofs.npm.reading.others_in.Goals as goal
 

@@ -1,13 +1,8 @@
-use Rattle.std.proofs.Common.{ap, ◌∙◌}
-use Rattle.semver_ranges.specs.declared.range_set.RangeSet.{RangeSet}
-use Rattle.tool_ranges.specs.Readings.{HasSetAs, IsTextAs, IsTooLargeAs}
-use Rattle.tool_ranges.specs.declared.reading.Reading.TheVariants as reading
+use Rattle.std.proofs.Common.{ap, ◌∙◌, rules}
 use Rattle.tool_ranges.specs.Steps.NpmReading.{is_meant}
 use Rattle.tool_ranges.proofs.NpmLaws.{set_of_text}
 use Rattle.tool_ranges.proofs.NpmSets.{meant}
-use Rattle.tool_ranges.proofs.ReadSets.{same_refusal}
 use Rattle.tool_ranges.proofs.npm.reading.read.Goals as goal
-use Rattle.std.proofs.Common.{rules}
 
 pub returns-in-Err-clause-refusals : goal.returns-in-Err-clause-refusals
 returns-in-Err-clause-refusals c = search rules
