@@ -1,6 +1,6 @@
 -- What the options of the dialect and of pre-releases mean.
-use Rattle.std.specs.Prelude.{Bool, false, if◌then◌else◌, codes}
-use Rattle.std.specs.Prelude.{Option, Some, None, Result, Ok, Err}
+use Rattle.std.specs.Prelude.{◌≡◌, ◌⊎◌, ◌++◌, ⊤, Bool, true, false, if◌then◌else◌, codes}
+use Rattle.std.specs.Prelude.{Option, Some, None, Result, Ok, Err, MatchResult, string_bytes}
 use Rattle.semver_parser.specs.Texts.{Text}
 use Rattle.semver_parser.specs.declared.Compat.TheVariants as compat
 use Rattle.version_sets.specs.declared.PreReleases.{PreReleases}
@@ -11,11 +11,13 @@ use Rattle.tool_ranges.specs.declared.meaning.Meaning.{Meaning}
 use Rattle.tool_ranges.specs.declared.meaning.Meaning.TheVariants as meaning
 use Rattle.command_line.specs.declared.error.ArgumentError.{ArgumentError}
 use Rattle.command_line.specs.declared.error.ArgumentError.TheVariants.{NoDialect, NoRuleOfTool}
+use Rattle.command_line.specs.declared.error.ArgumentError.TheVariants.{GivenTwice, Contradiction}
+use Rattle.command_line.specs.declared.error.ArgumentError.TheVariants.{UnknownDialect, Unreadable}
 
--- the options that were taken: the dialect, the rule for pre-releases, and whether the next
--- argument names the dialect
+-- the options that were taken: the dialect and the option that asked for it, the rule for
+-- pre-releases, and whether the next argument names the dialect
 pub record OptionsValue : Type 0 where
-  pub reading : Option Reading
+  pub reading : Option (Reading × Text)
   pub rule : Option PreReleases
   pub wants_name : Bool
 
@@ -29,6 +31,10 @@ name_of reading.Npm = codes "npm"
 name_of (reading.Crate compat.Cargo) = codes "crate-cargo"
 name_of (reading.Crate compat.Npm) = codes "crate-npm"
 
+-- the option that asks for a dialect by its name
+abbrev pub as_option_of : Reading → Text
+as_option_of dialect = codes "--as " ++ name_of dialect
+
 -- the option of a rule
 abbrev pub option_of : PreReleases → Text
 option_of Excluded = codes "--releases"
@@ -36,9 +42,9 @@ option_of Stated = codes "--pre-stated"
 option_of Included = codes "--pre"
 
 -- without an option it is Cargo's dialect
-abbrev pub reading_or_cargo : Option Reading → Reading
+abbrev pub reading_or_cargo : Option (Reading × Text) → Reading
 reading_or_cargo None = reading.Cargo
-reading_or_cargo (Some r) = r
+reading_or_cargo (Some r) = r.0
 
 -- by the crate's modes only releases count without an option; by a tool's dialect what the tool
 -- takes, and it has no rule `Stated`
@@ -56,3 +62,46 @@ meant_by reading.Npm (Some Included) = Ok meaning.NpmAll
 
 abbrev pub meant : OptionsValue → Result Meaning ArgumentError
 meant o = if o.wants_name then Err NoDialect else meant_by (reading_or_cargo o.reading) o.rule
+
+-- the name that an argument gives: the argument after `--as`, or what follows `--as=` in it
+abbrev pub Names : OptionsValue → Text → Text → Type 0
+Names o argument name = ((o.wants_name ≡ true) × (argument ≡ name))
+    ⊎ ((o.wants_name ≡ false) × (argument ≡ codes "--as=" ++ name))
+
+-- some dialect has the name
+abbrev pub IsDialectName : Text → Type 0
+IsDialectName name = (dialect : Reading) × (name ≡ name_of dialect)
+
+-- the dialect that an argument asks for, and the option that does so
+abbrev pub AsksFor : OptionsValue → Text → Reading → Text → Type 0
+AsksFor o argument dialect option =
+    (Names o argument (name_of dialect) × (option ≡ as_option_of dialect))
+    ⊎ ((o.wants_name ≡ false) × (argument ≡ codes "--npm") × (dialect ≡ reading.Npm)
+    × (option ≡ codes "--npm"))
+
+-- the argument is one of these options
+abbrev pub IsOption : Text → Type 0
+IsOption argument = (argument ≡ codes "--as") ⊎ (argument ≡ codes "--npm")
+    ⊎ ((name : Text) × (argument ≡ codes "--as=" ++ name))
+    ⊎ ((rule : PreReleases) × (argument ≡ option_of rule))
+
+-- the error tells that the option is given twice
+abbrev pub TellsTwice : Text → ArgumentError → Type 0
+TellsTwice option (GivenTwice told) = told.now ≡ option
+TellsTwice option _ = ⊥
+
+-- the error tells that the option contradicts the earlier one
+abbrev pub TellsContradiction : Text → Text → ArgumentError → Type 0
+TellsContradiction option earlier (Contradiction told other) =
+    (told.now ≡ option) × (other.now ≡ earlier)
+TellsContradiction option earlier _ = ⊥
+
+-- the error tells that no dialect has the name, or that memory ran out
+abbrev pub TellsUnknown : Text → ArgumentError → Type 0
+TellsUnknown name (UnknownDialect told) = string_bytes told ≡ name
+TellsUnknown name Unreadable = ⊤
+TellsUnknown name _ = ⊥
+
+-- there is an error, and it is such a one
+abbrev pub Fails : {A : Type 0} → (ArgumentError → Type 0) → Result A ArgumentError → Type 0
+Fails Is result = MatchResult result (λ _. ⊥) Is

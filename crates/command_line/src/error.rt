@@ -42,6 +42,11 @@ pub enum ArgumentError {
 }
 
 impl From<AllocError> for ArgumentError {
+    ghost use Rattle.std.specs.Prelude.{◌≡◌};
+    ghost use Rattle.command_line.specs.declared.error.ArgumentError.TheVariants.{Unreadable};
+
+    ghost from_gives = { λ _ e. e ≡ Unreadable };
+
     fn from(_error: AllocError) -> ArgumentError {
         ArgumentError::Unreadable
     }

@@ -1,10 +1,13 @@
 //! The options `--as`, `--npm`, `--releases`, `--pre` and `--pre-stated`.
 
-ghost use Rattle.std.specs.Prelude.{◌≡◌, ◌++◌, codes, Ok, None, Some, true, false};
+ghost use Rattle.std.specs.Prelude.{◌≡◌, ◌≢◌, ◌++◌, codes, Ok, None, Some, true, false};
 ghost use Rattle.std.specs.Prelude.{IfErr, IfOk};
+ghost use Rattle.semver_parser.specs.Texts.{Text};
 ghost use Rattle.version_sets.specs.declared.PreReleases.{PreReleases};
 ghost use Rattle.tool_ranges.specs.declared.reading.Reading.{Reading};
-ghost use Rattle.command_line.specs.Options.{meant, name_of, no_options, option_of};
+ghost use Rattle.command_line.specs.Options.{AsksFor, Fails, IsDialectName, IsOption, Names};
+ghost use Rattle.command_line.specs.Options.{TellsContradiction, TellsTwice, TellsUnknown};
+ghost use Rattle.command_line.specs.Options.{as_option_of, meant, name_of, no_options, option_of};
 
 use crate::error::ArgumentError;
 use semver_parser::Compat;
@@ -32,7 +35,7 @@ impl Model for MeaningOptions {
     ghost Value = { OptionsValue };
 
     ghost view = { λ o. record {
-      reading = option_map (λ asked. asked.0) o.reading;
+      reading = option_map (λ asked. (asked.0, asked.1.now)) o.reading;
       rule = o.rule;
       wants_name = o.wants_name;
     } };
@@ -56,23 +59,58 @@ impl MeaningOptions {
     ///
     /// # Errors
     ///
-    /// `UnknownDialect` of a name that no dialect has; `GivenTwice` and `Contradiction` if an
-    /// earlier option says the same or otherwise; `Unreadable` in place of `UnknownDialect` only.
+    /// `UnknownDialect` of a name that no dialect has, and `Unreadable` in its place only.
+    /// `GivenTwice` and `Contradiction` if an earlier option says the same or otherwise. After an
+    /// error the options are those before it, and no name is wanted.
     pub fn take(&mut self, alloc: Global, argument: &str) -> Result<bool, ArgumentError>
         // A dialect that is named is that one, if none was asked for before.
         ensures dialect { (dialect : Reading) → argument.now ≡ codes "--as=" ++ name_of dialect
-            → self.old.wants_name ≡ false → self.old.reading ≡ None
-            → (result ≡ Ok true) × (self.new ≡ record self.old { reading = Some dialect }) }
+            → self.old.wants_name ≡ false → self.old.reading ≡ None → (result ≡ Ok true)
+            × (self.new ≡ record self.old { reading = Some (dialect, as_option_of dialect) }) }
         // So it is with the name after `--as`.
         ensures name { (dialect : Reading) → argument.now ≡ name_of dialect
-            → self.old.wants_name ≡ true → self.old.reading ≡ None → (result ≡ Ok true)
-            × (self.new ≡ record self.old { reading = Some dialect; wants_name = false }) }
+            → self.old.wants_name ≡ true → self.old.reading ≡ None
+            → (result ≡ Ok true) × (self.new ≡ record self.old {
+              reading = Some (dialect, as_option_of dialect);
+              wants_name = false;
+            }) }
+        // After `--as` a name is wanted.
+        ensures as_name { argument.now ≡ codes "--as" → self.old.wants_name ≡ false
+            → (result ≡ Ok true) × (self.new ≡ record self.old { wants_name = true }) }
+        // `--npm` asks for npm's dialect, if none was asked for before.
+        ensures npm { argument.now ≡ codes "--npm" → self.old.wants_name ≡ false
+            → self.old.reading ≡ None → (result ≡ Ok true)
+            × (self.new ≡ record self.old { reading = Some (Reading.Npm, codes "--npm") }) }
         // A rule for pre-releases that is asked for is that one, if none was before.
         ensures rule { (rule : PreReleases) → argument.now ≡ option_of rule
             → self.old.wants_name ≡ false → self.old.rule ≡ None
             → (result ≡ Ok true) × (self.new ≡ record self.old { rule = Some rule }) }
-        // Other arguments change nothing.
+        // Other arguments are left to the program.
+        ensures left { self.old.wants_name ≡ false → ¬ (IsOption argument.now) → result ≡ Ok false }
+        // What is left to it changes nothing.
         ensures other { result ≡ Ok false → self.new ≡ self.old }
+        // A name that no dialect has is refused.
+        ensures unknown { (name : Text) → Names self.old argument.now name
+            → ¬ (IsDialectName name) → Fails (TellsUnknown name) result }
+        // A dialect that was asked for before is given twice.
+        ensures dialect_twice { (dialect : Reading) (option earlier : Text)
+            → AsksFor self.old argument.now dialect option
+            → self.old.reading ≡ Some (dialect, earlier) → Fails (TellsTwice option) result }
+        // Another than that one contradicts it.
+        ensures two_dialects { (dialect other : Reading) (option earlier : Text)
+            → AsksFor self.old argument.now dialect option
+            → self.old.reading ≡ Some (other, earlier) → dialect ≢ other
+            → Fails (TellsContradiction option earlier) result }
+        // A rule that was asked for before is given twice.
+        ensures rule_twice { (rule : PreReleases) → argument.now ≡ option_of rule
+            → self.old.wants_name ≡ false → self.old.rule ≡ Some rule
+            → Fails (TellsTwice (option_of rule)) result }
+        // Another than that one contradicts it.
+        ensures two_rules { (rule earlier : PreReleases) → argument.now ≡ option_of rule
+            → self.old.wants_name ≡ false → self.old.rule ≡ Some earlier → rule ≢ earlier
+            → Fails (TellsContradiction (option_of rule) (option_of earlier)) result }
+        // After an error no name is wanted, and what was asked for is as it was.
+        ensures error { IfErr result (λ _. self.new ≡ record self.old { wants_name = false }) }
     {
         if self.wants_name {
             self.wants_name = false;
@@ -126,7 +164,17 @@ impl MeaningOptions {
         ensures known { (dialect : Reading) → name.now ≡ name_of dialect
             → self.old.reading ≡ None → IfErr result (λ _. ⊥) }
         ensures asked { (dialect : Reading) → name.now ≡ name_of dialect
-            → IfOk result (λ _. self.new ≡ record self.old { reading = Some dialect }) }
+            → IfOk result (λ _. self.new
+            ≡ record self.old { reading = Some (dialect, as_option_of dialect) }) }
+        ensures unknown { ¬ (IsDialectName name.now) → Fails (TellsUnknown name.now) result }
+        ensures twice { (dialect : Reading) (earlier : Text) → name.now ≡ name_of dialect
+            → self.old.reading ≡ Some (dialect, earlier)
+            → Fails (TellsTwice (as_option_of dialect)) result }
+        ensures contradiction { (dialect other : Reading) (earlier : Text)
+            → name.now ≡ name_of dialect → self.old.reading ≡ Some (other, earlier)
+            → dialect ≢ other
+            → Fails (TellsContradiction (as_option_of dialect) earlier) result }
+        ensures error { IfErr result (λ _. self.new ≡ self.old) }
     {
         match name {
             "cargo" => self.ask(Reading::Cargo, "--as cargo"),
@@ -140,7 +188,14 @@ impl MeaningOptions {
     /// Takes the dialect that an option asks for.
     fn ask(&mut self, reading: Reading, option: &'static str) -> Result<(), ArgumentError>
         ensures first { self.old.reading ≡ None → IfErr result (λ _. ⊥) }
-        ensures asked { IfOk result (λ _. self.new ≡ record self.old { reading = Some reading }) }
+        ensures asked { IfOk result (λ _. self.new
+            ≡ record self.old { reading = Some (reading, option.now) }) }
+        ensures twice { (earlier : Text) → self.old.reading ≡ Some (reading, earlier)
+            → Fails (TellsTwice option.now) result }
+        ensures contradiction { (other : Reading) (earlier : Text)
+            → self.old.reading ≡ Some (other, earlier) → reading ≢ other
+            → Fails (TellsContradiction option.now earlier) result }
+        ensures error { IfErr result (λ _. self.new ≡ self.old) }
     {
         let earlier = self.reading;
         match earlier {
@@ -157,6 +212,11 @@ impl MeaningOptions {
     fn count(&mut self, rule: PreReleases) -> Result<(), ArgumentError>
         ensures first { self.old.rule ≡ None → IfErr result (λ _. ⊥) }
         ensures asked { IfOk result (λ _. self.new ≡ record self.old { rule = Some rule }) }
+        ensures twice { self.old.rule ≡ Some rule → Fails (TellsTwice (option_of rule)) result }
+        ensures contradiction { (earlier : PreReleases) → self.old.rule ≡ Some earlier
+            → rule ≢ earlier
+            → Fails (TellsContradiction (option_of rule) (option_of earlier)) result }
+        ensures error { IfErr result (λ _. self.new ≡ self.old) }
     {
         let option = option_of(rule);
         let earlier = self.rule;
@@ -172,7 +232,9 @@ impl MeaningOptions {
 }
 
 /// The option that asks for a rule for pre-releases.
-fn option_of(rule: PreReleases) -> &'static str {
+fn option_of(rule: PreReleases) -> &'static str
+    ensures { result.now ≡ option_of rule }
+{
     match rule {
         PreReleases::Excluded => "--releases",
         PreReleases::Stated => "--pre-stated",
