@@ -1,6 +1,8 @@
 -- Where and why a text gives no range, by numbers.
-use Rattle.std.specs.Prelude.{ℤ, ◌≡◌, ◌↔◌, ◌⊎◌, IsUtf8, List, [], ◌∷◌}
+use Rattle.std.specs.Prelude.{ℤ, ◌≡◌, ◌↔◌, ◌⊎◌, IsUtf8, List, [], ◌∷◌, Option, Some, None}
 use Rattle.semver_parser.specs.Texts.{Text}
+use Rattle.tool_ranges.specs.declared.hints.Hint.{Hint}
+use Rattle.tool_ranges.specs.declared.hints.Hint.TheVariants as hint
 use Rattle.tool_ranges.specs.declared.reading.Reading.{Reading}
 use Rattle.tool_ranges.specs.Readings.{HasSetAs, IsTextAs, IsTooLargeAs}
 use Rattle.semver_parser_c.specs.Numbers as number
@@ -32,3 +34,20 @@ hint_numbers = number.no_hint ∷ number.hint_leading_zero ∷ number.hint_three
     ∷ number.hint_cargo_hyphen ∷ number.hint_npm_length ∷ number.hint_npm_comma
     ∷ number.hint_crate_comma ∷ number.hint_crate_v ∷ number.hint_limit
     ∷ number.hint_npm_limit ∷ []
+
+-- the number of a hint, or that of none
+abbrev pub hint_number : Option Hint → ℤ
+hint_number None = number.no_hint
+hint_number (Some hint.LeadingZero) = number.hint_leading_zero
+hint_number (Some hint.ThreeNumbers) = number.hint_three_numbers
+hint_number (Some hint.CargoCommas) = number.hint_commas
+hint_number (Some hint.CargoWildcard) = number.hint_wildcard
+hint_number (Some hint.CargoBars) = number.hint_cargo_bars
+hint_number (Some hint.CargoV) = number.hint_cargo_v
+hint_number (Some hint.CargoHyphen) = number.hint_cargo_hyphen
+hint_number (Some hint.NpmLength) = number.hint_npm_length
+hint_number (Some hint.NpmComma) = number.hint_npm_comma
+hint_number (Some hint.CrateComma) = number.hint_crate_comma
+hint_number (Some hint.CrateV) = number.hint_crate_v
+hint_number (Some hint.Limit) = number.hint_limit
+hint_number (Some hint.NpmLimit) = number.hint_npm_limit

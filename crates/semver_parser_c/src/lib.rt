@@ -37,6 +37,7 @@ ghost use Rattle.semver_parser.specs.PrintedRanges.{set_text};
 ghost use Rattle.tool_ranges.specs.declared.reading.Reading.{Reading};
 ghost use Rattle.tool_ranges.specs.declared.meaning.Meaning.{Meaning};
 ghost use Rattle.tool_ranges.specs.Fronts.{BeginsAs, BeginsFitting, IsPlace};
+ghost use Rattle.tool_ranges.specs.Hints.{limit_of};
 ghost use Rattle.tool_ranges.specs.Readings.{SpellsAs, TreeOf, dialect_of, fits_as};
 ghost use Rattle.tool_ranges.specs.Meanings.{MeansAs, meant_as, reading_of};
 ghost use Rattle.semver_parser_c.specs.Numbers as number;
@@ -53,7 +54,8 @@ ghost use Rattle.semver_parser_c.specs.Comparators.{HasPreReleases, comparators_
 ghost use Rattle.semver_parser_c.specs.Comparators.{pre_releases, listed_comparators};
 ghost use Rattle.semver_parser_c.specs.Printing.{Puts, PutsBoth};
 ghost use Rattle.semver_parser_c.specs.Refusals.{reason_number, reason_numbers};
-ghost use Rattle.semver_parser_c.specs.RangeRefusals.{ExplainsRange, IsExplained, hint_numbers};
+ghost use Rattle.semver_parser_c.specs.RangeRefusals.{ExplainsRange, IsExplained, hint_number};
+ghost use Rattle.semver_parser_c.specs.RangeRefusals.{hint_numbers};
 ghost use Rattle.semver_parser_c.specs.Meetings.{IsAnswer};
 ghost use Rattle.semver_parser_c.specs.Sets.{IsMeant, text_of};
 ghost use Rattle.semver_parser_c.specs.Compared.{Compares, TellsWhich, joined_texts, places_of};
@@ -253,7 +255,9 @@ pub extern "C" fn semver_parser_proved_explain_version(
 /// number of its error. After `NOT_A_RANGE` `place` is the byte offset of the first character that
 /// no range has there, or the length of the text if something is missing at its end, and `hint` the
 /// number of what may have been meant, or 0. After `NUMBER_TOO_LARGE` `place` is that of the first
-/// character after which no range has numbers that fit, and `hint` the number of the limit.
+/// character after which no range has numbers that fit, or the length of the text if only what
+/// follows could make it fit, as of `<=18446744073709551615` by `CRATE_NPM`, and `hint` the number
+/// of the limit.
 ///
 /// `1 || 2` by `CARGO` gives `NOT_A_RANGE`, 2 and `HINT_CARGO_BARS`.
 ///
@@ -277,6 +281,9 @@ pub extern "C" fn semver_parser_proved_explain_range(
     ensures limit { (r : Reading) → reading ≡ reading_number r → result ≡ number.number_too_large
         → IsPlace (BeginsFitting r) text.now place.new }
     ensures hint { IsExplained result → IsOneOf hint_numbers hint.new }
+    // The hint of a number that is too large is the limit of the reading.
+    ensures limit_hint { (r : Reading) → reading ≡ reading_number r
+        → result ≡ number.number_too_large → hint.new ≡ hint_number (Some (limit_of r)) }
     ensures unchanged { (IsExplained result → ⊥)
         → (place.new ≡ place.old) × (hint.new ≡ hint.old) }
 {

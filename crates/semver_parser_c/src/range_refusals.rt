@@ -1,10 +1,12 @@
 //! Where and why a text gives no range, by the numbers that C has for errors and hints.
 
-ghost use Rattle.std.specs.Prelude.{◌≡◌, ◌∷◌, IfSome, MatchOption};
+ghost use Rattle.std.specs.Prelude.{◌≡◌, ◌∷◌, IfSome, MatchOption, Some};
 ghost use Rattle.tool_ranges.specs.Fronts.{BeginsAs, BeginsFitting, IsPlace};
+ghost use Rattle.tool_ranges.specs.Hints.{limit_of};
 ghost use Rattle.semver_parser_c.specs.Numbers as number;
 ghost use Rattle.semver_parser_c.specs.Faults.{IsOneOf, range_faults};
-ghost use Rattle.semver_parser_c.specs.RangeRefusals.{ExplainsBy, IsExplained, hint_numbers};
+ghost use Rattle.semver_parser_c.specs.RangeRefusals.{ExplainsBy, IsExplained, hint_number};
+ghost use Rattle.semver_parser_c.specs.RangeRefusals.{hint_numbers};
 
 use crate::numbers;
 use semver_parser::RangeError;
@@ -24,6 +26,8 @@ pub fn explained(alloc: Global, reading: Reading, text: &[u8]) -> (i32, Option<(
         (λ told. IsPlace (BeginsAs reading) text.now told.0) }
     ensures limit { result.0 ≡ number.number_too_large → IfSome result.1
         (λ told. IsPlace (BeginsFitting reading) text.now told.0) }
+    ensures limit_hint { result.0 ≡ number.number_too_large → IfSome result.1
+        (λ told. told.1 ≡ hint_number (Some (limit_of reading))) }
 {
     let Ok(text) = std::str::from_utf8(text) else {
         return (numbers::RANGE_NOT_UTF8, None);
@@ -45,6 +49,7 @@ pub fn explained(alloc: Global, reading: Reading, text: &[u8]) -> (i32, Option<(
 /// The number of a hint.
 fn number_of(hint: Option<Hint>) -> i32
     ensures numbers { IsOneOf hint_numbers result }
+    ensures number { result ≡ hint_number hint }
 {
     match hint {
         None => numbers::NO_HINT,

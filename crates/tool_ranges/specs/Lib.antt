@@ -9,4 +9,5 @@ pub mod AllPreReleases
 pub mod Steps
 pub mod Readings
 pub mod Fronts
+pub mod Hints
 pub mod Meanings

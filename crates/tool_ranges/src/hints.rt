@@ -1,5 +1,8 @@
 //! Hints for who takes one tool's ranges for another's.
 
+ghost use Rattle.std.specs.Prelude.{◌≡◌};
+ghost use Rattle.tool_ranges.specs.Hints.{limit_of};
+
 use crate::ending::Ending;
 use crate::reading::Reading;
 
@@ -74,7 +77,9 @@ fn of_cargo(front: &[u8], ending: Ending, next: u8) -> Option<Hint> {
 }
 
 /// Which limit a number of a range is above.
-pub(crate) fn limit(reading: Reading) -> Hint {
+pub(crate) fn limit(reading: Reading) -> Hint
+    ensures { result ≡ limit_of reading }
+{
     match reading {
         Reading::Npm => Hint::NpmLimit,
         Reading::Cargo | Reading::Crate(_) => Hint::Limit,

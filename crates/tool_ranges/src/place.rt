@@ -53,8 +53,10 @@ pub fn error_place(alloc: Global, reading: Reading, text: &str) -> Result<usize,
     longest(alloc, Wanted::Any, reading, text)
 }
 
-/// The place of the first byte of a text with a number that is too large after which no text of the
-/// dialect has numbers that fit: 20 in `=18446744073709551616`.
+/// The place of the first character of a text with a number that is too large after which no text
+/// of the dialect has numbers that fit: 20 in `=18446744073709551616`. It is the length of the text
+/// if only what follows could make it fit: 22 in `<=18446744073709551615` by the crate's in npm's
+/// mode, since `<=18446744073709551615.0` fits.
 ///
 /// It takes time in n log n for n bytes, and allocates one buffer of n + 5 bytes. `Err` is out of
 /// memory.

@@ -1,10 +1,11 @@
 //! Where a text stops being a range, and why.
 
-ghost use Rattle.std.specs.Prelude.{◌≡◌, ◌≢◌, ◌↔◌, IfErr, IfOk, IfSome, None};
+ghost use Rattle.std.specs.Prelude.{◌≡◌, ◌≢◌, ◌↔◌, IfErr, IfOk, IfSome, None, Some};
 ghost use Rattle.semver_ranges.specs.declared.range_set.RangeError.TheVariants.{NotARange};
 ghost use Rattle.semver_ranges.specs.declared.range_set.RangeError.TheVariants.{NumberTooLarge};
 ghost use Rattle.semver_ranges.specs.declared.range_set.RangeError.TheVariants.{OutOfMemory};
 ghost use Rattle.tool_ranges.specs.Fronts.{BeginsAs, BeginsFitting, IsPlace};
+ghost use Rattle.tool_ranges.specs.Hints.{limit_of};
 ghost use Rattle.tool_ranges.specs.Readings.{HasSetAs, IsTextAs, IsTooLargeAs};
 
 use crate::hints::{self, Hint};
@@ -19,10 +20,12 @@ pub struct Refusal {
     /// `NotARange` or `NumberTooLarge`.
     pub error: RangeError,
     /// The byte offset of the first character that no range of the dialect has there, or the length
-    /// of the text if something is missing at its end. Of a number that is too large it is the
-    /// first after which no range has numbers that fit.
+    /// of the text if something is missing at its end. Of a number that is too large it is that of
+    /// the first character after which no range has numbers that fit, or the length of the text if
+    /// only what follows could make it fit, as of `<=18446744073709551615` by the crate's in npm's
+    /// mode.
     pub place: usize,
-    /// What may have been meant, or which limit there is.
+    /// What may have been meant, or of a number that is too large the limit of the dialect.
     pub hint: Option<Hint>,
 }
 
@@ -49,6 +52,9 @@ pub fn refused(alloc: Global, reading: Reading, text: &str) -> Result<Option<Ref
     // Some text that gives a range begins with it, and none with a longer front.
     ensures limit { IfOk result (λ found. IfSome found (λ refusal. refusal.error ≡ NumberTooLarge
         → IsPlace (BeginsFitting reading) text.now refusal.place)) }
+    // The hint of a number that is too large is the limit of the dialect.
+    ensures limit_hint { IfOk result (λ found. IfSome found (λ refusal.
+        refusal.error ≡ NumberTooLarge → refusal.hint ≡ Some (limit_of reading))) }
     // Memory runs out only in place of an error.
     ensures out_of_memory { IfErr result (λ _. ¬ (HasSetAs reading text.now)) }
 {
@@ -70,6 +76,8 @@ fn explained(
         → IsPlace (BeginsAs reading) text.now told.0) }
     ensures limit { IfOk result (λ told. error.now ≡ NumberTooLarge
         → IsPlace (BeginsFitting reading) text.now told.0) }
+    ensures limit_hint { IfOk result (λ told. error.now ≡ NumberTooLarge
+        → told.1 ≡ Some (limit_of reading)) }
 {
     match error {
         RangeError::NumberTooLarge => {
