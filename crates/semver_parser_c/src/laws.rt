@@ -11,14 +11,15 @@ ghost use Rattle.semver_parser_c.specs.OneAnswer.{AreOne, text_errors};
 use crate::{
     ComparedRanges, ReadVersion, RewrittenComparator, semver_parser_proved_combine,
     semver_parser_proved_comparators, semver_parser_proved_compare,
-    semver_parser_proved_compare_sets, semver_parser_proved_explain_version,
-    semver_parser_proved_least, semver_parser_proved_meets, semver_parser_proved_meets_each,
-    semver_parser_proved_parse_version, semver_parser_proved_precedence,
-    semver_parser_proved_print_set, semver_parser_proved_rewrite, semver_parser_proved_set,
-    semver_parser_proved_set_has, semver_parser_proved_set_least,
+    semver_parser_proved_compare_sets, semver_parser_proved_explain_range,
+    semver_parser_proved_explain_version, semver_parser_proved_least, semver_parser_proved_meets,
+    semver_parser_proved_meets_each, semver_parser_proved_parse_version,
+    semver_parser_proved_precedence, semver_parser_proved_print_set, semver_parser_proved_rewrite,
+    semver_parser_proved_set, semver_parser_proved_set_has, semver_parser_proved_set_least,
 };
 use semver_parser::laws::one_version_in;
 use std::alloc::Global;
+use tool_ranges::laws::{one_limit_place, one_place};
 use version_fronts::laws::{one_longest_front, one_reason};
 use version_sets::FlatSwitch;
 use version_sets::laws::{one_flat, one_set as one_normal_set};
@@ -55,6 +56,33 @@ pub fn one_explanation(
     let first = semver_parser_proved_explain_version(text, reading, place);
     let second = semver_parser_proved_explain_version(text, reading, other_place);
     (first, second)
+}
+
+/// A text gives a range, or gives none at one place and for one error, in place of which memory may
+/// run out.
+pub fn one_range_explanation(
+    alloc: Global,
+    text: &[u8],
+    reading: i32,
+    place: &mut usize,
+    other_place: &mut usize,
+    hint: &mut i32,
+    other_hint: &mut i32,
+) -> (i32, i32)
+    requires place { place.old ≡ other_place.old }
+    requires hint { hint.old ≡ other_hint.old }
+    ensures one { AreOne (number.not_a_range ∷ number.number_too_large
+        ∷ number.range_out_of_memory ∷ []) result.0 result.1 ⊤ }
+    ensures place { result.0 ≡ result.1 → place.new ≡ other_place.new }
+    // The hint of a text that is no range is free.
+    ensures hint { result.0 ≡ result.1 → result.0 ≢ number.not_a_range
+        → hint.new ≡ other_hint.new }
+{
+    one_place();
+    one_limit_place();
+    let number = semver_parser_proved_explain_range(alloc, text, reading, place, hint);
+    let other = semver_parser_proved_explain_range(alloc, text, reading, other_place, other_hint);
+    (number, other)
 }
 
 /// A text is rewritten to one printed set, or has one error.

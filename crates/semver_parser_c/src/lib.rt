@@ -250,7 +250,7 @@ pub extern "C" fn semver_parser_proved_explain_version(
     }
 }
 
-// Answer: free, the hint: ../replayed_cases/stdin.
+// Answer: free, the hint (else law laws::one_range_explanation): ../replayed_cases/stdin.
 /// Where and why a text gives no range by the reading of a number: `OK` if it gives one, else the
 /// number of its error. After `NOT_A_RANGE` `place` is the byte offset of the first character that
 /// no range has there, or the length of the text if something is missing at its end, and `hint` the
