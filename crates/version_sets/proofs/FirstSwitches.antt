@@ -1,22 +1,22 @@
 -- The first switch of a kind is in the set, and none of its kind that is in the set is below it.
-use Rattle.std.proofs.Common.{arith, ◌≡◌, ◌≢◌, ◌↔◌, ◌⊎◌, Bool, true, false, ◌&&◌, cond, List, [], ◌∷◌, refl, inl, inr, Ordering, is_lt}
+use Rattle.std.proofs.Common.{arith, ◌≡◌, ◌≢◌, ◌↔◌, Bool, true, false, ◌&&◌, cond, List, [], ◌∷◌, refl, Ordering, is_lt}
 use Rattle.std.proofs.Common.{sym, ap, ◌∙◌, subst, true≢false, Less, Option, Some, None, map, Bor}
 use Rattle.std.specs.Option.{option_copied}
 use Rattle.std.specs.Prelude.{MatchOption, IfSome, slice_get, option_map}
 use Rattle.semver_parser.specs.VersionViews.{version_value}
 use Rattle.semver_parser.specs.declared.version.Version.{Version}
-use Rattle.version_sets.specs.Comparisons.{TellsLeast}
-use Rattle.version_sets.specs.Steps.Combined.{keeps, combined_sets, IsKept}
+use Rattle.version_sets.specs.Comparisons.{TellsLeast, IsLeastOf, LeastIsPreRelease, IsInFirstAlone, IsInBoth}
+use Rattle.version_sets.specs.Steps.Combined.{combined_sets, IsKept}
 use Rattle.version_sets.specs.Steps.Lower.{lower}
 use Rattle.version_sets.specs.declared.combination.Combination.{Combination}
-use Rattle.version_sets.specs.declared.combination.Combination.TheVariants.{Union, Intersection, Difference}
+use Rattle.version_sets.specs.declared.combination.Combination.TheVariants.{Difference, Intersection}
 use Rattle.semver_parser.specs.Texts.{is_empty}
 use Rattle.semver_parser.specs.Versions.{PlainVersion, VersionValue, without_build}
 use Rattle.semver_parser.specs.Precedence.{precedence}
 use Rattle.version_sets.specs.Switches.{switched}
 use Rattle.version_sets.specs.VersionSets.{SetValue, has, Fits, IsIn, IsRelease, IsPreRelease, AreSwitches, IsNormal, IsLeast, HasNone}
 use Rattle.semver_parser.specs.PrecedenceLaws.{precedence_total}
-use Rattle.version_sets.proofs.SetLaws.{has-release, has-pre_release, has-combined}
+use Rattle.version_sets.proofs.SetLaws.{has-release, has-pre_release, has-combined, combined-normal}
 use Rattle.version_sets.proofs.SwitchLaws.{switched-first, switched-below, by_order, turned_below}
 use Rattle.version_sets.proofs.WalkLaws.{by_test}
 
@@ -142,23 +142,52 @@ is_told set (Some w) told (Some v) e =
     }
 
 module _ (how : Combination) (a b : SetValue) (s : IsNormal a) (t : IsNormal b) where
+  -- the least of a combination is the least of what is kept
+  pub kept_least_of : (v : VersionValue) → v.build ≡ [] → IsLeast Fits (combined_sets how a b) v.plain → IsLeastOf (IsKept how a b) v
+  kept_least_of v no_build l = record {
+    is_one = (l.is_in.0, sym (has-combined how a b s t v.plain) ∙ l.is_in.1);
+    no_build = no_build;
+    lowest = λ w kept. l.lowest w kept.0 (kept.0, has-combined how a b s t w ∙ kept.1);
+  }
+
   -- what is told of a combination
   pub kept_least : (least : Option Version) → IsTold (combined_sets how a b) least → TellsLeast (IsKept how a b) least
   kept_least None told = λ v kept. told.none.0 refl v kept.0 (kept.0, has-combined how a b s t v ∙ kept.1)
-  kept_least (Some version) told =
-      let v = (version_value version).plain in record {
-        is_one = (told.is_least.is_in.0, sym (has-combined how a b s t v) ∙ told.is_least.is_in.1);
-        no_build = told.no_build;
-        lowest = λ w kept. told.is_least.lowest w kept.0 (kept.0, has-combined how a b s t w ∙ kept.1);
-      }
+  kept_least (Some version) told = kept_least_of (version_value version) told.no_build told.is_least
 
-  -- it is in one set or the other
-  pub kept_in : (v : PlainVersion) → IsLeast Fits (combined_sets how a b) v → IsIn v a ⊎ IsIn v b
-  kept_in v l = at how (has a v) (has b v) refl refl (sym (has-combined how a b s t v) ∙ l.is_in.1)
+  -- a first pre-release that is the least of both kinds is the least of what is kept
+  pub kept_pre_release : (p : PlainVersion) → slice_get (combined_sets how a b).pre_releases 0 ≡ Some p
+      → IsLeast Fits (combined_sets how a b) p
+      → LeastIsPreRelease (IsKept how a b)
+  kept_pre_release p is l =
+      let v : VersionValue = record { plain = p; build = [] } in
+      (v, pre_release_is (combined_sets how a b) (combined-normal how a b s t) p is, kept_least_of v refl l)
+
+-- what a difference keeps is in the first set alone, and what an intersection keeps is in both
+module _ (a b : SetValue) where
+  kept_alone : (v : PlainVersion) → IsKept Difference a b v → IsInFirstAlone a b v
+  kept_alone v (fits, k) = grind arith
+
+  alone_kept : (v : PlainVersion) → IsInFirstAlone a b v → IsKept Difference a b v
+  alone_kept v ((fits, e), n) = at (has b v) refl
     where
-      at : (how : Combination) (x y : Bool) → has a v ≡ x → has b v ≡ y → keeps how x y ≡ true → IsIn v a ⊎ IsIn v b
-      at how true y e f k = inl (l.is_in.0, e)
-      at Union false true e f k = inr (l.is_in.0, f)
-      at Union false false e f k = absurd (true≢false (sym k))
-      at Intersection false y e f k = absurd (true≢false (sym k))
-      at Difference false y e f k = absurd (true≢false (sym k))
+      at : (y : Bool) → has b v ≡ y → IsKept Difference a b v
+      at true y = absurd (n (fits, y))
+      at false y = (fits, grind arith)
+
+  kept_both : (v : PlainVersion) → IsKept Intersection a b v → IsInBoth a b v
+  kept_both v (fits, k) = ((fits, grind arith), (fits, grind arith))
+
+  both_kept : (v : PlainVersion) → IsInBoth a b v → IsKept Intersection a b v
+  both_kept v ((fits, e), (_, f)) = (fits, grind arith)
+
+  -- so the least of one is the least of the other
+  the_same : (P Q : PlainVersion → Type 0) → ((v : PlainVersion) → P v → Q v) → ((v : PlainVersion) → Q v → P v)
+      → LeastIsPreRelease P → LeastIsPreRelease Q
+  the_same P Q f g (v, p, l) = (v, p, record { is_one = f v.plain l.is_one; no_build = l.no_build; lowest = λ w q. l.lowest w (g w q) })
+
+  pub alone_pre_release : LeastIsPreRelease (IsKept Difference a b) → LeastIsPreRelease (IsInFirstAlone a b)
+  alone_pre_release = the_same _ _ kept_alone alone_kept
+
+  pub shared_pre_release : LeastIsPreRelease (IsKept Intersection a b) → LeastIsPreRelease (IsInBoth a b)
+  shared_pre_release = the_same _ _ kept_both both_kept

@@ -5,7 +5,7 @@ use Rattle.semver_parser.specs.Versions.{PlainVersion, VersionValue}
 use Rattle.semver_parser.specs.Precedence.{precedence}
 use Rattle.semver_parser.specs.VersionViews.{version_value}
 use Rattle.semver_parser.specs.declared.version.Version.{Version}
-use Rattle.version_sets.specs.VersionSets.{SetValue, IsIn}
+use Rattle.version_sets.specs.VersionSets.{SetValue, IsIn, IsPreRelease}
 
 -- it is one of those asked for, has no build, and none of them is below it by precedence
 pub record IsLeastOf (IsOne : PlainVersion → Type 0) (v : VersionValue) : Type 0 where
@@ -17,6 +17,10 @@ pub record IsLeastOf (IsOne : PlainVersion → Type 0) (v : VersionValue) : Type
 abbrev pub TellsLeast : (PlainVersion → Type 0) → Option Version → Type 0
 TellsLeast IsOne None = (v : PlainVersion) → ¬ IsOne v
 TellsLeast IsOne (Some version) = IsLeastOf IsOne (version_value version)
+
+-- the least of those asked for is a pre-release
+abbrev pub LeastIsPreRelease : (PlainVersion → Type 0) → Type 0
+LeastIsPreRelease IsOne = (v : VersionValue) × IsPreRelease v.plain × IsLeastOf IsOne v
 
 -- in the first set and not in the second
 abbrev pub IsInFirstAlone : SetValue → SetValue → PlainVersion → Type 0

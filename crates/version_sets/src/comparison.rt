@@ -1,9 +1,8 @@
 //! What a set loses, gains and keeps where a new one takes its place.
 
 ghost use Rattle.std.specs.Prelude.{◌⊎◌, IfOk, IfErr};
-ghost use Rattle.semver_parser.specs.Versions.{PlainVersion};
-ghost use Rattle.version_sets.specs.VersionSets.{IsIn};
-ghost use Rattle.version_sets.specs.Comparisons.{TellsLeast, IsInFirstAlone, IsInBoth};
+ghost use Rattle.version_sets.specs.Comparisons.{TellsLeast, LeastIsPreRelease};
+ghost use Rattle.version_sets.specs.Comparisons.{IsInFirstAlone, IsInBoth};
 ghost use Rattle.version_sets.specs.Steps.Combined.{IsKept};
 
 use crate::combination::Combination;
@@ -42,9 +41,11 @@ impl VersionSet {
             TellsLeast (IsInFirstAlone new.now self.now) answer.gained) }
         ensures shared { IfOk result (λ answer.
             TellsLeast (IsInBoth self.now new.now) answer.shared) }
-        // Memory runs out only where one of the sets has a version.
-        ensures out_of_memory { IfErr result (λ _. (v : PlainVersion)
-            × (IsIn v self.now ⊎ IsIn v new.now)) }
+        // Memory runs out only where the least that is lost, gained or shared is a pre-release.
+        ensures out_of_memory { IfErr result (λ _.
+            LeastIsPreRelease (IsInFirstAlone self.now new.now)
+            ⊎ LeastIsPreRelease (IsInFirstAlone new.now self.now)
+            ⊎ LeastIsPreRelease (IsInBoth self.now new.now)) }
     {
         Ok(Comparison {
             lost: self.least_combined(alloc, Combination::Difference, new)?,
@@ -61,8 +62,8 @@ impl VersionSet {
         other: &VersionSet,
     ) -> Result<Option<Version>, AllocError>
         ensures least { IfOk result (TellsLeast (IsKept how self.now other.now)) }
-        ensures out_of_memory { IfErr result (λ _. (v : PlainVersion)
-            × (IsIn v self.now ⊎ IsIn v other.now)) }
+        ensures out_of_memory { IfErr result (λ _.
+            LeastIsPreRelease (IsKept how self.now other.now)) }
     {
         let release = how.first(&self.releases, &other.releases);
         let pre_release = how.first(&self.pre_releases, &other.pre_releases);

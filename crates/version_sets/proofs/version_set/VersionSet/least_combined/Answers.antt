@@ -1,13 +1,13 @@
-use Rattle.std.proofs.Common.{◌⊎◌, ap₂, sym, subst, ◌∙◌, Option, List, map}
+use Rattle.std.proofs.Common.{◌≡◌, ap₂, sym, subst, ◌∙◌, Option, map}
 use Rattle.std.specs.Prelude.{option_map, slice_get}
 use Rattle.semver_parser.specs.Versions.{PlainVersion}
-use Rattle.version_sets.specs.Comparisons.{TellsLeast}
+use Rattle.version_sets.specs.Comparisons.{TellsLeast, LeastIsPreRelease}
 use Rattle.version_sets.specs.Releases.{release_value}
-use Rattle.version_sets.specs.VersionSets.{SetValue, Fits, IsIn}
+use Rattle.version_sets.specs.VersionSets.{SetValue, Fits}
 use Rattle.version_sets.specs.Steps.Combined.{combined, combined_sets, pieces, IsKept}
 use Rattle.version_sets.specs.Steps.Lower.{lower}
 use Rattle.version_sets.specs.Steps.Places.{version_place, set_of}
-use Rattle.version_sets.proofs.FirstSwitches.{TellsPlain, first_is, is_told, kept_least, kept_in}
+use Rattle.version_sets.proofs.FirstSwitches.{TellsPlain, first_is, is_told, kept_least, kept_pre_release}
 use Rattle.version_sets.proofs.Lists.{answered_so, failed_so}
 use Rattle.version_sets.proofs.SetLaws.{combined-normal}
 use Rattle.version_sets.proofs.version_set.VersionSet.least_combined.Goals as goal
@@ -22,16 +22,24 @@ abbrev answer : goal.After-least_of → Option PlainVersion
 answer c =
     lower (option_map (λ r. release_value r.now) c.first-release.result) (option_map (λ p. version_place p.now) c.first-pre_release.result)
 
+-- the first pre-release is the first of the combination
+first_is_first : (c : goal.After-least_of)
+    → option_map (λ p. version_place p.now) c.first-pre_release.result
+    ≡ slice_get (combined_sets c.args.how (first c) (second c)).pre_releases 0
+first_is_first c =
+    c.first-pre_release.ensures
+    ∙ ap₂ (λ xs ys. slice_get (combined c.args.how (pieces (map version_place xs) (map version_place ys))) 0)
+    c.deref-3.ensures.value c.deref-4.ensures.value
+
 told : (c : goal.After-least_of) → TellsPlain Fits (combined_sets c.args.how (first c) (second c)) (answer c)
 told c =
     let set = combined_sets c.args.how (first c) (second c) in
-    let switches = λ (xs ys : List PlainVersion). combined c.args.how (pieces xs ys) in
     subst (TellsPlain Fits set)
     (sym (ap₂ lower
-    (c.first-release.ensures ∙ ap₂ (λ xs ys. slice_get (switches (map release_value xs) (map release_value ys)) 0)
+    (c.first-release.ensures
+    ∙ ap₂ (λ xs ys. slice_get (combined c.args.how (pieces (map release_value xs) (map release_value ys))) 0)
     c.deref.ensures.value c.deref-2.ensures.value)
-    (c.first-pre_release.ensures ∙ ap₂ (λ xs ys. slice_get (switches (map version_place xs) (map version_place ys)) 0)
-    c.deref-3.ensures.value c.deref-4.ensures.value)))
+    (first_is_first c)))
     (first_is set (combined-normal c.args.how (first c) (second c) c.self.invariant c.other.invariant))
 
 pub returns-clause-least : goal.returns-clause-least
@@ -43,10 +51,8 @@ returns-clause-least c =
 
 pub returns-clause-out_of_memory : goal.returns-clause-out_of_memory
 returns-clause-out_of_memory c =
-    failed_so _ c.least_of.result c.least_of.ensures.out_of_memory (λ _ (p, _, is). (
-      p,
-      subst (λ s. IsIn p s ⊎ IsIn p c.args.other.now) c.self.view_is
-          (subst (λ s. IsIn p (first c) ⊎ IsIn p s) c.other.view_is
-          (kept_in c.args.how (first c) (second c) c.self.invariant c.other.invariant p
-          (subst (TellsPlain Fits (combined_sets c.args.how (first c) (second c))) is (told c)))),
-    ))
+    failed_so _ c.least_of.result c.least_of.ensures.out_of_memory (λ _ (p, is, lowest).
+    subst (λ s. LeastIsPreRelease (IsKept c.args.how s c.args.other.now)) c.self.view_is
+    (subst (λ s. LeastIsPreRelease (IsKept c.args.how (first c) s)) c.other.view_is
+    (kept_pre_release c.args.how (first c) (second c) c.self.invariant c.other.invariant p (sym (first_is_first c) ∙ is)
+    (subst (TellsPlain Fits (combined_sets c.args.how (first c) (second c))) lowest (told c)))))

@@ -1,0 +1,19 @@
+use Rattle.std.proofs.Common.{inl, inr}
+use Rattle.version_sets.proofs.FirstSwitches.{alone_pre_release, shared_pre_release}
+use Rattle.version_sets.proofs.Lists.{on_err}
+use Rattle.version_sets.proofs.version_set.VersionSet.compare.Goals as goal
+
+pub returns-in_err-least_combined-clause-out_of_memory : goal.returns-in_err-least_combined-clause-out_of_memory
+returns-in_err-least_combined-clause-out_of_memory c =
+    on_err c.from_residual.result
+    (inl (alone_pre_release c.args.self.now c.args.new.now c.in_err-least_combined.ensures.out_of_memory))
+
+pub returns-in_err-least_combined-2-clause-out_of_memory : goal.returns-in_err-least_combined-2-clause-out_of_memory
+returns-in_err-least_combined-2-clause-out_of_memory c =
+    on_err c.from_residual-in_err-least_combined-2.result
+    (inr (inl (alone_pre_release c.args.new.now c.args.self.now c.in_err-least_combined-2.ensures.out_of_memory)))
+
+pub returns-in_err-least_combined-3-clause-out_of_memory : goal.returns-in_err-least_combined-3-clause-out_of_memory
+returns-in_err-least_combined-3-clause-out_of_memory c =
+    on_err c.from_residual-in_err-least_combined-3.result
+    (inr (inr (shared_pre_release c.args.self.now c.args.new.now c.in_err-least_combined-3.ensures.out_of_memory)))
