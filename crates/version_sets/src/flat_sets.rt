@@ -1,11 +1,13 @@
 //! Flat data made a set that can be combined, compared and printed.
 
-ghost use Rattle.std.specs.Prelude.{◌≡◌, [], IfOk, map, true};
+ghost use Rattle.std.specs.Prelude.{◌≡◌, ◌<◌, [], IfOk, IfErr, length, map, true};
 ghost use Rattle.std.specs.List.{AllByRecursion};
 ghost use Rattle.semver_parser.specs.Partials.{kept};
 ghost use Rattle.semver_parser.specs.Texts.{cut_at_dots};
 ghost use Rattle.semver_parser.specs.VersionViews.{identifier_value};
+ghost use Rattle.semver_parser.specs.Versions.{PlainVersion};
 ghost use Rattle.version_sets.specs.Releases.{release_value};
+ghost use Rattle.version_sets.specs.VersionSets.{IsIn};
 ghost use Rattle.version_sets.specs.Steps.FlatViews.{is_text, switch_value, text_at};
 ghost use Rattle.version_sets.specs.Steps.Places.{version_place};
 
@@ -20,9 +22,12 @@ use std::alloc::{AllocError, Global};
 
 impl<'a> FlatSet<'a> {
     // Answer: equation.
-    /// The same set, which can be combined, compared and printed. `Err` is out of memory.
+    /// The same set, which can be combined, compared and printed. An empty one takes no memory. `Err`
+    /// is out of memory.
     pub fn to_set(&self, alloc: Global) -> Result<VersionSet, AllocError>
         ensures set { IfOk result (λ set. set ≡ self.now) }
+        // Memory runs out only where the set has a version.
+        ensures out_of_memory { IfErr result (λ _. (v : PlainVersion) × IsIn v self.now) }
     {
         let releases = releases_of(alloc, self.releases)?;
         let pre_releases = pre_releases_of(alloc, self.pre_releases, self.bytes)?;
@@ -32,8 +37,9 @@ impl<'a> FlatSet<'a> {
 
 /// The releases of switches.
 fn releases_of(alloc: Global, switches: &[FlatSwitch]) -> Result<Vec<Release>, AllocError>
-    ensures { IfOk result (λ releases.
+    ensures releases { IfOk result (λ releases.
         map release_value releases.items ≡ map (switch_value []) switches.now) }
+    ensures some { IfErr result (λ _. 0 < length switches.now) }
 {
     let mut releases = Vec::new(alloc);
     let mut rest = switches;
@@ -62,8 +68,9 @@ fn pre_releases_of(
     bytes: &[u8],
 ) -> Result<Vec<Version>, AllocError>
     requires { AllByRecursion (λ s. is_text (text_at bytes.now s) ≡ true) switches.now }
-    ensures { IfOk result (λ versions.
+    ensures versions { IfOk result (λ versions.
         map version_place versions.items ≡ map (switch_value bytes.now) switches.now) }
+    ensures some { IfErr result (λ _. 0 < length switches.now) }
 {
     let mut versions = Vec::new(alloc);
     let mut rest = switches;
