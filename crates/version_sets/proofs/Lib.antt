@@ -6,6 +6,9 @@ mod EachAnswer
 mod Lists
 mod SetLaws
 mod SpanLaws
+mod HeldLimits
+mod PrintedLimits
+pub mod PrintableRanges
 mod BoundLaws
 mod OutlinedPlaces
 mod SameSets

@@ -1,9 +1,10 @@
 -- A set of versions as flat data: a head and the set's switches, and the bytes of their
 -- pre-releases.
-use Rattle.std.specs.Prelude.{◌≡◌, ℕ, ◌+◌, List, [], ◌∷◌, ◌++◌, length, IsTrue}
+use Rattle.std.specs.Prelude.{◌≡◌, ℕ, ◌+◌, Bool, List, [], ◌∷◌, ◌++◌, length, IsTrue}
 use Rattle.std.specs.List.{flat_map, list_all}
 use Rattle.semver_parser.specs.Outlines.{dotted_text}
 use Rattle.semver_parser.specs.PrintedRanges.{is_printable_version}
+use Rattle.semver_parser.specs.RewritingTable.{PlainComparator, PlainSet}
 use Rattle.semver_parser.specs.Texts.{Text}
 use Rattle.semver_parser.specs.Versions.{PlainVersion}
 use Rattle.version_sets.specs.VersionSets.{SetValue, IsNormal}
@@ -51,6 +52,14 @@ flat_bytes set = flat_map pre_text set.pre_releases
 -- each identifier can be read back from its text
 abbrev pub IsPrintable : SetValue → Type 0
 IsPrintable set = IsTrue (list_all is_printable_version set.pre_releases)
+
+-- whether the identifiers of each comparator can be
+abbrev pub are_printable : List PlainComparator → Bool
+are_printable comparators = list_all (λ c. is_printable_version c.version) comparators
+
+-- those of each range can be
+abbrev pub HasPrintableRanges : PlainSet → Type 0
+HasPrintableRanges set = IsTrue (list_all (λ r. are_printable r.comparators) set.ranges)
 
 -- the data is that of a set in its normal form
 pub record IsFlat (switches : List FlatSwitch) (bytes : Text) (set : SetValue) : Type 0 where

@@ -1,12 +1,14 @@
 //! Sets of the versions that meet comparators, by a rule for pre-releases.
 
-ghost use Rattle.std.specs.Prelude.{◌≡◌, ◌<◌, ◌&&◌, ◌||◌, false, length, map, IfOk, IfErr};
+ghost use Rattle.std.specs.Prelude.{◌≡◌, ◌<◌, ◌&&◌, ◌||◌, true, false, length, map, IfOk, IfErr};
 ghost use Rattle.std.specs.List.{list_all, list_any};
 ghost use Rattle.semver_parser.specs.Meeting.{meets_comparator, meets_range};
 ghost use Rattle.semver_parser.specs.Precedence.{precedence};
+ghost use Rattle.semver_parser.specs.PrintedRanges.{is_printable_version};
 ghost use Rattle.semver_parser.specs.RangeViews.{comparator_of, range_of, set_of};
 ghost use Rattle.semver_parser.specs.StatedPreReleases.{has_pre_release_at};
 ghost use Rattle.semver_parser.specs.Versions.{PlainVersion, VersionValue};
+ghost use Rattle.version_sets.specs.Flat.{are_printable, HasPrintableRanges, IsPrintable};
 ghost use Rattle.version_sets.specs.PreReleaseRules.{meets_with};
 ghost use Rattle.version_sets.specs.Releases.{release_value};
 ghost use Rattle.version_sets.specs.Switches.{switched};
@@ -15,6 +17,7 @@ ghost use Rattle.version_sets.specs.Steps.Places.{version_place};
 ghost use Rattle.version_sets.specs.Steps.RangeRules.{meets_range_with, states_pre_release};
 ghost use Rattle.version_sets.specs.Steps.Spans.{some_empty, in_some};
 ghost use Rattle.version_sets.specs.Steps.SpanViews.{limit_place, span_value, is_within};
+ghost use Rattle.version_sets.specs.Steps.SpanViews.{bounds_print, spans_print};
 
 use crate::limits::{numbers_of, release_above};
 use crate::pre_release_limits::PreReleaseLimit;
@@ -44,6 +47,8 @@ impl VersionSet {
     ) -> Result<VersionSet, AllocError>
         ensures meaning { IfOk result (λ s. (v : VersionValue) → Fits v.plain
             → has s v.plain ≡ meets_with pre_releases (set_of set.now) v) }
+        // Identifiers that can be read back from their texts are kept so.
+        ensures printable { HasPrintableRanges (set_of set.now) → IfOk result IsPrintable }
         // Memory runs out only where there is a range.
         ensures out_of_memory { IfErr result (λ _. 0 < length (set_of set.now).ranges) }
     {
@@ -86,6 +91,9 @@ fn pre_releases_of(
     ensures meaning { IfOk result (λ switches. (v : PlainVersion) → IsPreRelease v
         → switched precedence (map version_place switches.items) v
         ≡ list_any (λ range. meets_range_with rule v (range_of range)) ranges.now) }
+    ensures printable { IfOk result (λ switches.
+        list_all (λ range. are_printable (range_of range).comparators) ranges.now ≡ true
+        → list_all is_printable_version (map version_place switches.items) ≡ true) }
 {
     let mut spans = Vec::new(alloc);
     for range in ranges {
@@ -106,6 +114,8 @@ fn push_pre_releases<'a>(
         → in_some precedence (map (span_value limit_place) spans.new.items) v
         ≡ (in_some precedence (map (span_value limit_place) spans.old.items) v
         || meets_range_with rule v (range_of range.entry.now))) }
+    ensures printable { are_printable (range_of range.entry.now).comparators ≡ true
+        → spans_print spans.old.items ≡ true → spans_print spans.new.items ≡ true }
 {
     match rule {
         PreReleases::Excluded => Ok(()),
@@ -132,8 +142,10 @@ fn met_releases(comparators: &[Comparator]) -> Bounds<Release>
 
 /// The pre-releases that meet all comparators.
 fn met_pre_releases<'a>(comparators: &'a [Comparator]) -> Bounds<PreReleaseLimit<'a>>
-    ensures { (v : PlainVersion) → IsPreRelease v → is_within limit_place result v
+    ensures meaning { (v : PlainVersion) → IsPreRelease v → is_within limit_place result v
         ≡ list_all (meets_comparator v) (map comparator_of comparators.entry.now) }
+    ensures printable { are_printable (map comparator_of comparators.entry.now) ≡ true
+        → bounds_print result ≡ true }
 {
     let mut met = Bounds {
         from: Some(PreReleaseLimit::lowest(LOWEST)),
@@ -159,6 +171,8 @@ fn push_stated<'a>(
         ≡ (in_some precedence (map (span_value limit_place) spans.old.items) v
         || (list_all (meets_comparator v) (map comparator_of comparators.entry.now)
         && list_any (has_pre_release_at v) (map comparator_of comparators.entry.now)))) }
+    ensures printable { are_printable (map comparator_of comparators.entry.now) ≡ true
+        → spans_print spans.old.items ≡ true → spans_print spans.new.items ≡ true }
 {
     // For speed: that of most texts is none.
     if !some_states_pre_release(comparators) {
@@ -203,6 +217,8 @@ fn push_at<'a>(
         ≡ (in_some precedence (map (span_value limit_place) spans.old.items) v
         || (is_within limit_place met.entry v
         && has_pre_release_at v (comparator_of comparator.now)))) }
+    ensures printable { bounds_print met.entry ≡ true
+        → spans_print spans.old.items ≡ true → spans_print spans.new.items ≡ true }
 {
     if comparator.pre.is_empty() {
         return Ok(());

@@ -1,9 +1,10 @@
 //! Where spans of pre-releases begin and end.
 
-ghost use Rattle.std.specs.Prelude.{◌≡◌, ◌||◌, [], map, option_map, IfOk};
+ghost use Rattle.std.specs.Prelude.{◌≡◌, ◌||◌, [], true, map, option_map, IfOk};
 ghost use Rattle.std.specs.Cmp.Lexicographic.{slice_cmp};
 ghost use Rattle.std.specs.Ordering.{is_ge, is_gt};
 ghost use Rattle.semver_parser.specs.Precedence.{identifier_cmp, precedence};
+ghost use Rattle.semver_parser.specs.PrintedRanges.{is_printable_version};
 ghost use Rattle.semver_parser.specs.RangeViews.{comparator_of, identifier_of};
 ghost use Rattle.semver_parser.specs.Texts.{is_empty};
 ghost use Rattle.semver_parser.specs.VersionViews.{identifier_value};
@@ -12,7 +13,8 @@ ghost use Rattle.version_sets.specs.VersionSets.{IsPreRelease};
 ghost use Rattle.version_sets.specs.Releases.{release_value};
 ghost use Rattle.version_sets.specs.Steps.Bounds.{lowest_place, numbers_cmp};
 ghost use Rattle.version_sets.specs.Steps.Spans.{reached};
-ghost use Rattle.version_sets.specs.Steps.SpanViews.{is_past, limit_place, with_zero};
+ghost use Rattle.version_sets.specs.Steps.SpanViews.{holds_at, is_past, limit_place};
+ghost use Rattle.version_sets.specs.Steps.SpanViews.{with_zero};
 
 use crate::limits::{Limit, numbers_of};
 use crate::release::{Release, next_numbers};
@@ -34,7 +36,8 @@ pub(crate) struct PreReleaseLimit<'a> {
 impl<'a> PreReleaseLimit<'a> {
     /// Where the pre-releases of some numbers begin.
     pub(crate) fn lowest(numbers: Release) -> PreReleaseLimit<'a>
-        ensures { limit_place result ≡ lowest_place numbers }
+        ensures place { limit_place result ≡ lowest_place numbers }
+        ensures printable { is_printable_version (limit_place result) ≡ true }
     {
         PreReleaseLimit {
             numbers,
@@ -45,18 +48,22 @@ impl<'a> PreReleaseLimit<'a> {
 
     /// Where the pre-releases at or above a comparator's version begin.
     pub(crate) fn at(comparator: &'a Comparator) -> Option<PreReleaseLimit<'a>>
-        ensures { (v : PlainVersion) → IsPreRelease v
+        ensures meaning { (v : PlainVersion) → IsPreRelease v
             → reached precedence (option_map limit_place result) v
             ≡ is_ge (precedence v (comparator_of comparator.entry.now).version) }
+        ensures printable { is_printable_version (comparator_of comparator.entry.now).version ≡ true
+            → holds_at is_printable_version (option_map limit_place result) ≡ true }
     {
         PreReleaseLimit::of(comparator, false)
     }
 
     /// Where the pre-releases above a comparator's version begin.
     pub(crate) fn above(comparator: &'a Comparator) -> Option<PreReleaseLimit<'a>>
-        ensures { (v : PlainVersion) → IsPreRelease v
+        ensures meaning { (v : PlainVersion) → IsPreRelease v
             → reached precedence (option_map limit_place result) v
             ≡ is_gt (precedence v (comparator_of comparator.entry.now).version) }
+        ensures printable { is_printable_version (comparator_of comparator.entry.now).version ≡ true
+            → holds_at is_printable_version (option_map limit_place result) ≡ true }
     {
         PreReleaseLimit::of(comparator, true)
     }
@@ -65,9 +72,11 @@ impl<'a> PreReleaseLimit<'a> {
     /// None of the same numbers is above a release, and nothing is between a pre-release and that
     /// with one more identifier, the number 0.
     fn of(comparator: &'a Comparator, above: bool) -> Option<PreReleaseLimit<'a>>
-        ensures { (v : PlainVersion) → IsPreRelease v
+        ensures meaning { (v : PlainVersion) → IsPreRelease v
             → reached precedence (option_map limit_place result) v
             ≡ is_past above (precedence v (comparator_of comparator.entry.now).version) }
+        ensures printable { is_printable_version (comparator_of comparator.entry.now).version ≡ true
+            → holds_at is_printable_version (option_map limit_place result) ≡ true }
     {
         let numbers = numbers_of(comparator);
         if comparator.pre.is_empty() {
@@ -82,9 +91,10 @@ impl<'a> PreReleaseLimit<'a> {
 
     /// Where the pre-releases of greater numbers begin.
     pub(crate) fn above_numbers(numbers: Release) -> Option<PreReleaseLimit<'a>>
-        ensures { (v : PlainVersion) → IsPreRelease v
+        ensures meaning { (v : PlainVersion) → IsPreRelease v
             → reached precedence (option_map limit_place result) v
             ≡ is_gt (numbers_cmp v (release_value numbers)) }
+        ensures printable { holds_at is_printable_version (option_map limit_place result) ≡ true }
     {
         Some(PreReleaseLimit::lowest(next_numbers(numbers)?))
     }

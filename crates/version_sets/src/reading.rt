@@ -1,10 +1,12 @@
 //! Range texts as sets of versions, and as comparators for a rule for pre-releases.
 
 ghost use Rattle.std.specs.Prelude.{◌≡◌, IfOk};
+ghost use Rattle.semver_parser.specs.PrintedRanges.{IsPrintableSet};
 ghost use Rattle.semver_parser.specs.RangeTexts.{RefusesExactly};
 ghost use Rattle.semver_parser.specs.RangeTree.{SetTree, Spells};
 ghost use Rattle.semver_parser.specs.RangeViews.{set_of};
 ghost use Rattle.semver_parser.specs.Versions.{VersionValue};
+ghost use Rattle.version_sets.specs.Flat.{IsPrintable};
 ghost use Rattle.version_sets.specs.PreReleaseRules.{meant_with, meets_text_with, meets_with};
 ghost use Rattle.version_sets.specs.VersionSets.{has, Fits};
 
@@ -42,6 +44,8 @@ impl VersionSet {
         ensures meaning { IfOk result (λ s. (tree : SetTree) (v : VersionValue)
             → Spells tree range.now → Fits v.plain
             → has s v.plain ≡ meant_with pre_releases compat tree v) }
+        // Its identifiers can be read back from their texts.
+        ensures printable { IfOk result IsPrintable }
     {
         let set = read_set(alloc, range, compat, pre_releases)?;
         match VersionSet::of_set(alloc, &set, pre_releases) {
@@ -70,6 +74,7 @@ fn read_set(
     ensures meaning { IfOk result (λ set. (tree : SetTree) (v : VersionValue)
         → Spells tree range.now →
         meets_with pre_releases (set_of set) v ≡ meets_text_with pre_releases compat tree v) }
+    ensures printable { IfOk result (λ set. IsPrintableSet (set_of set)) }
 {
     laws::stated_pre_releases_mean_the_text();
     match pre_releases {

@@ -1,8 +1,8 @@
 //! Spans of one kind of versions, and the switches of what is in some of them.
 
-ghost use Rattle.std.specs.Prelude.{◌≡◌, ◌&&◌, ◌||◌, ◌++◌, false, map, option_map};
-ghost use Rattle.std.specs.Prelude.{MatchOption, IfOk};
-ghost use Rattle.std.specs.List.{AllByRecursion};
+ghost use Rattle.std.specs.Prelude.{◌≡◌, ◌&&◌, ◌||◌, ◌++◌, Bool, true, false, Some, map};
+ghost use Rattle.std.specs.Prelude.{option_map, MatchOption, IfOk, IfSome};
+ghost use Rattle.std.specs.List.{AllByRecursion, list_all};
 ghost use Rattle.semver_parser.specs.Versions.{PlainVersion};
 ghost use Rattle.semver_parser.specs.Precedence.{precedence};
 ghost use Rattle.version_sets.specs.Switches.{switched};
@@ -12,6 +12,7 @@ ghost use Rattle.version_sets.specs.Steps.Spans.{is_below, span_switches, all_jo
 ghost use Rattle.version_sets.specs.Steps.Spans.{in_some};
 ghost use Rattle.version_sets.specs.Steps.Spans.{narrowed_from, narrowed_to};
 ghost use Rattle.version_sets.specs.Steps.SpanViews.{span_value, is_within};
+ghost use Rattle.version_sets.specs.Steps.SpanViews.{bounds_hold, spans_hold};
 
 use crate::limits::Limit;
 use semver_parser::Op;
@@ -102,8 +103,10 @@ impl<L: Limit> Bounds<L> {
 
     /// The versions that are within other bounds, too.
     pub(crate) fn and(self, other: Bounds<L>) -> Bounds<L>
-        ensures { (v : PlainVersion) → is_within L.place result v
+        ensures meaning { (v : PlainVersion) → is_within L.place result v
             ≡ (is_within L.place self v && is_within L.place other v) }
+        ensures holds { (p : PlainVersion → Bool) → bounds_hold L.place p self ≡ true
+            → bounds_hold L.place p other ≡ true → bounds_hold L.place p result ≡ true }
     {
         Bounds {
             from: later(self.from, other.from),
@@ -113,9 +116,11 @@ impl<L: Limit> Bounds<L> {
 
     /// The span of the versions, if there is any between the limits.
     fn span(self) -> Option<Span<L>>
-        ensures { MatchOption result ((v : PlainVersion) → is_within L.place self v ≡ false)
+        ensures meaning { MatchOption result ((v : PlainVersion) → is_within L.place self v ≡ false)
             (λ span. IsSpan precedence (span_value L.place span) × ((v : PlainVersion)
             → is_in precedence (span_value L.place span) v ≡ is_within L.place self v)) }
+        ensures limits { IfSome result (λ span. (self.from ≡ Some span.from)
+            × (self.to ≡ span.to)) }
     {
         let from = self.from?;
         if let Some(to) = self.to {
@@ -134,6 +139,8 @@ impl<L: Limit> Bounds<L> {
             → in_some precedence (map (span_value L.place) spans.new.items) v
             ≡ (in_some precedence (map (span_value L.place) spans.old.items) v
             || is_within L.place self v)) }
+        ensures holds { (p : PlainVersion → Bool) → spans_hold L.place p spans.old.items ≡ true
+            → bounds_hold L.place p self ≡ true → spans_hold L.place p spans.new.items ≡ true }
     {
         if let Some(span) = self.span() {
             spans.push(span)?;
@@ -169,6 +176,9 @@ pub(crate) fn switches_of<L: Limit>(
     ensures meaning { IfOk result (λ switches. (v : PlainVersion)
         → switched precedence (map L.Switch.place switches.items) v
         ≡ in_some precedence (map (span_value L.place) spans.old) v) }
+    ensures holds { IfOk result (λ switches. (p : PlainVersion → Bool)
+        → spans_hold L.place p spans.old ≡ true
+        → list_all p (map L.Switch.place switches.items) ≡ true) }
 {
     spans.sort_unstable_by(|span, other| span.from.compare(&other.from));
     joined(alloc, spans)

@@ -7,6 +7,7 @@ ghost use Rattle.semver_parser.specs.Versions.{PlainVersion, VersionValue};
 ghost use Rattle.semver_parser.specs.VersionGrammar.{SpellsVersion};
 ghost use Rattle.semver_parser.specs.VersionViews.{version_value};
 ghost use Rattle.semver_parser.specs.Outlines.{IsOutlineOf, version_of};
+ghost use Rattle.version_sets.specs.Flat.{IsPrintable};
 ghost use Rattle.version_sets.specs.Releases.{release_value};
 ghost use Rattle.version_sets.specs.VersionSets.{has, Fits, IsNormal};
 ghost use Rattle.version_sets.specs.Steps.Places.{set_of};
@@ -47,6 +48,7 @@ impl VersionSet {
     /// The set without versions. It does not allocate.
     pub fn empty(alloc: Global) -> VersionSet
         ensures empty { (v : PlainVersion) → has result v ≡ false }
+        ensures printable { IsPrintable result }
     {
         VersionSet::of_switches(Vec::new(alloc), Vec::new(alloc))
     }
@@ -75,6 +77,7 @@ impl VersionSet {
     pub fn only_releases(self, alloc: Global) -> VersionSet
         ensures releases { (v : PlainVersion) → has result v
             ≡ (is_empty v.pre && has self v) }
+        ensures printable { IsPrintable result }
     {
         VersionSet::of_switches(self.releases, Vec::new(alloc))
     }

@@ -1,12 +1,14 @@
 -- What contracts see of spans, and of where pre-releases begin and end: a means of proof.
-use Rattle.std.specs.Prelude.{Bool, true, false, ◌||◌, if◌then◌else◌, option_map, List, [], ◌∷◌}
-use Rattle.std.specs.Prelude.{◌++◌, map}
+use Rattle.std.specs.Prelude.{Bool, true, false, ◌||◌, ◌&&◌, if◌then◌else◌, List, [], ◌∷◌, ◌++◌}
+use Rattle.std.specs.Prelude.{Option, Some, None, option_map, map}
+use Rattle.std.specs.List.{list_all}
 use Rattle.std.specs.Ordering.{is_ge, is_gt}
 use Rattle.std.specs.declared.cmp.Ordering.{Ordering}
 use Rattle.semver_parser.specs.RangeViews.{identifier_of}
 use Rattle.semver_parser.specs.Texts.{is_empty}
 use Rattle.semver_parser.specs.Versions.{IdentifierValue, numeric, PlainVersion}
 use Rattle.semver_parser.specs.Precedence.{precedence}
+use Rattle.semver_parser.specs.PrintedRanges.{is_printable_version}
 use Rattle.version_sets.specs.declared.pre_release_limits.PreReleaseLimit.{PreReleaseLimit}
 use Rattle.version_sets.specs.declared.spans.Bounds.{Bounds}
 use Rattle.version_sets.specs.declared.spans.Span.{Span}
@@ -31,6 +33,11 @@ abbrev pub is_past : Bool → Ordering → Bool
 is_past true o = is_gt o
 is_past false o = is_ge o
 
+-- whether a test holds of where something begins or ends, if there is such a place
+abbrev pub holds_at : (PlainVersion → Bool) → Option PlainVersion → Bool
+holds_at p None = true
+holds_at p (Some v) = p v
+
 module _ {L : Type 0} (place : L → PlainVersion) where
   abbrev pub span_value : Span L → SpanValue PlainVersion
   span_value s = record { from = place s.from; to = option_map place s.to }
@@ -38,3 +45,17 @@ module _ {L : Type 0} (place : L → PlainVersion) where
   -- whether a version is within bounds
   abbrev pub is_within : Bounds L → PlainVersion → Bool
   is_within b v = is_between precedence (option_map place b.from) (option_map place b.to) v
+
+  -- whether a test holds of where bounds begin and end, and of where each of some spans does
+  abbrev pub bounds_hold : (PlainVersion → Bool) → Bounds L → Bool
+  bounds_hold p b = holds_at p (option_map place b.from) && holds_at p (option_map place b.to)
+
+  abbrev pub spans_hold : (PlainVersion → Bool) → List (Span L) → Bool
+  spans_hold p spans = list_all (λ s. p (place s.from) && holds_at p (option_map place s.to)) spans
+
+-- whether the limits of bounds, and those of spans, can be read back from their texts
+abbrev pub bounds_print : Bounds PreReleaseLimit → Bool
+bounds_print = bounds_hold limit_place is_printable_version
+
+abbrev pub spans_print : List (Span PreReleaseLimit) → Bool
+spans_print = spans_hold limit_place is_printable_version

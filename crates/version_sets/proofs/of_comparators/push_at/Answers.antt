@@ -24,6 +24,6 @@ returns-clause-meaning c =
     let some = sym (none_left identifier_of c.args.comparator.now.pre.items _ _ c.is_empty.ensures (search rules)) ∙ c.if-is_empty.false in
     answered_so _ c.push_to.result c.push_to.ensures.meaning (λ _ is v kind. is v
     ∙ ap (λ b. in_some precedence (map (span_value limit_place) c.args.spans.now.items) v || b)
-    (c.and.ensures v ∙ ap (λ b. is_within limit_place c.args.met v && b)
-    (stated_numbers c.numbers_of-numbers.result of.version _ c.numbers_of-numbers.ensures c.lowest.ensures some v _ kind.1
-    (c.above_numbers.ensures v kind))))
+    (c.and.ensures.meaning v ∙ ap (λ b. is_within limit_place c.args.met v && b)
+    (stated_numbers c.numbers_of-numbers.result of.version _ c.numbers_of-numbers.ensures c.lowest.ensures.place some v _ kind.1
+    (c.above_numbers.ensures.meaning v kind))))

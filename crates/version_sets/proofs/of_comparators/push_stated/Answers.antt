@@ -12,19 +12,22 @@ use Rattle.version_sets.proofs.MetLaws.{stated_more, added_more, added_none, non
 use Rattle.version_sets.proofs.of_comparators.push_stated.Goals as goal
 
 pub loop-comparator-preserved : goal.loop-comparator-preserved
-loop-comparator-preserved c = (
-  λ e. c.in_ok-push_at.ensures.spans (c.loop-comparator.invariant.0 e),
-  λ v kind.
+loop-comparator-preserved c = record {
+  spans = λ e. c.in_ok-push_at.ensures.spans (c.loop-comparator.invariant.spans e);
+  meaning = λ v kind.
       let at = has_pre_release_at v (comparator_of c.comparator-item.result) in
       let before = in_some precedence (map (span_value limit_place) c.args.spans.now.items) v in
       let met = list_all (meets_comparator v) (map comparator_of c.args.comparators.now) in
       c.in_ok-push_at.ensures.meaning v kind
-      ∙ ap₂ (λ a m. a || (m && at)) (c.loop-comparator.invariant.1 v kind) (c.met_pre_releases-met.ensures v kind)
+      ∙ ap₂ (λ a m. a || (m && at)) (c.loop-comparator.invariant.meaning v kind) (c.met_pre_releases-met.ensures.meaning v kind)
       ∙ added_more before met _ at
       ∙ ap (λ b. before || (met && b))
       (sym (stated_more v c.args.comparators.now c.loop-comparator.comparator-index c.comparator-item.result
-      c.loop-comparator-test.true c.comparator-item.is)),
-)
+      c.loop-comparator-test.true c.comparator-item.is));
+  printable = λ prints old.
+      c.in_ok-push_at.ensures.printable (c.met_pre_releases-met.ensures.printable prints)
+      (c.loop-comparator.invariant.printable prints old);
+}
 
 pub returns-then-not-some_states_pre_release-clause-meaning : goal.returns-then-not-some_states_pre_release-clause-meaning
 returns-then-not-some_states_pre_release-clause-meaning c = λ v kind.

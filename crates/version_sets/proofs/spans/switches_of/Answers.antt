@@ -4,6 +4,7 @@ use Rattle.semver_parser.specs.PrecedenceLaws.{precedence_total}
 use Rattle.version_sets.specs.declared.spans.Span.{Span}
 use Rattle.version_sets.proofs.Lists.{answered_so}
 use Rattle.version_sets.proofs.SpanLaws.{begins_below, compares, are_of_sorted}
+use Rattle.version_sets.proofs.HeldLimits.{switches_hold}
 use Rattle.version_sets.proofs.spans.switches_of.Goals as goal
 
 pub returns : goal.returns
@@ -17,4 +18,6 @@ returns g c =
           (λ switches is. (of (map g.L.Switch.Switch.place switches.items) is).are_switches);
       meaning = answered_so _ c.joined.result c.joined.ensures
           (λ switches is. (of (map g.L.Switch.Switch.place switches.items) is).turn);
+      holds = answered_so _ c.joined.result c.joined.ensures (λ switches is p.
+          switches_hold place p c.args.spans.now _ c.sort_unstable_by.ensures.permutation (map g.L.Switch.Switch.place switches.items) is.1);
     }

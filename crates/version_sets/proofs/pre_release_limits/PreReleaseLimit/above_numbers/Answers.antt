@@ -4,7 +4,7 @@ use Rattle.semver_parser.specs.Precedence.{precedence}
 use Rattle.version_sets.proofs.BoundLaws.{from-lowest}
 use Rattle.version_sets.proofs.pre_release_limits.PreReleaseLimit.above_numbers.Goals as goal
 
-pub returns : goal.returns
-returns c = λ v kind.
-    ap (λ p. is_ge (precedence v p)) c.lowest.ensures ∙ from-lowest (Some c.in_ok-next_numbers.field-0) v kind.1
+pub returns-clause-meaning : goal.returns-clause-meaning
+returns-clause-meaning c = λ v kind.
+    ap (λ p. is_ge (precedence v p)) c.lowest.ensures.place ∙ from-lowest (Some c.in_ok-next_numbers.field-0) v kind.1
     ∙ c.in_ok-next_numbers.ensures.above v kind.0

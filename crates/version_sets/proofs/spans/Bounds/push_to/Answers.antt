@@ -13,4 +13,4 @@ returns-in_ok-push-clause-meaning g c = λ v.
     ap (λ spans. in_some precedence (map seen spans) v) c.in_ok-push.ensures.items
     ∙ ap (λ spans. in_some precedence spans v) (map-append seen c.args.spans.now.items _)
     ∙ list_any-append (λ span. is_in precedence span v) _ _
-    ∙ ap (λ b. in_some precedence (map seen c.args.spans.now.items) v || b) (or_false _ ∙ c.in-Some.ensures.1 v)
+    ∙ ap (λ b. in_some precedence (map seen c.args.spans.now.items) v || b) (or_false _ ∙ c.in-Some.ensures.meaning.1 v)

@@ -1,5 +1,5 @@
-use Rattle.std.proofs.Common.{◌≡◌, ◌&&◌, ◌||◌, Bool, true, false, List, [], ◌∷◌, refl, sym, ap, ◌∙◌}
-use Rattle.std.specs.List.{list_any}
+use Rattle.std.proofs.Common.{◌≡◌, ◌&&◌, ◌||◌, Bool, true, false, List, [], ◌∷◌, refl, sym, ap, ◌∙◌, subst}
+use Rattle.std.specs.List.{list_all, list_any}
 use Rattle.semver_parser.specs.declared.Range.{Range}
 use Rattle.semver_parser.specs.Meeting.{meets_range}
 use Rattle.semver_parser.specs.RangeViews.{range_of, set_of}
@@ -7,13 +7,14 @@ use Rattle.semver_parser.specs.RewritingTable.{PlainRange, PlainSet}
 use Rattle.semver_parser.specs.StatedPreReleases.{has_pre_release_at}
 use Rattle.semver_parser.specs.Texts.{is_empty}
 use Rattle.semver_parser.specs.Versions.{PlainVersion, VersionValue}
+use Rattle.version_sets.specs.Flat.{are_printable, IsPrintable}
 use Rattle.version_sets.specs.PreReleaseRules.{is_release, meets_with}
 use Rattle.version_sets.specs.VersionSets.{has}
 use Rattle.version_sets.specs.Steps.RangeRules.{meets_range_with}
 use Rattle.version_sets.specs.declared.rules.PreReleases.{PreReleases}
 use Rattle.version_sets.specs.declared.rules.PreReleases.TheVariants.{Excluded, Stated, Included}
 use Rattle.version_sets.proofs.BoundLaws.{and_true}
-use Rattle.version_sets.proofs.Lists.{list_any-map}
+use Rattle.version_sets.proofs.Lists.{list_all-map, list_any-map}
 use Rattle.version_sets.proofs.SetLaws.{has-release, has-pre_release}
 use Rattle.version_sets.proofs.WalkLaws.{by_test}
 use Rattle.version_sets.proofs.version_set.VersionSet.of_set.Goals as goal
@@ -48,3 +49,10 @@ returns-clause-meaning c = λ v fits.
     ∙ (λ i. list_any (λ range. released rule v.plain (range_of range) e i) set.ranges.items) ∙ whole)
     (λ e. has-pre_release _ v.plain e ∙ c.in_ok-pre_releases.ensures.meaning v.plain (fits, e)
     ∙ ap (λ (rs : List Range). list_any (λ range. meets_range_with rule v.plain (range_of range)) rs) c.deref-2.ensures.value ∙ whole)
+
+pub returns-clause-printable : goal.returns-clause-printable
+returns-clause-printable c = λ prints.
+    let each : list_all (λ range. are_printable (range_of range).comparators) c.deref-2.result.now ≡ true
+    = ap (list_all (λ range. are_printable (range_of range).comparators)) c.deref-2.ensures.value
+    ∙ sym (list_all-map (λ r. are_printable r.comparators) range_of c.args.set.now.ranges.items) ∙ prints in
+    subst IsPrintable (sym c.of_switches.ensures) (c.in_ok-pre_releases.ensures.printable each)
