@@ -14,6 +14,7 @@ mod ToolRows
 mod NpmMeanings
 mod NpmSets
 mod NpmLaws
+mod PrintableSets
 mod AllMeanings
 mod AskedTerms
 mod AskedCrate

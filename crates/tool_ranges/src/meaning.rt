@@ -5,6 +5,7 @@ ghost use Rattle.semver_texts.specs.Texts.{Text, is_empty};
 ghost use Rattle.semver_texts.specs.Versions.{PlainVersion, without_build};
 ghost use Rattle.tool_ranges.specs.declared.reading.Reading.{Reading};
 ghost use Rattle.semver_parser.specs.Outlines.{version_of};
+ghost use Rattle.version_sets.specs.Flat.{IsPrintable};
 ghost use Rattle.version_sets.specs.PreReleaseRules.{numbers_fit};
 ghost use Rattle.tool_ranges.specs.Readings.{RefusesAs, SpellsAs, TreeOf};
 ghost use Rattle.tool_ranges.specs.Meanings.{IsSetBy, MeansAs, meant_as, reading_of};
@@ -76,6 +77,8 @@ pub fn read(alloc: Global, meaning: Meaning, range: &str) -> Result<VersionSet, 
     ensures refusals { RefusesAs (reading_of meaning) range.now result }
     // A version is in the set exactly if the text means it.
     ensures meaning { IfOk result (λ set. MeansAs meaning range.now set) }
+    // Its identifiers can be read back from their texts.
+    ensures printable { IfOk result IsPrintable }
 {
     match meaning {
         Meaning::Cargo => cargo::read(alloc, range),
@@ -102,6 +105,7 @@ fn releases_of(
         → IfOk read (λ set. IsSetBy reading t meets set)
         → IfOk result (λ set. IsSetBy reading t
         (λ tree v. is_empty v.pre && meets tree v) set) }
+    ensures printable { IfOk result IsPrintable }
 {
     match read {
         Ok(set) => Ok(set.only_releases(alloc)),

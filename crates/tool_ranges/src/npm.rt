@@ -11,6 +11,7 @@ ghost use Rattle.semver_ranges.specs.RangeViews.{set_of};
 ghost use Rattle.semver_ranges.specs.Meeting.{meets_set};
 ghost use Rattle.semver_ranges.specs.PrintedRanges.{IsPrintableSet, set_text};
 ghost use Rattle.semver_ranges.specs.RewritingTable.{fits, rewritten};
+ghost use Rattle.version_sets.specs.Flat.{HasPrintableRanges};
 ghost use Rattle.tool_ranges.specs.Steps.LowerBounds.{set_begun, written_for};
 ghost use Rattle.tool_ranges.specs.NpmGrammar.{is_white_space, may_stand, SpellsNpm};
 ghost use Rattle.tool_ranges.specs.NpmMeaning.{meets_npm};
@@ -78,6 +79,7 @@ fn rewritten(alloc: Global, range: &str, lower: LowerBounds) -> Result<RangeSet,
     ensures refusals { RefusesAs reading.Npm range.now result }
     ensures begun { IfOk result (λ set. (tree : SetTree) → SpellsNpm tree range.now
         → set_of set ≡ set_begun lower tree) }
+    ensures printable { IfOk result (λ set. HasPrintableRanges (set_of set)) }
 {
     if !may_stand(range) {
         return Err(RangeError::NotARange);

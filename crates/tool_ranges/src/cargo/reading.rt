@@ -7,6 +7,7 @@ ghost use Rattle.semver_texts.specs.Texts.{Text};
 ghost use Rattle.semver_texts.specs.Versions.{PlainVersion};
 ghost use Rattle.semver_ranges.specs.Meeting.{meets_set};
 ghost use Rattle.semver_ranges.specs.RangeViews.{range_of};
+ghost use Rattle.version_sets.specs.Flat.{IsPrintable};
 ghost use Rattle.version_sets.specs.VersionSets.{has, Fits};
 ghost use Rattle.tool_ranges.specs.CargoGrammar.{SpellsRequirement};
 ghost use Rattle.tool_ranges.specs.AllPreReleases.{meets_requirement_with_all};
@@ -44,6 +45,8 @@ pub fn read(alloc: Global, requirement: &str) -> Result<VersionSet, RangeError>
     ensures meaning { IfOk result (λ set. (tree : List SimpleTree) (v : PlainVersion)
         → SpellsRequirement tree requirement.now → Fits v
         → has set v ≡ meets_requirement tree v) }
+    // Its identifiers can be read back from their texts.
+    ensures printable { IfOk result IsPrintable }
 {
     let surveyed = match survey(requirement) {
         Ok(surveyed) => surveyed,
@@ -61,6 +64,7 @@ pub(crate) fn read_with_all(alloc: Global, requirement: &str) -> Result<VersionS
     ensures meaning { IfOk result (λ set. (tree : List SimpleTree) (v : PlainVersion)
         → SpellsRequirement tree requirement.now → Fits v
         → has set v ≡ meets_requirement_with_all tree v) }
+    ensures printable { IfOk result IsPrintable }
 {
     let surveyed = match survey(requirement) {
         Ok(surveyed) => surveyed,
@@ -79,9 +83,10 @@ fn judged(
     judged: JudgedVersions,
 ) -> Result<VersionSet, AllocError>
     requires { (t : Text) × (tree : List SimpleTree) × IsSurveyedAs t tree surveyed.now }
-    ensures { IfOk result (λ set. (t : Text) (tree : List SimpleTree) (v : PlainVersion)
+    ensures meaning { IfOk result (λ set. (t : Text) (tree : List SimpleTree) (v : PlainVersion)
         → IsSurveyedAs t tree surveyed.now → Fits v
         → has set v ≡ meets_set v (judging judged tree)) }
+    ensures printable { IfOk result IsPrintable }
 {
     let (ranges, _) = build(alloc, surveyed, judged, false)?;
     let judging = RangeSet {
@@ -94,8 +99,9 @@ fn judged(
 /// What a requirement means.
 fn meant(alloc: Global, surveyed: &Surveyed<'_>) -> Result<VersionSet, AllocError>
     requires { (t : Text) × (tree : List SimpleTree) × IsSurveyedAs t tree surveyed.now }
-    ensures { IfOk result (λ set. (t : Text) (tree : List SimpleTree) (v : PlainVersion)
+    ensures meaning { IfOk result (λ set. (t : Text) (tree : List SimpleTree) (v : PlainVersion)
         → IsSurveyedAs t tree surveyed.now → Fits v → has set v ≡ meets_requirement tree v) }
+    ensures printable { IfOk result IsPrintable }
 {
     let (ranges, counting) = build(alloc, surveyed, JudgedVersions::Releases, true)?;
     let rewritten = RangeSet {
@@ -118,10 +124,11 @@ fn counted(
     requires surveyed { (t : Text) × (tree : List SimpleTree) × IsSurveyedAs t tree surveyed.now }
     requires ranges { (t : Text) (tree : List SimpleTree) → IsSurveyedAs t tree surveyed.now
         → map range_of ranges.items ≡ flat_map counting_one tree }
-    ensures { IfOk result (λ set. (t : Text) (tree : List SimpleTree) (v : PlainVersion)
+    ensures meaning { IfOk result (λ set. (t : Text) (tree : List SimpleTree) (v : PlainVersion)
         → IsSurveyedAs t tree surveyed.now → Fits v
         → has set v ≡ (meets_set v (judging judged.PreReleases tree)
         && meets_set v (counting tree))) }
+    ensures printable { IfOk result IsPrintable }
 {
     let counting = RangeSet {
         ranges,

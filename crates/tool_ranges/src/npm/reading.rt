@@ -5,6 +5,7 @@ ghost use Rattle.std.specs.List.{list_all, list_any};
 ghost use Rattle.semver_ranges.specs.RangeTree.{SetTree};
 ghost use Rattle.semver_ranges.specs.RangeViews.{comparator_of, range_of, set_of};
 ghost use Rattle.semver_texts.specs.Versions.{PlainVersion};
+ghost use Rattle.version_sets.specs.Flat.{HasPrintableRanges, IsPrintable};
 ghost use Rattle.version_sets.specs.VersionSets.{has, Fits};
 ghost use Rattle.tool_ranges.specs.NpmGrammar.{SpellsNpm};
 ghost use Rattle.tool_ranges.specs.AllPreReleases.{meets_npm_with_all};
@@ -41,6 +42,8 @@ pub fn read(alloc: Global, range: &str) -> Result<VersionSet, RangeError>
     // A version is in the set exactly if the text means it.
     ensures meaning { IfOk result (λ set. (tree : SetTree) (v : PlainVersion)
         → SpellsNpm tree range.now → Fits v → has set v ≡ meets_npm tree v) }
+    // Its identifiers can be read back from their texts.
+    ensures printable { IfOk result IsPrintable }
 {
     let rewritten = match rewrite(alloc, range) {
         Ok(rewritten) => rewritten,
@@ -58,6 +61,7 @@ pub(crate) fn read_with_all(alloc: Global, range: &str) -> Result<VersionSet, Ra
     ensures refusals { RefusesAs reading.Npm range.now result }
     ensures meaning { IfOk result (λ set. (tree : SetTree) (v : PlainVersion)
         → SpellsNpm tree range.now → Fits v → has set v ≡ meets_npm_with_all tree v) }
+    ensures printable { IfOk result IsPrintable }
 {
     let set = match rewritten(alloc, range, LowerBounds::Lowest) {
         Ok(set) => set,
@@ -71,8 +75,9 @@ pub(crate) fn read_with_all(alloc: Global, range: &str) -> Result<VersionSet, Ra
 
 /// What a text means that is rewritten to these comparators.
 fn meant(alloc: Global, rewritten: RangeSet) -> Result<VersionSet, AllocError>
-    ensures { IfOk result (λ set. (v : PlainVersion) → Fits v
+    ensures meaning { IfOk result (λ set. (v : PlainVersion) → Fits v
         → has set v ≡ is_meant (set_of rewritten) v) }
+    ensures printable { HasPrintableRanges (set_of rewritten) → IfOk result IsPrintable }
 {
     if some_has_no_other(&rewritten.ranges) {
         return VersionSet::of_set(alloc, &rewritten, PreReleases::Excluded);

@@ -20,14 +20,14 @@ returns-in-Cargo c =
     let e = c.read.ensures in
     let told = subst (Answers c.args.range.now c.read.result) (sym c.in-Cargo.is)
     (e.refusals, if_ok c.read.result (λ set means tree v. means tree v.plain) e.meaning) in
-    record { refusals = told.0; meaning = told.1 }
+    record { refusals = told.0; meaning = told.1; printable = e.printable }
 
 pub returns-in-CargoAll : goal.returns-in-CargoAll
 returns-in-CargoAll c =
     let e = c.read_with_all.ensures in
     let told = subst (Answers c.args.range.now c.read_with_all.result) (sym c.in-CargoAll.is)
     (e.refusals, if_ok c.read_with_all.result (λ set means tree v. means tree v.plain) e.meaning) in
-    record { refusals = told.0; meaning = told.1 }
+    record { refusals = told.0; meaning = told.1; printable = e.printable }
 
 pub returns-in-CargoReleases : goal.returns-in-CargoReleases
 returns-in-CargoReleases c =
@@ -37,21 +37,21 @@ returns-in-CargoReleases c =
       r.ensures.refusals Cargo c.args.range.now e.refusals,
       if_ok r.result (λ set means tree v. means tree v.plain) (r.ensures.releases Cargo c.args.range.now meets_requirement e.meaning),
     ) in
-    record { refusals = told.0; meaning = told.1 }
+    record { refusals = told.0; meaning = told.1; printable = r.ensures.printable }
 
 pub returns-in-Npm : goal.returns-in-Npm
 returns-in-Npm c =
     let e = c.read-in-Npm.ensures in
     let told = subst (Answers c.args.range.now c.read-in-Npm.result) (sym c.in-Npm.is)
     (e.refusals, if_ok c.read-in-Npm.result (λ set means tree v. means tree v.plain) e.meaning) in
-    record { refusals = told.0; meaning = told.1 }
+    record { refusals = told.0; meaning = told.1; printable = e.printable }
 
 pub returns-in-NpmAll : goal.returns-in-NpmAll
 returns-in-NpmAll c =
     let e = c.read_with_all-in-NpmAll.ensures in
     let told = subst (Answers c.args.range.now c.read_with_all-in-NpmAll.result) (sym c.in-NpmAll.is)
     (e.refusals, if_ok c.read_with_all-in-NpmAll.result (λ set means tree v. means tree v.plain) e.meaning) in
-    record { refusals = told.0; meaning = told.1 }
+    record { refusals = told.0; meaning = told.1; printable = e.printable }
 
 pub returns-in-NpmReleases : goal.returns-in-NpmReleases
 returns-in-NpmReleases c =
@@ -61,10 +61,10 @@ returns-in-NpmReleases c =
       r.ensures.refusals Npm c.args.range.now e.refusals,
       if_ok r.result (λ set means tree v. means tree v.plain) (r.ensures.releases Npm c.args.range.now meets_npm e.meaning),
     ) in
-    record { refusals = told.0; meaning = told.1 }
+    record { refusals = told.0; meaning = told.1; printable = r.ensures.printable }
 
 pub returns-in-Crate : goal.returns-in-Crate
 returns-in-Crate c =
     let e = c.of_text.ensures in
     let told = subst (Answers c.args.range.now c.of_text.result) (sym c.in-Crate.is) (e.refusals, e.meaning) in
-    record { refusals = told.0; meaning = told.1 }
+    record { refusals = told.0; meaning = told.1; printable = e.printable }

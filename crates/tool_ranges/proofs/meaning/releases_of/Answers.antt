@@ -16,6 +16,7 @@ returns-in-Ok c = record {
   releases = λ reading t meets means tree v spells small.
       let is = subst (λ (r : Result VersionSet RangeError). IfOk r (λ set. IsSetBy reading t meets set)) c.in-Ok.is means in
       c.only_releases.ensures.releases v ∙ ap (λ b. is_empty v.pre && b) (is tree v spells small);
+  printable = c.only_releases.ensures.printable;
 }
 
 pub returns-in-Err : goal.returns-in-Err
@@ -24,4 +25,5 @@ returns-in-Err c = record {
       same_refusal VersionSet _ (IsTextAs reading t) (IsTooLargeAs reading t) (HasSetAs reading t) c.in-Err.refusal
       (subst (λ (r : Result VersionSet RangeError). RefusesAs reading t r) c.in-Err.is refused);
   releases = λ _ _ _ _. tt;
+  printable = tt;
 }

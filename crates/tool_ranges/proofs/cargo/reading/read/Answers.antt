@@ -15,5 +15,5 @@ returns-in-Err-meant-clause-refusals c =
 pub returns-in-Ok-meant-clause-meaning : goal.returns-in-Ok-meant-clause-meaning
 returns-in-Ok-meant-clause-meaning c = λ tree v h small.
     let has = c.in-Ok.ensures in
-    c.in-Ok-meant.ensures c.args.requirement.now tree v
+    c.in-Ok-meant.ensures.meaning c.args.requirement.now tree v
     (surveyed_same c.args.requirement.now has.0 tree c.in-Ok.surveyed has.1 h) small

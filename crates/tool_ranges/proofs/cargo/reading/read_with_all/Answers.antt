@@ -17,6 +17,6 @@ returns-in-Err-judged-clause-refusals c =
 pub returns-in-Ok-judged-clause-meaning : goal.returns-in-Ok-judged-clause-meaning
 returns-in-Ok-judged-clause-meaning c = λ tree v h small.
     let has = c.in-Ok.ensures in
-    c.in-Ok-judged.ensures c.args.requirement.now tree v
+    c.in-Ok-judged.ensures.meaning c.args.requirement.now tree v
     (surveyed_same c.args.requirement.now has.0 tree c.in-Ok.surveyed has.1 h) small
     ∙ cargo_meant v tree c.args.requirement.now h.comparators
