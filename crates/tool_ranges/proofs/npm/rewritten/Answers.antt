@@ -1,4 +1,4 @@
-use Rattle.std.proofs.Common.{refl, sym, ◌∙◌, subst, Result, Ok, Err, IfOk}
+use Rattle.std.proofs.Common.{refl, sym, subst, Result, Ok, Err, IfOk}
 use Rattle.semver_texts.specs.declared.dialect.Dialect.TheVariants as dialect
 use Rattle.semver_ranges.specs.declared.range.Compat.TheVariants.{Npm}
 use Rattle.semver_texts.specs.Texts.{Text}

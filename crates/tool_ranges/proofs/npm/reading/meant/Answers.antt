@@ -1,4 +1,4 @@
-use Rattle.std.proofs.Common.{◌≡◌, [], List, Bool, refl, sym, subst, ap, ◌∙◌, map, arith}
+use Rattle.std.proofs.Common.{◌≡◌, [], List, Bool, sym, subst, ap, ◌∙◌, map, arith}
 use Rattle.std.specs.List.{list_any}
 use Rattle.semver_ranges.specs.declared.range.Range.{Range}
 use Rattle.semver_ranges.specs.declared.range_set.RangeSet.{RangeSet}
