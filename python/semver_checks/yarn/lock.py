@@ -27,15 +27,31 @@ class Package(NamedTuple):
     resolution: str
 
 
-def tree_of(text: str) -> Tree:
-    """What the lines of a file have, by their indents."""
-    tree: Tree = {}
-    open_trees: List[Tuple[int, Tree]] = [(-1, tree)]
+def lines_of(text: str) -> Iterator[Tuple[int, int, str]]:
+    """The lines of a file: of each its number, its indent, and what it has. Berry writes a key of
+    more than 1,024 characters after `? `, and its colon on the next line."""
+    key = ""
     for number, line in enumerate(text.splitlines(), 1):
         bare = line.strip()
         if not bare or bare.startswith("#"):
             continue
         depth = len(line) - len(line.lstrip(" "))
+        if bool(key) != bare.startswith(":"):
+            raise Unreadable(f"it isn't a yarn.lock: line {number}")
+        if bare.startswith("? "):
+            key = bare[2:]
+            continue
+        yield number, depth, key + bare
+        key = ""
+    if key:
+        raise Unreadable(f"it isn't a yarn.lock: line {number}")
+
+
+def tree_of(text: str) -> Tree:
+    """What the lines of a file have, by their indents."""
+    tree: Tree = {}
+    open_trees: List[Tuple[int, Tree]] = [(-1, tree)]
+    for number, depth, bare in lines_of(text):
         while open_trees[-1][0] >= depth:
             open_trees.pop()
         key, value, has_more = cut(bare, number)
