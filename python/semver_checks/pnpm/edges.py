@@ -21,8 +21,13 @@ from ..npm.specs import MET, NOT_MET, alias_of, verdict_on
 
 KINDS = ("dependencies", "devDependencies", "optionalDependencies")
 
-# What a package is called: /NAME/VERSION, /NAME@VERSION or NAME@VERSION, and what follows of peers.
-CALLED = re.compile(r"/?((?:@[^/@]+/)?[^/@]+)[/@]([^/(_]+)[(_]?.*", re.S)
+# What a package is called: NAME@VERSION, or /NAME/VERSION or /NAME@VERSION, before which its
+# registry may be, and what follows of peers.
+CALLED = re.compile(
+    r"(?P<registry>[^/@]*/)?(?P<name>(?:@[^/@]+/)?[^/@]+)(?(registry)[/@]|@)"
+    r"(?P<version>[^/(_]+)(?:[(_].*)?",
+    re.S,
+)
 
 
 class Found(NamedTuple):
@@ -43,15 +48,24 @@ class Ask(NamedTuple):
     is_required: bool
 
 
+def called_by(text: str) -> Optional[Tuple[str, str]]:
+    """The name and the version in what a package is called. One that is at an address or a path has
+    none, as `github.com/user/numbers/0123` and `example.org/numbers/0123`."""
+    called = CALLED.fullmatch(text)
+    if called is None or ":" in text[: called.end("version")]:
+        return None
+    registry, name, version = called.groups()
+    if registry not in (None, "/") and not is_version(version, Reading.NPM):
+        return None
+    return name, version
+
+
 def found_at(text: str) -> Found:
     """What a file has for a version: one, a package of another name, or an address or a path."""
     bare = re.split(r"[(_]", text, maxsplit=1)[0]
     if is_version(bare, Reading.NPM):
         return Found(None, bare)
-    called = CALLED.fullmatch(text)
-    if ":" in bare or called is None:
-        return Found(None, None)
-    return Found(called.group(1), called.group(2))
+    return Found(*(called_by(text) or (None, None)))
 
 
 # ---- who asks
@@ -157,9 +171,9 @@ def findings(lock: Entry) -> Iterator[Finding]:
         for ask in asks_of_importer(folder, importer):
             yield from of_ask(ask, overrides.get(ask.name, []))
     for key, fields, depends in packages_of(lock):
-        called = CALLED.fullmatch(key)
-        asker = key if called is None else f"{called.group(1)} {called.group(2)}"
-        if called is not None and ":" not in key and not is_version(called.group(2), Reading.NPM):
-            yield Finding("", called.group(2), called.group(1), NO_VERSION)
+        called = called_by(key)
+        asker = key if called is None else " ".join(called)
+        if called is not None and not is_version(called[1], Reading.NPM):
+            yield Finding("", called[1], called[0], NO_VERSION)
         for ask in asks_of_package(asker, fields, depends):
             yield from of_ask(ask, overrides.get(ask.name, []))
