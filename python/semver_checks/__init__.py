@@ -2,5 +2,6 @@
 that are not what is asked for, and `compare-requirements` what changed requirements lose and gain.
 
 A folder for each family of formats has what it reads: `npm`, `yarn`, `pnpm` and `cargo`. They share
-the files (`files`), the judgement of a version (`judging`), and the frame of a program (`program`).
+the files (`files`), the judgement of a version (`judging`), the frame of a program (`program`), and
+how it starts (`starting`).
 """

@@ -1,0 +1,32 @@
+"""How the programs start: with one line on standard error if they can't, as without the library."""
+
+import sys
+
+from .program import open_output
+
+
+def refused(program: str, error: ImportError) -> int:
+    """Reports in one line what a program needs. The status."""
+    open_output()
+    what, _, more = str(error).partition("\n")
+    details = "; ".join(line.strip() for line in more.splitlines())
+    print(f"{program}: {what} {details}".rstrip(), file=sys.stderr)
+    return 2
+
+
+def check_lock_file() -> int:
+    """Runs `check-lock-file`. The status."""
+    try:
+        from .check_lock_file import main
+    except ImportError as error:
+        return refused("check-lock-file", error)
+    return main()
+
+
+def compare_requirements() -> int:
+    """Runs `compare-requirements`. The status."""
+    try:
+        from .compare_requirements import main
+    except ImportError as error:
+        return refused("compare-requirements", error)
+    return main()
