@@ -23,7 +23,7 @@ from .files import (
     toml_object,
 )
 from .judging import is_met
-from .npm.specs import alias_of, is_elsewhere, is_no_range, range_of
+from .npm.specs import alias_of, git_range_of, is_elsewhere, is_no_range, range_of
 from .program import Misuse, Options, Outcome, Program, escaped, run
 
 PAGE = """\
@@ -118,10 +118,11 @@ def of_cargo(need: Need) -> Requirement:
 
 def of_npm(name: str, spec: str) -> Requirement:
     """A requirement of a package.json. What is at an address has its name there."""
-    alias, wanted = alias_of(spec), range_of(spec)
+    alias, at_git, wanted = alias_of(spec), git_range_of(spec), range_of(spec)
     is_none = is_met(wanted, "0.0.0", Reading.NPM) is None and is_no_range(spec)
     own_name = None if is_elsewhere(spec) else name if alias is None else alias[0]
-    return Requirement(spec, own_name, "", None if is_none else wanted)
+    source = "" if at_git is None else at_git[0]
+    return Requirement(spec, own_name, source, None if is_none else wanted)
 
 
 def manifest_of_npm(entry: Entry) -> Manifest:

@@ -2,6 +2,7 @@
 
 import re
 from typing import Optional, Tuple
+from urllib.parse import unquote
 
 from semver_parser import Reading
 
@@ -11,6 +12,9 @@ from ..judging import NO_VERSION, SKIPPED, is_met
 # as a version does: so a range that isn't read is never taken for one.
 ELSEWHERE = re.compile(r"(?!npm:)(?:git\+)?[a-z]+:|\.|.*/|.*\.(?:tgz|tar|tar\.gz)\Z", re.I | re.S)
 TAG = re.compile(r"(?!v[0-9]|v?x\.)[a-z_][0-9a-z_.!~*'()-]*", re.I | re.A)
+
+# An address of git, and the range that it has.
+GIT_RANGE = re.compile(r"(?!file:|[./~])([^#]*[/:][^#]*)#(?:.*::)?semver:([^:]*)(?:::.*)?", re.S)
 
 MET = "met"
 NOT_MET = ""
@@ -26,10 +30,16 @@ def alias_of(spec: str) -> Optional[Tuple[str, str]]:
     return (spec[4:at], spec[at + 1 :]) if at >= 0 else (spec[4:], "")
 
 
+def git_range_of(spec: str) -> Optional[Tuple[str, str]]:
+    """The address and the range of `ADDRESS#semver:RANGE`; None where it is no such address."""
+    found = GIT_RANGE.fullmatch(spec) if alias_of(spec) is None else None
+    return None if found is None else (found.group(1), unquote(found.group(2)))
+
+
 def range_of(spec: str) -> str:
     """What comes in place of the range in what is asked for."""
-    alias = alias_of(spec)
-    return spec if alias is None else alias[1]
+    named = alias_of(spec) or git_range_of(spec)
+    return spec if named is None else named[1]
 
 
 def is_elsewhere(spec: str) -> bool:
@@ -39,16 +49,18 @@ def is_elsewhere(spec: str) -> bool:
 
 def is_no_range(spec: str) -> bool:
     """Whether npm takes what is asked for, which isn't read as a range, for something else: a tag,
-    an address or a path. An alias has a range or a tag."""
+    an address or a path. An alias has a range or a tag, and an address of git may have a range."""
+    if git_range_of(spec) is not None:
+        return False
     return is_elsewhere(spec) or TAG.fullmatch(range_of(spec).strip()) is not None
 
 
 def verdict_on(version: Optional[str], spec: str) -> str:
     """The verdict on the version of a package, if it has one, by what is asked for: `MET`, or the
-    word of its line."""
+    word of its line. What is at an address may have none."""
     met = is_met(range_of(spec), version or "", Reading.NPM)
     if met is None:
         return SKIPPED if is_no_range(spec) else NOT_READ
     if version is None:
-        return NO_VERSION
+        return SKIPPED if is_elsewhere(spec) else NO_VERSION
     return MET if met else NOT_MET
