@@ -19,9 +19,9 @@ from typing import Iterator, List, NamedTuple, Optional
 
 from semver_parser import Reading
 
-from ..files import Entry, texts_at
+from ..files import Entry, objects_at, texts_at
 from ..judging import NO_VERSION, NOT_THERE, SKIPPED, Finding, is_version
-from .lock import ASKS_OF_OLD_PROJECTS, Ask, asks_at, is_pinned, packages_of, version_at
+from .lock import ASKS_OF_TOPS, Ask, asks_at, is_pinned, packages_of, version_at
 from .overrides import Rule, rule_for, rules_of, where_rules_hold
 from .specs import MET, NOT_MET, NOT_READ, alias_of, verdict_on
 
@@ -95,8 +95,9 @@ def of_version(place: str, version: Optional[str]) -> Iterator[Finding]:
 
 def rules_of_manifest(manifest: Entry) -> Rule:
     """The rules of a package.json, whose dependencies are texts."""
-    for kind in ASKS_OF_OLD_PROJECTS:
+    for kind in ASKS_OF_TOPS:
         texts_at(manifest.get(kind, {}), kind)
+    objects_at(manifest.get("peerDependenciesMeta", {}), "peerDependenciesMeta")
     return rules_of(manifest)
 
 

@@ -13,7 +13,7 @@ Packages = Dict[str, Entry]
 
 ASKS_OF_EACH = ("dependencies", "optionalDependencies", "peerDependencies")
 ASKS_OF_TOPS = (*ASKS_OF_EACH, "devDependencies")
-ASKS_OF_OLD_PROJECTS = ("dependencies", "optionalDependencies", "devDependencies")
+ASKS_OF_MANIFEST = (*ASKS_OF_TOPS, "peerDependenciesMeta")
 
 
 class Package(NamedTuple):
@@ -97,7 +97,7 @@ def packages_of(lock: Entry, manifest: Entry) -> Packages:
         return objects_at(lock.get("packages"), "packages")
     if version != 1 or type(version) is not int:
         raise WrongShape(" of lockfileVersion 1, 2 or 3")
-    project = {key: manifest[key] for key in ASKS_OF_OLD_PROJECTS if key in manifest}
+    project = {key: value for key, value in manifest.items() if key in ASKS_OF_MANIFEST}
     if "version" in lock:
         project["version"] = lock["version"]
     return {"": project, **dict(packages_inside(lock, ""))}
