@@ -46,8 +46,8 @@ that wrote it reads ranges and versions. What the file is, its content says:
 
     --strict             count and list what is asked for by a tag, an address or
                          a path, and what is not there
-    --package-json FILE  take overrides and resolutions from this package.json,
-                         and not from that beside the lock file of npm or yarn
+    --package-json FILE  take this package.json, and not that beside the lock file
+                         of npm or yarn
     -h, --help           print this
     --                   end the options
 
@@ -66,10 +66,12 @@ def manifest_path(options: Options) -> Optional[str]:
     return beside if os.path.exists(beside) else None
 
 
-def read_manifest(path: Optional[str], take: Callable[[Entry], Taken]) -> Tuple[Entry, Taken]:
-    """The project's package.json, and what a tool takes of it."""
+def read_manifest(
+    path: Optional[str], take: Callable[[Entry], Taken]
+) -> Tuple[Optional[Entry], Taken]:
+    """The project's package.json, where there is one, and what a tool takes of it."""
     if path is None:
-        return {}, take({})
+        return None, take({})
     with taking(path, "package.json"):
         manifest = json_object(bytes_of(path))
         return manifest, take(manifest)

@@ -3,8 +3,8 @@
 WHO ASKS. Each package asks for its `dependencies`, `optionalDependencies` and `peerDependencies`,
 and the project and its workspaces, which are below no `node_modules`, for their `devDependencies`
 too. A name in `dependencies` and `optionalDependencies` is asked for by the latter alone, as npm
-has it. In lockfileVersion 1 each package asks for what it `requires`; what the project asks for
-isn't in such a file.
+has it. In lockfileVersion 1 each package asks for what it `requires`. What the project asks for is
+in its package.json, and in the lock file too from lockfileVersion 2 on, where it may be stale.
 
 WHAT IS FOUND. The nearest package of the name: in the package's own `node_modules`, or else in
 that of a folder round it. A peer is looked for from the folder round the package on; those of the
@@ -101,9 +101,9 @@ def rules_of_manifest(manifest: Entry) -> Rule:
     return rules_of(manifest)
 
 
-def findings(lock: Entry, manifest: Entry, outermost: Rule) -> Iterator[Finding]:
-    """What there is to say of a lock file, in its order, beside the project's package.json and the
-    rules of its overrides."""
+def findings(lock: Entry, manifest: Optional[Entry], outermost: Rule) -> Iterator[Finding]:
+    """What there is to say of a lock file, in its order, beside the project's package.json, where
+    there is one, and the rules of its overrides."""
     packages = packages_of(lock, manifest)
     asks = {place: list(asks_at(packages, place)) for place in packages}
     versions = {

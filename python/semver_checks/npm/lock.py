@@ -13,7 +13,7 @@ Packages = Dict[str, Entry]
 
 ASKS_OF_EACH = ("dependencies", "optionalDependencies", "peerDependencies")
 ASKS_OF_TOPS = (*ASKS_OF_EACH, "devDependencies")
-ASKS_OF_MANIFEST = (*ASKS_OF_TOPS, "peerDependenciesMeta")
+OF_PROJECT = (*ASKS_OF_TOPS, "peerDependenciesMeta")
 
 
 class Package(NamedTuple):
@@ -89,18 +89,22 @@ def name_by_place(place: str) -> str:
 # ---- packages
 
 
-def packages_of(lock: Entry, manifest: Entry) -> Packages:
-    """The packages of a lock file, in its order. What the project itself asks for stands in its
-    package.json alone where the file is of lockfileVersion 1."""
+def packages_of(lock: Entry, manifest: Optional[Entry]) -> Packages:
+    """The packages of a lock file, in its order. What the project itself asks for is taken from its
+    package.json, where there is one, and else from the file: one of lockfileVersion 1 hasn't it."""
     version = lock.get("lockfileVersion")
-    if version in (2, 3) and type(version) is int:
-        return objects_at(lock.get("packages"), "packages")
-    if version != 1 or type(version) is not int:
+    if version not in (1, 2, 3) or type(version) is not int:
         raise WrongShape(" of lockfileVersion 1, 2 or 3")
-    project = {key: value for key, value in manifest.items() if key in ASKS_OF_MANIFEST}
-    if "version" in lock:
-        project["version"] = lock["version"]
-    return {"": project, **dict(packages_inside(lock, ""))}
+    if version == 1:
+        project = {"version": lock["version"]} if "version" in lock else {}
+        packages = {"": project, **dict(packages_inside(lock, ""))}
+    else:
+        packages = objects_at(lock.get("packages"), "packages")
+    if manifest is not None:
+        own = {key: it for key, it in packages.get("", {}).items() if key not in OF_PROJECT}
+        told = {key: it for key, it in manifest.items() if key in OF_PROJECT}
+        packages[""] = {**own, **told}
+    return packages
 
 
 def packages_inside(holder: Entry, place: str) -> Iterator[Tuple[str, Entry]]:
