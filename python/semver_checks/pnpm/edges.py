@@ -125,10 +125,11 @@ def asks_of_package(asker: str, fields: Entry, depends: Entry) -> Iterator[Ask]:
 
 def overrides_of(lock: Entry) -> Dict[str, List[str]]:
     """What the overrides put in place of what is asked for, by names: a key is `NAME`,
-    `NAME@RANGE`, or one of these after `PARENT>`."""
+    `NAME@RANGE`, or one of these after `PARENT>`. A range may have `>` at its start, after a blank
+    and after `|`."""
     replaced: Dict[str, List[str]] = {}
     for key, spec in texts_at(lock.get("overrides") or {}, "overrides").items():
-        last = key.rpartition(">")[2]
+        last = re.split(r"(?<=[^ |@])>", key, maxsplit=1)[-1]
         at = last.find("@", 1)
         replaced.setdefault(last if at < 0 else last[:at], []).append(spec)
     return replaced
