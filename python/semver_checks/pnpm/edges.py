@@ -17,7 +17,7 @@ from semver_parser import Reading
 
 from ..files import Entry, WrongShape, object_at, objects_at, text_at, texts_at
 from ..judging import NO_VERSION, NOT_THERE, SKIPPED, Finding, is_version
-from ..npm.specs import MET, NOT_MET, alias_of, verdict_on
+from ..npm.specs import MET, alias_of, verdict_on
 
 KINDS = ("dependencies", "devDependencies", "optionalDependencies")
 
@@ -135,6 +135,12 @@ def overrides_of(lock: Entry) -> Dict[str, List[str]]:
     return replaced
 
 
+def has_name(name: str, spec: str) -> bool:
+    """Whether a package has the name that is asked for, if that is an alias."""
+    alias = alias_of(spec)
+    return alias is None or alias[0] == name
+
+
 def of_ask(ask: Ask, replaced: List[str]) -> Iterator[Finding]:
     """What there is to say of what is asked for."""
     who, found = f"{ask.asker} asks for {ask.name}", ask.found
@@ -145,14 +151,15 @@ def of_ask(ask: Ask, replaced: List[str]) -> Iterator[Finding]:
     if found.version is None:
         yield Finding(ask.spec, "", who, SKIPPED, is_strict=True)
         return
-    alias = alias_of(ask.spec)
-    if alias is not None and found.name is not None and found.name != alias[0]:
-        yield Finding(ask.spec, found.name, who, "another package")
+    name = found.name or ask.name
+    if not any(has_name(name, spec) for spec in (ask.spec, *replaced)):
+        yield Finding(ask.spec, name, who, "another package")
     spec, verdict = ask.spec, verdict_on(found.version, ask.spec)
     if verdict not in (MET, SKIPPED) and replaced:
         if any(verdict_on(found.version, it) in (MET, SKIPPED) for it in replaced):
             return
-        spec, verdict = replaced[0], verdict if verdict != NOT_MET else "overridden"
+        spec = replaced[0]
+        verdict = verdict_on(found.version, spec) or "overridden"
     if verdict != MET:
         yield Finding(spec, found.version, who, verdict, is_strict=verdict == SKIPPED)
 
