@@ -16,6 +16,7 @@ from .files import (
     BYTE_ORDER_MARK,
     Entry,
     Refusal,
+    WrongShape,
     bytes_of,
     json_object,
     taking,
@@ -103,8 +104,7 @@ def manifest_of(text: bytes) -> Manifest:
     """The manifest that a text is: JSON is npm's, TOML Cargo's."""
     if text.lstrip()[:1] == b"{":
         return manifest_of_npm(json_object(text))
-    entry = toml_object(text)
-    needs = by_table(entry)
+    needs = by_table(toml_object(text))
     return Manifest({key: of_cargo(need) for key, need in needs.items()}, Reading.CARGO)
 
 
@@ -126,7 +126,10 @@ def of_npm(name: str, spec: str) -> Requirement:
 
 
 def manifest_of_npm(entry: Entry) -> Manifest:
-    """A package.json."""
+    """A package.json. What says that it is another file is none."""
+    for key in ("lockfileVersion", "workspace_members"):
+        if key in entry:
+            raise WrongShape(f": it has {key}")
     found = {
         (kind, name): of_npm(name, spec)
         for kind in KINDS_OF_NPM

@@ -192,7 +192,11 @@ def is_inside(path: str, folder: str) -> bool:
 
 def by_table(entry: Entry) -> Dict[Tuple[str, str], Need]:
     """What a manifest asks for, by table and key; of a workspace what it has for its members, too.
-    What it takes from another file has no requirement here."""
+    What it takes from another file has no requirement here. A file without any table of a manifest
+    is none."""
+    object_at(entry.get("package", {}), "package")
+    if not {"package", "workspace", "target", *KINDS}.intersection(entry):
+        raise WrongShape("")
     inherited = workspace_table(entry)
     found: Dict[Tuple[str, str], Need] = {}
     for table, values in (*tables_of(entry), ("workspace.dependencies", inherited)):
