@@ -16,6 +16,9 @@ TAG = re.compile(r"(?!v[0-9]|v?x\.)[a-z_][0-9a-z_.!~*'()-]*", re.I | re.A)
 # An address of git, and the range that it has.
 GIT_RANGE = re.compile(r"(?!file:|[./~])([^#]*[/:][^#]*)#(?:.*::)?semver:([^:]*)(?:::.*)?", re.S)
 
+# What is asked for by the range of a catalog begins so, of which npm has none.
+CATALOG = "catalog:"
+
 MET = "met"
 NOT_MET = ""
 NOT_READ = "not read; npm's loose mode may"

@@ -1,10 +1,11 @@
 """The findings of a `pnpm-lock.yaml`.
 
-WHO ASKS. The project and its workspaces (`importers`), for what they depend on directly, and each
-package for its peers. The other ranges of packages aren't in such a file.
+WHO ASKS. The project and its workspaces (`importers`), for what they depend on directly, the
+catalogs, from which importers take ranges, and each package for its peers. The other ranges of
+packages aren't in such a file.
 
-WHAT IS FOUND. Of an importer the version beside what it asks for, and of a peer the package of that
-name among the dependencies of the package, where pnpm puts it.
+WHAT IS FOUND. Of an importer and a catalog the version beside what it asks for, and of a peer the
+package of that name among the dependencies of the package, where pnpm puts it.
 
 OVERRIDES. They are in the file. An ask for a name that one of them is for is judged by what it puts
 there, if the version isn't what is asked for.
@@ -17,7 +18,7 @@ from semver_parser import Reading
 
 from ..files import Entry, WrongShape, object_at, objects_at, text_at, texts_at
 from ..judging import NO_VERSION, NOT_THERE, SKIPPED, Finding, is_version
-from ..npm.specs import MET, alias_of, verdict_on
+from ..npm.specs import CATALOG, MET, alias_of, verdict_on
 
 KINDS = ("dependencies", "devDependencies", "optionalDependencies")
 
@@ -92,6 +93,26 @@ def asks_of_importer(folder: str, importer: Entry) -> Iterator[Ask]:
             else:
                 spec = text_at(specs.get(name), f"{folder}: specifiers: {name}")
             yield Ask(asker, name, spec, found_at(text_at(value, where)), True)
+
+
+def asks_of_catalogs(lock: Entry) -> Iterator[Ask]:
+    """What the catalogs ask for. The versions there are without the names of packages."""
+    for catalog, entries in objects_at(lock.get("catalogs") or {}, "catalogs").items():
+        for name, entry in objects_at(entries, f"catalogs: {catalog}").items():
+            where = f"catalogs: {catalog}: {name}"
+            spec = text_at(entry.get("specifier"), f"{where}: specifier")
+            _, version = found_at(text_at(entry.get("version"), f"{where}: version"))
+            named, _ = alias_of(spec) or (None, "")
+            yield Ask(f"catalog {catalog}", name, spec, Found(named, version), True)
+
+
+def by_catalog(ask: Ask, catalogs: List[Ask]) -> Ask:
+    """What is asked for, with the range of the catalog that it is taken from."""
+    if not ask.spec.startswith(CATALOG):
+        return ask
+    asker = f"catalog {ask.spec[len(CATALOG) :] or 'default'}"
+    specs = (it.spec for it in catalogs if (it.asker, it.name) == (asker, ask.name))
+    return ask._replace(spec=next(specs, ask.spec))
 
 
 def packages_of(lock: Entry) -> Iterator[Tuple[str, Entry, Entry]]:
@@ -174,10 +195,12 @@ def check_version(lock: Entry) -> None:
 def findings(lock: Entry) -> Iterator[Finding]:
     """What there is to say of a lock file, in its order."""
     check_version(lock)
-    overrides = overrides_of(lock)
+    overrides, catalogs = overrides_of(lock), list(asks_of_catalogs(lock))
+    for ask in catalogs:
+        yield from of_ask(ask, overrides.get(ask.name, []))
     for folder, importer in importers_of(lock).items():
         for ask in asks_of_importer(folder, importer):
-            yield from of_ask(ask, overrides.get(ask.name, []))
+            yield from of_ask(by_catalog(ask, catalogs), overrides.get(ask.name, []))
     for key, fields, depends in packages_of(lock):
         called = called_by(key)
         asker = key if called is None else " ".join(called)

@@ -8,7 +8,7 @@ WHAT IS FOUND. The package whose key has what is asked for, as `numbers@^1.0.0`.
 RESOLUTIONS. They are in the project's package.json. An ask for a name that one of them is for is
 judged by what it puts there, if the version isn't what is asked for.
 
-NOT IN THE FILE. Who provides a peer, and the version of a workspace.
+NOT IN THE FILE. Who provides a peer, the version of a workspace, and the ranges of catalogs.
 """
 
 import re
@@ -18,7 +18,7 @@ from semver_parser import Reading
 
 from ..files import Entry, texts_at
 from ..judging import NO_VERSION, NOT_THERE, SKIPPED, Finding, is_version
-from ..npm.specs import MET, NOT_MET, alias_of, verdict_on
+from ..npm.specs import CATALOG, MET, alias_of, verdict_on
 from .lock import Package, Tree, asks_of, name_of, packages_of, spec_of
 
 # The version that a workspace of the project has in a lock file.
@@ -127,4 +127,5 @@ def findings(tree: Tree, resolutions: Dict[str, List[str]]) -> Iterator[Finding]
             if found is not None:
                 yield from of_ask(asker, name, spec, found, resolved)
             else:
-                yield Finding(spec, "", f"{asker} asks for {name}", NOT_THERE, is_strict=True)
+                kind = SKIPPED if spec.startswith(CATALOG) else NOT_THERE
+                yield Finding(spec, "", f"{asker} asks for {name}", kind, is_strict=True)
