@@ -81,7 +81,7 @@ class Filter:
     _set: VersionSet = field(init=False, repr=False, compare=False)
 
     def __post_init__(self) -> None:
-        # So that two filters that mean the same are equal, however their rule was given.
+        # So that two filters of one text and one reading are equal, however the rule was given.
         object.__setattr__(self, "pre_releases", rule_of(self.reading, self.pre_releases))
         object.__setattr__(self, "_set", VersionSet(self.range, self.reading, self.pre_releases))
 

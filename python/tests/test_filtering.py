@@ -365,6 +365,7 @@ class Kept(unittest.TestCase):
     def test_filter_is_a_value(self) -> None:
         self.assertEqual(Filter("^1"), Filter("^1", Reading.CARGO, PreReleases.OF_TOOL))
         self.assertEqual(len({Filter("^1"), Filter("^1"), Filter("^1", Reading.NPM)}), 2)
+        self.assertNotEqual(Filter("^1.2"), Filter("1.2"))
         self.assertEqual(pickle.loads(pickle.dumps(Filter("^1"))), Filter("^1"))
 
 
