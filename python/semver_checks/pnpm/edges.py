@@ -66,7 +66,8 @@ def found_at(text: str) -> Found:
     bare = re.split(r"[(_]", text, maxsplit=1)[0]
     if is_version(bare, Reading.NPM):
         return Found(None, bare)
-    return Found(*(called_by(text) or (None, None)))
+    called = called_by(text)
+    return Found(None, None) if called is None else Found(*called)
 
 
 # ---- who asks
