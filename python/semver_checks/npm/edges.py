@@ -23,7 +23,7 @@ from ..files import Entry, objects_at, texts_at
 from ..judging import NO_VERSION, NOT_THERE, SKIPPED, Finding, is_version
 from .lock import ASKS_OF_TOPS, Ask, asks_at, is_pinned, packages_of, version_at
 from .overrides import Rule, rule_for, rules_of, where_rules_hold
-from .specs import MET, NOT_MET, NOT_READ, alias_of, verdict_on
+from .specs import MET, NOT_MET, NOT_READ, has_name, verdict_on
 
 # The verdicts on a version, the worst first.
 VERDICTS = (NOT_MET, NO_VERSION, NOT_READ, SKIPPED, MET)
@@ -44,10 +44,9 @@ class Judgement(NamedTuple):
 
 def judged_by(spec: str, is_overridden: bool, ask: Ask) -> Judgement:
     """The judgement of what is found by a text."""
-    alias = alias_of(spec)
     name, version = (None, None) if ask.found is None else ask.found[1:]
-    has_name = alias is None or name is None or alias[0] == name
-    return Judgement(spec, is_overridden, has_name, verdict_on(version, spec))
+    is_named = name is None or has_name(name, spec)
+    return Judgement(spec, is_overridden, is_named, verdict_on(version, spec))
 
 
 def judged(ask: Ask, rules: List[Rule], is_pinned: bool) -> Judgement:

@@ -33,6 +33,12 @@ def alias_of(spec: str) -> Optional[Tuple[str, str]]:
     return (spec[4:at], spec[at + 1 :]) if at >= 0 else (spec[4:], "")
 
 
+def has_name(name: str, spec: str) -> bool:
+    """Whether a package has the name that is asked for, if that is an alias."""
+    alias = alias_of(spec)
+    return alias is None or alias[0] == name
+
+
 def git_range_of(spec: str) -> Optional[Tuple[str, str]]:
     """The address and the range of `ADDRESS#semver:RANGE`; None where it is no such address."""
     found = GIT_RANGE.fullmatch(spec) if alias_of(spec) is None else None

@@ -18,7 +18,7 @@ from semver_parser import Reading
 
 from ..files import Entry, WrongShape, object_at, objects_at, text_at, texts_at
 from ..judging import NO_VERSION, NOT_THERE, SKIPPED, Finding, is_version
-from ..npm.specs import CATALOG, MET, alias_of, verdict_on
+from ..npm.specs import CATALOG, MET, alias_of, has_name, verdict_on
 
 KINDS = ("dependencies", "devDependencies", "optionalDependencies")
 
@@ -155,12 +155,6 @@ def overrides_of(lock: Entry) -> Dict[str, List[str]]:
         at = last.find("@", 1)
         replaced.setdefault(last if at < 0 else last[:at], []).append(spec)
     return replaced
-
-
-def has_name(name: str, spec: str) -> bool:
-    """Whether a package has the name that is asked for, if that is an alias."""
-    alias = alias_of(spec)
-    return alias is None or alias[0] == name
 
 
 def of_ask(ask: Ask, replaced: List[str]) -> Iterator[Finding]:

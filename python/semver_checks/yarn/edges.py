@@ -18,7 +18,7 @@ from semver_parser import Reading
 
 from ..files import Entry, texts_at
 from ..judging import NO_VERSION, NOT_THERE, SKIPPED, Finding, is_version
-from ..npm.specs import CATALOG, MET, alias_of, verdict_on
+from ..npm.specs import CATALOG, MET, has_name, verdict_on
 from .lock import Package, Tree, asks_of, name_of, packages_of, spec_of
 
 # The version that a workspace of the project has in a lock file.
@@ -64,9 +64,9 @@ def of_ask(
     if found.version == WORKSPACE:
         yield Finding(spec, "", who, SKIPPED, is_strict=True)
         return
-    alias = alias_of(wanted)
-    if alias is not None and found.resolution and name_of(found.resolution) != alias[0]:
-        yield Finding(spec, name_of(found.resolution), who, "another package")
+    named, specs = name_of(found.resolution), (wanted, *map(of_yarn, resolved))
+    if found.resolution and not any(has_name(named, it) for it in specs):
+        yield Finding(spec, named, who, "another package")
     verdict = verdict_on(found.version, wanted)
     if verdict not in (MET, SKIPPED) and resolved:
         spec, verdict = by_resolutions(found.version, resolved)
