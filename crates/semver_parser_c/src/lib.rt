@@ -763,8 +763,7 @@ fn order_number(ordering: Ordering) -> i32
 ///
 /// # Errors
 ///
-/// Those of `semver_parser_proved_least`. `RANGE_OUT_OF_MEMORY` also comes of a set with an
-/// identifier that can't be read back from its text; no range is known that gives one.
+/// Those of `semver_parser_proved_least`.
 #[unsafe(no_mangle)]
 pub extern "C" fn semver_parser_proved_set(
     alloc: Global,
@@ -803,7 +802,8 @@ pub extern "C" fn semver_parser_proved_set(
             let bytes = flat.bytes.as_bytes();
             range_text::put_both(&flat.switches, bytes, made, count, out, length)
         }
-        Ok(None) | Err(_) => numbers::RANGE_OUT_OF_MEMORY,
+        Ok(None) => unreachable!(),
+        Err(_) => numbers::RANGE_OUT_OF_MEMORY,
     }
 }
 

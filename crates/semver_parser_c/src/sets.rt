@@ -3,6 +3,7 @@
 ghost use Rattle.std.specs.Prelude.{◌≡◌, ◌≢◌, ◌∷◌, [], ℤ, IfOk, IfErr, IfSome, Option};
 ghost use Rattle.std.specs.Prelude.{string_bytes};
 ghost use Rattle.semver_parser.specs.declared.version.Version.{Version as SomeVersion};
+ghost use Rattle.version_sets.specs.Flat.{IsPrintable};
 ghost use Rattle.version_sets.specs.VersionSets.{IsIn};
 ghost use Rattle.version_sets.specs.Comparisons.{TellsLeast};
 ghost use Rattle.tool_ranges.specs.declared.meaning.Meaning.{Meaning as SomeMeaning};
@@ -34,6 +35,7 @@ pub fn read(
     ensures accepted { IfOk result (λ read. IsAccepted reading pre_releases range.now) }
     ensures meaning { IfOk result (λ read. (m : SomeMeaning) → IsNamed m reading pre_releases
         → MeansAs m range.now read.1) }
+    ensures printable { IfOk result (λ read. IsPrintable read.1) }
     ensures stands { IfOk result (λ read. Stands
         (RefusesRange reading pre_releases range.now)) }
     ensures refused { IfErr result (λ n. IsRefused reading pre_releases range.now n) }
@@ -52,6 +54,7 @@ pub fn read(
 fn read_as(alloc: Global, meaning: Meaning, range: &[u8]) -> Result<VersionSet, RangeFault>
     ensures accepted { IfOk result (λ set. IsReadable (reading_of meaning) range.now) }
     ensures meaning { IfOk result (λ set. MeansAs meaning range.now set) }
+    ensures printable { IfOk result IsPrintable }
     ensures fault { IfErr result (λ fault. HasFault (reading_of meaning) range.now fault) }
 {
     let Ok(text) = std::str::from_utf8(range) else {
