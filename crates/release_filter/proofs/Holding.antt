@@ -138,7 +138,8 @@ best_both : IsTotalOrder precedence → (w : Wanted) (h g k : HeldValue) (xs ys 
     → IsBest (order_of w) (option_to_list h.best ++ (xs ++ ys)) n × (k ≡ record h { best = n })
 best_both total w h g k xs ys m n a is b so =
     let more = rw is at b in (
-      rw (← append_assoc (option_to_list h.best) xs ys) (best_added (order_of w) (total_of w total) (option_to_list h.best ++ xs) ys m n a more),
+      rw (← append_assoc (option_to_list h.best) xs ys) (best_added (order_of w) (total_of w total) (option_to_list h.best ++ xs) ys m n a
+          more),
       so ∙ ap (λ (v : HeldValue). record v { best = n }) is,
     )
 

@@ -192,7 +192,12 @@ module _ (same : OneVersion) (total : IsTotalOrder precedence) where
         ∙ take-add a (b - a) piece in
         let parts = front_judged s t u (take a piece) more _ (ks ++ y ∷ []) old mid other new first ended
         (rw (← cut) second) in
-        omega (arith, ap length (parts.2 (in_front js ks parts.0 x y (sym parts.1) is valid) ended'), length-take (b - a) (drop a piece), length-drop a piece)
+        omega (
+          arith,
+          ap length (parts.2 (in_front js ks parts.0 x y (sym parts.1) is valid) ended'),
+          length-take (b - a) (drop a piece),
+          length-drop a piece,
+        )
 
     -- and isn't taken whole
     pub not_whole : TakesAll s piece ks u other new → has_invalid ks ≡ false → ⊥
@@ -272,7 +277,8 @@ took_text total s t u text js ks old mid new a b =
       held = b.held;
       added = a.added ++ b.added;
       rest = b.rest;
-      holds = rw (kept_append js ks) (holds_more total (begun s).held t.held b.held (kept_of js) (kept_of ks) a.added b.added a.holds b.holds);
+      holds =
+          rw (kept_append js ks) (holds_more total (begun s).held t.held b.held (kept_of js) (kept_of ks) a.added b.added a.holds b.holds);
       answers = b.answers;
       appended = grind (arith, common_steps);
       state = b.state

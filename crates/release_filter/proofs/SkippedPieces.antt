@@ -172,7 +172,8 @@ module _ (t : LinesValue) (front dropped : Text) (none : NoEnd front) (none_drop
               (inr (verdict, refl), tt),
               record {
                 judges =
-                    rw (← ap (λ l. l ∷ []) whole ∙ sym lines) (judged_one t.filter t.prefixes (after_mark t.at_front ((front ++ dropped) ++ [])) invalid (is_one []));
+                    rw (← ap (λ l. l ∷ []) whole ∙ sym lines) (judged_one t.filter t.prefixes (after_mark t.at_front ((front ++ dropped) ++
+                    [])) invalid (is_one []));
                 held = b.held;
                 added = b.added;
                 rest = b.rest;

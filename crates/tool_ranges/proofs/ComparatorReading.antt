@@ -40,7 +40,8 @@ form_signed at_least w t h n = h
 form_signed caret w t h n = h
 
 -- a comparator of its pieces, after which nothing or a comma stands
-made : (s : Simple) (before gap word after v t : Text) → AreBlanks Cargo before → AreBlanks Cargo gap → AreBlanks Cargo after → SpellsPartial s.partial word
+made : (s : Simple) (before gap word after v t : Text) → AreBlanks Cargo before → AreBlanks Cargo gap → AreBlanks Cargo after
+    → SpellsPartial s.partial word
     → is_of_cargo s ≡ true → t ≡ before ++ ((sign s.form ++ gap) ++ (word ++ (after ++ v))) → ComparatorAt t (at_end s v)
 made s before gap word after [] t b g a p r text = search rules
 made s before gap word after (c ∷ v) t b g a p r text = by_test (c == 44)
@@ -177,7 +178,8 @@ comparator_read s w v has e n =
     ap comparator_at whole
     ∙ comparator_here_read s has.word has.after v (behind_blanks Cargo (has.before ++
     ((sign s.form ++ has.gap) ++ x))) has.after_is has.partial has.is_read e n
-    (reads s.form has.before has.gap x has.before_is has.gap_is (starts-append is_word_byte has.word (has.after ++ v) (component_word has.word (partial_starts s.partial has.word has.partial))))
+    (reads s.form has.before has.gap x has.before_is has.gap_is (starts-append is_word_byte has.word (has.after ++ v) (component_word
+    has.word (partial_starts s.partial has.word has.partial))))
 
 pub ended_read : (s : Simple) (t : Text) → SpellsComparator s t → comparator_at t ≡ Some (s, None)
 ended_read s t has = ap comparator_at (sym (append-nil t)) ∙ comparator_read s t [] has refl refl

@@ -46,7 +46,8 @@ list_all-filter p drops (x ∷ xs) = grind (arith, common_steps, by_test, list_a
 list_any-filter : {X : Type 0} (p drops : X → Bool) → ((x : X) → drops x ≡ true → p x ≡ false) → (xs : List X)
     → list_any p (filter (λ x. not (drops x)) xs) ≡ list_any p xs
 list_any-filter p drops fails [] = refl
-list_any-filter p drops fails (x ∷ xs) = grind (arith, common_steps, by_test, list_any-filter p drops fails xs, list_any-filter p drops fails xs)
+list_any-filter p drops fails (x ∷ xs) =
+    grind (arith, common_steps, by_test, list_any-filter p drops fails xs, list_any-filter p drops fails xs)
 
 pub map-filter : {X Y : Type 0} (h : X → Y) (drops : Y → Bool) (xs : List X)
     → map h (filter (λ x. not (drops (h x))) xs) ≡ filter (λ y. not (drops y)) (map h xs)
@@ -60,7 +61,8 @@ pub others_written : (initial rs : List Range) (i : ℕ) (d r : Range) → i < l
     → map range_of (set rs i r) ≡ map others_of (take (i + 1) (map range_of initial)) ++ drop (i + 1) (map range_of initial)
 others_written initial rs i d r within here so_far e =
     map-set range_of rs i r ∙ ap (set (map range_of rs) i) e
-    ∙ map_over_more others_of (map range_of initial) (map range_of rs) i (range_of (get_or rs i d)) (rw (length-map initial range_of) within) so_far
+    ∙ map_over_more others_of (map range_of initial) (map range_of rs) i (range_of (get_or rs i d)) (rw (length-map initial range_of)
+    within) so_far
     (sym (get_or-map range_of rs i d _ here))
 
 -- a range has no comparator but `>=0.0.0` exactly where npm asks nothing by its terms

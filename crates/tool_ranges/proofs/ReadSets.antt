@@ -54,7 +54,8 @@ pub releases_meant : (v : PlainVersion) (tree : List Simple) (t : Text) → Fits
 releases_meant v tree t small h none =
     sym (or-false _)
     ∙ ap (λ b. (is_empty v.pre && meets_set v (rewritten_requirement tree)) || b)
-    (sym (ap (λ b. meets_set v (judging PreReleases tree) && b) (ap (λ (rs : List PlainRange). list_any (meets_range v) rs) none) ∙ and-false _))
+    (sym (ap (λ b. meets_set v (judging PreReleases tree) && b) (ap (λ (rs : List PlainRange). list_any (meets_range v) rs) none)
+    ∙ and-false _))
     ∙ all_meant v tree t small h
 
 -- a refusal in place of another answer

@@ -5,8 +5,8 @@ use Rattle.std.specs.List.{list_all, list_any}
 use Rattle.semver_texts.specs.Texts.{Text, is_empty}
 use Rattle.semver_texts.specs.declared.dialect.Dialect.TheVariants.{Cargo}
 use Rattle.semver_ranges.specs.RangeTree.{Form, is_bare, bare, equal, less, at_most, greater}
-use Rattle.semver_ranges.specs.RangeTree.{at_least, tilde, caret, PartialTree, one, Simple, components}
-use Rattle.semver_ranges.specs.RangeTree.{AreBlanks, qualifier, is_wildcard}
+use Rattle.semver_ranges.specs.RangeTree.{at_least, tilde, caret, PartialTree, one, Simple}
+use Rattle.semver_ranges.specs.RangeTree.{AreBlanks, components, qualifier, is_wildcard}
 use Rattle.semver_texts.specs.Texts.{has_no_leading_zero}
 use Rattle.semver_ranges.specs.RangeTree.{SpellsPartial}
 use Rattle.semver_ranges.specs.Partials.{stated, states_nothing, pre_parts}

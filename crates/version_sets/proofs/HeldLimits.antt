@@ -50,7 +50,8 @@ module _ (p : PlainVersion → Bool) where
     narrowed_holds Lte = both_hold _ (earlier precedence to above) f (earlier_holds to above t b)
     narrowed_holds Gt = both_hold (later precedence from above) _ (later_holds from above f b) t
     narrowed_holds Gte = both_hold (later precedence from at) _ (later_holds from at f a) t
-    narrowed_holds Eq = both_hold (later precedence from at) (earlier precedence to above) (later_holds from at f a) (earlier_holds to above t b)
+    narrowed_holds Eq =
+        both_hold (later precedence from at) (earlier precedence to above) (later_holds from at f a) (earlier_holds to above t b)
 
   -- the switches of spans
   abbrev holds_in : SpanValue PlainVersion → Bool
@@ -59,7 +60,8 @@ module _ (p : PlainVersion → Bool) where
   span_holds : (s : SpanValue PlainVersion) → holds_in s ≡ true → list_all p (span_switches precedence s) ≡ true
   span_holds s e = of s.from s.to e
     where
-      of : (from : PlainVersion) (to : Option PlainVersion) → (p from && holds_at p to) ≡ true → list_all p (from ∷ option_to_list to) ≡ true
+      of : (from : PlainVersion) (to : Option PlainVersion) → (p from && holds_at p to) ≡ true
+          → list_all p (from ∷ option_to_list to) ≡ true
       of from None e = e
       of from (Some to) e = grind arith
 
@@ -74,7 +76,8 @@ module _ (p : PlainVersion → Bool) where
   joined_holds s [] e f = span_holds s e
   joined_holds s (x ∷ xs) e f =
       let both = and_parts (holds_in x) (list_all holds_in xs) f in
-      at (is_below precedence s.to x.from) (span_switches precedence s ++ joined precedence x xs) (joined precedence (met precedence s x) xs)
+      at (is_below precedence s.to x.from) (span_switches precedence s ++ joined precedence x xs) (joined precedence (met precedence s x)
+      xs)
       (list_all-append p (span_switches precedence s) (joined precedence x xs) ∙ rw (span_holds s e) (joined_holds x xs both.0 both.1))
       (joined_holds (met precedence s x) xs (met_holds s x e both.0) both.1)
     where

@@ -9,7 +9,8 @@ ghost use Rattle.semver_parser.specs.RangeViews.{comparator_of, identifier_of, r
 ghost use Rattle.semver_parser.specs.Versions.{PlainVersion};
 ghost use Rattle.version_sets.specs.SetRanges.{release_ranges, pre_release_ranges};
 ghost use Rattle.version_sets.specs.SetRanges.{is_whole, ranges_text, ReadsBack};
-ghost use Rattle.version_sets.specs.SetRanges.{is_lowest_pre as lowest_pre, is_from_lowest as from_lowest};
+ghost use Rattle.version_sets.specs.SetRanges.{is_lowest_pre as lowest_pre};
+ghost use Rattle.version_sets.specs.SetRanges.{is_from_lowest as from_lowest};
 ghost use Rattle.version_sets.specs.VersionSets.{has, IsIn, IsRelease, IsPreRelease};
 
 use crate::intervals::ranges_of;

@@ -11,8 +11,15 @@ returns-in_default c = at_none c.args.requirement.now [] c.args.requirement.now 
 
 pub loop-at-init : goal.loop-at-init
 loop-at-init c =
-    let found = c.in-Some.ensures in
-    ([], c.args.requirement.now, found.0, surveyed_start c.args.requirement.now, (ap comparator_at (sym c.as_bytes.ensures.value) ∙ found.1), found.2)
+    let found = c.in-Some.ensures in (
+      [],
+      c.args.requirement.now,
+      found.0,
+      surveyed_start c.args.requirement.now,
+      (ap comparator_at (sym c.as_bytes.ensures.value)
+          ∙ found.1),
+      found.2,
+    )
 
 pub fits-fit-requires : goal.fits-fit-requires
 fits-fit-requires c = let seen = c.loop-at.invariant in (c.cell_of-cell.ensures (as_read seen.2) seen.5).0

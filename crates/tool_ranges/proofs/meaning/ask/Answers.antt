@@ -50,7 +50,12 @@ returns-in-CargoReleases c =
     let told = subst (Says range w r) (sym c.in-CargoReleases.is)
     (said_so Cargo range _ (λ tree. is_empty w.plain.pre && meets_requirement tree w.plain) r
     (λ tree. refl)
-    (released Cargo range _ v c.ask-in-CargoReleases.result r c.of_releases.ensures (record { refusals = e.refusals; no_memory = e.no_memory; meaning = e.meaning }))) in
+    (released Cargo range _ v c.ask-in-CargoReleases.result r c.of_releases.ensures (record {
+      refusals =
+          e.refusals;
+      no_memory = e.no_memory;
+      meaning = e.meaning;
+    }))) in
     record { refusals = told.refusals; no_memory = told.no_memory; meaning = told.meaning }
 
 pub returns-in-Npm : goal.returns-in-Npm
@@ -85,7 +90,12 @@ returns-in-NpmReleases c =
     let told = subst (Says range w r) (sym c.in-NpmReleases.is)
     (said_so Npm range _ (λ tree. is_empty w.plain.pre && meets_npm tree w.plain) r
     (λ tree. refl)
-    (released Npm range _ v c.ask-in-NpmReleases.result r c.of_releases-in-NpmReleases.ensures (record { refusals = e.refusals; no_memory = e.no_memory; meaning = e.meaning }))) in
+    (released Npm range _ v c.ask-in-NpmReleases.result r c.of_releases-in-NpmReleases.ensures (record {
+      refusals =
+          e.refusals;
+      no_memory = e.no_memory;
+      meaning = e.meaning;
+    }))) in
     record { refusals = told.refusals; no_memory = told.no_memory; meaning = told.meaning }
 
 pub returns-in-Excluded : goal.returns-in-Excluded
@@ -118,7 +128,12 @@ returns-in-Stated c =
     let is = arm.is ∙ ap (Crate arm.compat) c.in-Stated.is in
     let meant : IsSaid (reading.Crate arm.compat) range (λ tree. meets_tree_as_stated arm.compat tree v) c.ask_crate-in-Stated.result =
     said_so (reading.Crate arm.compat) range _ (λ tree. meets_tree_as_stated arm.compat tree v) c.ask_crate-in-Stated.result (λ tree. ap
-    (λ b. list_any (range_met (terms.Crate arm.compat) v b) tree) c.is_release.ensures ∙ stated_said v arm.compat tree) (record { refusals = e.refusals; no_memory = e.no_memory; meaning = e.meaning }) in
+    (λ b. list_any (range_met (terms.Crate arm.compat) v b) tree) c.is_release.ensures ∙ stated_said v arm.compat tree) (record {
+      refusals =
+          e.refusals;
+      no_memory = e.no_memory;
+      meaning = e.meaning;
+    }) in
     let told = subst (Says range w c.ask_crate-in-Stated.result) (sym is)
     (said_so (reading.Crate arm.compat) range _ (λ tree. meant_as (Crate arm.compat Stated) tree w) c.ask_crate-in-Stated.result
     (λ tree. fitting Stated arm.compat w tree fit) meant) in

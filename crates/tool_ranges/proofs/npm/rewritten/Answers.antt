@@ -17,7 +17,8 @@ use Rattle.tool_ranges.proofs.npm.rewritten.Goals as goal
 use Rattle.tool_ranges.proofs.npm.rewritten.Goals.{After-read_by}
 
 answer : (c : After-read_by) → IsAnswer c.args.lower c.args.range.now c.read_by.result
-answer c = rw (← c.as_bytes.ensures.value) (answered_by (written_for c.args.lower Npm) Npm c.args.lower npm_table (set_begun c.args.lower) (λ tree. refl)
+answer c = rw (← c.as_bytes.ensures.value) (answered_by (written_for c.args.lower Npm) Npm c.args.lower npm_table (set_begun c.args.lower)
+    (λ tree. refl)
     dialect.Npm c.as_bytes.result.now _ c.read_by.result refl c.read_by.ensures)
 
 pub returns-clause-refusals : goal.returns-clause-refusals

@@ -22,5 +22,6 @@ returns c = (
   λ h. cc,
   λ any. absurd (
       c.loop-rest.invariant any.0 (omega (arith, length-map c.args.rests.now (λ r. r.now)))
-      (subst (λ t. IsWanted c.args.wanted c.args.reading (c.args.front.now ++ t)) (sym any.3 ∙ (get_or_default (texts c.args.rests.now) any.0 any.1 [] any.2)) any.4)),
+      (subst (λ t. IsWanted c.args.wanted c.args.reading (c.args.front.now ++ t)) (sym any.3
+      ∙ (get_or_default (texts c.args.rests.now) any.0 any.1 [] any.2)) any.4)),
 )

@@ -35,7 +35,8 @@ loop-event-preserved-in-Simple c =
 pub returns-then-not-fit : goal.returns-then-not-fit
 returns-then-not-fit c =
     let so_far = c.loop-event.invariant in
-    let end = (subst (λ d. NextGives d c.loop-event.events None c.next_in.new.self) c.dialect-dialect.ensures c.in_default.ensures.gives).0 so_far.0 so_far.1 in
+    let end = (subst (λ d. NextGives d c.loop-event.events None c.next_in.new.self) c.dialect-dialect.ensures c.in_default.ensures.gives).0
+    so_far.0 so_far.1 in
     large c.args.terms (asked_of c.args.version.now) c.args.counts c.args.text.now
     (so_far.2 ∙ ap (told c.args.terms (asked_of c.args.version.now) c.args.counts c.loop-event.fit c.loop-event.tally) end.0
     ∙ rw c.if-not-fit.true refl)
@@ -43,7 +44,8 @@ returns-then-not-fit c =
 pub returns : goal.returns
 returns c =
     let so_far = c.loop-event.invariant in
-    let end = (subst (λ d. NextGives d c.loop-event.events None c.next_in.new.self) c.dialect-dialect.ensures c.in_default.ensures.gives).0 so_far.0 so_far.1 in
+    let end = (subst (λ d. NextGives d c.loop-event.events None c.next_in.new.self) c.dialect-dialect.ensures c.in_default.ensures.gives).0
+    so_far.0 so_far.1 in
     says c.args.terms (asked_of c.args.version.now) c.args.counts c.args.text.now c.ended.result
     (so_far.2 ∙ ap (told c.args.terms (asked_of c.args.version.now) c.args.counts c.loop-event.fit c.loop-event.tally) end.0
     ∙ rw (c.if-not-fit.false, sym c.ended.ensures) refl)

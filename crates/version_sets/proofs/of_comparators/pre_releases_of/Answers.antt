@@ -12,6 +12,7 @@ use Rattle.version_sets.proofs.of_comparators.pre_releases_of.Goals as goal
 pub returns-clause-meaning : goal.returns-clause-meaning
 returns-clause-meaning c =
     answered_so _ c.switches_of.result c.switches_of.ensures.meaning (λ switches is v kind. is v
-    ∙ ap (λ spans. in_some precedence (map (span_value limit_place) spans) v) c.deref_mut.ensures.value ∙ c.loop-range.invariant.meaning v kind
+    ∙ ap (λ spans. in_some precedence (map (span_value limit_place) spans) v) c.deref_mut.ensures.value
+    ∙ c.loop-range.invariant.meaning v kind
     ∙ ap (list_any (λ range. meets_range_with c.args.rule v (range_of range)))
     (take_all c.loop-range.range-index c.args.ranges.now c.loop-range-test.false))

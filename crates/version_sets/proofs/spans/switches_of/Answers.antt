@@ -19,5 +19,6 @@ returns g c =
       meaning = answered_so _ c.joined.result c.joined.ensures
           (λ switches is. (of (map g.L.Switch.Switch.place switches.items) is).turn);
       holds = answered_so _ c.joined.result c.joined.ensures (λ switches is p.
-          switches_hold place p c.args.spans.now _ c.sort_unstable_by.ensures.permutation (map g.L.Switch.Switch.place switches.items) is.1);
+          switches_hold place p c.args.spans.now _ c.sort_unstable_by.ensures.permutation (map g.L.Switch.Switch.place switches.items)
+          is.1);
     }

@@ -28,7 +28,8 @@ loop-version-preserved c =
       | in-Some+then-is_above w ↦
           let so_far = rw w.in-Some.is at c.loop-version.invariant in
           let above = subst (λ u. precedence u.plain v.plain ≡ Less) so_far.has.0 (w.is_above.ensures.0 w.if-is_above.true) in
-          rw w.greatest-is (rw seen (replaces precedence has total (λ x v w p q. sym p.0 ∙ q.0) before x w.in-Some.other.now v so_far is above))
+          rw w.greatest-is (rw seen (replaces precedence has total (λ x v w p q. sym p.0
+          ∙ q.0) before x w.in-Some.other.now v so_far is above))
       | in-Some+else-is_above w ↦
           let so_far = rw w.in-Some.is at c.loop-version.invariant in
           let low = not_above precedence total v.plain (version_value w.in-Some.other.now).plain

@@ -7,7 +7,8 @@ use Rattle.release_filter.proofs.wanted.Held.finish.Goals as goal
 use Rattle.std.proofs.lemmas.Grind.{common_steps}
 
 pub returns-in_ok-extend_from_slice-in-Passes-clause-answers : goal.returns-in_ok-extend_from_slice-in-Passes-clause-answers
-returns-in_ok-extend_from_slice-in-Passes-clause-answers c = grind (arith, common_steps, concludes_each, held_value, kept_as, verdict_of, text_kept)
+returns-in_ok-extend_from_slice-in-Passes-clause-answers c =
+    grind (arith, common_steps, concludes_each, held_value, kept_as, verdict_of, text_kept)
 
 pub returns-in-NoVersion-clause-answers : goal.returns-in-NoVersion-clause-answers
 returns-in-NoVersion-clause-answers c = grind (arith, common_steps, held_value, fails_kept, concludes_each, append-nil)

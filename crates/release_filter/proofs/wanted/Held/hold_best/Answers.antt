@@ -10,7 +10,11 @@ use Rattle.release_filter.proofs.wanted.Held.hold_best.Goals as goal
 pub returns-then-not-is_better-clause-best : goal.returns-then-not-is_better-clause-best
 returns-then-not-is_better-clause-best c = (
   option_map kept_value c.args.self.now.best,
-  stays c.precedence_is_total.ensures.total c.args.self.now.wanted c.args.self.now.best (record { version = (version_value c.args.version).plain; line = c.args.line.now }) _ c.is_better.ensures c.if-not-is_better.true,
+  stays c.precedence_is_total.ensures.total c.args.self.now.wanted c.args.self.now.best (record {
+    version =
+        (version_value c.args.version).plain;
+    line = c.args.line.now;
+  }) _ c.is_better.ensures c.if-not-is_better.true,
   refl,
 )
 
@@ -21,7 +25,10 @@ returns-in-Some-clause-best c =
     ∙ ap (λ (l : Text). l ++ c.args.line.now) c.clear.ensures.items in (
       Some k,
       replaces c.args.self.now.wanted c.args.self.now.best k _ c.is_better.ensures c.if-not-is_better.false,
-      λ i. record (held_value c.args.self.now) { best = (made_best c.replace.new.dest c.args.version c.replace-bytes.result c.args.line.now c.replace.ensures.after bytes) i },
+      λ i. record (held_value c.args.self.now) {
+        best =
+            (made_best c.replace.new.dest c.args.version c.replace-bytes.result c.args.line.now c.replace.ensures.after bytes) i;
+      },
     )
 
 pub returns-in_default-clause-best : goal.returns-in_default-clause-best
@@ -31,5 +38,8 @@ returns-in_default-clause-best c =
     ∙ ap (λ (l : Text). l ++ c.args.line.now) c.clear.ensures.items in (
       Some k,
       replaces c.args.self.now.wanted c.args.self.now.best k _ c.is_better.ensures c.if-not-is_better.false,
-      λ i. record (held_value c.args.self.now) { best = (made_best c.replace.new.dest c.args.version c.replace-bytes.result c.args.line.now c.replace.ensures.after bytes) i },
+      λ i. record (held_value c.args.self.now) {
+        best =
+            (made_best c.replace.new.dest c.args.version c.replace-bytes.result c.args.line.now c.replace.ensures.after bytes) i;
+      },
     )

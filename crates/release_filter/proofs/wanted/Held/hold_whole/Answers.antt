@@ -12,7 +12,11 @@ returns-then-not-is_better c =
     record {
       best = (
         option_map kept_value c.args.self.now.best,
-        stays c.precedence_is_total.ensures.total c.args.self.now.wanted c.args.self.now.best (record { version = (version_value c.args.version).plain; line = c.args.line.now.items }) _ c.is_better.ensures
+        stays c.precedence_is_total.ensures.total c.args.self.now.wanted c.args.self.now.best (record {
+          version =
+              (version_value c.args.version).plain;
+          line = c.args.line.now.items;
+        }) _ c.is_better.ensures
             c.if-not-is_better.true,
         refl,
       );
@@ -21,7 +25,8 @@ returns-then-not-is_better c =
 pub returns : goal.returns
 returns c =
     let k : KeptValue = record { version = (version_value c.args.version).plain; line = c.args.line.now.items } in
-    let made = ap (λ (l : Text). Some (record { version = (version_value c.args.version).plain; line = l })) (ap (λ (v : Vec ℕ Global). v.items) c.replace-bytes.ensures.value) in
+    let made = ap (λ (l : Text). Some (record { version = (version_value c.args.version).plain; line = l })) (ap (λ (v : Vec ℕ Global).
+    v.items) c.replace-bytes.ensures.value) in
     record {
       best = (
         Some k,
