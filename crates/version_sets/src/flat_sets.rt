@@ -22,8 +22,8 @@ use std::alloc::{AllocError, Global};
 
 impl<'a> FlatSet<'a> {
     // Answer: equation.
-    /// The same set, which can be combined, compared and printed. `Err` is out of memory. Of an empty
-    /// set it does not allocate.
+    /// The same set, which can be combined, compared and printed. `Err` is out of memory. Of an
+    /// empty set it does not allocate.
     pub fn to_set(&self, alloc: Global) -> Result<VersionSet, AllocError>
         ensures set { IfOk result (λ set. set ≡ self.now) }
         // Memory runs out only where the set has a version.
