@@ -93,7 +93,7 @@ some_asked filter (prefix ∷ prefixes) line r some j = j
 -- ---- what a filter says of a line, and what the line is
 
 no_plain : PlainVersion
-no_plain = grind arith
+no_plain = record { major = 0; minor = 0; patch = 0; pre = [] }
 
 pub verdict : (filter : FilterValue) (prefixes : List Text) (line : Text) (said : Judged)
     → JudgesBy (HasVersion filter.dialect (asked prefixes) line) filter said
