@@ -101,7 +101,7 @@ function asksOfCargo (text) {
       const at = places.indexOf(dep.pkg)
       const kinds = dep.dep_kinds.map(({ kind, target }) => `${kind} ${target}`)
       for (const need of it.dependencies) {
-        if (need.name !== graph.packages[at].name || !kinds.includes(`${need.kind} ${need.target}`)) continue
+        if (need.name !== graph.packages[at].name || !kinds.includes(`${need.kind ?? null} ${need.target ?? null}`)) continue
         asks.push({ who: it.name, by: packages[from], name: need.name, spec: need.req, at })
       }
     }
