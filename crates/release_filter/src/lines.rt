@@ -1,6 +1,6 @@
 //! The lines of a text that comes in pieces, and which of them a filter keeps.
 
-ghost use Rattle.std.specs.Prelude.{◌≡◌, ◌≤◌, ◌≢◌, ◌⊎◌, [], true, false, length, map};
+ghost use Rattle.std.specs.Prelude.{◌≡◌, ◌≤◌, ◌<◌, ◌≢◌, ◌⊎◌, [], true, false, length, map};
 ghost use Rattle.std.specs.Prelude.{All, IfErr, IfOk, IsTrue, List, MatchOption, None, not};
 ghost use Rattle.std.specs.Prelude.{string_bytes, take};
 ghost use Rattle.std.specs.Io.{StartsWith};
@@ -151,6 +151,9 @@ impl Lines {
         ensures stops { IfErr result (λ stopped. (stopped.taken ≤ length piece.now)
             × StopsAs stopped.error self.old (take stopped.taken piece.now) self.new
             kept.old.items kept.new.items) }
+        // Memory runs out only before a byte that was not taken.
+        ensures out_of_memory { IfErr result (λ stopped. stopped.error ≡ LinesError.OutOfMemory
+            → stopped.taken < length piece.now) }
     {
         laws::precedence_is_total();
         let _ = &self.unended;
@@ -259,6 +262,7 @@ impl Lines {
             × TakesWhole self.old end.0.now self.new kept.old.items kept.new.items end.1)) }
         ensures unchanged { IfErr result (λ _. (self.new ≡ self.old)
             × (kept.new.items ≡ kept.old.items)) }
+        ensures out_of_memory { IfErr result (λ _. 0 < length bytes.now) }
     {
         if self.at_front || !self.unended.is_empty() {
             let Some(end) = whole_line(bytes) else {
@@ -279,8 +283,12 @@ impl Lines {
         requires { All (λ byte. byte ≢ 10) rest.now }
         ensures takes { IfOk result (λ _. TakesRest self.old rest.now self.new) }
         ensures unchanged { IfErr result (λ _. self.new ≡ self.old) }
+        ensures out_of_memory { IfErr result (λ _. 0 < length rest.now) }
     {
         if self.is_skipped {
+            return Ok(());
+        }
+        if rest.is_empty() {
             return Ok(());
         }
         let seen = self.unended.len();

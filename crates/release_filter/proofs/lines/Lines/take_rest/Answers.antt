@@ -1,6 +1,9 @@
-use Rattle.std.proofs.Common.{◌∙◌, ◌++◌, ap, sym, take}
+use Rattle.std.proofs.Common.{◌≡◌, ◌≢◌, ◌∙◌, ◌++◌, [], ap, append-nil, inl, refl, subst, sym, take}
+use Rattle.std.proofs.lemmas.List.Elements.{All-append, All-same, All-take}
+use Rattle.release_filter.specs.Skipping.{ShowsNone}
 use Rattle.release_filter.specs.declared.lines.Lines.TheView.{view}
 use Rattle.release_filter.proofs.Looks.{left_front}
+use Rattle.release_filter.proofs.Passing.{no_length}
 use Rattle.release_filter.proofs.lines.Lines.take_rest.Goals as goal
 
 pub returns-in-Some-clause-takes : goal.returns-in-Some-clause-takes
@@ -14,3 +17,25 @@ returns-in-Some-clause-takes c =
       rw (← c.self.view_is) (left_front s.chosen.filter.dialect value.prefixes s.at_front (s.unended.items ++ c.args.rest.now)
           c.as_slice-unended.result.now new c.in-Some.size (slice ∙ c.in_ok-extend_from_slice.ensures.items) cut c.in-Some.ensures.some),
     )
+
+pub invariant_of-self-in-Some : goal.invariant_of-self-in-Some
+invariant_of-self-in-Some c =
+    let s = c.self.inside in
+    let prefixes = (view s).prefixes in
+    let dialect = s.chosen.filter.dialect in
+    let whole = c.as_slice-unended.ensures.value ∙ c.in_ok-extend_from_slice.ensures.items in
+    let cut = c.truncate.ensures.items ∙ ap (take c.in-Some.size) (sym c.as_slice-unended.ensures.value) in
+    let shows = subst (ShowsNone dialect prefixes s.at_front) (sym cut) c.in-Some.ensures.some in
+    record {
+      no_end = All-same (λ b. b ≢ 10) _ _ (cut ∙ ap (take c.in-Some.size) whole)
+          (All-take (λ b. b ≢ 10) c.in-Some.size _ (All-append (λ b. b ≢ 10) _ _ c.self.invariant.no_end c.requires));
+      may = shows.fewest;
+      skipped = λ _. shows;
+    }
+
+pub returns-then-is_empty-clause-takes : goal.returns-then-is_empty-clause-takes
+returns-then-is_empty-clause-takes c =
+    let unended = c.self.inside.unended.items in
+    let none = no_length c.args.rest.now (sym c.is_empty.ensures ∙ c.if-is_empty.true) in
+    let same = ap (λ l. unended ++ l) none ∙ append-nil unended in
+    (refl, rw (← c.self.view_is) (inl (sym same, rw same c.self.invariant.may)))
