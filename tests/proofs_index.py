@@ -29,8 +29,9 @@ names:
 - **free**: what the clauses leave open, and the mutant that they still reject, or the file of tests that shows it.
 
 What `Parser::identifier` and `Parser::version` leave if memory ran out is an end part of the tokens, by their clause
-`out_of_memory`; of `identifier` the law fixes it. The clauses of `Lines` don't speak of a reader or a writer: they are
-functions of the bytes. The sort is `Vec::sort_by` of the kit. In C, `refusals` is one clause for all errors of a range,
+`out_of_memory`; of `identifier` the law fixes it. How much of a piece `Lines::push` took if memory ran out is open; what
+it appended is what that much ends. The clauses of `Lines` don't speak of a reader or a writer: they are functions of the
+bytes. The sort is `Vec::sort_by` of the kit. In C, `refusals` is one clause for all errors of a range,
 and what the caller gave to write to is unchanged after an error (`unchanged` and its kin).
 '''
 
