@@ -160,7 +160,7 @@ function main () {
   const made = fs.mkdtempSync(path.join(os.tmpdir(), 'planted-'))
   process.on('exit', () => fs.rmSync(made, { recursive: true }))
   let copies = 0
-  let faults = 0
+  let errors = 0
   for (const file of files) {
     const text = fs.readFileSync(file, 'utf8')
     const parsed = asksOf(text)
@@ -184,10 +184,10 @@ function main () {
         process.exit(1)
       }
       copies += 1
-      faults += plant.wanted.length
+      errors += plant.wanted.length
     }
   }
-  console.log(`${copies} changed copies, ${faults} planted faults: each is listed, and no other`)
+  console.log(`${copies} changed copies, ${errors} planted errors: each is listed, and no other`)
 }
 
 main()

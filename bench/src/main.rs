@@ -10,7 +10,7 @@ mod agreement;
 mod calls;
 mod cells;
 mod distinct;
-mod faults;
+mod errors;
 mod forms;
 mod generation;
 mod growth;
@@ -44,8 +44,8 @@ fn main() -> ExitCode {
     };
     match outcome {
         Ok(()) => ExitCode::SUCCESS,
-        Err(fault) => {
-            eprintln!("{fault}");
+        Err(error) => {
+            eprintln!("{error}");
             ExitCode::FAILURE
         }
     }

@@ -1,7 +1,7 @@
 //! What a set with exact bounds prints, from the fields of the set whose bounds are as they are: a bound that is raised gets the
 //! pre-release `0`, and one that the text states stays. Which is which is told by the signs of the text.
 
-/// What is printed for a text whose set has these fields, or the sentence of its fault.
+/// What is printed for a text whose set has these fields, or the sentence of its error.
 pub fn printed(text: &str, fields: &str) -> String {
     match fields {
         "NotARange" => return "not a range".to_string(),

@@ -15,7 +15,7 @@ pub fn answer(case: &Case) -> String {
     match case.kind {
         Kind::Tokens => lexed(&case.text),
         Kind::Steps => stepped(&case.text, &case.steps),
-        Kind::Versions => or_fault(version::parse(&case.text), |version| fields(&version)),
+        Kind::Versions => or_error(version::parse(&case.text), |version| fields(&version)),
         Kind::Cargo | Kind::CargoExact => ranges::read(&case.text, Compat::Cargo).text(),
         Kind::Npm | Kind::NpmExact => ranges::read(&case.text, Compat::Npm).text(),
     }
@@ -58,21 +58,21 @@ fn stepped(text: &str, steps: &[&str]) -> String {
 
 fn step_answer(parser: &mut Parser, step: &str) -> String {
     match step {
-        "component" => or_fault(parser.component(), component_text),
-        "numeric" => or_fault(parser.numeric(), |number| number.to_string()),
+        "component" => or_error(parser.component(), component_text),
+        "numeric" => or_error(parser.numeric(), |number| number.to_string()),
         "dot_component" => {
-            or_fault(parser.dot_component(), |(component, is_wildcard)| format!("{} {is_wildcard}", component_text(component)))
+            or_error(parser.dot_component(), |(component, is_wildcard)| format!("{} {is_wildcard}", component_text(component)))
         }
-        "dot_numeric" => or_fault(parser.dot_numeric(), |number| number.to_string()),
+        "dot_numeric" => or_error(parser.dot_numeric(), |number| number.to_string()),
         "is_eof" => parser.is_eof().to_string(),
-        "tail" => or_fault(parser.tail(), |tokens| format!("[{}]", tokens_text(&tokens))),
-        "identifier" => or_fault(parser.identifier(), |identifier| identifier_text(&identifier)),
-        "version" => or_fault(parser.version(), |version| fields(&version)),
+        "tail" => or_error(parser.tail(), |tokens| format!("[{}]", tokens_text(&tokens))),
+        "identifier" => or_error(parser.identifier(), |identifier| identifier_text(&identifier)),
+        "version" => or_error(parser.version(), |version| fields(&version)),
         _ => unreachable!("a step of a parser"),
     }
 }
 
-fn or_fault<T>(answer: Result<T, Error>, text: impl FnOnce(T) -> String) -> String {
+fn or_error<T>(answer: Result<T, Error>, text: impl FnOnce(T) -> String) -> String {
     match answer {
         Ok(value) => text(value),
         Err(error) => error_text(&error),

@@ -40,7 +40,7 @@ static const reading_by_name readings[] = {
     {"crate-cargo", SEMVER_PARSER_CRATE_CARGO, SEMVER_PARSER_ALL_PRE_RELEASES},
 };
 
-static int output_fault(unsigned long number) {
+static int output_error(unsigned long number) {
     fprintf(stderr, "line %lu: the output can't be written: %s\n", number, strerror(errno));
     return STOPPED;
 }
@@ -48,7 +48,7 @@ static int output_fault(unsigned long number) {
 /* Prints a line that doesn't hold. */
 static int print(const char *line, size_t length, unsigned long number) {
     if (fwrite(line, 1, length, stdout) != length || putchar('\n') == EOF) {
-        return output_fault(number);
+        return output_error(number);
     }
     return DOES_NOT_HOLD;
 }
@@ -104,7 +104,7 @@ static int check_all(const reading_by_name *by) {
     }
     free(line);
     if (status != STOPPED && fflush(stdout) != 0) {
-        status = output_fault(number - 1);
+        status = output_error(number - 1);
     }
     return status == STOPPED ? CANNOT_BE_CHECKED : status;
 }

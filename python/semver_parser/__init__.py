@@ -25,7 +25,7 @@ libraries.
 """
 
 from .comparing import Comparison, compare_ranges
-from .faults import RangeError, Text, VersionError
+from .errors import RangeError, Text, VersionError
 from .filtering import Filter, greatest, meets
 from .reading import parse_range, parse_version
 from .sets import least

@@ -3,7 +3,7 @@
 from dataclasses import dataclass
 from typing import Optional
 
-from .faults import RangeError, Text, encoded
+from .errors import RangeError, Text, encoded
 from .values import PreReleases, Reading
 from .version_sets import VersionSet
 

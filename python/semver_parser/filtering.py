@@ -9,7 +9,7 @@ import ctypes
 from dataclasses import dataclass, field
 from typing import Iterable, List, Optional, TypeVar
 
-from .faults import Text, encoded, raise_fault
+from .errors import Text, encoded, raise_error
 from .library import LIBRARY, TextItem
 from .reading import numbers_of, parse_version, rule_of
 from .values import (
@@ -25,7 +25,7 @@ from .version_sets import VersionSet
 
 _Given = TypeVar("_Given", bound=AnyVersion)
 
-# What is answered for a version, beside its fault.
+# What is answered for a version, beside its error.
 _DOES_NOT_MEET = 0
 _MEETS = 1
 
@@ -59,7 +59,7 @@ def meets(
         len(version_bytes),
         answered,
     )
-    raise_fault(answer, range, text, reading=reading_number)
+    raise_error(answer, range, text, reading=reading_number)
     return answered.value
 
 
@@ -123,7 +123,7 @@ class Filter:
         return max(kept, key=lambda it: _precedence(it, self.reading)) if kept else None
 
     def _answers(self, texts: List[Text]) -> bytes:
-        """What there is to say of each text, by one call: it meets, it doesn't, or its fault."""
+        """What there is to say of each text, by one call: it meets, it doesn't, or its error."""
         reading_number, rule_number = numbers_of(self.reading, self.pre_releases)
         range_bytes = encoded(self.range)
         kept_bytes = [encoded(text) for text in texts]
@@ -140,7 +140,7 @@ class Filter:
             len(texts),
             answers,
         )
-        raise_fault(answer, range=self.range, reading=reading_number)
+        raise_error(answer, range=self.range, reading=reading_number)
         return answers.raw[: len(texts)]
 
 
@@ -156,7 +156,7 @@ def _refuse(answer: int, text: Text, index: int, reading: Reading, pass_over: bo
     """Raises the error of a version, unless it is skipped. Out of memory never is."""
     try:
         number = None if pass_over else reading.value
-        raise_fault(answer, version=text, index=index, reading=number)
+        raise_error(answer, version=text, index=index, reading=number)
     except ValueError:
         if not pass_over:
             raise

@@ -3,7 +3,7 @@
 import ctypes
 from typing import List, Optional, Tuple
 
-from .faults import NO_ROOM, Text, encoded, raise_fault
+from .errors import NO_ROOM, Text, encoded, raise_error
 from .library import LIBRARY, Part, ReadComparator, ReadVersion
 from .values import (
     Comparator,
@@ -77,7 +77,7 @@ def parse_version(text: Text, reading: Reading = Reading.CARGO) -> Version:
     number = reading_number(reading)
     read, text_bytes = ReadVersion(), encoded(text)
     answer = LIBRARY.semver_parser_parse_version(text_bytes, len(text_bytes), number, read)
-    raise_fault(answer, version=text, reading=number)
+    raise_error(answer, version=text, reading=number)
     pre, build = _identifiers(text_bytes, read.pre), _identifiers(text_bytes, read.build)
     return Version(read.major, read.minor, read.patch, pre, build)
 
@@ -117,5 +117,5 @@ def _comparators(text: Text, reading: int, exact: bool) -> Tuple[List[ReadCompar
         answer = LIBRARY.semver_parser_comparators(
             text_bytes, len(text_bytes), reading, exact, *rooms
         )
-    raise_fault(answer, range=text, reading=reading)
+    raise_error(answer, range=text, reading=reading)
     return comparators[: count.value], pre_releases.raw[: length.value]

@@ -6,7 +6,7 @@ A range is given as its text, and judged by what that means by itself, and not b
 import ctypes
 from typing import Optional
 
-from .faults import NO_ROOM, Text, encoded, raise_fault
+from .errors import NO_ROOM, Text, encoded, raise_error
 from .library import LIBRARY
 from .reading import numbers_of
 from .values import PreReleases, Reading, Version, identifier_of
@@ -40,7 +40,7 @@ def least(
             len(printed),
             length,
         )
-    raise_fault(answer, range=range, reading=reading_number)
+    raise_error(answer, range=range, reading=reading_number)
     return version_of(printed.raw[: length.value]) if length.value else None
 
 

@@ -10,7 +10,7 @@ import re
 from dataclasses import dataclass
 from typing import Tuple, Union
 
-from .faults import Text
+from .errors import Text
 
 Identifier = Union[int, str]
 """An identifier of a pre-release or a build.

@@ -3,7 +3,7 @@
 import ctypes
 from typing import Any, Callable, Optional, Tuple
 
-from .faults import NO_ROOM, Text, encoded, raise_fault
+from .errors import NO_ROOM, Text, encoded, raise_error
 from .library import LIBRARY, FlatSet, Switch
 from .reading import numbers_of
 from .sets import version_of
@@ -61,7 +61,7 @@ class VersionSet:
         answer = LIBRARY.semver_parser_set_has(
             self._flat(), version_bytes, len(version_bytes), number, is_in
         )
-        raise_fault(answer, version=text, reading=number)
+        raise_error(answer, version=text, reading=number)
         return is_in.value
 
     def _combined(self, operation: int, other: object) -> "VersionSet":
@@ -98,7 +98,7 @@ class VersionSet:
         if not isinstance(other, VersionSet):
             return NotImplemented
         within, contains = ctypes.c_bool(), ctypes.c_bool()
-        raise_fault(
+        raise_error(
             LIBRARY.semver_parser_compare_sets(self._flat(), other._flat(), within, contains)
         )
         return within.value
@@ -147,7 +147,7 @@ def _made(
         switches = (Switch * count.value)()
         out = ctypes.create_string_buffer(length.value)
         answer = call(*inputs, switches, len(switches), count, out, len(out), length)
-    raise_fault(answer, range=range, reading=reading)
+    raise_error(answer, range=range, reading=reading)
     return bytes(switches)[: count.value * ctypes.sizeof(Switch)], out.raw[: length.value]
 
 
@@ -157,5 +157,5 @@ def _printed(call: Callable[..., int], inputs: Tuple[Any, ...]) -> bytes:
     while answer == NO_ROOM:
         out = ctypes.create_string_buffer(length.value)
         answer = call(*inputs, out, len(out), length)
-    raise_fault(answer)
+    raise_error(answer)
     return out.raw[: length.value]

@@ -28,8 +28,8 @@ CASES = Path(__file__).resolve().parents[2] / "crates" / "replayed_cases"
 
 _ESCAPES = {"n": "\n", "r": "\r", "t": "\t", "\\": "\\"}
 
-# How the table writes the faults: versions by the front of the name, ranges also as a sentence.
-_VERSION_FAULTS = {
+# How the table writes the errors: versions by the front of the name, ranges also as a sentence.
+_VERSION_ERRORS = {
     "unexpected-end": "UnexpectedEnd",
     "unexpected-token": "UnexpectedToken(",
     "unexpected-char": "Lexer(",
@@ -138,29 +138,29 @@ def _fields_of_set(answered: RangeSet) -> str:
     return f"{answered.compat.name.title()} " + " || ".join(ranges)
 
 
-def _of_version(text: str, show: Callable[[Version], str], faults: Dict[str, str]) -> str:
+def _of_version(text: str, show: Callable[[Version], str], errors: Dict[str, str]) -> str:
     try:
         return show(parse_version(text, Reading.CRATE_CARGO))
     except VersionError as error:
-        return faults[error.name]
+        return errors[error.name]
 
 
 def _of_range(
-    text: str, npm: bool, exact: bool, show: Callable[[RangeSet], str], faults: Dict[str, str]
+    text: str, npm: bool, exact: bool, show: Callable[[RangeSet], str], errors: Dict[str, str]
 ) -> str:
     try:
         return show(parse_range(text, _reading(npm), exact))
     except RangeError as error:
-        return faults[error.name]
+        return errors[error.name]
 
 
 def _report(text: str) -> str:
     """The lines of the program, whose status is 0 where one of them has a value."""
-    faults = {name: name for name in (*_VERSION_FAULTS, *_RANGE_NAMES)}
-    version = _of_version(text, str, faults)
-    cargo = _of_range(text, False, False, str, faults)
-    npm = _of_range(text, True, False, str, faults)
-    status = int(all(value in faults for value in (version, cargo, npm)))
+    errors = {name: name for name in (*_VERSION_ERRORS, *_RANGE_NAMES)}
+    version = _of_version(text, str, errors)
+    cargo = _of_range(text, False, False, str, errors)
+    npm = _of_range(text, True, False, str, errors)
+    status = int(all(value in errors for value in (version, cargo, npm)))
     return f"version: {version}; cargo: {cargo}; npm: {npm}; status {status}"
 
 
@@ -194,10 +194,10 @@ def answer(call: str, text: str, steps: str) -> Optional[str]:
     name, _, last = call.partition("-")
     npm = "npm" in call
     if call in ("version", "read"):
-        faults = _VERSION_FAULTS if call == "version" else dict.fromkeys(_VERSION_FAULTS, "none")
-        return _of_version(text, fields_of_version, faults)
+        errors = _VERSION_ERRORS if call == "version" else dict.fromkeys(_VERSION_ERRORS, "none")
+        return _of_version(text, fields_of_version, errors)
     if call == "version-text":
-        return _of_version(text, str, _VERSION_FAULTS)
+        return _of_version(text, str, _VERSION_ERRORS)
     if call in ("cargo", "npm"):
         return _of_range(text, npm, False, _fields_of_set, _RANGE_NAMES)
     if call in ("cargo-text", "npm-text", "from-str", "cargo-exact", "npm-exact"):

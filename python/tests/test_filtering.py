@@ -130,7 +130,7 @@ class Meeting(unittest.TestCase):
 
     def test_rules_of_readings(self) -> None:
         """Each reading takes its own rules, and refuses the others in every call alike, whatever
-        the texts are, and before any fault of these."""
+        the texts are, and before any error of these."""
         calls = [
             lambda *by: meets("^1", "1.2.3", *by),
             lambda *by: meets("^", "x", *by),
@@ -184,7 +184,7 @@ class Meeting(unittest.TestCase):
             self.assertIs(Filter("1", reading).pre_releases, taken)
             self.assertEqual(Filter("1", reading), Filter("1", reading, taken))
 
-    def test_faults(self) -> None:
+    def test_errors(self) -> None:
         for call in (meets, lambda text, version: Filter(text).meets(version)):
             with self.assertRaises(RangeError) as of_range:
                 call("v1", "v1")
@@ -277,7 +277,7 @@ class Kept(unittest.TestCase):
         self.assertEqual(Filter("^1.2").kept([]), [])
         self.assertEqual(Filter("^1.2").kept(iter(given)), kept)
 
-    def test_faults(self) -> None:
+    def test_errors(self) -> None:
         given = ["1.2.0", "1.2", "\ud800", "1.2.3/", "1.4.0"]
         for reading, name, sentence in (
             (Reading.CARGO, "not-a-version", "not a version"),
@@ -447,7 +447,7 @@ class Greatest(unittest.TestCase):
         given.reverse()
         self.assertEqual(greatest("^1", given), Version(1, 2, 0))
 
-    def test_faults(self) -> None:
+    def test_errors(self) -> None:
         for call in (Filter("*").greatest, Filter("*").kept, partial(greatest, "*")):
             with self.assertRaises(VersionError) as caught:
                 call(["1.2.3", "x"])

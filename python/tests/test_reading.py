@@ -1,4 +1,4 @@
-"""Versions and ranges as they are read, as plain data, and the faults of texts."""
+"""Versions and ranges as they are read, as plain data, and the errors of texts."""
 
 import copy
 import dataclasses
@@ -25,7 +25,7 @@ from semver_parser import (
     parse_range,
     parse_version,
 )
-from semver_parser.faults import raise_fault
+from semver_parser.errors import raise_error
 
 MOST = 2**64 - 1
 
@@ -335,9 +335,9 @@ READINGS = [
 ]
 
 
-class Faults(unittest.TestCase):
+class Errors(unittest.TestCase):
     def refuses_version(self, text: Text, name: str) -> None:
-        """By the crate's readings the name is that of the fault, and by the tools' one."""
+        """By the crate's readings the name is that of the error, and by the tools' one."""
         of_tool = name if name == "not-utf8" else "not-a-version"
         for reading in Reading:
             with self.assertRaises(VersionError) as caught:
@@ -431,7 +431,7 @@ class Faults(unittest.TestCase):
         """The answers for it, of which the header has one for each kind of text."""
         for answer in (9, 13):
             with self.assertRaises(MemoryError):
-                raise_fault(answer, "1.2.3", "1.2.3")
+                raise_error(answer, "1.2.3", "1.2.3")
 
     def test_other_types(self) -> None:
         for value in (None, 1, bytearray(b"1.2.3"), Version(1, 2, 3)):

@@ -14,7 +14,7 @@ from semver_parser import (
     compare_ranges,
     least,
 )
-from semver_parser.faults import raise_fault
+from semver_parser.errors import raise_error
 
 OF_CRATE = (PreReleases.EXCLUDED, PreReleases.STATED, PreReleases.INCLUDED)
 CRATE = (Reading.CRATE_CARGO, Reading.CRATE_NPM)
@@ -190,7 +190,7 @@ class ComparedTest(unittest.TestCase):
         self.assertEqual((str(compared.lost), bool(compared.gained)), ("=1999.0.0", False))
         self.assertEqual(str(compared.shared), " || ".join(many[:1999]))
 
-    def test_faults(self) -> None:
+    def test_errors(self) -> None:
         raised_bound = f"<={MOST}"
         for old, new, which, name in [
             ("^", "^1", "old", "not-a-range"),
@@ -212,7 +212,7 @@ class ComparedTest(unittest.TestCase):
         with self.assertRaisesRegex(RangeError, r"^not a range, in the new range: 'v1' \(Cargo takes no"):
             compare_ranges("^1", "v1")
         with self.assertRaises(MemoryError):
-            raise_fault(19, range="^1")
+            raise_error(19, range="^1")
         with self.assertRaises(RangeError) as alone:
             least("v1")
         self.assertIsNone(alone.exception.which)
@@ -247,7 +247,7 @@ class LeastTest(unittest.TestCase):
         self.assertEqual(least(b"^1.2.3-rc"), Version(1, 2, 3, ("rc",)))
         self.assertEqual(least("<2.0.0"), Version(0, 0, 0))
 
-    def test_faults(self) -> None:
+    def test_errors(self) -> None:
         for range, name in [("v1", "not-a-range"), (b"\xff", "not-utf8"), ("\ud800", "not-utf8")]:
             with self.assertRaises(RangeError) as raised:
                 least(range)

@@ -57,7 +57,7 @@ static int32_t read_version_at(
         require(out->build.length == 0 || of->bytes[out->build.offset - 1] == '+',
             "a build without its plus", of);
     } else {
-        require(is_filled(out, FILL, sizeof *out), "a version at a fault", of);
+        require(is_filled(out, FILL, sizeof *out), "a version at an error", of);
     }
     return answer;
 }
@@ -147,10 +147,10 @@ static int32_t precedence_at(const text *version, const text *other, int32_t rea
     free(bytes);
     free(other_bytes);
     bool is_ok = answer == SEMVER_PARSER_OK;
-    require(is_ok ? *order >= -1 && *order <= 1 : *order == UNTOLD, "an order at a fault, or none",
+    require(is_ok ? *order >= -1 && *order <= 1 : *order == UNTOLD, "an order at an error, or none",
         version);
-    bool is_fault_of_text = !is_ok && answer != SEMVER_PARSER_NO_SUCH_READING;
-    require(is_fault_of_text || *in_other == before, "a text at fault where none is", version);
+    bool is_error_of_text = !is_ok && answer != SEMVER_PARSER_NO_SUCH_READING;
+    require(is_error_of_text || *in_other == before, "a text at fault where none is", version);
     return answer;
 }
 
@@ -162,9 +162,9 @@ int32_t precedence(
     require(precedence_at(version, other, reading, &again_order, &again_in_other, true, true)
                 == answer,
         "another answer at null", version);
-    bool is_fault_of_text =
+    bool is_error_of_text =
         answer != SEMVER_PARSER_OK && answer != SEMVER_PARSER_NO_SUCH_READING;
-    require(again_order == *order && (!is_fault_of_text || again_in_other == *in_other),
+    require(again_order == *order && (!is_error_of_text || again_in_other == *in_other),
         "another order at null", version);
     return answer;
 }
@@ -228,16 +228,16 @@ static void require_kept(int which, int32_t answer, const rooms *to, const text 
     require(is_filled(to->comparators + to->comparator_room, GUARD, comparator_size),
         "a comparator behind the room", of);
     bool told = answer == SEMVER_PARSER_OK || answer == SEMVER_PARSER_NO_ROOM;
-    require(told == (to->length != UNTOLD), "another length at a fault", of);
+    require(told == (to->length != UNTOLD), "another length at an error", of);
     require(
-        (told && which == COMPARATORS) == (to->count != UNTOLD), "another count at a fault", of);
+        (told && which == COMPARATORS) == (to->count != UNTOLD), "another count at an error", of);
     size_t written = answer == SEMVER_PARSER_OK ? to->length : 0;
     size_t put = answer == SEMVER_PARSER_OK && which == COMPARATORS ? to->count : 0;
     require(written <= to->room && put <= to->comparator_room, "more than there is room for", of);
     require(is_filled(to->out + written, FILL, to->room - written),
-        "a byte behind what was put, or at a fault", of);
+        "a byte behind what was put, or at an error", of);
     require(is_filled(to->comparators + put, FILL, (to->comparator_room - put) * comparator_size),
-        "a comparator behind the set, or at a fault", of);
+        "a comparator behind the set, or at an error", of);
 }
 
 static bool is_same_comparator(
@@ -345,18 +345,18 @@ static void require_printed(const text *of, const text *set, const comparator_li
     text_free(&printed);
 }
 
-/* A fault of a range, which both calls have to answer. */
-static int32_t require_fault(const text *of, int32_t reading, bool exact, int32_t fault) {
+/* An error of a range, which both calls have to answer. */
+static int32_t require_error(const text *of, int32_t reading, bool exact, int32_t error) {
     for (int which = PRINTED; which <= COMPARATORS; which++) {
         for (int case_of = 0; case_of < 4; case_of++) {
             rooms to = rooms_of(case_of % 2 == 0 ? 0 : 64, case_of % 2 == 0 ? 0 : 8);
             int32_t answer = call(which, of, reading, exact, &to, case_of >= 2);
-            require(answer == fault, "another fault", of);
+            require(answer == error, "another error", of);
             require_kept(which, answer, &to, of);
             free_rooms(&to);
         }
     }
-    return fault;
+    return error;
 }
 
 /* What a call puts into rooms of the size that it asks for. */
@@ -379,7 +379,7 @@ int32_t rewrite(const text *of, int32_t reading, bool exact, text *printed,
     free_rooms(&none);
     if (answer != SEMVER_PARSER_NO_ROOM) {
         require(answer != SEMVER_PARSER_OK, "a set of no bytes", of);
-        return require_fault(of, reading, exact, answer);
+        return require_error(of, reading, exact, answer);
     }
     rooms of_set = filled_rooms(PRINTED, of, reading, exact);
     rooms of_comparators = filled_rooms(COMPARATORS, of, reading, exact);
@@ -419,7 +419,7 @@ static int32_t meets_one(const text *range, int32_t reading, int32_t pre_release
         at_null && version->length == 0 ? NULL : version_bytes, version->length, &met);
     free(range_bytes);
     free(version_bytes);
-    require(answer == SEMVER_PARSER_OK || met == before, "an answer at a fault", range);
+    require(answer == SEMVER_PARSER_OK || met == before, "an answer at an error", range);
     return answer != SEMVER_PARSER_OK ? answer
            : met                      ? (int32_t)SEMVER_PARSER_MEETS
                                       : (int32_t)SEMVER_PARSER_DOES_NOT_MEET;
@@ -453,7 +453,7 @@ static void require_each(const text *range, int32_t reading, int32_t pre_release
     }
     size_t written = read ? count : 0;
     require(is_filled(answers + written, FILL, sizeof answers - written),
-        "a byte behind the answers, or at a fault", range);
+        "a byte behind the answers, or at an error", range);
     free(range_bytes);
     free(version_bytes);
     free(versions_block);
@@ -478,7 +478,7 @@ int32_t meets(const text *range, int32_t reading, int32_t pre_releases, const te
 /* ---- the least version */
 
 /* Asks for it in a room of some length. What is behind what was written has to be as it was, and
- * all of it at a fault. */
+ * all of it at an error. */
 static int32_t least_in(const text *range, int32_t reading, int32_t pre_releases, uint8_t *out,
                         size_t room, size_t *length, bool at_null) {
     uint8_t *range_bytes = alone(range);
@@ -490,9 +490,9 @@ static int32_t least_in(const text *range, int32_t reading, int32_t pre_releases
     free(range_bytes);
     size_t written = answer == SEMVER_PARSER_OK ? *length : 0;
     require(written <= room && is_filled(out + written, FILL, room + 1 - written),
-        "a byte behind the version, or at a fault", range);
+        "a byte behind the version, or at an error", range);
     require(answer == SEMVER_PARSER_OK || answer == SEMVER_PARSER_NO_ROOM || *length == 777,
-        "a length at a fault", range);
+        "a length at an error", range);
     return answer;
 }
 
@@ -527,7 +527,7 @@ int32_t least(const text *range, int32_t reading, int32_t pre_releases, text *pr
 /* ---- two ranges */
 
 /* Compares in a room of some length. What is behind what was written has to be as it was, and all
- * of it at a fault. */
+ * of it at an error. */
 static int32_t compare_in(const text *old_range, const text *new_range, int32_t reading,
                           int32_t pre_releases, uint8_t *out, size_t room, size_t *length,
                           semver_parser_comparison *told, bool at_null) {
@@ -544,10 +544,10 @@ static int32_t compare_in(const text *old_range, const text *new_range, int32_t 
     free(new_bytes);
     size_t written = answer == SEMVER_PARSER_OK ? *length : 0;
     require(written <= room && is_filled(out + written, FILL, room + 1 - written),
-        "a byte behind the versions, or at a fault", old_range);
+        "a byte behind the versions, or at an error", old_range);
     bool is_told = answer == SEMVER_PARSER_OK || answer == SEMVER_PARSER_NO_ROOM;
     require(is_told || (*length == 777 && is_filled(told, FILL, sizeof *told)),
-        "a comparison at a fault", old_range);
+        "a comparison at an error", old_range);
     return answer;
 }
 
@@ -579,18 +579,18 @@ static bool is_same_comparison(
            is_same_part(one->shared, other->shared);
 }
 
-/* A fault, which has to come in each room. */
+/* An error, which has to come in each room. */
 static int32_t require_no_comparison(const text *old_range, const text *new_range, int32_t reading,
-                                     int32_t pre_releases, int32_t fault) {
+                                     int32_t pre_releases, int32_t error) {
     uint8_t out[65];
     for (size_t room = 0; room <= 64; room += 32) {
         semver_parser_comparison told;
         size_t length;
         int32_t answer = compare_in(old_range, new_range, reading, pre_releases, out, room, &length,
                                     &told, room == 0);
-        require(answer == fault, "another fault in another room", old_range);
+        require(answer == error, "another error in another room", old_range);
     }
-    return fault;
+    return error;
 }
 
 int32_t compare(const text *old_range, const text *new_range, int32_t reading, int32_t pre_releases,

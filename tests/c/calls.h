@@ -19,12 +19,12 @@ int32_t explain_version(const text *of, int32_t reading, size_t *place);
 int32_t explain_range(const text *of, int32_t reading, size_t *place, int32_t *hint);
 
 /* How a version text compares with another by a reading: OK with -1, 0 or 1 in `order`, or the
- * fault with whether it is the other's in `in_other`, which is false if there is no such reading.
+ * error with whether it is the other's in `in_other`, which is false if there is no such reading.
  * An empty text is passed at null too. */
 int32_t precedence(
     const text *version, const text *other, int32_t reading, int32_t *order, bool *in_other);
 
-/* Whether a number is the fault of a version, or no fault. */
+/* Whether a number is the error of a version, or no error. */
 bool is_of_version(int32_t answer);
 
 /* Comparators in order, and the bytes that have their pre-releases. */
@@ -45,11 +45,11 @@ void free_comparators(comparator_list *comparators);
 /* The operator of a comparator, as it is printed. */
 const char *operator_text(int32_t op);
 
-/* Whether a version text meets a range text: SEMVER_PARSER_MEETS or _DOES_NOT_MEET, or the fault.
+/* Whether a version text meets a range text: SEMVER_PARSER_MEETS or _DOES_NOT_MEET, or the error.
  * It asks for one and for many, which have to agree. */
 int32_t meets(const text *range, int32_t reading, int32_t pre_releases, const text *version);
 
-/* The least version that a range text means: it is appended to `printed`, or the fault is answered.
+/* The least version that a range text means: it is appended to `printed`, or the error is answered.
  * It tries a room of each length up to one past what is needed (of a version above 300 bytes, of
  * some lengths), and at null where the room or the text is empty. */
 int32_t least(const text *range, int32_t reading, int32_t pre_releases, text *printed);
@@ -62,7 +62,7 @@ typedef struct {
     text shared;
 } compared;
 
-/* Compares two range texts, or answers the fault and leaves `told` alone. It tries a room of each
+/* Compares two range texts, or answers the error and leaves `told` alone. It tries a room of each
  * length up to one past what is needed (of more than 300 bytes, of some lengths), and at null where
  * the room or a text is empty. The parts have to lie one behind the other. */
 int32_t compare(const text *old_range, const text *new_range, int32_t reading, int32_t pre_releases,

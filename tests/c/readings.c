@@ -164,17 +164,17 @@ static void order_is(
     text_free(&other);
 }
 
-static void order_fault_is(int32_t reading, const char *bytes, int32_t fault) {
+static void order_error_is(int32_t reading, const char *bytes, int32_t error) {
     text faulty = string(bytes);
     text version = string("1.2.3-rc.1+b");
     int32_t order;
     bool in_other;
-    check(precedence(&faulty, &version, reading, &order, &in_other) == fault && !in_other,
-        "another fault of an order", reading, bytes);
-    check(precedence(&version, &faulty, reading, &order, &in_other) == fault && in_other,
-        "another fault of the other version", reading, bytes);
-    check(precedence(&faulty, &faulty, reading, &order, &in_other) == fault && !in_other,
-        "another fault of both", reading, bytes);
+    check(precedence(&faulty, &version, reading, &order, &in_other) == error && !in_other,
+        "another error of an order", reading, bytes);
+    check(precedence(&version, &faulty, reading, &order, &in_other) == error && in_other,
+        "another error of the other version", reading, bytes);
+    check(precedence(&faulty, &faulty, reading, &order, &in_other) == error && !in_other,
+        "another error of both", reading, bytes);
     text_free(&faulty);
     text_free(&version);
 }
@@ -189,7 +189,7 @@ static void versions(void) {
             if (answer == OK) {
                 order_is(reading, row->bytes, row->bytes, 0);
             } else {
-                order_fault_is(reading, row->bytes, answer);
+                order_error_is(reading, row->bytes, answer);
             }
         }
         text_free(&of);
@@ -267,7 +267,7 @@ static void versions_in_order(void) {
 #define MOST "18446744073709551615"
 
 /* A text, and what it is rewritten to by each reading, with exact bounds, or the word of its
- * fault. */
+ * error. */
 typedef struct {
     const char *range;
     const char *sets[READINGS];
@@ -319,7 +319,7 @@ static const rewriting rewritings[] = {
     {"<=" MOST, IN_ALL(too_large)},
 };
 
-static const char *fault_word(int32_t answer) {
+static const char *error_word(int32_t answer) {
     switch (answer) {
     case SEMVER_PARSER_NOT_A_RANGE: return not_a_range;
     case SEMVER_PARSER_NUMBER_TOO_LARGE: return too_large;
@@ -344,7 +344,7 @@ static text with_plain_bounds(const char *set) {
 static void is_rewritten(int32_t reading, bool exact, const text *of, const char *wanted) {
     text printed = {NULL, 0, 0};
     int32_t answer = rewrite(of, reading, exact, &printed, NULL);
-    const char *told = answer == SEMVER_PARSER_OK ? printed.bytes : fault_word(answer);
+    const char *told = answer == SEMVER_PARSER_OK ? printed.bytes : error_word(answer);
     check(strcmp(told, wanted) == 0, exact ? "another set" : "another set without exact bounds",
           reading, of->bytes);
     text_free(&printed);
@@ -355,8 +355,8 @@ static void rewritten(void) {
         text of = string(rewritings[at].range);
         for (int32_t reading = 0; reading < READINGS; reading++) {
             const char *exact = rewritings[at].sets[reading];
-            bool is_fault = exact == not_a_range || exact == too_large;
-            text plain = is_of_tool(reading) || is_fault ? string(exact) : with_plain_bounds(exact);
+            bool is_error = exact == not_a_range || exact == too_large;
+            text plain = is_of_tool(reading) || is_error ? string(exact) : with_plain_bounds(exact);
             is_rewritten(reading, true, &of, exact);
             is_rewritten(reading, false, &of, plain.bytes);
             text_free(&plain);
@@ -531,12 +531,12 @@ static void many(void) {
     static const char *const texts_of[] = {"1.2.3", "2.0.0", "1.2.3-rc", "1.3.0-rc", "1.9.9+b",
         "v1", "", "1.2.3 4", "\xFF", "v1.2.3", " 1.2.3", "1.2.3-c--d", "1.2.3-c.01"};
     enum { COUNT = sizeof texts_of / sizeof *texts_of };
-    /* Whether each meets by each rule if it is a version, and its fault by each reading. */
+    /* Whether each meets by each rule if it is a version, and its error by each reading. */
     static const uint8_t meets_by_rule[RULES][COUNT] = {{1, 0, 0, 0, 1, 0, 0, 0, 0, 1, 1, 0, 0},
                                                         {1, 0, 1, 0, 1, 0, 0, 0, 0, 1, 1, 1, 1},
                                                         {1, 0, 1, 1, 1, 0, 0, 0, 0, 1, 1, 1, 1},
                                                         {1, 0, 1, 0, 1, 0, 0, 0, 0, 1, 1, 1, 1}};
-    static const uint8_t faults[READINGS][COUNT] = {
+    static const uint8_t errors[READINGS][COUNT] = {
         {0, 0, 0, 0, 0, NONE, NONE, NONE, NOT_UTF8, NONE, NONE, 0, NONE},
         {0, 0, 0, 0, 0, NONE, NONE, NONE, NOT_UTF8, 0, 0, 0, NONE},
         {0, 0, 0, 0, 0, TOKEN, END, MORE, NOT_UTF8, TOKEN, 0, TOKEN, 0},
@@ -550,8 +550,8 @@ static void many(void) {
             for (size_t at = 0; at < COUNT; at++) {
                 texts[at].bytes = (const uint8_t *)texts_of[at];
                 texts[at].length = strlen(texts_of[at]);
-                uint8_t fault = faults[reading][at];
-                wanted[at] = fault != 0 ? fault : meets_by_rule[rule][at];
+                uint8_t error = errors[reading][at];
+                wanted[at] = error != 0 ? error : meets_by_rule[rule][at];
             }
             memset(answers, 0xA5, COUNT);
             int32_t answer =
@@ -670,17 +670,17 @@ static text texts[TEXTS];
 
 /* What the calls answer that ask what a range means: of a version and of many, of the least one,
  * and of two ranges. */
-static void meaning_is_refused(int32_t reading, int32_t rule, int32_t fault) {
+static void meaning_is_refused(int32_t reading, int32_t rule, int32_t error) {
     for (int at = 0; at < TEXTS; at++) {
         const text *range = &texts[at];
         const text *other = &texts[TEXTS - 1 - at];
         text printed = string("");
         compared told = {{NULL, 0, 0}, {NULL, 0, 0}, {NULL, 0, 0}};
-        check(meets(range, reading, rule, other) == fault, "a version is judged", reading,
+        check(meets(range, reading, rule, other) == error, "a version is judged", reading,
               range->bytes);
-        check(least(range, reading, rule, &printed) == fault, "a least version is told", reading,
+        check(least(range, reading, rule, &printed) == error, "a least version is told", reading,
               range->bytes);
-        check(compare(range, other, reading, rule, &told) == fault, "two ranges are compared",
+        check(compare(range, other, reading, rule, &told) == error, "two ranges are compared",
               reading, range->bytes);
         free_compared(&told);
         text_free(&printed);
@@ -715,14 +715,14 @@ static void versions_are_refused(int32_t reading) {
     }
 }
 
-/* That a number is one of a rule of a reading is seen by the fault of the text that isn't UTF-8. */
+/* That a number is one of a rule of a reading is seen by the error of the text that isn't UTF-8. */
 static void rule_is_taken(int32_t reading, int32_t rule) {
     text range = string("1");
     text version = string("1.0.0");
     text not_utf8 = string("\xFF");
     check(meets(&range, reading, rule, &version) == YES, "no rule of that number", reading, "1");
     check(meets(&not_utf8, reading, rule, &version) == SEMVER_PARSER_RANGE_NOT_UTF8,
-          "another fault of the bytes", reading, "1");
+          "another error of the bytes", reading, "1");
     text_free(&range);
     text_free(&version);
     text_free(&not_utf8);

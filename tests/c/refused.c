@@ -178,7 +178,7 @@ static void least_takes(const char *range, bool some, int32_t wanted, size_t byt
             range, request);
         check(answered == SEMVER_PARSER_OK ||
                   (out[0] == 'x' && memcmp(out, out + 1, sizeof out - 1) == 0),
-            "a byte at a fault", range, request);
+            "a byte at an error", range, request);
         check(taken == 0, "memory is kept", range, request);
         request++;
     } while (refused && request < 100);
@@ -293,7 +293,7 @@ static void comparison_takes(
             "another length of a comparison", old_range, request);
         bool is_kept = out[0] == 'x' && memcmp(out, out + 1, sizeof out - 1) == 0 &&
                        put[0] == 'x' && memcmp(put, put + 1, sizeof told - 1) == 0;
-        check(answered == SEMVER_PARSER_OK || is_kept, "something changed at a fault", old_range,
+        check(answered == SEMVER_PARSER_OK || is_kept, "something changed at an error", old_range,
             request);
         check(taken == 0, "memory is kept", old_range, request);
         request++;
@@ -301,7 +301,7 @@ static void comparison_takes(
     check(!refused && (request > 1) == some, "another number of requests", old_range, request);
 }
 
-/* Many texts, of which the second takes requests to tell its fault by the crate's readings, and one
+/* Many texts, of which the second takes requests to tell its error by the crate's readings, and one
  * is at null where that is asked for: the texts are copied then, before the range is read. */
 static void many_take(const char *range, bool at_null, int32_t wanted) {
     const semver_parser_text versions[] = {{(const uint8_t *)"1.2.3", 5},
@@ -327,7 +327,7 @@ static void many_take(const char *range, bool at_null, int32_t wanted) {
             check(answers[3] == SEMVER_PARSER_DOES_NOT_MEET, "the answer behind a refusal", range,
                 request);
         } else {
-            check(memcmp(answers, "xxxx", 4) == 0, "an answer at a fault", range, request);
+            check(memcmp(answers, "xxxx", 4) == 0, "an answer at an error", range, request);
         }
         check(taken == 0, "memory is kept", range, request);
         request++;
@@ -348,7 +348,7 @@ static void few_take_none(const char *range, int32_t wanted) {
     }
 }
 
-/* A version takes none by any reading, nor does its fault by a tool's own. By the crate's the fault
+/* A version takes none by any reading, nor does its error by a tool's own. By the crate's the error
  * takes what is read before it. */
 static void versions_take_by_reading(void) {
     const int32_t none = SEMVER_PARSER_NOT_A_VERSION;

@@ -15,7 +15,7 @@
 
 /* ---- how the table writes an answer */
 
-static const char *version_fault(int32_t answer) {
+static const char *version_error(int32_t answer) {
     switch (answer) {
     case SEMVER_PARSER_UNEXPECTED_END: return "UnexpectedEnd";
     case SEMVER_PARSER_UNEXPECTED_TOKEN: return "UnexpectedToken(";
@@ -35,10 +35,10 @@ static const char *version_word(int32_t answer) {
     }
 }
 
-/* The fault of a range: by the name of its case, as a sentence, and as a word. */
+/* The error of a range: by the name of its case, as a sentence, and as a word. */
 enum { BY_NAME, BY_SENTENCE, BY_WORD };
 
-static const char *range_fault(int32_t answer, int how) {
+static const char *range_error(int32_t answer, int how) {
     static const char *const not_a_range[] = {"NotARange", "not a range", "not-a-range"};
     static const char *const number_too_large[] = {
         "NumberTooLarge", "number too large", "number-too-large"};
@@ -53,7 +53,7 @@ static void say_version(text *to, const text *of) {
     semver_parser_version version;
     int32_t answer = read_version(of, SEMVER_PARSER_CRATE_CARGO, &version);
     if (answer != SEMVER_PARSER_OK) {
-        text_say(to, "%s", version_fault(answer));
+        text_say(to, "%s", version_error(answer));
         return;
     }
     say_fields(to, of, &version);
@@ -84,7 +84,7 @@ static void say_set(text *to, const text *of, int32_t reading) {
     comparator_list list = {NULL, 0, {NULL, 0, 0}};
     int32_t answer = rewrite(of, reading, false, &printed, &list);
     if (answer != SEMVER_PARSER_OK) {
-        text_say(to, "%s", range_fault(answer, BY_NAME));
+        text_say(to, "%s", range_error(answer, BY_NAME));
         return;
     }
     text_say(to, reading == SEMVER_PARSER_CRATE_NPM ? "Npm" : "Cargo");
@@ -103,7 +103,7 @@ static void say_set(text *to, const text *of, int32_t reading) {
 static bool say_printed_set(text *to, const text *of, int32_t reading, bool exact, int how) {
     int32_t answer = rewrite(of, reading, exact, to, NULL);
     if (answer != SEMVER_PARSER_OK) {
-        text_say(to, "%s", range_fault(answer, how));
+        text_say(to, "%s", range_error(answer, how));
     }
     return answer == SEMVER_PARSER_OK;
 }
@@ -125,13 +125,13 @@ static void say_report(text *to, const text *of) {
 static void say_met(text *to, const text *range, int32_t reading, int32_t pre_releases,
                     const text *list) {
     text ignored = {NULL, 0, 0};
-    int32_t fault = rewrite(range, reading, false, &ignored, NULL);
+    int32_t error = rewrite(range, reading, false, &ignored, NULL);
     text_free(&ignored);
-    if (fault != SEMVER_PARSER_OK) {
+    if (error != SEMVER_PARSER_OK) {
         text version = {NULL, 0, 0};
         text_say(&version, "1.2.3");
-        bool same = meets(range, reading, pre_releases, &version) == fault;
-        text_say(to, "%s", same ? range_fault(fault, BY_SENTENCE) : "another fault");
+        bool same = meets(range, reading, pre_releases, &version) == error;
+        text_say(to, "%s", same ? range_error(error, BY_SENTENCE) : "another error");
         text_free(&version);
         return;
     }
@@ -148,7 +148,7 @@ static void say_met(text *to, const text *range, int32_t reading, int32_t pre_re
             say_printed_version(to, &version);
             text_say(to, " ");
         } else if (answer != SEMVER_PARSER_DOES_NOT_MEET) {
-            text_say(to, "fault %d ", (int)answer);
+            text_say(to, "error %d ", (int)answer);
         }
         text_free(&version);
     }
@@ -179,7 +179,7 @@ static bool say_answer(text *to, const char *call, const text *of, const text *s
         say_version(to, of);
     } else if (strcmp(call, "version-text") == 0) {
         int32_t answer = say_printed_version(to, of);
-        text_say(to, "%s", answer == SEMVER_PARSER_OK ? "" : version_fault(answer));
+        text_say(to, "%s", answer == SEMVER_PARSER_OK ? "" : version_error(answer));
     } else if (strcmp(call, "cargo") == 0 || strcmp(call, "npm") == 0) {
         say_set(to, of, reading);
     } else if (strcmp(call, "cargo-text") == 0 || strcmp(call, "npm-text") == 0
@@ -201,7 +201,7 @@ static bool say_answer(text *to, const char *call, const text *of, const text *s
     return true;
 }
 
-/* Whether an answer is what the table expects. Of a fault whose name has tokens or a character
+/* Whether an answer is what the table expects. Of an error whose name has tokens or a character
  * behind it, the name decides. */
 static bool is_expected(const text *answer, const char *expected, size_t length) {
     bool is_front = answer->length > 0 && answer->bytes[answer->length - 1] == '(';

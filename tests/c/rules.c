@@ -1,5 +1,5 @@
 /* What the C functions return beyond the table: places of the parts, bytes that are no UTF-8, exact
- * bounds, the own meaning of a range, which fault goes first, and all of that of long texts too.
+ * bounds, the own meaning of a range, which error goes first, and all of that of long texts too.
  * What is wanted follows from docs/GRAMMAR.md and docs/MEANING.md. */
 #include "calls.h"
 
@@ -73,15 +73,15 @@ static void version_is(const char *bytes, uint64_t major, uint64_t minor, uint64
     text_free(&of);
 }
 
-static void version_fault_is(const char *bytes, size_t length, int32_t fault) {
+static void version_error_is(const char *bytes, size_t length, int32_t error) {
     text of = bytes_of(bytes, length);
     semver_parser_version read;
-    check(read_version(&of, CRATE_NPM, &read) == fault, "another fault of a version", &of);
-    check(read_version(&of, CRATE_CARGO, &read) == fault, "another fault of a version", &of);
+    check(read_version(&of, CRATE_NPM, &read) == error, "another error of a version", &of);
+    check(read_version(&of, CRATE_CARGO, &read) == error, "another error of a version", &of);
     text_free(&of);
 }
 
-/* Versions with a long identifier, many identifiers, and long white space, and faults behind a long
+/* Versions with a long identifier, many identifiers, and long white space, and errors behind a long
  * pre-release. */
 static void long_versions(void) {
     const semver_parser_part none = {0, 0};
@@ -98,13 +98,13 @@ static void long_versions(void) {
 
     static const struct {
         const char *end;
-        int32_t fault;
-    } faults[] = {{".", SEMVER_PARSER_UNEXPECTED_END}, {"--1", SEMVER_PARSER_UNEXPECTED_TOKEN},
+        int32_t error;
+    } errors[] = {{".", SEMVER_PARSER_UNEXPECTED_END}, {"--1", SEMVER_PARSER_UNEXPECTED_TOKEN},
         {"/", SEMVER_PARSER_UNEXPECTED_CHAR}, {" b", SEMVER_PARSER_MORE_INPUT},
         {"\xFF", SEMVER_PARSER_VERSION_NOT_UTF8}};
-    for (size_t at = 0; at < sizeof faults / sizeof *faults; at++) {
-        text faulty = long_text("1.2.3-", "a", faults[at].end);
-        version_fault_is(faulty.bytes, faulty.length, faults[at].fault);
+    for (size_t at = 0; at < sizeof errors / sizeof *errors; at++) {
+        text faulty = long_text("1.2.3-", "a", errors[at].end);
+        version_error_is(faulty.bytes, faulty.length, errors[at].error);
         text_free(&faulty);
     }
     text_free(&identifier);
@@ -129,20 +129,20 @@ static void versions(void) {
     version_is("1.2.3-1 ", 1, 2, 3, part(6, 1), none);
     version_is("1.2.3+1\n", 1, 2, 3, none, part(6, 1));
 
-    version_fault_is("", 0, SEMVER_PARSER_UNEXPECTED_END);
-    version_fault_is("1.2", 3, SEMVER_PARSER_UNEXPECTED_END);
-    version_fault_is("1.2.3-", 6, SEMVER_PARSER_UNEXPECTED_END);
-    version_fault_is("01.0.0", 6, SEMVER_PARSER_UNEXPECTED_TOKEN);
-    version_fault_is("1.2.3--1", 8, SEMVER_PARSER_UNEXPECTED_TOKEN);
-    version_fault_is("18446744073709551616.0.0", 24, SEMVER_PARSER_UNEXPECTED_TOKEN);
-    version_fault_is("a/", 2, SEMVER_PARSER_UNEXPECTED_CHAR);
-    version_fault_is("1.2.3\0", 6, SEMVER_PARSER_UNEXPECTED_CHAR);
-    version_fault_is("1.2.3\xC3\xA9", 7, SEMVER_PARSER_UNEXPECTED_CHAR);
-    version_fault_is("1.2.3 a.b.c", 11, SEMVER_PARSER_MORE_INPUT);
-    version_fault_is("\xFF", 1, SEMVER_PARSER_VERSION_NOT_UTF8);
-    version_fault_is("1.2.3\xC3", 6, SEMVER_PARSER_VERSION_NOT_UTF8);
-    version_fault_is("1.2.3\xED\xA0\x80", 8, SEMVER_PARSER_VERSION_NOT_UTF8);
-    version_fault_is("1.2.3\xC0\xAE", 7, SEMVER_PARSER_VERSION_NOT_UTF8);
+    version_error_is("", 0, SEMVER_PARSER_UNEXPECTED_END);
+    version_error_is("1.2", 3, SEMVER_PARSER_UNEXPECTED_END);
+    version_error_is("1.2.3-", 6, SEMVER_PARSER_UNEXPECTED_END);
+    version_error_is("01.0.0", 6, SEMVER_PARSER_UNEXPECTED_TOKEN);
+    version_error_is("1.2.3--1", 8, SEMVER_PARSER_UNEXPECTED_TOKEN);
+    version_error_is("18446744073709551616.0.0", 24, SEMVER_PARSER_UNEXPECTED_TOKEN);
+    version_error_is("a/", 2, SEMVER_PARSER_UNEXPECTED_CHAR);
+    version_error_is("1.2.3\0", 6, SEMVER_PARSER_UNEXPECTED_CHAR);
+    version_error_is("1.2.3\xC3\xA9", 7, SEMVER_PARSER_UNEXPECTED_CHAR);
+    version_error_is("1.2.3 a.b.c", 11, SEMVER_PARSER_MORE_INPUT);
+    version_error_is("\xFF", 1, SEMVER_PARSER_VERSION_NOT_UTF8);
+    version_error_is("1.2.3\xC3", 6, SEMVER_PARSER_VERSION_NOT_UTF8);
+    version_error_is("1.2.3\xED\xA0\x80", 8, SEMVER_PARSER_VERSION_NOT_UTF8);
+    version_error_is("1.2.3\xC0\xAE", 7, SEMVER_PARSER_VERSION_NOT_UTF8);
 }
 
 /* ---- precedence */
@@ -191,39 +191,39 @@ static void versions_in_order(void) {
     text_free(&built);
 }
 
-/* A fault of one of two texts, where the other is a version; and of both, where the first one's is
+/* An error of one of two texts, where the other is a version; and of both, where the first one's is
  * told. */
-static void order_fault_is(const char *bytes, size_t length, int32_t fault) {
+static void order_error_is(const char *bytes, size_t length, int32_t error) {
     text faulty = bytes_of(bytes, length);
     text version = string("1.2.3-rc.1+b");
     text empty = string("");
     for (int32_t reading = CRATE_CARGO; reading <= CRATE_NPM; reading++) {
         int32_t order;
         bool in_other;
-        check(precedence(&faulty, &version, reading, &order, &in_other) == fault && !in_other,
-            "another fault of a version", &faulty);
-        check(precedence(&version, &faulty, reading, &order, &in_other) == fault && in_other,
-            "another fault of the other version", &faulty);
-        check(precedence(&faulty, &empty, reading, &order, &in_other) == fault && !in_other,
-            "another fault of both", &faulty);
+        check(precedence(&faulty, &version, reading, &order, &in_other) == error && !in_other,
+            "another error of a version", &faulty);
+        check(precedence(&version, &faulty, reading, &order, &in_other) == error && in_other,
+            "another error of the other version", &faulty);
+        check(precedence(&faulty, &empty, reading, &order, &in_other) == error && !in_other,
+            "another error of both", &faulty);
         check(precedence(&empty, &faulty, reading, &order, &in_other)
                       == SEMVER_PARSER_UNEXPECTED_END
                   && !in_other,
-            "another fault of an empty text", &faulty);
+            "another error of an empty text", &faulty);
     }
     text_free(&faulty);
     text_free(&version);
     text_free(&empty);
 }
 
-static void faults_of_orders(void) {
-    order_fault_is("", 0, SEMVER_PARSER_UNEXPECTED_END);
-    order_fault_is("1.2.3-", 6, SEMVER_PARSER_UNEXPECTED_END);
-    order_fault_is("v1.2.3", 6, SEMVER_PARSER_UNEXPECTED_TOKEN);
-    order_fault_is("1.2.3--1", 8, SEMVER_PARSER_UNEXPECTED_TOKEN);
-    order_fault_is("1.2.3\0", 6, SEMVER_PARSER_UNEXPECTED_CHAR);
-    order_fault_is("1.2.3 4", 7, SEMVER_PARSER_MORE_INPUT);
-    order_fault_is("1.2.3\xFF", 6, SEMVER_PARSER_VERSION_NOT_UTF8);
+static void errors_of_orders(void) {
+    order_error_is("", 0, SEMVER_PARSER_UNEXPECTED_END);
+    order_error_is("1.2.3-", 6, SEMVER_PARSER_UNEXPECTED_END);
+    order_error_is("v1.2.3", 6, SEMVER_PARSER_UNEXPECTED_TOKEN);
+    order_error_is("1.2.3--1", 8, SEMVER_PARSER_UNEXPECTED_TOKEN);
+    order_error_is("1.2.3\0", 6, SEMVER_PARSER_UNEXPECTED_CHAR);
+    order_error_is("1.2.3 4", 7, SEMVER_PARSER_MORE_INPUT);
+    order_error_is("1.2.3\xFF", 6, SEMVER_PARSER_VERSION_NOT_UTF8);
 }
 
 /* ---- ranges */
@@ -238,21 +238,21 @@ static void range_is(int32_t reading, bool exact, const char *bytes, const char 
     text_free(&of);
 }
 
-/* A fault that a range has by a reading, with exact bounds and without. */
-static void range_fault_by(int32_t reading, const text *of, int32_t fault) {
+/* An error that a range has by a reading, with exact bounds and without. */
+static void range_error_by(int32_t reading, const text *of, int32_t error) {
     text printed = {NULL, 0, 0};
     for (int exact = 0; exact < 2; exact++) {
         int32_t answer = rewrite(of, reading, exact != 0, &printed, NULL);
-        check(answer == fault, "another fault of a range", of);
+        check(answer == error, "another error of a range", of);
     }
     text_free(&printed);
 }
 
 /* So by both readings of the crate. */
-static void range_fault_is(const char *bytes, size_t length, int32_t fault) {
+static void range_error_is(const char *bytes, size_t length, int32_t error) {
     text of = bytes_of(bytes, length);
-    range_fault_by(CRATE_CARGO, &of, fault);
-    range_fault_by(CRATE_NPM, &of, fault);
+    range_error_by(CRATE_CARGO, &of, error);
+    range_error_by(CRATE_NPM, &of, error);
     text_free(&of);
 }
 
@@ -270,7 +270,7 @@ static void many_ranges_are(int32_t reading, bool exact, const char *before, con
     text_free(&wanted);
 }
 
-/* Many ranges, one with a long identifier, and faults behind many ranges. */
+/* Many ranges, one with a long identifier, and errors behind many ranges. */
 static void long_ranges(void) {
     many_ranges_are(CRATE_CARGO, false, ">=", " <2.0.0");
     many_ranges_are(CRATE_CARGO, true, ">=", " <2.0.0-0");
@@ -282,13 +282,13 @@ static void long_ranges(void) {
 
     static const struct {
         const char *end;
-        int32_t fault;
-    } faults[] = {{"v1.2.3", SEMVER_PARSER_NOT_A_RANGE},
+        int32_t error;
+    } errors[] = {{"v1.2.3", SEMVER_PARSER_NOT_A_RANGE},
         {"<=18446744073709551615", SEMVER_PARSER_NUMBER_TOO_LARGE},
         {"\xFF", SEMVER_PARSER_RANGE_NOT_UTF8}};
-    for (size_t at = 0; at < sizeof faults / sizeof *faults; at++) {
-        text faulty = long_text("", "=0.0.7 || ", faults[at].end);
-        range_fault_is(faulty.bytes, faulty.length, faults[at].fault);
+    for (size_t at = 0; at < sizeof errors / sizeof *errors; at++) {
+        text faulty = long_text("", "=0.0.7 || ", errors[at].end);
+        range_error_is(faulty.bytes, faulty.length, errors[at].error);
         text_free(&faulty);
     }
 }
@@ -311,15 +311,15 @@ static void ranges(void) {
     range_is(CRATE_CARGO, true, "<*", "<0.0.0");
     range_is(CRATE_NPM, true, "0.0.18446744073709551615", "=0.0.18446744073709551615");
 
-    range_fault_is("v1.2.3", 6, SEMVER_PARSER_NOT_A_RANGE);
-    range_fault_is("1.2.3 -4", 8, SEMVER_PARSER_NOT_A_RANGE);
-    range_fault_is("1.2.3\0", 6, SEMVER_PARSER_NOT_A_RANGE);
-    range_fault_is("\xC3\xA9", 2, SEMVER_PARSER_NOT_A_RANGE);
-    range_fault_is("<=18446744073709551615", 22, SEMVER_PARSER_NUMBER_TOO_LARGE);
-    range_fault_is("1.2.18446744073709551616", 24, SEMVER_PARSER_NUMBER_TOO_LARGE);
-    range_fault_is("<=18446744073709551615 |", 24, SEMVER_PARSER_NOT_A_RANGE);
-    range_fault_is("\xFF", 1, SEMVER_PARSER_RANGE_NOT_UTF8);
-    range_fault_is("1.2.3\xE2\x82", 7, SEMVER_PARSER_RANGE_NOT_UTF8);
+    range_error_is("v1.2.3", 6, SEMVER_PARSER_NOT_A_RANGE);
+    range_error_is("1.2.3 -4", 8, SEMVER_PARSER_NOT_A_RANGE);
+    range_error_is("1.2.3\0", 6, SEMVER_PARSER_NOT_A_RANGE);
+    range_error_is("\xC3\xA9", 2, SEMVER_PARSER_NOT_A_RANGE);
+    range_error_is("<=18446744073709551615", 22, SEMVER_PARSER_NUMBER_TOO_LARGE);
+    range_error_is("1.2.18446744073709551616", 24, SEMVER_PARSER_NUMBER_TOO_LARGE);
+    range_error_is("<=18446744073709551615 |", 24, SEMVER_PARSER_NOT_A_RANGE);
+    range_error_is("\xFF", 1, SEMVER_PARSER_RANGE_NOT_UTF8);
+    range_error_is("1.2.3\xE2\x82", 7, SEMVER_PARSER_RANGE_NOT_UTF8);
 }
 
 /* ---- comparators */
@@ -492,22 +492,22 @@ static void meetings(void) {
     text_free(&many_full);
 }
 
-static void fault_is(const char *range, const char *version, int32_t fault) {
-    meets_are(range, version, fault, fault, fault);
+static void error_is(const char *range, const char *version, int32_t error) {
+    meets_are(range, version, error, error, error);
 }
 
-/* A fault of the range goes before any of the version. */
-static void faults_in_order(void) {
-    fault_is("v1", "1.2", SEMVER_PARSER_NOT_A_RANGE);
-    fault_is("<=18446744073709551615", "", SEMVER_PARSER_NUMBER_TOO_LARGE);
-    fault_is("\xFF", "\xFF", SEMVER_PARSER_RANGE_NOT_UTF8);
-    fault_is("v1", "\xFF", SEMVER_PARSER_NOT_A_RANGE);
-    fault_is("1", "\xFF", SEMVER_PARSER_VERSION_NOT_UTF8);
-    fault_is("1", "", SEMVER_PARSER_UNEXPECTED_END);
-    fault_is("1", "1.2", SEMVER_PARSER_UNEXPECTED_END);
-    fault_is("1", "1.2.3--1", SEMVER_PARSER_UNEXPECTED_TOKEN);
-    fault_is("1", "1.2.3/", SEMVER_PARSER_UNEXPECTED_CHAR);
-    fault_is("1", "1.2.3 4", SEMVER_PARSER_MORE_INPUT);
+/* An error of the range goes before any of the version. */
+static void errors_in_order(void) {
+    error_is("v1", "1.2", SEMVER_PARSER_NOT_A_RANGE);
+    error_is("<=18446744073709551615", "", SEMVER_PARSER_NUMBER_TOO_LARGE);
+    error_is("\xFF", "\xFF", SEMVER_PARSER_RANGE_NOT_UTF8);
+    error_is("v1", "\xFF", SEMVER_PARSER_NOT_A_RANGE);
+    error_is("1", "\xFF", SEMVER_PARSER_VERSION_NOT_UTF8);
+    error_is("1", "", SEMVER_PARSER_UNEXPECTED_END);
+    error_is("1", "1.2", SEMVER_PARSER_UNEXPECTED_END);
+    error_is("1", "1.2.3--1", SEMVER_PARSER_UNEXPECTED_TOKEN);
+    error_is("1", "1.2.3/", SEMVER_PARSER_UNEXPECTED_CHAR);
+    error_is("1", "1.2.3 4", SEMVER_PARSER_MORE_INPUT);
 }
 
 /* ---- many versions, each with an answer of its own */
@@ -584,12 +584,12 @@ static void least_are(int32_t reading, const char *bytes, const char *releases, 
     text_free(&range);
 }
 
-static void least_fault_is(int32_t reading, const char *bytes, size_t length, int32_t rule,
-                           int32_t fault) {
+static void least_error_is(int32_t reading, const char *bytes, size_t length, int32_t rule,
+                           int32_t error) {
     text range = bytes_of(bytes, length);
     text printed = {NULL, 0, 0};
-    check(least(&range, reading, rule, &printed) == fault, "another fault of a range", &range);
-    check(printed.length == 0, "a version at a fault", &range);
+    check(least(&range, reading, rule, &printed) == error, "another error of a range", &range);
+    check(printed.length == 0, "a version at an error", &range);
     text_free(&printed);
     text_free(&range);
 }
@@ -616,12 +616,12 @@ static void least_versions(void) {
     least_are(CRATE_CARGO, identifier.bytes, "1.2.3", identifier.bytes + 2, identifier.bytes + 2);
     text_free(&identifier);
 
-    least_fault_is(CRATE_CARGO, "v1", 2, SEMVER_PARSER_RELEASES_ALONE, SEMVER_PARSER_NOT_A_RANGE);
-    least_fault_is(CRATE_CARGO, "1.2.3\xC3", 6, SEMVER_PARSER_RELEASES_ALONE,
+    least_error_is(CRATE_CARGO, "v1", 2, SEMVER_PARSER_RELEASES_ALONE, SEMVER_PARSER_NOT_A_RANGE);
+    least_error_is(CRATE_CARGO, "1.2.3\xC3", 6, SEMVER_PARSER_RELEASES_ALONE,
                    SEMVER_PARSER_RANGE_NOT_UTF8);
-    least_fault_is(CRATE_NPM, "<=18446744073709551615", 22, SEMVER_PARSER_STATED_PRE_RELEASES,
+    least_error_is(CRATE_NPM, "<=18446744073709551615", 22, SEMVER_PARSER_STATED_PRE_RELEASES,
                    SEMVER_PARSER_NUMBER_TOO_LARGE);
-    least_fault_is(CRATE_CARGO, "0.0.18446744073709551615", 24, SEMVER_PARSER_ALL_PRE_RELEASES,
+    least_error_is(CRATE_CARGO, "0.0.18446744073709551615", 24, SEMVER_PARSER_ALL_PRE_RELEASES,
                    SEMVER_PARSER_NUMBER_TOO_LARGE);
 }
 
@@ -673,14 +673,14 @@ static void differ_alike(int32_t reading, const char *old_bytes, const char *new
     compare_are(reading, old_bytes, new_bytes, wanted, wanted, wanted);
 }
 
-static void compare_fault_is(int32_t reading, const char *old_bytes, const char *new_bytes,
-                             int32_t rule, int32_t fault) {
+static void compare_error_is(int32_t reading, const char *old_bytes, const char *new_bytes,
+                             int32_t rule, int32_t error) {
     text old_range = string(old_bytes);
     text new_range = string(new_bytes);
     compared told = {{NULL, 0, 0}, {NULL, 0, 0}, {NULL, 0, 0}};
-    check(compare(&old_range, &new_range, reading, rule, &told) == fault,
-          "another fault of two ranges", &old_range);
-    check(told.lost.length + told.gained.length + told.shared.length == 0, "a version at a fault",
+    check(compare(&old_range, &new_range, reading, rule, &told) == error,
+          "another error of two ranges", &old_range);
+    check(told.lost.length + told.gained.length + told.shared.length == 0, "a version at an error",
         &old_range);
     free_compared(&told);
     text_free(&old_range);
@@ -743,20 +743,20 @@ static void compared_in_modes(void) {
     differ_alike(CRATE_CARGO, "1.2.3", "^1.2.3", "", "", "1.2.3");
 }
 
-/* A fault of the old range goes before any of the new one. */
-static void faults_of_two_ranges(void) {
+/* An error of the old range goes before any of the new one. */
+static void errors_of_two_ranges(void) {
     const char *no_number = "<=" MOST;
     for (int32_t rule = 0; rule < 3; rule++) {
-        compare_fault_is(CRATE_CARGO, "v1", "^1", rule, SEMVER_PARSER_NOT_A_RANGE);
-        compare_fault_is(CRATE_CARGO, "^1", "v1", rule, SEMVER_PARSER_NEW_NOT_A_RANGE);
-        compare_fault_is(CRATE_CARGO, "\xFF", "^1", rule, SEMVER_PARSER_RANGE_NOT_UTF8);
-        compare_fault_is(CRATE_CARGO, "^1", "\xFF", rule, SEMVER_PARSER_NEW_RANGE_NOT_UTF8);
-        compare_fault_is(CRATE_CARGO, no_number, "", rule, SEMVER_PARSER_NUMBER_TOO_LARGE);
-        compare_fault_is(CRATE_CARGO, "", no_number, rule, SEMVER_PARSER_NEW_NUMBER_TOO_LARGE);
-        compare_fault_is(CRATE_CARGO, "0.0." MOST, "*", rule, SEMVER_PARSER_NUMBER_TOO_LARGE);
-        compare_fault_is(CRATE_CARGO, "*", "0.0." MOST, rule, SEMVER_PARSER_NEW_NUMBER_TOO_LARGE);
-        compare_fault_is(CRATE_CARGO, no_number, "\xFF", rule, SEMVER_PARSER_NUMBER_TOO_LARGE);
-        compare_fault_is(CRATE_CARGO, "v1", "|", rule, SEMVER_PARSER_NOT_A_RANGE);
+        compare_error_is(CRATE_CARGO, "v1", "^1", rule, SEMVER_PARSER_NOT_A_RANGE);
+        compare_error_is(CRATE_CARGO, "^1", "v1", rule, SEMVER_PARSER_NEW_NOT_A_RANGE);
+        compare_error_is(CRATE_CARGO, "\xFF", "^1", rule, SEMVER_PARSER_RANGE_NOT_UTF8);
+        compare_error_is(CRATE_CARGO, "^1", "\xFF", rule, SEMVER_PARSER_NEW_RANGE_NOT_UTF8);
+        compare_error_is(CRATE_CARGO, no_number, "", rule, SEMVER_PARSER_NUMBER_TOO_LARGE);
+        compare_error_is(CRATE_CARGO, "", no_number, rule, SEMVER_PARSER_NEW_NUMBER_TOO_LARGE);
+        compare_error_is(CRATE_CARGO, "0.0." MOST, "*", rule, SEMVER_PARSER_NUMBER_TOO_LARGE);
+        compare_error_is(CRATE_CARGO, "*", "0.0." MOST, rule, SEMVER_PARSER_NEW_NUMBER_TOO_LARGE);
+        compare_error_is(CRATE_CARGO, no_number, "\xFF", rule, SEMVER_PARSER_NUMBER_TOO_LARGE);
+        compare_error_is(CRATE_CARGO, "v1", "|", rule, SEMVER_PARSER_NOT_A_RANGE);
     }
 }
 
@@ -784,13 +784,13 @@ int main(void) {
     versions();
     long_versions();
     versions_in_order();
-    faults_of_orders();
+    errors_of_orders();
     ranges();
     long_ranges();
     comparators();
     meetings();
     long_meetings();
-    faults_in_order();
+    errors_in_order();
     many();
     for (int32_t reading = 0; reading < READINGS; reading++) {
         very_many(reading, false);
@@ -800,7 +800,7 @@ int main(void) {
     compared_releases();
     compared_pre_releases();
     compared_in_modes();
-    faults_of_two_ranges();
+    errors_of_two_ranges();
     sentences();
     printf("rules: %s\n", failed == 0 ? "passed" : "failed");
     return failed == 0 ? 0 : 1;

@@ -143,21 +143,21 @@ static void sets(void) {
     set_is(">2 <1", NPM, ALL, none, 1, "");
 }
 
-static void fault_is(const char *range, int32_t reading, int32_t rule, int32_t fault) {
+static void error_is(const char *range, int32_t reading, int32_t rule, int32_t error) {
     size_t count = 7;
     size_t length = 7;
     check(semver_parser_set(bytes_of(range), strlen(range), reading, rule, NULL, 0, &count, NULL, 0,
-                            &length) == fault
+                            &length) == error
               && count == 7 && length == 7,
           "another error", range);
 }
 
-static void faults(void) {
-    fault_is("", 4, 9, SEMVER_PARSER_NO_SUCH_READING);
-    fault_is("\xFF", CARGO, 9, SEMVER_PARSER_NO_SUCH_RULE);
-    fault_is("\xFF", CARGO, ALL, SEMVER_PARSER_RANGE_NOT_UTF8);
-    fault_is("1..2", NPM, ALL, SEMVER_PARSER_NOT_A_RANGE);
-    fault_is("^18446744073709551615", CARGO, ALL, SEMVER_PARSER_NUMBER_TOO_LARGE);
+static void errors(void) {
+    error_is("", 4, 9, SEMVER_PARSER_NO_SUCH_READING);
+    error_is("\xFF", CARGO, 9, SEMVER_PARSER_NO_SUCH_RULE);
+    error_is("\xFF", CARGO, ALL, SEMVER_PARSER_RANGE_NOT_UTF8);
+    error_is("1..2", NPM, ALL, SEMVER_PARSER_NOT_A_RANGE);
+    error_is("^18446744073709551615", CARGO, ALL, SEMVER_PARSER_NUMBER_TOO_LARGE);
 }
 
 /* ---- what is asked of a set */
@@ -320,7 +320,7 @@ static void changed(const char *range) {
 
 int main(void) {
     sets();
-    faults();
+    errors();
     versions();
     texts();
     pairs();

@@ -30,7 +30,7 @@ typedef struct {
     int failed;
 } tool_call;
 
-static const char *fault_word(int32_t answer) {
+static const char *error_word(int32_t answer) {
     switch (answer) {
     case SEMVER_PARSER_NOT_A_RANGE: return "not-a-range";
     case SEMVER_PARSER_NUMBER_TOO_LARGE: return "number-too-large";
@@ -95,7 +95,7 @@ static bool is_too_large(const text *version, int32_t reading) {
 }
 
 /* Writes those versions of a list that meet a range by a rule, as the table does, or the word of
- * the range's fault. The versions are separated by spaces. Those that are too large for npm have to be
+ * the range's error. The versions are separated by spaces. Those that are too large for npm have to be
  * refused. */
 static void say_meant(text *to, const text *range, int32_t reading, int32_t rule,
                       const char *list) {
@@ -111,7 +111,7 @@ static void say_meant(text *to, const text *range, int32_t reading, int32_t rule
             text_add(to, version.bytes, version.length);
         } else if (answer != SEMVER_PARSER_DOES_NOT_MEET) {
             to->length = 0;
-            text_say(to, "%s", fault_word(answer));
+            text_say(to, "%s", error_word(answer));
         }
         text_free(&version);
         list += length + strspn(list + length, " ");
@@ -173,7 +173,7 @@ static bool replay_rewriting(const row *of, int32_t reading) {
         text printed = {NULL, 0, 0};
         int32_t answer = rewrite(&of->of, reading, exact != 0, &printed, NULL);
         if (answer != SEMVER_PARSER_OK) {
-            text_say(&printed, "%s", fault_word(answer));
+            text_say(&printed, "%s", error_word(answer));
         }
         passed &= is_answer(&printed, of->expected, of, exact != 0 ? "exact" : "not exact");
         text_free(&printed);

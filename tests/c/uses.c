@@ -1,5 +1,5 @@
 /* Uses all that the header has, as a program in C or in C++ does: it is compiled by each standard
- * of both, with all warnings as faults. */
+ * of both, with all warnings as errors. */
 #include "../../crates/semver_parser_c/include/semver_parser.h"
 
 #include <stdio.h>

@@ -4,7 +4,7 @@
 //! to standard output, as they stand, that spell a release which the requirement takes; with
 //! `--pre-stated` pre-releases too, by the rule of the crate; with `--greatest` the one of the
 //! greatest version alone. Its status is 0 where a line was written, 1 where none was, and 2 after
-//! a fault.
+//! an error.
 
 use semver::{Prerelease, Version, VersionReq};
 use std::error::Error;
@@ -23,8 +23,8 @@ fn main() -> ExitCode {
     {
         Ok(true) => ExitCode::SUCCESS,
         Ok(false) => ExitCode::from(1),
-        Err(fault) => {
-            eprintln!("{fault}");
+        Err(error) => {
+            eprintln!("{error}");
             ExitCode::from(2)
         }
     }

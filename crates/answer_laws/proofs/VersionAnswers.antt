@@ -17,9 +17,9 @@ use Rattle.semver_texts.specs.declared.version.Identifier.{Identifier}
 use Rattle.semver_texts.proofs.Numbers.{same_numbers}
 use Rattle.semver_texts.proofs.DottedParts.{IsSplit}
 use Rattle.semver_tokens.specs.Tokens.{TokenValue, AreTokensOf, IsBadStart}
-use Rattle.semver_tokens.specs.ParserState.{ParserState, Fault, IsStateOf}
-use Rattle.semver_tokens.specs.ParserState as fault
-use Rattle.semver_tokens.specs.ParserViews.{UnlessOutOfMemory, IfOutOfMemory, answer_of, step_of, fault_of}
+use Rattle.semver_tokens.specs.ParserState.{ParserState, ErrorValue, IsStateOf}
+use Rattle.semver_tokens.specs.ParserState as spec
+use Rattle.semver_tokens.specs.ParserViews.{UnlessOutOfMemory, IfOutOfMemory, answer_of, step_of, error_value}
 use Rattle.semver_tokens.specs.VersionReading.{IsIdentifierShape, IsVersionShape, Reads, ReadsIdentifier, ReadsVersion}
 use Rattle.semver_tokens.specs.declared.parser.Error.{Error}
 use Rattle.semver_tokens.specs.declared.parser.Error.TheVariants as error
@@ -87,7 +87,7 @@ one_state same_tokens text s t a b =
 -- what `Parser::new` ensures
 pub record Begins (text : Text) (r : Result ParserState Error) : Type 0 where
   pub ok : IfOk r (λ p. IsStateOf text p)
-  pub lexer : IfErr r (λ e. (c : ℕ) × (fault_of e ≡ fault.Lexer c) × IsStateOf text (record { remaining = []; pending = Some c }))
+  pub lexer : IfErr r (λ e. (c : ℕ) × (error_value e ≡ spec.Lexer c) × IsStateOf text (record { remaining = []; pending = Some c }))
   pub bad_start : IsErr r ↔ IsBadStart text
 
 pub one_parser : OneTokenList → (text : Text) (r s : Result ParserState Error) → Begins text r → Begins text s
@@ -97,7 +97,7 @@ one_parser same_tokens text (Ok p) (Err f) a b = let no = a.bad_start.1 (b.bad_s
 one_parser same_tokens text (Err e) (Ok q) a b = let no = b.bad_start.1 (a.bad_start.0 refl) in cc
 one_parser same_tokens text (Err e) (Err f) a b =
     let same = ap (λ (s : ParserState). s.pending) (one_state same_tokens text _ _ a.lexer.2 b.lexer.2) in
-    let errors : fault_of e ≡ fault_of f = cc in
+    let errors : error_value e ≡ error_value f = cc in
     ap Err errors
 
 -- what follows of an answer unless memory ran out
@@ -135,7 +135,7 @@ pub one_identifier : (before : ParserState) (r q : Result Identifier Error) (s t
 one_identifier before r q s t a b = unless_both r q
     (one_step identifier_value IsIdentifierShape SpellsIdentifier same_identifier before r q s t) a.answer b.answer
 
-once : (before : ParserState) (x y : Result IdentifierValue Fault) (s t : ParserState) → ReadsIdentifier before x s
+once : (before : ParserState) (x y : Result IdentifierValue ErrorValue) (s t : ParserState) → ReadsIdentifier before x s
     → ReadsIdentifier before y t → (x ≡ y) × (s ≡ t)
 once before x y s t a b = reads_once IsIdentifierShape SpellsIdentifier same_identifier before x y s t a b
 
@@ -143,7 +143,7 @@ once before x y s t a b = reads_once IsIdentifierShape SpellsIdentifier same_ide
 something : (before : ParserState) (r : Result Identifier Error) (s : ParserState)
     → UnlessOutOfMemory r (ReadsIdentifier before (step_of identifier_value r s).0 s)
     → IfOutOfMemory r ((text : Text) × ReadsIdentifier before (Ok (alphanumeric text)) s)
-    → (x : Result IdentifierValue Fault) × ReadsIdentifier before x s
+    → (x : Result IdentifierValue ErrorValue) × ReadsIdentifier before x s
 something before (Err error.OutOfMemory) s a m = (_, m.1)
 something before r s a m = (_, a)
 

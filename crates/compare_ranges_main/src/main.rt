@@ -66,7 +66,7 @@ const VERSION: &str = "compare-ranges 0.6.1";
 
 /// Why a run ended by an error.
 #[derive(Drop)]
-enum Fault<'a> {
+enum Error<'a> {
     /// This range text was refused.
     Range(RangeError, &'a str),
     /// An allocation failed after the ranges were read.
@@ -96,10 +96,10 @@ fn main(rt: HostRuntime) -> ExitCode {
 fn run(rt: &HostRuntime, wanted: &Wanted) -> ExitCode {
     let answer = match answered(rt, wanted) {
         Ok(answer) => answer,
-        Err(Fault::Range(error, range)) => {
+        Err(Error::Range(error, range)) => {
             return PROGRAM.refuse_range(rt, wanted.meaning.reading(), &error, range);
         }
-        Err(Fault::OutOfMemory) => {
+        Err(Error::OutOfMemory) => {
             let _ = eprintln!(rt; "{}: out of memory", PROGRAM.name);
             return ExitCode::from(2);
         }
@@ -113,7 +113,7 @@ fn run(rt: &HostRuntime, wanted: &Wanted) -> ExitCode {
 }
 
 /// What there is to write of the ranges.
-fn answered<'a>(rt: &HostRuntime, wanted: &'a Wanted) -> Result<Answer, Fault<'a>> {
+fn answered<'a>(rt: &HostRuntime, wanted: &'a Wanted) -> Result<Answer, Error<'a>> {
     let range = read(rt, wanted, wanted.range.as_str())?;
     let Some(new) = &wanted.new else {
         return match lines::of_one(rt.alloc(), &range, wanted.extent) {
@@ -121,7 +121,7 @@ fn answered<'a>(rt: &HostRuntime, wanted: &'a Wanted) -> Result<Answer, Fault<'a
                 lines,
                 differs: false,
             }),
-            Err(_) => Err(Fault::OutOfMemory),
+            Err(_) => Err(Error::OutOfMemory),
         };
     };
     let new = read(rt, wanted, new.as_str())?;
@@ -130,12 +130,12 @@ fn answered<'a>(rt: &HostRuntime, wanted: &'a Wanted) -> Result<Answer, Fault<'a
             lines,
             differs: range != new,
         }),
-        Err(_) => Err(Fault::OutOfMemory),
+        Err(_) => Err(Error::OutOfMemory),
     }
 }
 
 /// The versions that a range means.
-fn read<'a>(rt: &HostRuntime, wanted: &Wanted, range: &'a str) -> Result<VersionSet, Fault<'a>> {
+fn read<'a>(rt: &HostRuntime, wanted: &Wanted, range: &'a str) -> Result<VersionSet, Error<'a>> {
     let versions = meaning::read(rt.alloc(), wanted.meaning, range);
-    versions.map_err(|error| Fault::Range(error, range))
+    versions.map_err(|error| Error::Range(error, range))
 }

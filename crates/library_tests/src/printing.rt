@@ -144,7 +144,7 @@ fn write_printed<T: fmt::Display>(
 }
 
 /// Whether the value prints as the text to a writer of so many bytes: all of it where all is taken,
-/// and else a beginning, a fault, and nothing more.
+/// and else a beginning, an error, and nothing more.
 fn prints<T: fmt::Display>(alloc: Global, value: &T, text: &str, left: usize) -> bool {
     let mut out = Limited::new(alloc, left, usize::MAX, Refusal::Fail);
     let is_printed = write!(out, "{value}").is_ok();

@@ -195,7 +195,7 @@ fn of_ranges(alloc: Global) -> [(&'static str, Ending); 29] {
         ),
         ("refused_filter_texts", filters::refused_texts(alloc)),
         ("report", reports::report(alloc)),
-        ("report_of_faults", reports::report_of_faults(alloc)),
+        ("report_of_errors", reports::report_of_errors(alloc)),
     ]
 }
 

@@ -77,7 +77,7 @@ const SHOWN: usize = 80;
 
 /// Why a run ended by an error.
 #[derive(Drop)]
-enum Fault {
+enum Error {
     /// The range text was refused.
     Range(RangeError),
     /// The lines were not taken to the end.
@@ -107,8 +107,8 @@ fn run(rt: &HostRuntime, filtering: Filtering) -> ExitCode {
     match filtered(rt, meaning, range.as_str(), options) {
         Ok(true) => ExitCode::SUCCESS,
         Ok(false) => ExitCode::from(1),
-        Err(Fault::Write(error)) if error.kind() == ErrorKind::BrokenPipe => ExitCode::SUCCESS,
-        Err(fault) => failed(rt, &fault, meaning.reading(), range.as_str()),
+        Err(Error::Write(error)) if error.kind() == ErrorKind::BrokenPipe => ExitCode::SUCCESS,
+        Err(error) => failed(rt, &error, meaning.reading(), range.as_str()),
     }
 }
 
@@ -119,8 +119,8 @@ fn filtered(
     meaning: Meaning,
     range: &str,
     options: Options,
-) -> Result<bool, Fault> {
-    let versions = meaning::read(rt.alloc(), meaning, range).map_err(Fault::Range)?;
+) -> Result<bool, Error> {
+    let versions = meaning::read(rt.alloc(), meaning, range).map_err(Error::Range)?;
     let filter = Filter::of_versions(versions, meaning.reading().dialect());
     let mut lines = options.lines(rt.alloc(), filter);
     let has_written = copy_lines(rt, &mut lines)?;
@@ -132,26 +132,26 @@ fn filtered(
 
 /// Takes the lines of standard input, and writes what they append before more is read. Returns
 /// whether anything was written.
-fn copy_lines(rt: &HostRuntime, lines: &mut Lines) -> Result<bool, Fault> {
+fn copy_lines(rt: &HostRuntime, lines: &mut Lines) -> Result<bool, Error> {
     let mut input = rt.reader();
     let mut output = io::writer(rt);
     let Ok(mut buffer) = vec![in rt.alloc(); 0; AT_ONCE] else {
-        return Err(Fault::Lines(LinesError::OutOfMemory));
+        return Err(Error::Lines(LinesError::OutOfMemory));
     };
     let mut kept = Vec::new(rt.alloc());
     let mut has_written = false;
     for _ in 0..u64::MAX {
-        let count = read(&mut input, &mut buffer).map_err(Fault::Read)?;
+        let count = read(&mut input, &mut buffer).map_err(Error::Read)?;
         if count == 0 {
             break;
         }
         let piece = buffer.get(..count).unwrap_or_default();
         let pushed = lines.push(rt.alloc(), piece, &mut kept);
-        has_written |= write(&mut output, &mut kept).map_err(Fault::Write)?;
-        pushed.map_err(|stopped| Fault::Lines(stopped.error))?;
+        has_written |= write(&mut output, &mut kept).map_err(Error::Write)?;
+        pushed.map_err(|stopped| Error::Lines(stopped.error))?;
     }
-    lines.finish(rt.alloc(), &mut kept).map_err(Fault::Lines)?;
-    has_written |= write(&mut output, &mut kept).map_err(Fault::Write)?;
+    lines.finish(rt.alloc(), &mut kept).map_err(Error::Lines)?;
+    has_written |= write(&mut output, &mut kept).map_err(Error::Write)?;
     Ok(has_written)
 }
 
@@ -203,12 +203,12 @@ fn shown(front: &[u8]) -> (&[u8], &'static str) {
 }
 
 /// Reports on standard error what the error is, and returns status 2.
-fn failed(rt: &HostRuntime, fault: &Fault, reading: Reading, range: &str) -> ExitCode {
-    let _ = match fault {
-        Fault::Range(error) => return PROGRAM.refuse_range(rt, reading, error, range),
-        Fault::Write(error) => return PROGRAM.cannot_write(rt, error),
-        Fault::Lines(error) => eprintln!(rt; "release-filter: {error}"),
-        Fault::Read(error) => eprintln!(rt; "release-filter: cannot read input: {error}"),
+fn failed(rt: &HostRuntime, error: &Error, reading: Reading, range: &str) -> ExitCode {
+    let _ = match error {
+        Error::Range(error) => return PROGRAM.refuse_range(rt, reading, error, range),
+        Error::Write(error) => return PROGRAM.cannot_write(rt, error),
+        Error::Lines(error) => eprintln!(rt; "release-filter: {error}"),
+        Error::Read(error) => eprintln!(rt; "release-filter: cannot read input: {error}"),
     };
     ExitCode::from(2)
 }

@@ -7,7 +7,7 @@ use std::alloc::{AllocError, Global};
 use std::io;
 use std::io::Write;
 
-/// Writes the versions of a list, separated by blanks, that are kept of it, or the fault of the
+/// Writes the versions of a list, separated by blanks, that are kept of it, or the error of the
 /// text.
 pub fn write_kept<W: Write>(
     alloc: Global,
@@ -22,7 +22,7 @@ pub fn write_kept<W: Write>(
     }
 }
 
-/// Writes the versions of a list, separated by blanks, that pass a filter, or the fault of the
+/// Writes the versions of a list, separated by blanks, that pass a filter, or the error of the
 /// text. Where the filter reads other ones of the texts itself, that is told after them.
 pub fn write_passed<W: Write>(
     alloc: Global,
@@ -209,7 +209,7 @@ fn write_answer<W: Write>(kept: &Result<Vec<&Version>, RangeError>, out: &mut W)
 }
 
 /// Writes the versions of a list, separated by blanks, that meet the set of a text, pre-releases
-/// too, or the fault of the text.
+/// too, or the error of the text.
 pub fn write_met<W: Write>(
     alloc: Global,
     text: &str,

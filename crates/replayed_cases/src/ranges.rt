@@ -5,7 +5,7 @@ use std::alloc::Global;
 use std::io;
 use std::io::Write;
 
-/// Writes the fields of the set that a text is in a mode, or its fault. The mode is written where
+/// Writes the fields of the set that a text is in a mode, or its error. The mode is written where
 /// the set and each range have it.
 pub fn write_set<W: Write>(
     alloc: Global,
@@ -42,7 +42,7 @@ pub fn write_set<W: Write>(
     }
 }
 
-/// Writes what the set of a text prints, if both calls read it back to an equal set, or its fault.
+/// Writes what the set of a text prints, if both calls read it back to an equal set, or its error.
 pub fn write_printed<W: Write>(
     alloc: Global,
     text: &str,

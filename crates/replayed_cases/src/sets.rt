@@ -12,7 +12,7 @@ use version_sets::{FlatSet, PreReleases, VersionSet};
 pub type Reading = (PreReleases, Compat);
 
 /// Writes the versions of a list, separated by blanks, that are in the set of a text, then its
-/// least version and its least release, or the fault of the text.
+/// least version and its least release, or the error of the text.
 pub fn write_set<W: Write>(
     alloc: Global,
     reading: Reading,
@@ -66,7 +66,7 @@ fn is_same_flat(alloc: Global, set: &VersionSet, versions: &[Version]) -> io::Re
     Ok(flat.to_set(alloc)? == *set)
 }
 
-/// Writes how the sets of two texts stand to each other, or the fault of a text. The second text
+/// Writes how the sets of two texts stand to each other, or the error of a text. The second text
 /// may have a semicolon after it and then versions, separated by blanks: of each is written what
 /// it is in.
 pub fn write_pair<W: Write>(

@@ -8,7 +8,7 @@ use std::alloc::Global;
 use std::io;
 use std::io::Write;
 
-/// Writes the fields of a version, or the fault that is in its place.
+/// Writes the fields of a version, or the error that is in its place.
 pub fn write_version<W: Write>(answer: &Result<Version, Error<'_>>, out: &mut W) -> io::Result<()> {
     match answer {
         Ok(version) => write_fields(version, out),
@@ -60,7 +60,7 @@ fn write_fields<W: Write>(version: &Version, out: &mut W) -> io::Result<()> {
     write!(out, "]")
 }
 
-/// Writes what the version prints, or its fault.
+/// Writes what the version prints, or its error.
 pub fn write_printed<W: Write>(alloc: Global, text: &str, out: &mut W) -> io::Result<()> {
     match version::parse(alloc, text) {
         Ok(version) => write!(out, "{version}"),

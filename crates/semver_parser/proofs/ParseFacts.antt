@@ -5,12 +5,12 @@ use Rattle.semver_tokens.specs.Tokens.{TokenValue}
 use Rattle.semver_texts.specs.Versions.{VersionValue}
 use Rattle.semver_texts.specs.PrintedText.{version_text}
 use Rattle.semver_texts.specs.VersionGrammar.{SpellsCore, SpellsVersion, IsTrimmed, IsPrintableVersion}
-use Rattle.semver_tokens.specs.ParserState as fault
-use Rattle.semver_tokens.specs.ParserState.{ParserState, Fault, IsStateOf}
+use Rattle.semver_tokens.specs.ParserState as spec
+use Rattle.semver_tokens.specs.ParserState.{ParserState, ErrorValue, IsStateOf}
 use Rattle.semver_tokens.specs.ParserSteps.{Step, tail, tail_of}
 use Rattle.semver_tokens.specs.VersionReading.{ReadsVersion, IsOutcomeOf, whole_answer, MayRunOutInVersion, TextMayRunOut}
 use Rattle.semver_texts.specs.VersionViews.{version_value}
-use Rattle.semver_tokens.specs.ParserViews.{fault_of, answer_of, UnlessOutOfMemory, IfOutOfMemory}
+use Rattle.semver_tokens.specs.ParserViews.{error_value, answer_of, UnlessOutOfMemory, IfOutOfMemory}
 use Rattle.semver_texts.specs.declared.version.Version.{Version}
 use Rattle.semver_tokens.specs.declared.parser.Error.{Error}
 use Rattle.semver_tokens.specs.declared.parser.Error.TheVariants as error
@@ -22,10 +22,10 @@ use Rattle.semver_parser.proofs.WholeText.{trimmed, printable, printed_spells, a
 -- ---- from the outcome to the clauses
 
 module _ (text : List ℕ) (utf8 : IsUtf8 text) where
-  exact : (x : Result VersionValue Fault) → IsOutcomeOf text x → (v : VersionValue) → (x ≡ Ok v) ↔ SpellsVersion v text
+  exact : (x : Result VersionValue ErrorValue) → IsOutcomeOf text x → (v : VersionValue) → (x ≡ Ok v) ↔ SpellsVersion v text
   exact x o v = (λ e. accepted_spells v text utf8 (subst (IsOutcomeOf text) e o), λ s. outcome_spelled v text s x o)
 
-  read_back : (x : Result VersionValue Fault) → IsOutcomeOf text x → (v : VersionValue) → IsPrintableVersion v → text ≡ version_text v
+  read_back : (x : Result VersionValue ErrorValue) → IsOutcomeOf text x → (v : VersionValue) → IsPrintableVersion v → text ≡ version_text v
       → x ≡ Ok v
   read_back x o v can same = outcome_spelled v text (subst (SpellsVersion v) (sym same) (printed_spells v can)) x o
 
@@ -63,11 +63,11 @@ module _ (text : List ℕ) (utf8 : IsUtf8 text) where
       }
   all_of (Err e) o m =
       record {
-        exact = exact (Err (fault_of e)) o;
-        plain = λ v s pre build. outcome_spelled v text s (Err (fault_of e)) o;
+        exact = exact (Err (error_value e)) o;
+        plain = λ v s pre build. outcome_spelled v text s (Err (error_value e)) o;
         trimmed = tt;
         printable = tt;
-        read_back = read_back (Err (fault_of e)) o;
+        read_back = read_back (Err (error_value e)) o;
         outcome = o;
         out_of_memory = m;
       }
@@ -76,8 +76,8 @@ module _ (text : List ℕ) (utf8 : IsUtf8 text) where
 
 -- a bad start
 pub at_bad_start : (text : List ℕ) (e : Error)
-    → (c : ℕ) × (fault_of e ≡ fault.Lexer c) × IsStateOf text (record { remaining = []; pending = Some c })
-    → IsOutcomeOf text (Err (fault_of e))
+    → (c : ℕ) × (error_value e ≡ spec.Lexer c) × IsStateOf text (record { remaining = []; pending = Some c })
+    → IsOutcomeOf text (Err (error_value e))
 at_bad_start text e w = record {
   start = record { remaining = []; pending = Some w.0 };
   answer = Err _;
@@ -89,12 +89,12 @@ at_bad_start text e w = record {
   whole = rw w.1;
 }
 
-pub lexer_has_memory : (P : Type 0) (e : Error) (c : ℕ) → fault_of e ≡ fault.Lexer c → IfOutOfMemory {T = Unit {0}} (Err e) P
+pub lexer_has_memory : (P : Type 0) (e : Error) (c : ℕ) → error_value e ≡ spec.Lexer c → IfOutOfMemory {T = Unit {0}} (Err e) P
 lexer_has_memory P error.OutOfMemory c d = cc
 lexer_has_memory P _ c d = tt
 
--- reading answers a fault
-pub at_fault : (text : List ℕ) (s t : ParserState) (e : Fault) → IsStateOf text s → ReadsVersion s (Err e) t → IsOutcomeOf text (Err e)
+-- reading answers an error
+pub at_fault : (text : List ℕ) (s t : ParserState) (e : ErrorValue) → IsStateOf text s → ReadsVersion s (Err e) t → IsOutcomeOf text (Err e)
 at_fault text s t e state reads = record { start = s; answer = Err e; end = t; state = state; reads = reads; whole = refl }
 
 pub at_refusal : (text : List ℕ) (s t : ParserState) → IsStateOf text s → MayRunOutInVersion s t → TextMayRunOut text
@@ -116,7 +116,7 @@ module _ (text : List ℕ) (s t : ParserState) (v : VersionValue) (state : IsSta
 
   -- the tail, where some token is left
   pub tail_given : ¬ (t.remaining ≡ []) → (d : Step (List TokenValue)) → d ≡ tail t
-      → Gives (λ e u. IsOutcomeOf text (Err e)) (λ ts u. IsOutcomeOf text (Err (fault.MoreInput ts))) d
+      → Gives (λ e u. IsOutcomeOf text (Err e)) (λ ts u. IsOutcomeOf text (Err (spec.MoreInput ts))) d
   tail_given some d e =
       rw e
       (at_left t.remaining t.pending some (λ x whole. record {
@@ -129,8 +129,8 @@ module _ (text : List ℕ) (s t : ParserState) (v : VersionValue) (state : IsSta
       }))
     where
       at_left : (left : List TokenValue) (pending : Option ℕ) → ¬ (left ≡ [])
-          → ((x : Result VersionValue Fault) → x ≡ whole_answer (Ok v) left pending → IsOutcomeOf text x)
-          → Gives (λ e u. IsOutcomeOf text (Err e)) (λ ts u. IsOutcomeOf text (Err (fault.MoreInput ts))) (tail_of left pending)
+          → ((x : Result VersionValue ErrorValue) → x ≡ whole_answer (Ok v) left pending → IsOutcomeOf text x)
+          → Gives (λ e u. IsOutcomeOf text (Err e)) (λ ts u. IsOutcomeOf text (Err (spec.MoreInput ts))) (tail_of left pending)
       at_left [] pending some outcome = absurd (some refl)
       at_left (x ∷ left) None some outcome = outcome _ refl
       at_left (x ∷ left) (Some c) some outcome = outcome _ refl

@@ -9,7 +9,7 @@ use Rattle.semver_ranges.specs.declared.range_set.RangeError.TheVariants.{NotARa
 use Rattle.semver_texts.specs.Texts.{Text}
 use Rattle.semver_texts.specs.Versions.{VersionValue}
 use Rattle.semver_texts.specs.PrintedText.{version_text}
-use Rattle.semver_tokens.specs.ParserViews.{fault_of, answer_of, UnlessOutOfMemory, IfOutOfMemory}
+use Rattle.semver_tokens.specs.ParserViews.{error_value, answer_of, UnlessOutOfMemory, IfOutOfMemory}
 use Rattle.semver_texts.specs.VersionViews.{version_value}
 use Rattle.semver_tokens.specs.VersionReading.{IsOutcomeOf, TextMayRunOut}
 use Rattle.semver_tokens.specs.declared.parser.Error.{Error}
@@ -21,11 +21,11 @@ use Rattle.semver_ranges.specs.RewritingTable.{PlainSet, fits, rewritten}
 use Rattle.semver_ranges.specs.PrintedRanges.{set_text}
 use Rattle.semver_parser.specs.Writing.{WritesOrBegins}
 use Rattle.semver_parser.specs.ReportLines.{VersionLine, version_printed, version_refused, version_unread, version_unprinted}
-use Rattle.semver_parser.specs.ReportLines.{version_fault_word, range_fault_word, RangeLine, set_printed, not_a_range, number_too_large}
+use Rattle.semver_parser.specs.ReportLines.{version_error_word, range_error_word, RangeLine, set_printed, not_a_range, number_too_large}
 use Rattle.semver_parser.specs.ReportLines.{no_memory, AreLines, WritesLines, lines}
 use Rattle.semver_parser.specs.Steps.Shown.{shown_text, is_value_of}
 use Rattle.semver_parser.specs.declared.report.Shown.{Shown}
-use Rattle.semver_parser.specs.declared.report.Shown.TheVariants.{Value, Fault}
+use Rattle.semver_parser.specs.declared.report.Shown.TheVariants.{Value, Word}
 
 -- a version that was read shows as its printed text, or as out of memory
 pub shows_version : (text : Text) (shown : Shown) (v : VersionValue) → IsOutcomeOf text (Ok v)
@@ -34,15 +34,15 @@ pub shows_version : (text : Text) (shown : Shown) (v : VersionValue) → IsOutco
     → VersionLine text (is_value_of shown) (shown_text shown)
 shows_version text (Value t) v outcome value other =
     rw (value refl) (version_printed text v outcome)
-shows_version text (Fault w) v outcome value other =
+shows_version text (Word w) v outcome value other =
     rw (other refl) (version_unprinted text v outcome)
 
--- a fault shows as its word
-pub shows_fault : (text : Text) (e : Error) → UnlessOutOfMemory {T = Version} (Err e) (IsOutcomeOf text (answer_of version_value (Err e)))
+-- an error shows as its word
+pub shows_error : (text : Text) (e : Error) → UnlessOutOfMemory {T = Version} (Err e) (IsOutcomeOf text (answer_of version_value (Err e)))
     → IfOutOfMemory {T = Version} (Err e) (TextMayRunOut text)
-    → (word : Text) → word ≡ version_fault_word (fault_of e) → VersionLine text false word
-shows_fault text error.OutOfMemory outcome memory word is = rw is (version_unread text memory)
-shows_fault text _ outcome memory word is = rw is (version_refused text _ outcome)
+    → (word : Text) → word ≡ version_error_word (error_value e) → VersionLine text false word
+shows_error text error.OutOfMemory outcome memory word is = rw is (version_unread text memory)
+shows_error text _ outcome memory word is = rw is (version_refused text _ outcome)
 
 -- a set that was read shows as its printed text, or as out of memory
 pub shows_set : (mode : Compat) (text : Text) (shown : Shown) (set : PlainSet) (tree : SetTree) → Spells tree text → IsTrue (fits mode tree)
@@ -51,12 +51,12 @@ pub shows_set : (mode : Compat) (text : Text) (shown : Shown) (set : PlainSet) (
     → RangeLine mode text (is_value_of shown) (shown_text shown)
 shows_set mode text (Value t) set tree spelled fit is value other =
     rw (value refl, is) (set_printed mode text tree spelled fit)
-shows_set mode text (Fault w) set tree spelled fit is value other =
+shows_set mode text (Word w) set tree spelled fit is value other =
     rw (other refl) (no_memory mode text tree spelled fit)
 
 -- a refusal shows as its word
 pub shows_refusal : (mode : Compat) (text : Text) (e : RangeError) → RefusesExactly {A = RangeSet} mode text (Err e)
-    → (word : Text) → word ≡ range_fault_word e → RangeLine mode text false word
+    → (word : Text) → word ≡ range_error_word e → RangeLine mode text false word
 shows_refusal mode text NotARange refused word is = rw is (not_a_range mode text (refused.not_a_range.0 refl))
 shows_refusal mode text NumberTooLarge refused word is =
     let found = refused.too_large.0 refl in rw is (number_too_large mode text found.0 found.1 found.2)

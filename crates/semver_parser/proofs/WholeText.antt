@@ -19,7 +19,7 @@ use Rattle.semver_texts.specs.Versions.{IdentifierValue, numeric, alphanumeric, 
 use Rattle.semver_texts.specs.PrintedText.{identifier_text, version_text}
 use Rattle.semver_texts.specs.VersionGrammar.{SpellsIdentifier, SpellsPart, SpellsCore, SpellsVersion, IsTrimmed, IsPrintableIdentifier}
 use Rattle.semver_texts.specs.VersionGrammar.{IsPrintableVersion}
-use Rattle.semver_tokens.specs.ParserState.{ParserState, Fault, IsStateOf}
+use Rattle.semver_tokens.specs.ParserState.{ParserState, ErrorValue, IsStateOf}
 use Rattle.semver_tokens.specs.VersionReading.{IsIdentifierShape, IsPartShape, IsOuterShape, IsVersionShape, IsLongestFront, ReadsVersion}
 use Rattle.semver_tokens.specs.VersionReading.{IsOutcomeOf, whole_answer, HoldsIdentifierRun, TextMayRunOut, inner_text, inner_texts}
 use Rattle.semver_tokens.proofs.Cuts.{IsAscii-token_text}
@@ -222,7 +222,7 @@ no_rest text s utf8 w none =
 no_pending : (text : List ℕ) (s : ParserState) → (w : IsStateOf text s) → w.0 ≡ [] → s.pending ≡ None
 no_pending text s w empty = w.2 ∙ rw empty (rw chars-nil)
 
-ok_whole : (v : VersionValue) (r : Result VersionValue Fault) (left : List TokenValue) (pending : Option ℕ)
+ok_whole : (v : VersionValue) (r : Result VersionValue ErrorValue) (left : List TokenValue) (pending : Option ℕ)
     → Ok v ≡ whole_answer r left pending → (r ≡ Ok v) × (left ≡ [])
 ok_whole v (Err e) left pending d = cc
 ok_whole v (Ok w) [] pending d = (sym d, refl)
@@ -275,10 +275,10 @@ module _ (v : VersionValue) (text : List ℕ) (spells : SpellsVersion v text) wh
       same_front IsVersionShape has.ts has.ts front [] rest all_longest
       (rw (state_is s w).0 longest)
 
-  pub outcome_spelled : (x : Result VersionValue Fault) → IsOutcomeOf text x → x ≡ Ok v
+  pub outcome_spelled : (x : Result VersionValue ErrorValue) → IsOutcomeOf text x → x ≡ Ok v
   outcome_spelled x o = o.whole ∙ go o.answer o.reads
     where
-      go : (r : Result VersionValue Fault) → ReadsVersion o.start r o.end → whole_answer r o.end.remaining o.end.pending ≡ Ok v
+      go : (r : Result VersionValue ErrorValue) → ReadsVersion o.start r o.end → whole_answer r o.end.remaining o.end.pending ≡ Ok v
       go (Ok u) w =
           let same = front_is o.start o.state w.front w.rest w.longest in
           let value : u ≡ v = one_core u v (inner_texts has.ts)
@@ -348,7 +348,7 @@ module _ (v : VersionValue) (text : List ℕ) (spells : SpellsVersion v text) wh
 
 -- ---- the outcome is one
 
-pub one_outcome : (text : List ℕ) (x y : Result VersionValue Fault) → IsOutcomeOf text x → IsOutcomeOf text y → x ≡ y
+pub one_outcome : (text : List ℕ) (x y : Result VersionValue ErrorValue) → IsOutcomeOf text x → IsOutcomeOf text y → x ≡ y
 one_outcome text x y a b =
     let same = same_tokens text 0 a.start.remaining b.start.remaining a.state.0 b.state.0 a.state.1 b.state.1 in
     let pending = a.state.2 ∙ rw same.1 (sym b.state.2) in

@@ -10,8 +10,8 @@ use Rattle.semver_ranges.specs.declared.range_set.RangeError.TheVariants.{OutOfM
 use Rattle.semver_texts.specs.Texts.{Text}
 use Rattle.semver_texts.specs.Versions.{VersionValue}
 use Rattle.semver_texts.specs.PrintedText.{version_text}
-use Rattle.semver_tokens.specs.ParserState as fault
-use Rattle.semver_tokens.specs.ParserState.{Fault}
+use Rattle.semver_tokens.specs.ParserState as spec
+use Rattle.semver_tokens.specs.ParserState.{ErrorValue}
 use Rattle.semver_tokens.specs.VersionReading.{IsOutcomeOf, TextMayRunOut}
 use Rattle.semver_ranges.specs.RangeTexts.{IsRangeText}
 use Rattle.semver_ranges.specs.RangeTree.{SetTree, Spells}
@@ -19,51 +19,51 @@ use Rattle.semver_ranges.specs.RewritingTable.{fits, rewritten}
 use Rattle.semver_ranges.specs.PrintedRanges.{set_text}
 use Rattle.semver_parser.specs.Writing.{AppendsBeginning}
 
--- the word for a fault of a version text
-abbrev pub version_fault_word : Fault → Text
-version_fault_word fault.UnexpectedEnd = codes "unexpected-end"
-version_fault_word (fault.UnexpectedToken t) = codes "unexpected-token"
-version_fault_word (fault.Lexer c) = codes "unexpected-char"
-version_fault_word (fault.MoreInput ts) = codes "more-input"
-version_fault_word fault.EmptyPredicate = codes "empty-predicate"
-version_fault_word fault.EmptyRange = codes "empty-range"
-version_fault_word fault.OutOfMemory = codes "out-of-memory"
+-- the word for an error of a version text
+abbrev pub version_error_word : ErrorValue → Text
+version_error_word spec.UnexpectedEnd = codes "unexpected-end"
+version_error_word (spec.UnexpectedToken t) = codes "unexpected-token"
+version_error_word (spec.Lexer c) = codes "unexpected-char"
+version_error_word (spec.MoreInput ts) = codes "more-input"
+version_error_word spec.EmptyPredicate = codes "empty-predicate"
+version_error_word spec.EmptyRange = codes "empty-range"
+version_error_word spec.OutOfMemory = codes "out-of-memory"
 
--- the word for a fault of a range text
-abbrev pub range_fault_word : RangeError → Text
-range_fault_word NotARange = codes "not-a-range"
-range_fault_word NumberTooLarge = codes "number-too-large"
-range_fault_word OutOfMemory = codes "out-of-memory"
+-- the word for an error of a range text
+abbrev pub range_error_word : RangeError → Text
+range_error_word NotARange = codes "not-a-range"
+range_error_word NumberTooLarge = codes "number-too-large"
+range_error_word OutOfMemory = codes "out-of-memory"
 
--- what is after `version: ` for a text, and whether it is no fault word
+-- what is after `version: ` for a text, and whether it is no error word
 pub data VersionLine : Text → Bool → Text → Type 0 where
   -- the version that the text is, printed
   version_printed : (text : Text) (v : VersionValue) → IsOutcomeOf text (Ok v)
       → VersionLine text true (version_text v)
-  -- the word of the text's fault
-  version_refused : (text : Text) (e : Fault) → IsOutcomeOf text (Err e)
-      → VersionLine text false (version_fault_word e)
+  -- the word of the text's error
+  version_refused : (text : Text) (e : ErrorValue) → IsOutcomeOf text (Err e)
+      → VersionLine text false (version_error_word e)
   -- where reading the text may run out of memory
   version_unread : (text : Text) → TextMayRunOut text
-      → VersionLine text false (version_fault_word fault.OutOfMemory)
+      → VersionLine text false (version_error_word spec.OutOfMemory)
   -- in place of a printed version
   version_unprinted : (text : Text) (v : VersionValue) → IsOutcomeOf text (Ok v)
-      → VersionLine text false (version_fault_word fault.OutOfMemory)
+      → VersionLine text false (version_error_word spec.OutOfMemory)
 
--- what is after `cargo: ` and `npm: ` for a text, and whether it is no fault word
+-- what is after `cargo: ` and `npm: ` for a text, and whether it is no error word
 pub data RangeLine : Compat → Text → Bool → Text → Type 0 where
   -- the comparators of the tree that spells the text, printed
   set_printed : (mode : Compat) (text : Text) (tree : SetTree) → Spells tree text
       → IsTrue (fits mode tree) → RangeLine mode text true (set_text (rewritten mode tree))
   -- no tree spells the text
   not_a_range : (mode : Compat) (text : Text) → ¬ (IsRangeText text)
-      → RangeLine mode text false (range_fault_word NotARange)
+      → RangeLine mode text false (range_error_word NotARange)
   -- one does, and doesn't fit
   number_too_large : (mode : Compat) (text : Text) (tree : SetTree) → Spells tree text
-      → fits mode tree ≡ false → RangeLine mode text false (range_fault_word NumberTooLarge)
+      → fits mode tree ≡ false → RangeLine mode text false (range_error_word NumberTooLarge)
   -- in place of a set, or of a printed set
   no_memory : (mode : Compat) (text : Text) (tree : SetTree) → Spells tree text
-      → IsTrue (fits mode tree) → RangeLine mode text false (range_fault_word OutOfMemory)
+      → IsTrue (fits mode tree) → RangeLine mode text false (range_error_word OutOfMemory)
 
 -- a line: its label, what it shows, and a line feed
 abbrev pub line : Text → Text → Text
@@ -74,7 +74,7 @@ abbrev pub lines : Text → Text → Text → Text
 lines version cargo npm =
     line (codes "version: ") version ++ line (codes "cargo: ") cargo ++ line (codes "npm: ") npm
 
--- the bytes are the lines of the text, of which at least one holds no fault word exactly if `good`
+-- the bytes are the lines of the text, of which at least one holds no error word exactly if `good`
 pub record AreLines (text : Text) (good : Bool) (bytes : Text) : Type 0 where
   pub version : Text
   pub cargo : Text
@@ -96,7 +96,7 @@ WritesLines text old new r = MatchResult r
     (λ _. (good : Bool) × (bytes : Text) × AreLines text good bytes
     × AppendsBeginning old new bytes)
 
--- 0 where some line holds no fault word, 1 where each holds one, 2 after a failed write
+-- 0 where some line holds no error word, 1 where each holds one, 2 after a failed write
 abbrev pub status_of : {E : Type 0} → Result Bool E → ℕ
 status_of (Ok true) = 0
 status_of (Ok false) = 1

@@ -5,7 +5,7 @@ ghost use Rattle.semver_ranges.specs.declared.range.Compat.TheVariants.{Cargo, N
 ghost use Rattle.semver_texts.specs.Texts.{Text};
 ghost use Rattle.semver_texts.specs.Versions.{VersionValue, numeric, alphanumeric};
 ghost use Rattle.semver_texts.specs.VersionGrammar.{IsVersionText, SpellsVersion};
-ghost use Rattle.semver_tokens.specs.ParserState.{Fault};
+ghost use Rattle.semver_tokens.specs.ParserState.{ErrorValue};
 ghost use Rattle.semver_tokens.specs.VersionReading.{IsOutcomeOf};
 ghost use Rattle.semver_parser.specs.Examples.{IsMet, IsMetAsStated, release, version};
 
@@ -19,7 +19,7 @@ pub use semver_versions::laws::{one_outlined_version, one_version, one_version_i
 
 /// Reading a text as a version has one outcome.
 pub fn one_outcome()
-    ensures same_outcome { (text : Text) (x y : Result VersionValue Fault) → IsOutcomeOf text x
+    ensures same_outcome { (text : Text) (x y : Result VersionValue ErrorValue) → IsOutcomeOf text x
         → IsOutcomeOf text y → x ≡ y }
 {}
 

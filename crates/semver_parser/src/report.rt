@@ -1,12 +1,12 @@
 //! The lines of the program, and its status.
 ghost use Rattle.std.specs.Prelude.{◌≡◌, true, false, ◌||◌, IfOk, codes};
 ghost use Rattle.semver_parser.specs.Writing.{WritesOrBegins};
-ghost use Rattle.semver_parser.specs.ReportLines.{VersionLine, RangeLine, version_fault_word};
-ghost use Rattle.semver_parser.specs.ReportLines.{range_fault_word, line, lines, WritesLines};
+ghost use Rattle.semver_parser.specs.ReportLines.{VersionLine, RangeLine, version_error_word};
+ghost use Rattle.semver_parser.specs.ReportLines.{range_error_word, line, lines, WritesLines};
 ghost use Rattle.semver_parser.specs.ReportLines.{status_of};
 ghost use Rattle.semver_ranges.specs.RangeViews.{set_of};
 ghost use Rattle.semver_ranges.specs.PrintedRanges.{set_text};
-ghost use Rattle.semver_tokens.specs.ParserViews.{fault_of};
+ghost use Rattle.semver_tokens.specs.ParserViews.{error_value};
 ghost use Rattle.semver_texts.specs.VersionViews.{version_value};
 ghost use Rattle.semver_texts.specs.PrintedText.{version_text};
 ghost use Rattle.semver_parser.specs.Steps.Shown.{shown_text, is_value_of};
@@ -23,17 +23,17 @@ use std::io::{self, Write};
 enum Shown {
     /// A printed value.
     Value(String),
-    /// The word of a fault.
-    Fault(&'static str),
+    /// The word of an error.
+    Word(&'static str),
 }
 
 // Answer: free, the writer's own errors: must-fail/report_forgets_the_npm_line.edit.
-/// Writes the three lines of a text, each with a printed value or a fault word, and a line feed:
+/// Writes the three lines of a text, each with a printed value or an error word, and a line feed:
 /// `version: ` with the version, `cargo: ` and `npm: ` with the range set in Cargo and in npm mode.
-/// It answers true where at least one line holds no fault word.
+/// It answers true where at least one line holds no error word.
 ///
 /// Of `1.2.3` it writes `version: 1.2.3`, `cargo: >=1.2.3 <2.0.0` and `npm: =1.2.3`; of `1.2` the
-/// first line is `version: unexpected-end`. The fault words are `unexpected-end`,
+/// first line is `version: unexpected-end`. The error words are `unexpected-end`,
 /// `unexpected-token`, `unexpected-char` and `more-input` for versions, `not-a-range` and
 /// `number-too-large` for ranges, and `out-of-memory` for each.
 ///
@@ -48,7 +48,7 @@ pub fn run<W: Write>(alloc: Global, text: &str, out: &mut W) -> Result<bool, io:
     write_lines(out, &version, &cargo, &npm)
 }
 
-/// Writes the lines, and returns whether some line holds no fault word.
+/// Writes the lines, and returns whether some line holds no error word.
 fn write_lines<W: Write>(
     out: &mut W,
     version: &Shown,
@@ -67,7 +67,7 @@ fn write_lines<W: Write>(
 }
 
 // Answer: equation.
-/// The exit status of a run: 0 where some line holds no fault word, 1 where each holds one, 2 after
+/// The exit status of a run: 0 where some line holds no error word, 1 where each holds one, 2 after
 /// a failed write.
 ///
 /// Of `Ok(false)` it is 1.
@@ -87,7 +87,7 @@ fn version_shown(alloc: Global, text: &str) -> Shown
 {
     match version::parse(alloc, text) {
         Ok(version) => printed_version(alloc, &version),
-        Err(error) => Shown::Fault(version_fault_word(&error)),
+        Err(error) => Shown::Word(version_error_word(&error)),
     }
 }
 
@@ -95,11 +95,11 @@ fn version_shown(alloc: Global, text: &str) -> Shown
 fn printed_version(alloc: Global, version: &Version) -> Shown
     ensures value { is_value_of result ≡ true → shown_text result
         ≡ version_text (version_value version.now) }
-    ensures fault { is_value_of result ≡ false → shown_text result ≡ codes "out-of-memory" }
+    ensures error { is_value_of result ≡ false → shown_text result ≡ codes "out-of-memory" }
 {
     match version.to_string(alloc) {
         Ok(text) => Shown::Value(text),
-        Err(_) => Shown::Fault("out-of-memory"),
+        Err(_) => Shown::Word("out-of-memory"),
     }
 }
 
@@ -109,13 +109,13 @@ fn range_shown(alloc: Global, text: &str, compat: Compat) -> Shown
 {
     match RangeSet::parse(alloc, text, compat) {
         Ok(set) => printed_set(alloc, &set),
-        Err(error) => Shown::Fault(range_fault_word(&error)),
+        Err(error) => Shown::Word(range_error_word(&error)),
     }
 }
 
-/// The word for a fault of a range text.
-fn range_fault_word(error: &RangeError) -> &'static str
-    ensures { result.now ≡ range_fault_word error.now }
+/// The word for an error of a range text.
+fn range_error_word(error: &RangeError) -> &'static str
+    ensures { result.now ≡ range_error_word error.now }
 {
     match error {
         RangeError::NotARange => "not-a-range",
@@ -127,17 +127,17 @@ fn range_fault_word(error: &RangeError) -> &'static str
 /// The printed set, or the word for out of memory.
 fn printed_set(alloc: Global, set: &RangeSet) -> Shown
     ensures value { is_value_of result ≡ true → shown_text result ≡ set_text (set_of set.now) }
-    ensures fault { is_value_of result ≡ false → shown_text result ≡ codes "out-of-memory" }
+    ensures error { is_value_of result ≡ false → shown_text result ≡ codes "out-of-memory" }
 {
     match set.to_string(alloc) {
         Ok(text) => Shown::Value(text),
-        Err(_) => Shown::Fault("out-of-memory"),
+        Err(_) => Shown::Word("out-of-memory"),
     }
 }
 
-/// The word for a fault of a version text.
-fn version_fault_word(error: &parser::Error<'_>) -> &'static str
-    ensures { result.now ≡ version_fault_word (fault_of error.now) }
+/// The word for an error of a version text.
+fn version_error_word(error: &parser::Error<'_>) -> &'static str
+    ensures { result.now ≡ version_error_word (error_value error.now) }
 {
     match error {
         parser::Error::UnexpectedEnd => "unexpected-end",
@@ -164,7 +164,7 @@ impl Shown {
     {
         match self {
             Shown::Value(text) => text.as_str(),
-            Shown::Fault(word) => word,
+            Shown::Word(word) => word,
         }
     }
 }

@@ -1,4 +1,4 @@
-//! Writing bytes so that a fault leaves a known beginning of them.
+//! Writing bytes so that an error leaves a known beginning of them.
 ghost use Rattle.semver_parser.specs.Writing.{WritesOrBegins};
 
 use std::io::{self, ErrorKind, Write};

@@ -186,7 +186,7 @@ static rattle_answer block_of_texts(size_t count) {
                : refused;
 }
 
-/* The texts are copied only where an empty one is at null. Where that copy is refused, a fault of
+/* The texts are copied only where an empty one is at null. Where that copy is refused, an error of
  * the reading, of the rule or of the range goes before it. */
 int32_t semver_parser_meets_each(const uint8_t *range, size_t range_length, int32_t reading,
                                  int32_t pre_releases, const semver_parser_text *versions,
@@ -199,9 +199,9 @@ int32_t semver_parser_meets_each(const uint8_t *range, size_t range_length, int3
     }
     rattle_answer copies = block_of_texts(count);
     if (!copies.found) {
-        int32_t fault = semver_parser_proved_meets_each(range_at, range_length, reading,
+        int32_t error = semver_parser_proved_meets_each(range_at, range_length, reading,
                                                         pre_releases, &no_text, 0, &no_byte, 0);
-        return fault != SEMVER_PARSER_OK ? fault : (int32_t)SEMVER_PARSER_RANGE_OUT_OF_MEMORY;
+        return error != SEMVER_PARSER_OK ? error : (int32_t)SEMVER_PARSER_RANGE_OUT_OF_MEMORY;
     }
     semver_parser_text *texts = (semver_parser_text *)copies.block;
     copy_texts(texts, versions, count);

@@ -10,9 +10,9 @@ use Rattle.semver_parser.proofs.WholeText.{spelled_outcome}
 use Rattle.tool_ranges.specs.declared.reading.Reading.{Reading}
 use Rattle.tool_ranges.specs.Readings.{dialect_of}
 use Rattle.semver_parser_c.specs.Numbers as number
-use Rattle.semver_parser_c.specs.Faults.{HasOutcomeIn, MayRunOutIn, RefusedIn}
+use Rattle.semver_parser_c.specs.Errors.{HasOutcomeIn, MayRunOutIn, RefusedIn}
 use Rattle.semver_parser_c.specs.Readings.{IsDialect, reading_number}
-use Rattle.semver_parser_c.specs.Steps.RangeFaults.{IsReadingOf}
+use Rattle.semver_parser_c.specs.Steps.TextErrors.{IsReadingOf}
 use Rattle.semver_parser_c.proofs.OneRewriting.{one_reading}
 
 pub of_reading : (r : Reading) (n : ℤ) (d : Dialect) → n ≡ reading_number r → IsDialect d n → dialect_of r ≡ d

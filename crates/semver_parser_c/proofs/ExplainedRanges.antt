@@ -3,14 +3,14 @@ use Rattle.std.proofs.Common.{◌≡◌, ℤ, ◌∷◌, arith, inr, subst}
 use Rattle.semver_parser.specs.Texts.{Text}
 use Rattle.tool_ranges.specs.declared.reading.Reading.{Reading}
 use Rattle.semver_parser_c.specs.Numbers.{ok, no_such_reading}
-use Rattle.semver_parser_c.specs.Faults.{IsOneOf, range_faults}
+use Rattle.semver_parser_c.specs.Errors.{IsOneOf, range_errors}
 use Rattle.semver_parser_c.specs.RangeRefusals.{ExplainsBy, ExplainsRange}
-use Rattle.semver_parser_c.specs.Steps.RangeFaults.{IsReadingOf}
+use Rattle.semver_parser_c.specs.Steps.TextErrors.{IsReadingOf}
 
-other_number : (n : ℤ) → IsOneOf (ok ∷ range_faults) n → n ≡ no_such_reading → ⊥
+other_number : (n : ℤ) → IsOneOf (ok ∷ range_errors) n → n ≡ no_such_reading → ⊥
 other_number n one is = grind arith
 
-pub explains : (r : Reading) (reading : ℤ) (text : Text) (n : ℤ) → IsReadingOf r reading → IsOneOf (ok ∷ range_faults) n
+pub explains : (r : Reading) (reading : ℤ) (text : Text) (n : ℤ) → IsReadingOf r reading → IsOneOf (ok ∷ range_errors) n
     → ExplainsBy r text n → ExplainsRange reading text n
 explains r reading text n only one by = record {
   named = inr (r, only.named);

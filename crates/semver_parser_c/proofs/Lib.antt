@@ -1,6 +1,6 @@
 mod ListedComparators
 mod Steps
-mod RangeFaults
+mod TextErrors
 mod Dialects
 mod LeastVersions
 mod ComparedVersions

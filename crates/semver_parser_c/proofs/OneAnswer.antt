@@ -15,8 +15,8 @@ use Rattle.tool_ranges.specs.Meanings.{reading_of}
 use Rattle.tool_ranges.specs.Readings.{dialect_of, fits_as}
 use Rattle.semver_parser_c.specs.Readings.{IsDialect, IsReading}
 use Rattle.semver_parser_c.specs.Numbers as number
-use Rattle.semver_parser_c.specs.Faults.{IsAccepted, IsOneOf, RangeNumbers, RefusesBy, RefusesRange, RefusesText}
-use Rattle.semver_parser_c.specs.Faults.{HasOutcomeIn, RefusedIn, new_range_numbers, outcome_number, range_numbers}
+use Rattle.semver_parser_c.specs.Errors.{IsAccepted, IsOneOf, RangeNumbers, RefusesBy, RefusesRange, RefusesText}
+use Rattle.semver_parser_c.specs.Errors.{HasOutcomeIn, RefusedIn, new_range_numbers, outcome_number, range_numbers}
 use Rattle.semver_parser_c.proofs.Dialects.{refused_outcome}
 use Rattle.semver_parser_c.specs.OneAnswer.{AreOne, IsMemory, memory_numbers}
 
@@ -109,9 +109,9 @@ by_dialect (inr (r, is)) q p wrong by = by (dialect_of r) (r, is, refl)
 abbrev pub HasOutcome : Dialect → Text → ℤ → Type 0
 HasOutcome d text n = IsUtf8 text → ¬ (IsVersionTextIn d text) → n ≢ number.version_out_of_memory → HasOutcomeIn d text n
 
-pub of_fault : (d : Dialect) (text : Text) {n : ℤ} → (IsUtf8 text → ¬ (IsVersionTextIn d text) → n ≢ number.version_out_of_memory
+pub of_error : (d : Dialect) (text : Text) {n : ℤ} → (IsUtf8 text → ¬ (IsVersionTextIn d text) → n ≢ number.version_out_of_memory
     → RefusedIn d text n) → HasOutcome d text n
-of_fault d text refused utf8 none found = refused_outcome d text _ none (refused utf8 none found)
+of_error d text refused utf8 none found = refused_outcome d text _ none (refused utf8 none found)
 
 tool_outcome : {P : Type 0} {n m k : ℤ} → ¬ P → (P × (n ≡ k)) ⊎ ((¬ P) × (n ≡ number.not_a_version))
     → (P × (m ≡ k)) ⊎ ((¬ P) × (m ≡ number.not_a_version)) → n ≡ m
@@ -137,18 +137,18 @@ version_once d text u u' read p q some some' =
 -- ---- range texts
 
 -- the exact errors of a text by the reading
-abbrev pub text_faults : RangeNumbers → List ℤ
-text_faults k = k.not_utf8 ∷ k.not_a_range ∷ k.too_large ∷ []
+abbrev pub text_errors : RangeNumbers → List ℤ
+text_errors k = k.not_utf8 ∷ k.not_a_range ∷ k.too_large ∷ []
 
 -- and those of a call that rewrites, and of one that asks what a range means
 abbrev pub rewrite_exact : List ℤ
-rewrite_exact = number.no_such_reading ∷ text_faults range_numbers
+rewrite_exact = number.no_such_reading ∷ text_errors range_numbers
 
 abbrev pub range_exact : List ℤ
-range_exact = number.no_such_reading ∷ number.no_such_rule ∷ text_faults range_numbers
+range_exact = number.no_such_reading ∷ number.no_such_rule ∷ text_errors range_numbers
 
 by_once : {k : RangeNumbers} {Asked : Type 0} {r : Reading} {text : Text} {n m : ℤ} → k.not_utf8 ≢ k.not_a_range
-    → k.not_utf8 ≢ k.too_large → Asked → RefusesBy k Asked r text n → RefusesBy k Asked r text m → IsOneOf (text_faults k) n → n ≡ m
+    → k.not_utf8 ≢ k.too_large → Asked → RefusesBy k Asked r text n → RefusesBy k Asked r text m → IsOneOf (text_errors k) n → n ≡ m
 by_once apart apart' asked p q (inl e) = carried (p.not_utf8 asked) (q.not_utf8 asked) e
 by_once apart apart' asked p q (inr (inl e)) =
     unless (p.not_utf8 asked) (λ e'. apart (sym e' ∙ e))
@@ -159,11 +159,11 @@ by_once apart apart' asked p q (inr (inr (inl e))) =
 by_once apart apart' asked p q (inr (inr (inr none))) = absurd none
 
 old_once : {r : Reading} {text : Text} {n m : ℤ} → RefusesBy range_numbers ⊤ r text n → RefusesBy range_numbers ⊤ r text m
-    → IsOneOf (text_faults range_numbers) n → n ≡ m
+    → IsOneOf (text_errors range_numbers) n → n ≡ m
 old_once p q one = by_once (λ e. cc) (λ e. cc) tt p q one
 
 pub new_once : {Asked : Type 0} {r : Reading} {text : Text} {n m : ℤ} → Asked → RefusesBy new_range_numbers Asked r text n
-    → RefusesBy new_range_numbers Asked r text m → IsOneOf (text_faults new_range_numbers) n → n ≡ m
+    → RefusesBy new_range_numbers Asked r text m → IsOneOf (text_errors new_range_numbers) n → n ≡ m
 new_once asked p q one = by_once (λ e. cc) (λ e. cc) asked p q one
 
 pub text_once : {reading : ℤ} {text : Text} {n m : ℤ} → RefusesText reading text n → RefusesText reading text m

@@ -8,22 +8,22 @@ use Rattle.tool_ranges.specs.declared.meaning.Meaning.{Meaning}
 use Rattle.tool_ranges.specs.Meanings.{reading_of}
 use Rattle.tool_ranges.specs.Readings.{dialect_of}
 use Rattle.semver_parser_c.specs.Numbers.{range_out_of_memory, version_out_of_memory}
-use Rattle.semver_parser_c.specs.Faults.{IsOneOf, RefusesVersion, named_faults, version_faults}
+use Rattle.semver_parser_c.specs.Errors.{IsOneOf, RefusesVersion, named_errors, version_errors}
 use Rattle.semver_parser_c.specs.Readings.{IsDialect}
-use Rattle.semver_parser_c.specs.Steps.RangeFaults.{IsMeaningOf, IsReadable, IsRefused, IsUnjudged}
+use Rattle.semver_parser_c.specs.Steps.TextErrors.{IsMeaningOf, IsReadable, IsRefused, IsUnjudged}
 use Rattle.semver_parser_c.proofs.Dialects.{of_reading}
-use Rattle.semver_parser_c.proofs.RangeFaults.{stands}
+use Rattle.semver_parser_c.proofs.TextErrors.{stands}
 
-of_range : (n : ℤ) → IsOneOf named_faults n → IsOneOf (named_faults ++ version_faults) n
+of_range : (n : ℤ) → IsOneOf named_errors n → IsOneOf (named_errors ++ version_errors) n
 of_range n one = grind arith
 
-of_version : (n : ℤ) → IsOneOf version_faults n → IsOneOf (named_faults ++ version_faults) n
+of_version : (n : ℤ) → IsOneOf version_errors n → IsOneOf (named_errors ++ version_errors) n
 of_version n one = grind arith
 
-not_version : (n : ℤ) → IsOneOf named_faults n → n ≢ version_out_of_memory
+not_version : (n : ℤ) → IsOneOf named_errors n → n ≢ version_out_of_memory
 not_version n one = grind arith
 
-not_range : (n : ℤ) → IsOneOf version_faults n → n ≢ range_out_of_memory
+not_range : (n : ℤ) → IsOneOf version_errors n → n ≢ range_out_of_memory
 not_range n one = grind arith
 
 -- the numbers or the range

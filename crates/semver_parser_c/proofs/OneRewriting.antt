@@ -6,11 +6,11 @@ use Rattle.tool_ranges.specs.Readings.{SpellsAs, TreeOf}
 use Rattle.tool_ranges.proofs.ReadingLaws.{one_tree}
 use Rattle.semver_parser_c.specs.Numbers as number
 use Rattle.semver_parser_c.specs.Readings.{reading_number}
-use Rattle.semver_parser_c.specs.Faults.{range_faults, set_for}
+use Rattle.semver_parser_c.specs.Errors.{range_errors, set_for}
 
 -- the errors of a call that rewrites
-abbrev pub rewrite_faults : List ℤ
-rewrite_faults = number.no_such_reading ∷ range_faults
+abbrev pub rewrite_errors : List ℤ
+rewrite_errors = number.no_such_reading ∷ range_errors
 
 pub one_reading : (r s : Reading) → reading_number r ≡ reading_number s → r ≡ s
 one_reading r s e = grind arith

@@ -9,7 +9,7 @@ use Rattle.tool_ranges.specs.Readings.{TreeOf, SpellsAs}
 use Rattle.tool_ranges.specs.Meanings.{MeansAs, reading_of}
 use Rattle.semver_parser_c.specs.Numbers as number
 use Rattle.semver_parser_c.specs.FlatSets.{AreSets, IsMadeOf, IsNoSet, IsWithin, keeps, operation_number}
-use Rattle.semver_parser_c.specs.Faults.{IsOneOf}
+use Rattle.semver_parser_c.specs.Errors.{IsOneOf}
 use Rattle.semver_parser_c.specs.declared.set_operations.Operation.{Operation}
 use Rattle.semver_parser_c.proofs.ComparedVersions.{meant}
 use Rattle.semver_parser_c.proofs.OneAnswer.{carried}

@@ -1,14 +1,14 @@
--- The faults of version texts, and the pre-releases of versions.
+-- The errors of version texts, and the pre-releases of versions.
 use Rattle.std.proofs.Common.{◌≡◌, ◌≢◌, ℕ, List, [], ◌∷◌, Err, arith, length, ◌<◌}
 use Rattle.semver_parser.specs.Texts.{Text}
 use Rattle.semver_parser.specs.Versions.{IdentifierValue, VersionValue}
 use Rattle.semver_parser.specs.VersionReading.{IsOutcomeOf}
-use Rattle.semver_parser.specs.ParserState as fault
-use Rattle.semver_parser.specs.ParserState.{Fault}
+use Rattle.semver_parser.specs.ParserState as spec
+use Rattle.semver_parser.specs.ParserState.{ErrorValue}
 use Rattle.semver_parser.specs.Outlines.{OutlineValue, outline_behind, dotted_text}
 
--- a version text has none of the faults that the Rust crate lists for ranges
-pub never : (text : Text) (e : Fault) → IsOutcomeOf text (Err e) → (e ≢ fault.EmptyPredicate) × (e ≢ fault.EmptyRange)
+-- a version text has none of the errors that the Rust crate lists for ranges
+pub never : (text : Text) (e : ErrorValue) → IsOutcomeOf text (Err e) → (e ≢ spec.EmptyPredicate) × (e ≢ spec.EmptyRange)
 never text e is = grind arith
 
 -- identifiers have a text only where there are some

@@ -1,6 +1,6 @@
 pub mod Numbers
 pub mod Readings
-pub mod Faults
+pub mod Errors
 pub mod Places
 pub mod Printing
 pub mod Comparators

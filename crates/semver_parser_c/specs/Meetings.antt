@@ -7,7 +7,7 @@ use Rattle.tool_ranges.specs.declared.meaning.Meaning.{Meaning}
 use Rattle.tool_ranges.specs.Readings.{TreeOf, SpellsAs, dialect_of}
 use Rattle.tool_ranges.specs.Meanings.{reading_of, meant_as}
 use Rattle.semver_parser_c.specs.Numbers as number
-use Rattle.semver_parser_c.specs.Faults.{IsOneOf, MayRunOutIn, RefusedIn, version_faults}
+use Rattle.semver_parser_c.specs.Errors.{IsOneOf, MayRunOutIn, RefusedIn, version_errors}
 
 -- what is written for whether a version meets a range
 abbrev pub meeting_byte : Bool → ℕ
@@ -19,9 +19,9 @@ abbrev pub IsMeeting : ℕ → Type 0
 IsMeeting byte = (byte ≡ number.does_not_meet) ⊎ (byte ≡ number.meets)
 
 -- the byte is what there is to say of a version text and a range text: whether the version that it
--- spells is one that the range means, or the fault of the version
+-- spells is one that the range means, or the error of the version
 pub record IsAnswer (m : Meaning) (range version : Text) (byte : ℕ) : Type 0 where
-  pub one : IsMeeting byte ⊎ IsOneOf version_faults (pos byte)
+  pub one : IsMeeting byte ⊎ IsOneOf version_errors (pos byte)
   pub meaning : IsMeeting byte → (tree : TreeOf (reading_of m)) (v : VersionValue)
       → SpellsAs (reading_of m) tree range → SpellsIn (dialect_of (reading_of m)) v version
       → byte ≡ meeting_byte (meant_as m tree v)

@@ -26,11 +26,11 @@ unexpected_char = pos 5
 abbrev pub more_input : ℤ
 more_input = pos 6
 
--- a predicate is empty: a fault of the Rust crate's list that no version has
+-- a predicate is empty: an error of the Rust crate's list that no version has
 abbrev pub empty_predicate : ℤ
 empty_predicate = pos 7
 
--- a range is empty: a fault of the Rust crate's list that no version has
+-- a range is empty: an error of the Rust crate's list that no version has
 abbrev pub empty_range : ℤ
 empty_range = pos 8
 

@@ -1,7 +1,7 @@
 -- Two answers of one call: both are the same, or memory ran out in one of them.
 use Rattle.std.specs.Prelude.{ℤ, ◌≡◌, List, [], ◌∷◌}
 use Rattle.semver_parser_c.specs.Numbers as number
-use Rattle.semver_parser_c.specs.Faults.{IsOneOf}
+use Rattle.semver_parser_c.specs.Errors.{IsOneOf}
 
 -- the numbers of memory that ran out
 abbrev pub memory_numbers : List ℤ

@@ -6,7 +6,7 @@ use Rattle.tool_ranges.specs.declared.hints.Hint.TheVariants as hint
 use Rattle.tool_ranges.specs.declared.reading.Reading.{Reading}
 use Rattle.tool_ranges.specs.Readings.{HasSetAs, IsTextAs, IsTooLargeAs}
 use Rattle.semver_parser_c.specs.Numbers as number
-use Rattle.semver_parser_c.specs.Faults.{IsOneOf}
+use Rattle.semver_parser_c.specs.Errors.{IsOneOf}
 use Rattle.semver_parser_c.specs.Readings.{IsReading, reading_number}
 
 -- the number says whether a text gives a range by a reading, or why not; memory may run out in

@@ -1,4 +1,4 @@
-pub mod RangeFaults
+pub mod TextErrors
 pub mod MeantSets
-pub mod VersionFaults
+pub mod VersionErrors
 pub mod Questions

@@ -8,12 +8,12 @@ ghost use Rattle.semver_parser.specs.Outlines.{version_of};
 ghost use Rattle.tool_ranges.specs.declared.meaning.Meaning.{Meaning as SomeMeaning};
 ghost use Rattle.tool_ranges.specs.Meanings.{meant_as, reading_of};
 ghost use Rattle.tool_ranges.specs.Readings.{SpellsAs, TreeOf, dialect_of};
-ghost use Rattle.semver_parser_c.specs.declared.range_text.RangeFault.TheVariants.{OutOfMemory};
-ghost use Rattle.semver_parser_c.specs.Faults.{IsAccepted, RefusesRange};
+ghost use Rattle.semver_parser_c.specs.declared.range_text.TextError.TheVariants.{OutOfMemory};
+ghost use Rattle.semver_parser_c.specs.Errors.{IsAccepted, RefusesRange};
 ghost use Rattle.semver_parser_c.specs.Readings.{IsDialect, IsNamed};
-ghost use Rattle.semver_parser_c.specs.Steps.RangeFaults.{HasFault, IsReadable, IsUnjudged, Stands};
+ghost use Rattle.semver_parser_c.specs.Steps.TextErrors.{HasError, IsReadable, IsUnjudged, Stands};
 
-use crate::range_text::{self, RangeFault};
+use crate::range_text::{self, TextError};
 use crate::{readings, version_text};
 use semver_parser::laws;
 use semver_parser::version::{self, Outline};
@@ -49,45 +49,45 @@ pub fn judge(
     let dialect = meaning.reading().dialect();
     let Some(outline) = version::outline_in(version, dialect) else {
         return match check(meaning, range) {
-            Ok(()) => Err(version_text::fault(alloc, version, dialect)),
-            Err(fault) => Err(range_text::number_of(fault)),
+            Ok(()) => Err(version_text::error(alloc, version, dialect)),
+            Err(error) => Err(range_text::number_of(error)),
         };
     };
     match meets(meaning, range, &outline) {
         Ok(met) => Ok(met),
-        Err(fault) => Err(range_text::number_of(fault)),
+        Err(error) => Err(range_text::number_of(error)),
     }
 }
 
 /// Whether a range text means the version of an outline, or its error.
-pub fn meets(meaning: Meaning, range: &[u8], version: &Outline<'_>) -> Result<bool, RangeFault>
+pub fn meets(meaning: Meaning, range: &[u8], version: &Outline<'_>) -> Result<bool, TextError>
     ensures accepted { IfOk result (λ _. IsReadable (reading_of meaning) range.now) }
     ensures meaning { IfOk result (λ met. (tree : TreeOf (reading_of meaning))
         → SpellsAs (reading_of meaning) tree range.now
         → met ≡ meant_as meaning tree (version_of version.now)) }
-    ensures fault { IfErr result (λ fault. HasFault (reading_of meaning) range.now fault) }
+    ensures error { IfErr result (λ error. HasError (reading_of meaning) range.now error) }
     ensures no_memory { result ≢ Err OutOfMemory }
 {
     let Ok(text) = std::str::from_utf8(range) else {
-        return Err(RangeFault::NotUtf8);
+        return Err(TextError::NotUtf8);
     };
     match meaning::meets(meaning, text, version) {
         Ok(met) => Ok(met),
-        Err(error) => Err(range_text::fault_of(error)),
+        Err(error) => Err(range_text::text_error_of(error)),
     }
 }
 
 /// Whether a range text is read, or its error.
-pub fn check(meaning: Meaning, range: &[u8]) -> Result<(), RangeFault>
+pub fn check(meaning: Meaning, range: &[u8]) -> Result<(), TextError>
     ensures accepted { IfOk result (λ _. IsReadable (reading_of meaning) range.now) }
-    ensures fault { IfErr result (λ fault. HasFault (reading_of meaning) range.now fault) }
+    ensures error { IfErr result (λ error. HasError (reading_of meaning) range.now error) }
     ensures no_memory { result ≢ Err OutOfMemory }
 {
     let Ok(text) = std::str::from_utf8(range) else {
-        return Err(RangeFault::NotUtf8);
+        return Err(TextError::NotUtf8);
     };
     match meaning::check(meaning, text) {
         Ok(()) => Ok(()),
-        Err(error) => Err(range_text::fault_of(error)),
+        Err(error) => Err(range_text::text_error_of(error)),
     }
 }

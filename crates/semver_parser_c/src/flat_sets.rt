@@ -4,7 +4,7 @@ ghost use Rattle.std.specs.Prelude.{◌≡◌, ◌⊎◌, ◌∷◌, [], IfOk, I
 ghost use Rattle.version_sets.specs.Flat.{IsFlat};
 ghost use Rattle.version_sets.specs.VersionSets.{SetValue};
 ghost use Rattle.semver_parser_c.specs.Numbers as number;
-ghost use Rattle.semver_parser_c.specs.Faults.{IsOneOf};
+ghost use Rattle.semver_parser_c.specs.Errors.{IsOneOf};
 ghost use Rattle.semver_parser_c.specs.FlatSets.{AreSets, IsNoSet, kind_text};
 
 use crate::numbers;

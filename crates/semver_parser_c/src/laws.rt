@@ -5,7 +5,7 @@
 ghost use Rattle.std.specs.Prelude.{◌≡◌, ◌≢◌, ◌<◌, ◌∷◌, [], ℕ, ⊤, pos, drop, length};
 ghost use Rattle.std.specs.Prelude.{slice_index};
 ghost use Rattle.semver_parser_c.specs.Numbers as number;
-ghost use Rattle.semver_parser_c.specs.Faults.{IsOneOf, version_faults};
+ghost use Rattle.semver_parser_c.specs.Errors.{IsOneOf, version_errors};
 ghost use Rattle.semver_parser_c.specs.OneAnswer.{AreOne, text_errors};
 
 use crate::{
@@ -163,7 +163,7 @@ pub fn one_meeting(
     other_meets: &mut bool,
 ) -> (i32, i32)
     requires { meets.old ≡ other_meets.old }
-    ensures one { AreOne (number.ok ∷ number.range_out_of_memory ∷ version_faults)
+    ensures one { AreOne (number.ok ∷ number.range_out_of_memory ∷ version_errors)
         result.0 result.1 (meets.new ≡ other_meets.new) }
     // Memory runs out in place of an error of the version's text alone, and never of an answer.
     ensures version_memory { result.0 ≡ number.version_out_of_memory

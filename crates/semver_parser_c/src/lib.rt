@@ -42,12 +42,12 @@ ghost use Rattle.tool_ranges.specs.Readings.{SpellsAs, TreeOf, dialect_of, fits_
 ghost use Rattle.tool_ranges.specs.Meanings.{MeansAs, meant_as, reading_of};
 ghost use Rattle.semver_parser_c.specs.Numbers as number;
 ghost use Rattle.semver_parser_c.specs.Readings.{IsDialect, IsNamed, IsReading, reading_number};
-ghost use Rattle.semver_parser_c.specs.Faults.{IsAccepted, IsOneOf, NewRangeIsRead, RangeIsRead};
-ghost use Rattle.semver_parser_c.specs.Faults.{RefusesNewRange, RefusesRange, RefusesText};
-ghost use Rattle.semver_parser_c.specs.Faults.{HasOutcomeIn, MayRunOutIn, RefusedIn};
-ghost use Rattle.semver_parser_c.specs.Faults.{named_faults, new_range_faults};
-ghost use Rattle.semver_parser_c.specs.Faults.{range_faults, set_for};
-ghost use Rattle.semver_parser_c.specs.Faults.{RefusesVersion, version_faults};
+ghost use Rattle.semver_parser_c.specs.Errors.{IsAccepted, IsOneOf, NewRangeIsRead, RangeIsRead};
+ghost use Rattle.semver_parser_c.specs.Errors.{RefusesNewRange, RefusesRange, RefusesText};
+ghost use Rattle.semver_parser_c.specs.Errors.{HasOutcomeIn, MayRunOutIn, RefusedIn};
+ghost use Rattle.semver_parser_c.specs.Errors.{named_errors, new_range_errors};
+ghost use Rattle.semver_parser_c.specs.Errors.{range_errors, set_for};
+ghost use Rattle.semver_parser_c.specs.Errors.{RefusesVersion, version_errors};
 ghost use Rattle.semver_parser_c.specs.Orders.{at_fault, order_number};
 ghost use Rattle.semver_parser_c.specs.Places.{bytes_at, told};
 ghost use Rattle.semver_parser_c.specs.Comparators.{HasPreReleases, comparators_of};
@@ -159,7 +159,7 @@ pub extern "C" fn semver_parser_proved_parse_version(
     reading: i32,
     out: &mut ReadVersion,
 ) -> i32
-    ensures numbers { IsOneOf (number.ok ∷ number.no_such_reading ∷ version_faults) result }
+    ensures numbers { IsOneOf (number.ok ∷ number.no_such_reading ∷ version_errors) result }
     // What is read is the outline of the version that the text spells in the dialect of the
     // reading, with where it has its parts: there are the identifiers, joined by dots. It takes no
     // memory.
@@ -274,7 +274,7 @@ pub extern "C" fn semver_parser_proved_explain_range(
     place: &mut usize,
     hint: &mut i32,
 ) -> i32
-    ensures numbers { IsOneOf (number.ok ∷ number.no_such_reading ∷ range_faults) result }
+    ensures numbers { IsOneOf (number.ok ∷ number.no_such_reading ∷ range_errors) result }
     ensures refusals { ExplainsRange reading text.now result }
     ensures place { (r : Reading) → reading ≡ reading_number r → result ≡ number.not_a_range
         → IsPlace (BeginsAs r) text.now place.new }
@@ -323,7 +323,7 @@ pub extern "C" fn semver_parser_proved_rewrite(
     out: &mut [u8],
     length: &mut usize,
 ) -> i32
-    ensures numbers { IsOneOf (number.ok ∷ number.no_room ∷ number.no_such_reading ∷ range_faults)
+    ensures numbers { IsOneOf (number.ok ∷ number.no_room ∷ number.no_such_reading ∷ range_errors)
         result }
     // What is put into the buffer is the printed text of what the text is rewritten to.
     ensures rewritten { (result ≡ number.ok) ⊎ (result ≡ number.no_room)
@@ -334,7 +334,7 @@ pub extern "C" fn semver_parser_proved_rewrite(
     // Errors of the reading and of the text, whatever the buffer.
     ensures refusals { RefusesText reading text.now result }
     ensures room_unchanged { result ≢ number.ok → out.new ≡ out.old }
-    ensures length_unchanged { IsOneOf (number.no_such_reading ∷ range_faults) result
+    ensures length_unchanged { IsOneOf (number.no_such_reading ∷ range_errors) result
         → length.new ≡ length.old }
 {
     let set = match range_text::read(alloc, text, reading, exact) {
@@ -376,7 +376,7 @@ pub extern "C" fn semver_parser_proved_comparators(
     out: &mut [u8],
     length: &mut usize,
 ) -> i32
-    ensures numbers { IsOneOf (number.ok ∷ number.no_room ∷ number.no_such_reading ∷ range_faults)
+    ensures numbers { IsOneOf (number.ok ∷ number.no_room ∷ number.no_such_reading ∷ range_errors)
         result }
     // What is put into the buffers are the comparators that the text is rewritten to, in order,
     // each with the number of its range, and the texts of their pre-releases, one after the other.
@@ -407,7 +407,7 @@ pub extern "C" fn semver_parser_proved_comparators(
     ensures refusals { RefusesText reading text.now result }
     ensures rooms_unchanged { result ≢ number.ok
         → (comparators.new ≡ comparators.old) × (out.new ≡ out.old) }
-    ensures numbers_unchanged { IsOneOf (number.no_such_reading ∷ range_faults) result
+    ensures numbers_unchanged { IsOneOf (number.no_such_reading ∷ range_errors) result
         → (count.new ≡ count.old) × (length.new ≡ length.old) }
 {
     let rewritten = match range_text::read(alloc, text, reading, exact) {
@@ -451,7 +451,7 @@ pub extern "C" fn semver_parser_proved_meets(
 ) -> i32
     // The range is judged as it is read: no memory is needed for it.
     ensures no_memory { result ≢ number.range_out_of_memory }
-    ensures numbers { IsOneOf (number.ok ∷ named_faults ++ version_faults) result }
+    ensures numbers { IsOneOf (number.ok ∷ named_errors ++ version_errors) result }
     // An answer is that of the range's own meaning, and comes where both texts are read.
     ensures meaning { result ≡ number.ok → (m : Meaning) → IsNamed m reading pre_releases
         → (tree : TreeOf (reading_of m)) (v : VersionValue)
@@ -511,7 +511,7 @@ pub extern "C" fn semver_parser_proved_meets_each(
 ) -> i32
     // Of at most three versions the range is judged as it is read: no memory is needed for it.
     ensures no_memory { length versions.now ≤ 3 → result ≢ number.range_out_of_memory }
-    ensures numbers { IsOneOf (number.ok ∷ named_faults) result }
+    ensures numbers { IsOneOf (number.ok ∷ named_errors) result }
     // Each byte is what there is to say of the text at its place, by the range's own meaning.
     ensures answers { result ≡ number.ok → (m : Meaning) → IsNamed m reading pre_releases
         → (k : ℕ) → k < length versions.now → k < length answers.old
@@ -557,7 +557,7 @@ pub extern "C" fn semver_parser_proved_least(
     out: &mut [u8],
     length: &mut usize,
 ) -> i32
-    ensures numbers { IsOneOf (number.ok ∷ number.no_room ∷ named_faults) result }
+    ensures numbers { IsOneOf (number.ok ∷ number.no_room ∷ named_errors) result }
     // What is put into the buffer is the text of the least version that the range means, and an
     // empty one exactly where it means none.
     ensures least { (result ≡ number.ok) ⊎ (result ≡ number.no_room)
@@ -571,7 +571,7 @@ pub extern "C" fn semver_parser_proved_least(
     // Errors of the reading, of the rule, and of the range, whatever the buffer.
     ensures refusals { RefusesRange reading pre_releases range.now result }
     ensures room_unchanged { result ≢ number.ok → out.new ≡ out.old }
-    ensures length_unchanged { IsOneOf named_faults result → length.new ≡ length.old }
+    ensures length_unchanged { IsOneOf named_errors result → length.new ≡ length.old }
 {
     let meant = match sets::read(alloc, range, reading, pre_releases) {
         Ok((_, set)) => set,
@@ -616,7 +616,7 @@ pub extern "C" fn semver_parser_proved_compare(
     length: &mut usize,
     comparison: &mut ComparedRanges,
 ) -> i32
-    ensures numbers { IsOneOf (number.ok ∷ number.no_room ∷ named_faults ++ new_range_faults)
+    ensures numbers { IsOneOf (number.ok ∷ number.no_room ∷ named_errors ++ new_range_errors)
         result }
     // What is put into the buffer are the texts of what is lost, gained and shared by what both
     // ranges themselves mean, and `comparison` says where each is.
@@ -644,9 +644,9 @@ pub extern "C" fn semver_parser_proved_compare(
     // Wherever memory runs out, one number says so.
     ensures one_memory { result ≢ number.range_out_of_memory }
     ensures room_unchanged { result ≢ number.ok → out.new ≡ out.old }
-    ensures length_unchanged { IsOneOf (named_faults ++ new_range_faults) result
+    ensures length_unchanged { IsOneOf (named_errors ++ new_range_errors) result
         → length.new ≡ length.old }
-    ensures comparison_unchanged { IsOneOf (named_faults ++ new_range_faults) result
+    ensures comparison_unchanged { IsOneOf (named_errors ++ new_range_errors) result
         → comparison.new ≡ comparison.old }
 {
     let both = sets::sets_of(alloc, old_range, new_range, reading, pre_releases);
@@ -685,7 +685,7 @@ pub extern "C" fn semver_parser_proved_precedence(
     order: &mut i32,
     in_other: &mut bool,
 ) -> i32
-    ensures numbers { IsOneOf (number.ok ∷ number.no_such_reading ∷ version_faults) result }
+    ensures numbers { IsOneOf (number.ok ∷ number.no_such_reading ∷ version_errors) result }
     // The result is the precedence of the versions that both texts spell.
     ensures precedence { (d : Dialect) → IsDialect d reading → result ≡ number.ok
         → (v w : VersionValue) → SpellsIn d v version.now → SpellsIn d w other.now
@@ -775,7 +775,7 @@ pub extern "C" fn semver_parser_proved_set(
     out: &mut [u8],
     length: &mut usize,
 ) -> i32
-    ensures numbers { IsOneOf (number.ok ∷ number.no_room ∷ named_faults) result }
+    ensures numbers { IsOneOf (number.ok ∷ number.no_room ∷ named_errors) result }
     // What is put into the rooms is the set of the versions that the range means.
     ensures set { (result ≡ number.ok) ⊎ (result ≡ number.no_room)
         → (m : Meaning) → IsNamed m reading pre_releases
@@ -789,7 +789,7 @@ pub extern "C" fn semver_parser_proved_set(
     ensures refusals { RefusesRange reading pre_releases range.now result }
     ensures rooms_unchanged { result ≢ number.ok
         → (made.new ≡ made.old) × (out.new ≡ out.old) }
-    ensures numbers_unchanged { IsOneOf named_faults result
+    ensures numbers_unchanged { IsOneOf named_errors result
         → (count.new ≡ count.old) × (length.new ≡ length.old) }
 {
     let set = match sets::read(alloc, range, reading, pre_releases) {
@@ -826,7 +826,7 @@ pub extern "C" fn semver_parser_proved_set_has(
     is_in: &mut bool,
 ) -> i32
     ensures numbers { IsOneOf (number.ok ∷ number.no_such_reading ∷ number.not_a_set
-        ∷ version_faults) result }
+        ∷ version_errors) result }
     // The result is whether the set has the version that the text spells.
     ensures has { (d : Dialect) → IsDialect d reading → result ≡ number.ok
         → (set : SetValue) → IsFlat switches.now bytes.now set

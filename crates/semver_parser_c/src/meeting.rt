@@ -7,11 +7,11 @@ ghost use Rattle.tool_ranges.specs.declared.meaning.Meaning.{Meaning as SomeMean
 ghost use Rattle.tool_ranges.specs.Meanings.{reading_of};
 ghost use Rattle.semver_parser_c.specs.Numbers as number;
 ghost use Rattle.semver_parser_c.specs.Readings.{IsNamed};
-ghost use Rattle.semver_parser_c.specs.Faults.{IsAccepted, IsOneOf, RefusesRange, version_faults};
+ghost use Rattle.semver_parser_c.specs.Errors.{IsAccepted, IsOneOf, RefusesRange, version_errors};
 ghost use Rattle.semver_parser_c.specs.Meetings.{IsAnswer};
 ghost use Rattle.semver_parser_c.specs.Steps.Questions.{IsFilterOf, IsQuestion, IsQuestionOf};
 ghost use Rattle.semver_parser_c.specs.Steps.Questions.{IsVerdict};
-ghost use Rattle.semver_parser_c.specs.Steps.RangeFaults.{IsReadable, IsRefused, Stands};
+ghost use Rattle.semver_parser_c.specs.Steps.TextErrors.{IsReadable, IsRefused, Stands};
 
 use crate::{asking, numbers, range_text, readings, sets, version_text};
 use release_filter::{Filter, Judged};
@@ -29,7 +29,7 @@ pub enum Question<'r> {
     Text(Meaning, &'r [u8]),
 }
 
-/// The question of a range text by the numbers of a reading and a rule, or the number of the fault.
+/// The question of a range text by the numbers of a reading and a rule, or the number of the error.
 /// It will be asked of so many versions.
 pub fn question_of<'r>(
     alloc: Global,
@@ -57,7 +57,7 @@ pub fn question_of<'r>(
     }
 }
 
-/// A range text that is read, as a question, or the number of the fault.
+/// A range text that is read, as a question, or the number of the error.
 fn text_of<'r>(range: &'r [u8], reading: i32, pre_releases: i32) -> Result<Question<'r>, i32>
     ensures accepted { IfOk result (λ _. IsAccepted reading pre_releases range.now) }
     ensures meaning { IfOk result (λ question. (m : SomeMeaning) → IsNamed m reading pre_releases
@@ -72,11 +72,11 @@ fn text_of<'r>(range: &'r [u8], reading: i32, pre_releases: i32) -> Result<Quest
     };
     match asking::check(meaning, range) {
         Ok(()) => Ok(Question::Text(meaning, range)),
-        Err(fault) => Err(range_text::number_of(fault)),
+        Err(error) => Err(range_text::number_of(error)),
     }
 }
 
-/// Whether a version text meets a range, or the number of its fault.
+/// Whether a version text meets a range, or the number of its error.
 fn judge(alloc: Global, question: &Question<'_>, version: &[u8]) -> Result<bool, i32>
     requires { IsQuestion question.now }
     ensures { (m : SomeMeaning) (range : Text) → IsQuestionOf question.now m range
@@ -88,7 +88,7 @@ fn judge(alloc: Global, question: &Question<'_>, version: &[u8]) -> Result<bool,
     }
 }
 
-/// Whether a version text passes a filter, or the number of its fault.
+/// Whether a version text passes a filter, or the number of its error.
 fn judge_by_set(alloc: Global, filter: &Filter, version: &[u8]) -> Result<bool, i32>
     ensures { (m : SomeMeaning) (range : Text) → IsFilterOf filter.now m range
         → IsVerdict m range version.now result }
@@ -96,11 +96,11 @@ fn judge_by_set(alloc: Global, filter: &Filter, version: &[u8]) -> Result<bool, 
     match filter.judge(version) {
         Judged::Passes(_) => Ok(true),
         Judged::DoesNotPass => Ok(false),
-        Judged::NoVersion => Err(version_text::fault(alloc, version, filter.dialect())),
+        Judged::NoVersion => Err(version_text::error(alloc, version, filter.dialect())),
     }
 }
 
-/// Whether a range text that is read means the version of a text, or the number of its fault.
+/// Whether a range text that is read means the version of a text, or the number of its error.
 fn judge_by_text(alloc: Global, meaning: Meaning, range: &[u8], version: &[u8]) -> Result<bool, i32>
     requires { IsReadable (reading_of meaning) range.now }
     ensures { IsVerdict meaning range.now version.now result }
@@ -108,7 +108,7 @@ fn judge_by_text(alloc: Global, meaning: Meaning, range: &[u8], version: &[u8]) 
     laws::one_version_in();
     let dialect = meaning.reading().dialect();
     let Some(outline) = version::outline_in(version, dialect) else {
-        return Err(version_text::fault(alloc, version, dialect));
+        return Err(version_text::error(alloc, version, dialect));
     };
     match asking::meets(meaning, range, &outline) {
         Ok(met) => Ok(met),
@@ -116,7 +116,7 @@ fn judge_by_text(alloc: Global, meaning: Meaning, range: &[u8], version: &[u8]) 
     }
 }
 
-/// Writes for each of the texts, as far as there is room, whether it meets a range, or its fault.
+/// Writes for each of the texts, as far as there is room, whether it meets a range, or its error.
 pub fn judge_each(alloc: Global, question: &Question<'_>, versions: &[&[u8]], answers: &mut [u8])
     requires { IsQuestion question.now }
     ensures answers { (m : SomeMeaning) (range : Text) → IsQuestionOf question.now m range
@@ -131,7 +131,7 @@ pub fn judge_each(alloc: Global, question: &Question<'_>, versions: &[&[u8]], an
     }
 }
 
-/// What is written for a version text: whether it meets a range, or the number of its fault.
+/// What is written for a version text: whether it meets a range, or the number of its error.
 fn byte_for(alloc: Global, question: &Question<'_>, version: &[u8]) -> u8
     requires { IsQuestion question.now }
     ensures { (m : SomeMeaning) (range : Text) → IsQuestionOf question.now m range
@@ -144,9 +144,9 @@ fn byte_for(alloc: Global, question: &Question<'_>, version: &[u8]) -> u8
     }
 }
 
-/// The number of a fault of a version, as a byte.
+/// The number of an error of a version, as a byte.
 fn byte_of(number: i32) -> u8
-    requires { IsOneOf version_faults number }
+    requires { IsOneOf version_errors number }
     ensures { pos result ≡ number }
 {
     number as u8

@@ -12,9 +12,9 @@ pub const UNEXPECTED_TOKEN: i32 = 4;
 pub const UNEXPECTED_CHAR: i32 = 5;
 /// The version is followed by something else.
 pub const MORE_INPUT: i32 = 6;
-/// A fault of the Rust crate's list that no version has.
+/// An error of the Rust crate's list that no version has.
 pub const EMPTY_PREDICATE: i32 = 7;
-/// A fault of the Rust crate's list that no version has.
+/// An error of the Rust crate's list that no version has.
 pub const EMPTY_RANGE: i32 = 8;
 /// Memory ran out at the version.
 pub const VERSION_OUT_OF_MEMORY: i32 = 9;

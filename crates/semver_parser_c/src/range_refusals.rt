@@ -4,7 +4,7 @@ ghost use Rattle.std.specs.Prelude.{◌≡◌, ◌∷◌, IfSome, MatchOption, S
 ghost use Rattle.tool_ranges.specs.Fronts.{BeginsAs, BeginsFitting, IsPlace};
 ghost use Rattle.tool_ranges.specs.Hints.{limit_of};
 ghost use Rattle.semver_parser_c.specs.Numbers as number;
-ghost use Rattle.semver_parser_c.specs.Faults.{IsOneOf, range_faults};
+ghost use Rattle.semver_parser_c.specs.Errors.{IsOneOf, range_errors};
 ghost use Rattle.semver_parser_c.specs.RangeRefusals.{ExplainsBy, IsExplained, hint_number};
 ghost use Rattle.semver_parser_c.specs.RangeRefusals.{hint_numbers};
 
@@ -18,7 +18,7 @@ use tool_ranges::refusals::refused;
 /// Whether a text gives a range by a dialect, or why not, by numbers, and then the place and the
 /// number of the hint.
 pub fn explained(alloc: Global, reading: Reading, text: &[u8]) -> (i32, Option<(usize, i32)>)
-    ensures number { IsOneOf (number.ok ∷ range_faults) result.0 }
+    ensures number { IsOneOf (number.ok ∷ range_errors) result.0 }
     ensures by { ExplainsBy reading text.now result.0 }
     ensures told { MatchOption result.1 (IsExplained result.0 → ⊥)
         (λ told. IsExplained result.0 × IsOneOf hint_numbers told.1) }

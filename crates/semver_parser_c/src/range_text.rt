@@ -1,4 +1,4 @@
-//! Range texts: the set of one, or the number of its fault, and what is put into the rooms of a
+//! Range texts: the set of one, or the number of its error, and what is put into the rooms of a
 //! caller.
 
 ghost use Rattle.std.specs.Prelude.{◌≡◌, ⊤, IsUtf8, IfOk, IfErr};
@@ -7,13 +7,13 @@ ghost use Rattle.semver_parser.specs.RangeViews.{set_of};
 ghost use Rattle.tool_ranges.specs.declared.reading.Reading.{Reading as SomeReading};
 ghost use Rattle.tool_ranges.specs.Readings.{HasSetAs, RefusesAs};
 ghost use Rattle.semver_parser_c.specs.Numbers as number;
-ghost use Rattle.semver_parser_c.specs.declared.range_text.RangeFault.TheVariants.{OutOfMemory};
+ghost use Rattle.semver_parser_c.specs.declared.range_text.TextError.TheVariants.{OutOfMemory};
 ghost use Rattle.semver_parser_c.specs.Readings.{reading_number};
-ghost use Rattle.semver_parser_c.specs.Faults.{IsOneOf, IsSetFor, RefusesBy, RefusesText};
-ghost use Rattle.semver_parser_c.specs.Faults.{new_range_faults, new_range_numbers};
+ghost use Rattle.semver_parser_c.specs.Errors.{IsOneOf, IsSetFor, RefusesBy, RefusesText};
+ghost use Rattle.semver_parser_c.specs.Errors.{new_range_errors, new_range_numbers};
 ghost use Rattle.semver_parser_c.specs.Printing.{Puts, PutsBoth};
-ghost use Rattle.semver_parser_c.specs.Steps.RangeFaults.{HasFault, IsReadable, IsTextRefused};
-ghost use Rattle.semver_parser_c.specs.Steps.RangeFaults.{IsTold, Stands, fault_of};
+ghost use Rattle.semver_parser_c.specs.Steps.TextErrors.{HasError, IsReadable, IsTextRefused};
+ghost use Rattle.semver_parser_c.specs.Steps.TextErrors.{IsTold, Stands, text_error_of};
 
 use crate::{numbers, readings};
 use semver_parser::{RangeError, RangeSet};
@@ -22,7 +22,7 @@ use tool_ranges::reading::{self, Reading};
 
 /// Why a range text isn't read.
 #[derive(Clone, Copy)]
-pub enum RangeFault {
+pub enum TextError {
     /// Its bytes aren't UTF-8.
     NotUtf8,
     /// It isn't in the range grammar.
@@ -33,7 +33,7 @@ pub enum RangeFault {
     OutOfMemory,
 }
 
-/// The set of a range text by the reading of a number, or the number of the fault.
+/// The set of a range text by the reading of a number, or the number of the error.
 pub fn read(alloc: Global, text: &[u8], reading: i32, exact: bool) -> Result<RangeSet, i32>
     ensures accepted { IfOk result (λ set. (r : SomeReading) × (reading ≡ reading_number r)
         × IsUtf8 text.now × HasSetAs r text.now) }
@@ -47,7 +47,7 @@ pub fn read(alloc: Global, text: &[u8], reading: i32, exact: bool) -> Result<Ran
     };
     match rewritten(alloc, text, reading, exact) {
         Ok(set) => Ok(set),
-        Err(fault) => Err(number_of(fault)),
+        Err(error) => Err(number_of(error)),
     }
 }
 
@@ -57,17 +57,17 @@ fn rewritten(
     text: &[u8],
     reading: Reading,
     exact: bool,
-) -> Result<RangeSet, RangeFault>
+) -> Result<RangeSet, TextError>
     ensures accepted { IfOk result (λ set. IsReadable reading text.now) }
     ensures as_rewritten { IfOk result (λ set. IsSetFor exact reading text.now (set_of set)) }
-    ensures fault { IfErr result (λ fault. HasFault reading text.now fault) }
+    ensures error { IfErr result (λ error. HasError reading text.now error) }
 {
     let Ok(text) = std::str::from_utf8(text) else {
-        return Err(RangeFault::NotUtf8);
+        return Err(TextError::NotUtf8);
     };
     match rewritten_text(alloc, text, reading, exact) {
         Ok(set) => Ok(set),
-        Err(error) => Err(fault_of(error)),
+        Err(error) => Err(text_error_of(error)),
     }
 }
 
@@ -87,42 +87,42 @@ fn rewritten_text(
     }
 }
 
-/// The fault that an error tells of a text whose bytes are UTF-8.
-pub fn fault_of(error: RangeError) -> RangeFault
-    ensures { result ≡ fault_of error }
+/// The error of a text whose bytes are UTF-8, by that of its range.
+pub fn text_error_of(error: RangeError) -> TextError
+    ensures { result ≡ text_error_of error }
 {
     match error {
-        RangeError::NotARange => RangeFault::NotARange,
-        RangeError::NumberTooLarge => RangeFault::TooLarge,
-        RangeError::OutOfMemory => RangeFault::OutOfMemory,
+        RangeError::NotARange => TextError::NotARange,
+        RangeError::NumberTooLarge => TextError::TooLarge,
+        RangeError::OutOfMemory => TextError::OutOfMemory,
     }
 }
 
-/// The number of a fault.
-pub fn number_of(fault: RangeFault) -> i32
-    ensures told { (reading : SomeReading) (text : Text) → HasFault reading text fault
+/// The number of an error.
+pub fn number_of(error: TextError) -> i32
+    ensures told { (reading : SomeReading) (text : Text) → HasError reading text error
         → IsTold reading text result }
-    ensures memory { result ≡ number.range_out_of_memory → fault ≡ OutOfMemory }
+    ensures memory { result ≡ number.range_out_of_memory → error ≡ OutOfMemory }
 {
-    match fault {
-        RangeFault::NotUtf8 => numbers::RANGE_NOT_UTF8,
-        RangeFault::NotARange => numbers::NOT_A_RANGE,
-        RangeFault::TooLarge => numbers::NUMBER_TOO_LARGE,
-        RangeFault::OutOfMemory => numbers::RANGE_OUT_OF_MEMORY,
+    match error {
+        TextError::NotUtf8 => numbers::RANGE_NOT_UTF8,
+        TextError::NotARange => numbers::NOT_A_RANGE,
+        TextError::TooLarge => numbers::NUMBER_TOO_LARGE,
+        TextError::OutOfMemory => numbers::RANGE_OUT_OF_MEMORY,
     }
 }
 
-/// The number of a fault of the new range, where two are compared.
-pub fn new_number_of(fault: RangeFault) -> i32
-    ensures one { IsOneOf new_range_faults result }
-    ensures told { (reading : SomeReading) (text : Text) → HasFault reading text fault
+/// The number of an error of the new range, where two are compared.
+pub fn new_number_of(error: TextError) -> i32
+    ensures one { IsOneOf new_range_errors result }
+    ensures told { (reading : SomeReading) (text : Text) → HasError reading text error
         → RefusesBy new_range_numbers ⊤ reading text result }
 {
-    match fault {
-        RangeFault::NotUtf8 => numbers::NEW_RANGE_NOT_UTF8,
-        RangeFault::NotARange => numbers::NEW_NOT_A_RANGE,
-        RangeFault::TooLarge => numbers::NEW_NUMBER_TOO_LARGE,
-        RangeFault::OutOfMemory => numbers::NEW_RANGE_OUT_OF_MEMORY,
+    match error {
+        TextError::NotUtf8 => numbers::NEW_RANGE_NOT_UTF8,
+        TextError::NotARange => numbers::NEW_NOT_A_RANGE,
+        TextError::TooLarge => numbers::NEW_NUMBER_TOO_LARGE,
+        TextError::OutOfMemory => numbers::NEW_RANGE_OUT_OF_MEMORY,
     }
 }
 

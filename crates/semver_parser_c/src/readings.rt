@@ -6,9 +6,9 @@ ghost use Rattle.tool_ranges.specs.declared.meaning.Meaning.{Meaning};
 ghost use Rattle.version_sets.specs.declared.PreReleases.{PreReleases as Rule};
 ghost use Rattle.tool_ranges.specs.Meanings.{reading_of};
 ghost use Rattle.semver_parser_c.specs.Numbers as number;
-ghost use Rattle.semver_parser_c.specs.Faults.{IsOneOf};
+ghost use Rattle.semver_parser_c.specs.Errors.{IsOneOf};
 ghost use Rattle.semver_parser_c.specs.Readings.{IsReading, crate_rule_number, rule_number};
-ghost use Rattle.semver_parser_c.specs.Steps.RangeFaults.{IsMeaningOf, IsReadingOf, IsRefused};
+ghost use Rattle.semver_parser_c.specs.Steps.TextErrors.{IsMeaningOf, IsReadingOf, IsRefused};
 
 use crate::numbers;
 use semver_parser::Compat;

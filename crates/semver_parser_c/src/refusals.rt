@@ -2,7 +2,7 @@
 
 ghost use Rattle.std.specs.Prelude.{◌≡◌, ◌≢◌};
 ghost use Rattle.semver_parser_c.specs.Numbers as number;
-ghost use Rattle.semver_parser_c.specs.Faults.{IsOneOf};
+ghost use Rattle.semver_parser_c.specs.Errors.{IsOneOf};
 ghost use Rattle.semver_parser_c.specs.Refusals.{reason_number, reason_numbers};
 
 use crate::numbers;

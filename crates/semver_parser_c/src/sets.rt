@@ -10,13 +10,13 @@ ghost use Rattle.tool_ranges.specs.declared.meaning.Meaning.{Meaning as SomeMean
 ghost use Rattle.tool_ranges.specs.Meanings.{MeansAs, reading_of};
 ghost use Rattle.semver_parser_c.specs.Numbers as number;
 ghost use Rattle.semver_parser_c.specs.Readings.{IsNamed};
-ghost use Rattle.semver_parser_c.specs.Faults.{IsAccepted, IsOneOf, RefusesRange};
+ghost use Rattle.semver_parser_c.specs.Errors.{IsAccepted, IsOneOf, RefusesRange};
 ghost use Rattle.semver_parser_c.specs.Sets.{text_of};
-ghost use Rattle.semver_parser_c.specs.Steps.RangeFaults.{HasFault, IsEitherRefused, IsMeaningOf};
-ghost use Rattle.semver_parser_c.specs.Steps.RangeFaults.{IsReadable, IsRefused, IsTold, Stands};
-ghost use Rattle.semver_parser_c.specs.Steps.RangeFaults.{TellsBoth};
+ghost use Rattle.semver_parser_c.specs.Steps.TextErrors.{HasError, IsEitherRefused, IsMeaningOf};
+ghost use Rattle.semver_parser_c.specs.Steps.TextErrors.{IsReadable, IsRefused, IsTold, Stands};
+ghost use Rattle.semver_parser_c.specs.Steps.TextErrors.{TellsBoth};
 
-use crate::range_text::{self, RangeFault};
+use crate::range_text::{self, TextError};
 use crate::{numbers, readings};
 use semver_parser::version::Version;
 use std::alloc::{AllocError, Global};
@@ -24,7 +24,7 @@ use tool_ranges::meaning::{self, Meaning};
 use version_sets::VersionSet;
 
 /// The set of the versions that a range text means, and by which meaning, by the numbers of a
-/// reading and a rule, or the number of the fault.
+/// reading and a rule, or the number of the error.
 pub fn read(
     alloc: Global,
     range: &[u8],
@@ -46,27 +46,27 @@ pub fn read(
     };
     match read_as(alloc, meaning, range) {
         Ok(set) => Ok((meaning, set)),
-        Err(fault) => Err(range_text::number_of(fault)),
+        Err(error) => Err(range_text::number_of(error)),
     }
 }
 
-/// The set of the versions that a range text means, or its fault.
-fn read_as(alloc: Global, meaning: Meaning, range: &[u8]) -> Result<VersionSet, RangeFault>
+/// The set of the versions that a range text means, or its error.
+fn read_as(alloc: Global, meaning: Meaning, range: &[u8]) -> Result<VersionSet, TextError>
     ensures accepted { IfOk result (λ set. IsReadable (reading_of meaning) range.now) }
     ensures meaning { IfOk result (λ set. MeansAs meaning range.now set) }
     ensures printable { IfOk result IsPrintable }
-    ensures fault { IfErr result (λ fault. HasFault (reading_of meaning) range.now fault) }
+    ensures error { IfErr result (λ error. HasError (reading_of meaning) range.now error) }
 {
     let Ok(text) = std::str::from_utf8(range) else {
-        return Err(RangeFault::NotUtf8);
+        return Err(TextError::NotUtf8);
     };
     match meaning::read(alloc, meaning, text) {
         Ok(set) => Ok(set),
-        Err(error) => Err(range_text::fault_of(error)),
+        Err(error) => Err(range_text::text_error_of(error)),
     }
 }
 
-/// The sets of an old and of a new range text, or the number of a fault: both are read for their
+/// The sets of an old and of a new range text, or the number of an error: both are read for their
 /// errors, also where memory ran out at the old one.
 pub fn sets_of(
     alloc: Global,
@@ -93,7 +93,7 @@ pub fn sets_of(
     };
     let new_set = match read_as(alloc, meaning, new_range) {
         Ok(set) => set,
-        Err(fault) => return Err(range_text::new_number_of(fault)),
+        Err(error) => return Err(range_text::new_number_of(error)),
     };
     match old_set {
         Some(old_set) => Ok((old_set, new_set)),
@@ -111,9 +111,9 @@ fn unless_refused(alloc: Global, meaning: Meaning, range: &[u8]) -> Result<Optio
 {
     match read_as(alloc, meaning, range) {
         Ok(set) => Ok(Some(set)),
-        Err(fault) => match fault {
-            RangeFault::OutOfMemory => Ok(None),
-            _ => Err(range_text::number_of(fault)),
+        Err(error) => match error {
+            TextError::OutOfMemory => Ok(None),
+            _ => Err(range_text::number_of(error)),
         },
     }
 }

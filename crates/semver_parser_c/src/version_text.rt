@@ -1,4 +1,4 @@
-//! Version texts: the outline of one or the version without its build, or the number of its fault.
+//! Version texts: the outline of one or the version without its build, or the number of its error.
 
 ghost use Rattle.std.specs.Prelude.{◌≡◌, ◌<◌, IfOk, IfErr, IsUtf8, length};
 ghost use Rattle.semver_parser.specs.Texts.{Text};
@@ -8,8 +8,8 @@ ghost use Rattle.semver_parser.specs.Outlines.{IsOutlineIn, StandsAt};
 ghost use Rattle.semver_parser.specs.ToolVersions.{IsVersionTextIn, SpellsIn};
 ghost use Rattle.semver_parser.specs.VersionGrammar.{IsVersionText};
 ghost use Rattle.semver_parser.specs.declared.version.Dialect.TheVariants.{Crate};
-ghost use Rattle.semver_parser_c.specs.Faults.{RefusesVersion};
-ghost use Rattle.semver_parser_c.specs.Steps.VersionFaults.{IsErrorOf};
+ghost use Rattle.semver_parser_c.specs.Errors.{RefusesVersion};
+ghost use Rattle.semver_parser_c.specs.Steps.VersionErrors.{IsErrorOf};
 
 use crate::numbers;
 use semver_parser::laws;
@@ -28,7 +28,7 @@ pub fn outline(alloc: Global, text: &[u8], dialect: Dialect) -> Result<Outline<'
 {
     match version::outline_in(text, dialect) {
         Some(outline) => Ok(outline),
-        None => Err(fault(alloc, text, dialect)),
+        None => Err(error(alloc, text, dialect)),
     }
 }
 
@@ -62,7 +62,7 @@ pub fn plain_version(alloc: Global, text: &[u8], dialect: Dialect) -> Result<Ver
 
 /// The number of the error of a text that spells no version in a dialect: in the crate's by its
 /// tokens. A text that spells one is UTF-8, so only then it is asked whether this one is.
-pub fn fault(alloc: Global, text: &[u8], dialect: Dialect) -> i32
+pub fn error(alloc: Global, text: &[u8], dialect: Dialect) -> i32
     requires { ¬ (IsVersionTextIn dialect text.now) }
     ensures { RefusesVersion dialect text.now result }
 {
@@ -70,24 +70,24 @@ pub fn fault(alloc: Global, text: &[u8], dialect: Dialect) -> i32
         return numbers::VERSION_NOT_UTF8;
     };
     match dialect {
-        Dialect::Crate => fault_by_tokens(alloc, text),
+        Dialect::Crate => error_by_tokens(alloc, text),
         Dialect::Cargo | Dialect::Npm => numbers::NOT_A_VERSION,
     }
 }
 
-/// The number of the fault of a text that spells no version, by its tokens.
-fn fault_by_tokens(alloc: Global, text: &str) -> i32
+/// The number of the error of a text that spells no version, by its tokens.
+fn error_by_tokens(alloc: Global, text: &str) -> i32
     requires { ¬ (IsVersionText text.now) }
     ensures { RefusesVersion Crate text.now result }
 {
     let Err(error) = version::parse_by_tokens(alloc, text) else {
         unreachable!();
     };
-    fault_number(&error)
+    error_number(&error)
 }
 
-/// The number of a fault.
-fn fault_number(error: &Error<'_>) -> i32
+/// The number of an error.
+fn error_number(error: &Error<'_>) -> i32
     ensures { (text : Text) → IsUtf8 text → ¬ (IsVersionText text) → IsErrorOf text error.now
         → RefusesVersion Crate text result }
 {

@@ -10,7 +10,7 @@ use Rattle.semver_ranges.specs.RewritingTable.{fits, rewritten}
 use Rattle.semver_ranges.specs.PrintedRanges.{set_text}
 use Rattle.semver_ranges.specs.Steps.Reading.{read}
 
--- the printed set of a tree, or the word of its fault
+-- the printed set of a tree, or the word of its error
 abbrev of_tree : Compat → Option SetTree → Text
 of_tree mode None = codes "not-a-range"
 of_tree mode (Some tree) = if fits mode tree then set_text (rewritten mode tree) else codes "number-too-large"

@@ -71,7 +71,7 @@ impl fmt::Display for Op {
     ghost output = { λ op. Some (op_text op) };
 
     /// Writes the operator as it is in a range text: `Op::Gte` as `>=`. It does not allocate, and
-    /// its only fault is the writer's.
+    /// its only error is the writer's.
     fn fmt<W: fmt::Write>(&self, f: &mut fmt::Formatter<W>) -> fmt::Result {
         f.write_str(match self {
             Op::Lt => "<",
@@ -90,7 +90,7 @@ impl fmt::Display for Identifier {
     ghost output = { λ i. Some (identifier_text (identifier_of i)) };
 
     /// Writes the decimal, or the text itself: `Numeric(4)` as `4`, `AlphaNumeric("beta")` as
-    /// `beta`. It does not allocate, and its only fault is the writer's.
+    /// `beta`. It does not allocate, and its only error is the writer's.
     fn fmt<W: fmt::Write>(&self, f: &mut fmt::Formatter<W>) -> fmt::Result {
         match self {
             Identifier::Numeric(number) => write!(f, "{number}"),
@@ -107,7 +107,7 @@ impl fmt::Display for Comparator {
 
     /// Writes the operator and all three numbers, separated by dots; then, where there is a
     /// pre-release, `-` and its identifiers joined by dots: `>=1.2.3-beta.4`. It does not allocate,
-    /// and its only fault is the writer's.
+    /// and its only error is the writer's.
     fn fmt<W: fmt::Write>(&self, f: &mut fmt::Formatter<W>) -> fmt::Result {
         let (op, major, minor, patch) = (&self.op, self.major, self.minor, self.patch);
         write!(f, "{op}{major}.{minor}.{patch}")?;
@@ -122,7 +122,7 @@ impl fmt::Display for Range {
     ghost output = { λ r. Some (range_text (range_of r)) };
 
     /// Writes the comparators with a space between each two: `>=1.2.3 <2.0.0`. A range without
-    /// comparators is written as the empty text. It does not allocate, and its only fault is the
+    /// comparators is written as the empty text. It does not allocate, and its only error is the
     /// writer's.
     fn fmt<W: fmt::Write>(&self, f: &mut fmt::Formatter<W>) -> fmt::Result {
         write_joined(f, " ", &self.comparator_set)

@@ -281,7 +281,7 @@ impl fmt::Display for RangeSet {
     ghost output = { λ s. Some (set_text (set_of s)) };
 
     /// Writes the ranges with ` || ` between each two: `>=1.2.3 <2.0.0 || =3.0.0`. The mode isn't
-    /// written. It does not allocate, and its only fault is the writer's.
+    /// written. It does not allocate, and its only error is the writer's.
     fn fmt<W: fmt::Write>(&self, f: &mut fmt::Formatter<W>) -> fmt::Result {
         write_joined(f, " || ", &self.ranges)
     }

@@ -120,7 +120,7 @@ fn remember(comparators: &mut [usize; REMEMBERED], range: usize, count: usize) {
     }
 }
 
-/// The ranges of a text that was surveyed: it has no fault.
+/// The ranges of a text that was surveyed: it has no error.
 fn build<T: Table>(
     alloc: Global,
     text: &[u8],

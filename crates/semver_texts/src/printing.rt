@@ -9,7 +9,7 @@ use std::fmt;
 /// Writes the mark and then the items joined by dots; nothing where there are none.
 ///
 /// Of the mark `-` and the items 7 and `"rc"` it writes `-7.rc`. It does not allocate, and its only
-/// fault is the writer's.
+/// error is the writer's.
 pub fn write_part<W: fmt::Write, T: fmt::Display>(
     f: &mut fmt::Formatter<W>,
     mark: &str,
@@ -29,7 +29,7 @@ pub fn write_part<W: fmt::Write, T: fmt::Display>(
 /// Writes the items with the separator between each two.
 ///
 /// Of the separator `.` and the items 7 and `"rc"` it writes `7.rc`. It does not allocate, and its
-/// only fault is the writer's.
+/// only error is the writer's.
 pub fn write_joined<W: fmt::Write, T: fmt::Display>(
     f: &mut fmt::Formatter<W>,
     separator: &str,

@@ -87,7 +87,7 @@ fn number_and(alloc: Global, number: u64, text: &str) -> Result<String, AllocErr
 impl fmt::Display for Identifier {
     ghost output = { λ identifier. Some (identifier_text (identifier_value identifier)) };
 
-    /// Writes the decimal, or the text itself. It does not allocate, and its only fault is the
+    /// Writes the decimal, or the text itself. It does not allocate, and its only error is the
     /// writer's.
     ///
     /// `Numeric(7)` is written as `7`, `AlphaNumeric("alpha1")` as `alpha1`.
@@ -108,7 +108,7 @@ impl fmt::Display for Version {
 
     /// Writes `major.minor.patch`; then, where there is a pre-release, `-` and its identifiers
     /// joined by dots; then, where there is a build, `+` and its identifiers joined by dots. It
-    /// does not allocate, and its only fault is the writer's.
+    /// does not allocate, and its only error is the writer's.
     ///
     /// The version read from ` 1.2.3-alpha1.9+build5 ` is written as `1.2.3-alpha1.9+build5`.
     fn fmt<W: fmt::Write>(&self, f: &mut fmt::Formatter<W>) -> fmt::Result {

@@ -11,7 +11,7 @@ use Rattle.semver_tokens.specs.Tokens.{TokenValue, Hyphen, Numeric, AlphaNumeric
 use Rattle.semver_texts.specs.Versions.{numeric, alphanumeric}
 use Rattle.semver_texts.specs.VersionGrammar.{SpellsIdentifier}
 use Rattle.semver_texts.specs.Versions.{IdentifierValue}
-use Rattle.semver_tokens.specs.ParserState.{ParserState, Fault}
+use Rattle.semver_tokens.specs.ParserState.{ParserState, ErrorValue}
 use Rattle.semver_tokens.specs.ParserSteps.{Step, pop, look, number_of}
 use Rattle.semver_tokens.specs.Steps.Taking.{run, IsTaken, Gives, PassesIdentifier, TakesIdentifier, expect_run, run_of, lone_number}
 use Rattle.semver_tokens.specs.VersionReading.{IsIdentifierShape, IsLongestFront, inner_text, inner_texts}
@@ -242,5 +242,5 @@ not_alone [] x y = refl
 not_alone (t ∷ []) x y = refl
 not_alone (t ∷ u ∷ front) x y = refl
 
-pub takes_none : (s t : ParserState) (e : Fault) → PassesIdentifier s (Err e) t → TakesIdentifier s (Err e) t
+pub takes_none : (s t : ParserState) (e : ErrorValue) → PassesIdentifier s (Err e) t → TakesIdentifier s (Err e) t
 takes_none s t e p = record { passes = p; number = tt }

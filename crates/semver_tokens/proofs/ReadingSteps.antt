@@ -5,8 +5,8 @@ use Rattle.std.specs.Prelude.{option_and_then, option_map, slice_get}
 use Rattle.std.proofs.lemmas.List.{take_at, append_cancel_left}
 use Rattle.std.proofs.lemmas.Option.{same_Some, option_and_then_some}
 use Rattle.semver_tokens.specs.Tokens.{TokenValue}
-use Rattle.semver_tokens.specs.ParserState as fault
-use Rattle.semver_tokens.specs.ParserState.{ParserState, Fault}
+use Rattle.semver_tokens.specs.ParserState as spec
+use Rattle.semver_tokens.specs.ParserState.{ParserState, ErrorValue}
 use Rattle.semver_tokens.specs.ParserSteps.{Step, pop, pop_of, look, and_then, valued, expect}
 use Rattle.semver_tokens.specs.Steps.Taking.{run, IsTaken, Gives}
 use Rattle.semver_tokens.specs.VersionReading.{Answers, IsLongestFront, IsWhole, IsEndPart, MayRunOut, Reads}
@@ -55,10 +55,10 @@ pub record Pops (s : ParserState) (x : TokenValue) (t : ParserState) : Type 0 wh
   pub known : (0 < length t.remaining) ⊎ (t.pending ≡ None)
 
 -- or no token, of these tokens that remain and this pending character
-pub data Refused : List TokenValue → Option ℕ → Fault → Type 0 where
-  at_end : Refused [] None fault.UnexpectedEnd
-  at_nothing : (c : ℕ) → Refused [] (Some c) (fault.Lexer c)
-  at_last : (x : TokenValue) (c : ℕ) → Refused (x ∷ []) (Some c) (fault.Lexer c)
+pub data Refused : List TokenValue → Option ℕ → ErrorValue → Type 0 where
+  at_end : Refused [] None spec.UnexpectedEnd
+  at_nothing : (c : ℕ) → Refused [] (Some c) (spec.Lexer c)
+  at_last : (x : TokenValue) (c : ℕ) → Refused (x ∷ []) (Some c) (spec.Lexer c)
 
 abbrev pub Popped : ParserState → Step TokenValue → Type 0
 Popped s d = Gives (λ e t. Refused s.remaining s.pending e × (t ≡ s)) (Pops s) d
@@ -83,7 +83,7 @@ pub record IsReadBy {S : Type 0} (step : S → TokenValue → Option S) (accepts
 
 -- ---- steps one after the other
 
-pub then_given : {A B : Type 0} (F : Fault → ParserState → Type 0) (P : A → ParserState → Type 0) (Q : B → ParserState → Type 0)
+pub then_given : {A B : Type 0} (F : ErrorValue → ParserState → Type 0) (P : A → ParserState → Type 0) (Q : B → ParserState → Type 0)
     (d : Step A) (f : A → ParserState → Step B)
     → Gives F P d → ((x : A) (t : ParserState) → P x t → Gives F Q (f x t)) → Gives F Q (and_then d f)
 then_given F P Q (Ok x, t) f given more = more x t given
@@ -162,10 +162,10 @@ module _ {S : Type 0} {step : S → TokenValue → Option S} {accepts : S → Bo
 
   module _ {V : Type 0} (Spells : V → List ℕ → Type 0) where
     -- a front is left where nothing leads on, and isn't whole
-    pub reads_fault : {s u : ParserState} {e : Fault} (front rest : List TokenValue) (p : S) → s.remaining ≡ front ++ rest
+    pub reads_error : {s u : ParserState} {e : ErrorValue} (front rest : List TokenValue) (p : S) → s.remaining ≡ front ++ rest
         → run step start front ≡ Some p → Stops step p rest → ¬ (IsWhole Shape front s.pending rest)
         → Refuses s.remaining s.pending rest e u.remaining → u.pending ≡ s.pending → Reads Shape Spells s (Err e) u
-    reads_fault {s} front rest p split leads stops broken refuses pending = record {
+    reads_error {s} front rest p split leads stops broken refuses pending = record {
       front = front;
       rest = rest;
       longest = longest_front s.remaining front rest p split leads stops;
@@ -196,20 +196,20 @@ module _ {S : Type 0} {step : S → TokenValue → Option S} {accepts : S → Bo
 
       -- a token comes that doesn't lead on
       pub reads_unexpected : {x : TokenValue} {u : ParserState} → Pops t x u → accepts p ≡ false → step p x ≡ None
-          → Reads Shape Spells s (Err (fault.UnexpectedToken x)) u
+          → Reads Shape Spells s (Err (spec.UnexpectedToken x)) u
       reads_unexpected {x} {u} pops refuses none =
-          reads_fault front (x ∷ u.remaining) p (cc) k.leads none (λ whole. not_whole front p k.leads refuses whole.shape)
+          reads_error front (x ∷ u.remaining) p (cc) k.leads none (λ whole. not_whole front p k.leads refuses whole.shape)
           (rw (← k.pending, ← pops.pending) (refused u.remaining u.pending pops.known)) (cc)
         where
           refused : (left : List TokenValue) (pending : Option ℕ) → (0 < length left) ⊎ (pending ≡ None)
-              → Refuses s.remaining pending (x ∷ left) (fault.UnexpectedToken x) left
+              → Refuses s.remaining pending (x ∷ left) (spec.UnexpectedToken x) left
           refused left None known = (refl, refl)
           refused [] (Some c) (inl h) = absurd (omega (arith, h))
           refused [] (Some c) (inr h) = cc
           refused (y ∷ left) (Some c) known = (refl, refl)
 
       -- a token is wanted, or the next one would do, and no token is given
-      pub reads_stuck : {e : Fault} → Refused t.remaining t.pending e
+      pub reads_stuck : {e : ErrorValue} → Refused t.remaining t.pending e
           → (accepts p ≡ false) ⊎ ((x : TokenValue) × (q : S) × (look t ≡ Some x) × (step p x ≡ Some q)) → Reads Shape Spells s (Err e) t
       reads_stuck {e} refused way = at_refusal t.remaining t.pending e refused k.split k.pending k.known way
         where
@@ -222,22 +222,22 @@ module _ {S : Type 0} {step : S → TokenValue → Option S} {accepts : S → Bo
           not_known : {front : List TokenValue} (c : ℕ) → Some c ≡ s.pending → ¬ (IsWhole Shape front s.pending [])
           not_known c same whole = ⊎_elim (λ some. omega (arith, some)) (λ none. cc) whole.known
 
-          at_refusal : (rem : List TokenValue) (pending : Option ℕ) (e : Fault) → Refused rem pending e → s.remaining ≡ front ++ rem
+          at_refusal : (rem : List TokenValue) (pending : Option ℕ) (e : ErrorValue) → Refused rem pending e → s.remaining ≡ front ++ rem
               → pending ≡ s.pending → (front ≡ []) ⊎ ((0 < length rem) ⊎ (pending ≡ None))
               → (accepts p ≡ false) ⊎ ((x : TokenValue) × (q : S) × (slice_get rem 0 ≡ Some x) × (step p x ≡ Some q))
               → Reads Shape Spells s (Err e) (record { remaining = rem; pending = pending })
           at_refusal _ _ _ at_end split same known (inl wants) =
-              reads_fault front [] p split k.leads tt (λ whole. not_whole front p k.leads wants whole.shape) (rw (← same) (refl, refl)) same
+              reads_error front [] p split k.leads tt (λ whole. not_whole front p k.leads wants whole.shape) (rw (← same) (refl, refl)) same
           at_refusal _ _ _ at_end split same known (inr next) = cc (next.2)
           at_refusal _ _ _ (at_nothing c) split same (inl empty) way =
-              reads_fault front [] p split k.leads tt (not_known c same) (rw (← same, split, empty) (refl, refl)) same
+              reads_error front [] p split k.leads tt (not_known c same) (rw (← same, split, empty) (refl, refl)) same
           at_refusal _ _ _ (at_nothing c) split same (inr (inl some)) way = absurd (omega (arith, some))
           at_refusal _ _ _ (at_nothing c) split same (inr (inr none)) way = cc
           at_refusal _ _ _ (at_last x c) split same known way =
               option_cases (step p x)
-              (λ none. reads_fault front (x ∷ []) p split k.leads none (λ whole. not_whole front p k.leads (wants none way) whole.shape)
+              (λ none. reads_error front (x ∷ []) p split k.leads none (λ whole. not_whole front p k.leads (wants none way) whole.shape)
               (rw (← same, split, last_of) (refl, refl)) same)
-              (λ q on. reads_fault (front ++ x ∷ []) [] q (split ∙ sym (append-nil (front ++ x ∷ [])))
+              (λ q on. reads_error (front ++ x ∷ []) [] q (split ∙ sym (append-nil (front ++ x ∷ [])))
               (one_more_leads step start p q front x k.leads on) tt (not_known c same) (rw (← same, split, last_of) (refl, refl)) same)
             where
               wants : step p x ≡ None → (accepts p ≡ false) ⊎ ((y : TokenValue) × (q : S) × (Some x ≡ Some y) × (step p y ≡ Some q))
@@ -285,7 +285,7 @@ module _ {S : Type 0} {step : S → TokenValue → Option S} {accepts : S → Bo
 
 -- a refusal doesn't speak of values
 pub reads_refused : {V W : Type 0} {Shape : List TokenValue → Type 0} {Spells : V → List ℕ → Type 0} (Other : W → List ℕ → Type 0)
-    (s t : ParserState) (e : Fault)
+    (s t : ParserState) (e : ErrorValue)
     → Reads Shape Spells s (Err e) t → Reads Shape Other s (Err e) t
 reads_refused Other s t e w = record { front = w.front; rest = w.rest; longest = w.longest; answer = w.answer; pending = w.pending }
 
@@ -312,8 +312,8 @@ same_front Shape ts front other rest left a b =
     ∙ take_at other left (length front) (sym len) in
     (same, append_cancel_left front rest left (sym a.split ∙ b.split ∙ ap (λ l. l ++ left) (sym same)))
 
--- and so is the fault, with what it leaves
-pub same_refusal : (ts : List TokenValue) (pending : Option ℕ) (rest : List TokenValue) (e f : Fault) (left other : List TokenValue)
+-- and so is the error, with what it leaves
+pub same_refusal : (ts : List TokenValue) (pending : Option ℕ) (rest : List TokenValue) (e f : ErrorValue) (left other : List TokenValue)
     → Refuses ts pending rest e left → Refuses ts pending rest f other → (e ≡ f) × (left ≡ other)
 same_refusal ts (Some c) [] e f left other a b = (cc, cc)
 same_refusal ts (Some c) (t ∷ []) e f left other a b = (cc, cc)
@@ -324,13 +324,14 @@ same_refusal ts (Some c) (t ∷ u ∷ rest) e f left other a b = (cc, cc)
 -- reading gives one answer and leaves one state, where a text spells one value
 pub reads_once : {V : Type 0} (Shape : List TokenValue → Type 0) (Spells : V → List ℕ → Type 0)
     → ((v w : V) (text : List ℕ) → Spells v text → Spells w text → v ≡ w)
-    → (s : ParserState) (r q : Result V Fault) (t u : ParserState) → Reads Shape Spells s r t → Reads Shape Spells s q u → (r ≡ q) × (t ≡ u)
+    → (s : ParserState) (r q : Result V ErrorValue) (t u : ParserState) → Reads Shape Spells s r t → Reads Shape Spells s q u
+    → (r ≡ q) × (t ≡ u)
 reads_once {V} Shape Spells once s r q t u a b =
     let same = same_front Shape s.remaining a.front b.front a.rest b.rest a.longest b.longest in
     let both = one_answer a.front a.rest r q t.remaining u.remaining a.answer (rw (← same.0, ← same.1) at b.answer) in
     (both.0, λ i. record { remaining = both.1 i; pending = (a.pending ∙ sym b.pending) i })
   where
-    one_answer : (front rest : List TokenValue) (r q : Result V Fault) (left other : List TokenValue)
+    one_answer : (front rest : List TokenValue) (r q : Result V ErrorValue) (left other : List TokenValue)
         → Answers Shape Spells s.remaining s.pending front rest r left → Answers Shape Spells s.remaining s.pending front rest q other
         → (r ≡ q) × (left ≡ other)
     one_answer front rest (Ok v) (Ok w) left other x y = (ap (λ z. Ok z) (once v w _ x.spelled y.spelled), cc)

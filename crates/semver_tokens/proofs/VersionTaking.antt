@@ -10,7 +10,7 @@ use Rattle.std.proofs.lemmas.Slice.Zip.{all_zipped_more}
 use Rattle.semver_texts.specs.Texts.{Text, marked}
 use Rattle.semver_texts.specs.Versions.{IdentifierValue, VersionValue}
 use Rattle.semver_tokens.specs.Tokens.{TokenValue, Hyphen, Dot, Plus, Whitespace, Numeric, AlphaNumeric, is_component}
-use Rattle.semver_tokens.specs.ParserState.{ParserState, Fault}
+use Rattle.semver_tokens.specs.ParserState.{ParserState, ErrorValue}
 use Rattle.semver_tokens.specs.ParserSteps.{Step, pop, look, expect, number_of, dot_of, numeric, dot_numeric}
 use Rattle.semver_texts.specs.VersionGrammar.{SpellsIdentifier, SpellsPart, SpellsCore}
 use Rattle.semver_tokens.specs.VersionReading.{IsIdentifierShape, IsVersionShape, Refuses, ReadsIdentifier, ReadsVersion}
@@ -20,13 +20,13 @@ use Rattle.semver_tokens.specs.Steps.Taking.{run, IsTaken, Gives, Number, major,
 use Rattle.semver_tokens.specs.Steps.Taking.{at_number, behind_number, at_run, behind_run, end, step, accepts, IsTakenTo, IsAtMark}
 use Rattle.semver_tokens.specs.Steps.Taking.{ArePassed, AtMark, TakesPart, PartMayRunOut, skip_at, skip_whitespace, numbers}
 use Rattle.semver_tokens.proofs.ReadingSteps.{run-append, runs_out_behind, longest_stops, not_whole, Stops}
-use Rattle.semver_tokens.proofs.ReadingSteps.{none_taken, reads_value, reads_fault, next_given, expected_given, then_given}
+use Rattle.semver_tokens.proofs.ReadingSteps.{none_taken, reads_value, reads_error, next_given, expected_given, then_given}
 use Rattle.semver_tokens.proofs.IdentifierSteps.{id_step, identifier_is_read, identifier_stops}
 use Rattle.semver_tokens.proofs.FirstToken.{by_test}
 use Rattle.semver_tokens.proofs.VersionSteps.{version_is_read, run_place, identifier_leads}
 
 -- reading a version from the state s is refused
-abbrev pub RefusesVersion : ParserState → Fault → ParserState → Type 0
+abbrev pub RefusesVersion : ParserState → ErrorValue → ParserState → Type 0
 RefusesVersion s e t = ReadsVersion s (Err e) t
 
 pub nothing_taken : (s : ParserState) → IsTakenTo s start [] s
@@ -178,7 +178,7 @@ module _ {part : Part} {s t : ParserState} {text : Text} (k : IsTakenTo s (at_ru
       stops_no_hyphen [] stops e = cc
       stops_no_hyphen (x ∷ rest) stops e = cc
 
-  pub identifier_refused : (e : Fault) (u : ParserState) → ReadsIdentifier t (Err e) u → ReadsVersion s (Err e) u
+  pub identifier_refused : (e : ErrorValue) (u : ParserState) → ReadsIdentifier t (Err e) u → ReadsVersion s (Err e) u
   identifier_refused e u w =
       let stop = longest_stops identifier_is_read t.remaining w.front w.rest w.longest in
       at_place stop.0 stop.1 stop.2
@@ -202,7 +202,7 @@ module _ {part : Part} {s t : ParserState} {text : Text} (k : IsTakenTo s (at_ru
       reads : (b : Bool) → run id_step false w.front ≡ Some b → Stops step (run_place part b) w.rest
           → ¬ (IsWhole IsVersionShape (k.front ++ w.front) s.pending w.rest) → ReadsVersion s (Err e) u
       reads b leads stops broken =
-          reads_fault version_is_read SpellsCore (k.front ++ w.front) w.rest (run_place part b)
+          reads_error version_is_read SpellsCore (k.front ++ w.front) w.rest (run_place part b)
           (fronts_split w.front w.rest w.longest.split) (fronts_lead w.front b leads) stops broken
           (rw (← k.taken.pending, k.taken.split)
           (refuses_more k.front t.remaining t.pending w.rest u.remaining k.taken.known w.answer.refuses)) (cc)
@@ -359,7 +359,7 @@ mark_popped t u ids k (Ok x, v) e = λ s part text at. let m = k s part text at 
 mark_popped t u ids k (Err f, v) e = λ s part text at. mark_given (k s part text at).2 _ e
 
 module _ (t v w : ParserState) (ids : List IdentifierValue) (k : AreBehindMark t ids v) where
-  pub part_refused : (e : Fault) → ReadsIdentifier v (Err e) w → TakesPart true t (Err e, w)
+  pub part_refused : (e : ErrorValue) → ReadsIdentifier v (Err e) w → TakesPart true t (Err e, w)
   part_refused e reads s part text at = identifier_refused (k s part text at).2 e w reads
 
   pub part_runs_out : MayRunOutInIdentifier v w → PartMayRunOut true t w

@@ -8,15 +8,15 @@ pub record ParserState : Type 0 where
   pub pending : Option ℕ
 
 -- what a call answers in place of a value, without where it lies in memory
-pub data Fault : Type 0 where
-  UnexpectedEnd : Fault
-  UnexpectedToken : TokenValue → Fault
+pub data ErrorValue : Type 0 where
+  UnexpectedEnd : ErrorValue
+  UnexpectedToken : TokenValue → ErrorValue
   -- the bad character
-  Lexer : ℕ → Fault
-  MoreInput : List TokenValue → Fault
-  EmptyPredicate : Fault
-  EmptyRange : Fault
-  OutOfMemory : Fault
+  Lexer : ℕ → ErrorValue
+  MoreInput : List TokenValue → ErrorValue
+  EmptyPredicate : ErrorValue
+  EmptyRange : ErrorValue
+  OutOfMemory : ErrorValue
 
 -- the tokens of the text, and the first character of its rest
 abbrev pub IsStateOf : List ℕ → ParserState → Type 0

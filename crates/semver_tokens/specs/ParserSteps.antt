@@ -2,12 +2,12 @@
 use Rattle.std.specs.Prelude.{ℕ, Bool, false, List, [], ◌∷◌, Option, Some, None, Result}
 use Rattle.std.specs.Prelude.{Ok, Err, slice_get, if◌then◌else◌, is_some, not}
 use Rattle.semver_tokens.specs.Tokens.{TokenValue, Dot, Numeric, is_wildcard}
-use Rattle.semver_tokens.specs.ParserState.{ParserState, Fault, UnexpectedEnd, UnexpectedToken}
+use Rattle.semver_tokens.specs.ParserState.{ParserState, ErrorValue, UnexpectedEnd, UnexpectedToken}
 use Rattle.semver_tokens.specs.ParserState.{Lexer}
 
 -- an answer, and the state after it
 abbrev pub Step : Type 0 → Type 0
-Step A = Result A Fault × ParserState
+Step A = Result A ErrorValue × ParserState
 
 -- the first token. The last one before a pending character isn't given
 abbrev pub pop_of : List TokenValue → Option ℕ → Step TokenValue

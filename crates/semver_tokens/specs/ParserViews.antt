@@ -3,7 +3,7 @@ use Rattle.std.specs.Prelude.{map, codes, Option, Some, None, Result, Ok, Err, �
 use Rattle.std.specs.Prelude.{option_to_list}
 use Rattle.semver_texts.specs.Texts.{Text}
 use Rattle.semver_tokens.specs.ParserState as spec
-use Rattle.semver_tokens.specs.ParserState.{ParserState, Fault}
+use Rattle.semver_tokens.specs.ParserState.{ParserState, ErrorValue}
 use Rattle.semver_tokens.specs.ParserSteps.{Step}
 use Rattle.semver_tokens.specs.Views.{token_value}
 use Rattle.semver_tokens.specs.declared.lexer.Token.{Token}
@@ -20,24 +20,24 @@ ahead o s =
       pending = s.pending;
     }
 
-abbrev pub fault_of : Error → Fault
-fault_of error.UnexpectedEnd = spec.UnexpectedEnd
-fault_of (error.UnexpectedToken t) = spec.UnexpectedToken (token_value t)
-fault_of (error.Lexer (lexer_error.UnexpectedChar c)) = spec.Lexer c
-fault_of (error.MoreInput ts) = spec.MoreInput (map token_value ts.items)
-fault_of error.EmptyPredicate = spec.EmptyPredicate
-fault_of error.EmptyRange = spec.EmptyRange
-fault_of error.OutOfMemory = spec.OutOfMemory
+abbrev pub error_value : Error → ErrorValue
+error_value error.UnexpectedEnd = spec.UnexpectedEnd
+error_value (error.UnexpectedToken t) = spec.UnexpectedToken (token_value t)
+error_value (error.Lexer (lexer_error.UnexpectedChar c)) = spec.Lexer c
+error_value (error.MoreInput ts) = spec.MoreInput (map token_value ts.items)
+error_value error.EmptyPredicate = spec.EmptyPredicate
+error_value error.EmptyRange = spec.EmptyRange
+error_value error.OutOfMemory = spec.OutOfMemory
 
 -- a result, seen by a view of its value
-abbrev pub answer_of : {T A : Type 0} → (T → A) → Result T Error → Result A Fault
+abbrev pub answer_of : {T A : Type 0} → (T → A) → Result T Error → Result A ErrorValue
 answer_of view (Ok x) = Ok (view x)
-answer_of view (Err e) = Err (fault_of e)
+answer_of view (Err e) = Err (error_value e)
 
 -- a result and the state after it, seen by a view of its value
 abbrev pub step_of : {T A : Type 0} → (T → A) → Result T Error → ParserState → Step A
 step_of view (Ok x) s = (Ok (view x), s)
-step_of view (Err e) s = (Err (fault_of e), s)
+step_of view (Err e) s = (Err (error_value e), s)
 
 -- P, unless memory ran out; and P where it did
 abbrev pub UnlessOutOfMemory : {T : Type 0} → Result T Error → Type 0 → Type 0

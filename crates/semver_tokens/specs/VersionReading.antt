@@ -4,8 +4,8 @@ use Rattle.std.specs.Prelude.{◌∷◌, ◌++◌, length, IsTrue, flat_map, if�
 use Rattle.std.specs.List.{AllByRecursion, join_by}
 use Rattle.semver_tokens.specs.Tokens as token
 use Rattle.semver_tokens.specs.Tokens.{TokenValue, is_component, is_whitespace}
-use Rattle.semver_tokens.specs.ParserState as fault
-use Rattle.semver_tokens.specs.ParserState.{ParserState, Fault, IsStateOf}
+use Rattle.semver_tokens.specs.ParserState as spec
+use Rattle.semver_tokens.specs.ParserState.{ParserState, ErrorValue, IsStateOf}
 use Rattle.semver_texts.specs.VersionGrammar.{SpellsIdentifier, SpellsCore}
 use Rattle.semver_texts.specs.Versions.{IdentifierValue, VersionValue}
 
@@ -75,16 +75,17 @@ last_alone [] = []
 last_alone (t ∷ []) = t ∷ []
 last_alone (t ∷ u ∷ ts) = last_alone (u ∷ ts)
 
--- the fault that reading answers and the tokens that it leaves, from all tokens, the pending
+-- the error that reading answers and the tokens that it leaves, from all tokens, the pending
 -- character and the rest; the first case that holds decides
-abbrev pub Refuses : List TokenValue → Option ℕ → List TokenValue → Fault → List TokenValue → Type 0
+abbrev pub Refuses : List TokenValue → Option ℕ → List TokenValue → ErrorValue → List TokenValue
+    → Type 0
 -- the rest has at most one token, and a character is pending
-Refuses ts (Some c) [] e left = (e ≡ fault.Lexer c) × (left ≡ last_alone ts)
-Refuses ts (Some c) (t ∷ []) e left = (e ≡ fault.Lexer c) × (left ≡ last_alone ts)
+Refuses ts (Some c) [] e left = (e ≡ spec.Lexer c) × (left ≡ last_alone ts)
+Refuses ts (Some c) (t ∷ []) e left = (e ≡ spec.Lexer c) × (left ≡ last_alone ts)
 -- the rest is empty
-Refuses ts pending [] e left = (e ≡ fault.UnexpectedEnd) × (left ≡ [])
+Refuses ts pending [] e left = (e ≡ spec.UnexpectedEnd) × (left ≡ [])
 -- the rest begins with a token
-Refuses ts pending (t ∷ rest) e left = (e ≡ fault.UnexpectedToken t) × (left ≡ rest)
+Refuses ts pending (t ∷ rest) e left = (e ≡ spec.UnexpectedToken t) × (left ≡ rest)
 
 -- the front has the shape, and it is known that it ends there: a token follows, or no character is
 -- pending
@@ -101,49 +102,49 @@ pub record AnswersValue {V : Type 0} (Shape : List TokenValue → Type 0)
   pub spelled : Spells v (inner_texts front)
   pub leaves : left ≡ rest
 
--- a fault is answered: the front isn't whole, and it is the fault of the first case that holds
-pub record AnswersFault (Shape : List TokenValue → Type 0) (ts : List TokenValue)
-    (pending : Option ℕ) (front rest : List TokenValue) (e : Fault)
+-- an error is answered: the front isn't whole, and it is the error of the first case that holds
+pub record AnswersError (Shape : List TokenValue → Type 0) (ts : List TokenValue)
+    (pending : Option ℕ) (front rest : List TokenValue) (e : ErrorValue)
     (left : List TokenValue) : Type 0 where
   pub broken : ¬ (IsWhole Shape front pending rest)
   pub refuses : Refuses ts pending rest e left
 
--- the answer and the tokens left: the value of a front that is whole, and else a fault
+-- the answer and the tokens left: the value of a front that is whole, and else an error
 abbrev pub Answers : {V : Type 0} → (List TokenValue → Type 0) → (V → List ℕ → Type 0)
-    → List TokenValue → Option ℕ → List TokenValue → List TokenValue → Result V Fault
+    → List TokenValue → Option ℕ → List TokenValue → List TokenValue → Result V ErrorValue
     → List TokenValue → Type 0
 Answers Shape Spells ts pending front rest (Ok v) left =
     AnswersValue Shape Spells pending front rest v left
 Answers Shape Spells ts pending front rest (Err e) left =
-    AnswersFault Shape ts pending front rest e left
+    AnswersError Shape ts pending front rest e left
 
 -- from the state s, reading what has this shape and is spelled so answers r and leaves t
 pub record Reads {V : Type 0} (Shape : List TokenValue → Type 0) (Spells : V → List ℕ → Type 0)
-    (s : ParserState) (r : Result V Fault) (t : ParserState) : Type 0 where
+    (s : ParserState) (r : Result V ErrorValue) (t : ParserState) : Type 0 where
   pub front : List TokenValue
   pub rest : List TokenValue
   pub longest : IsLongestFront Shape s.remaining front rest
   pub answer : Answers Shape Spells s.remaining s.pending front rest r t.remaining
   pub pending : t.pending ≡ s.pending
 
-abbrev pub ReadsIdentifier : ParserState → Result IdentifierValue Fault → ParserState → Type 0
+abbrev pub ReadsIdentifier : ParserState → Result IdentifierValue ErrorValue → ParserState → Type 0
 ReadsIdentifier s r t = Reads IsIdentifierShape SpellsIdentifier s r t
 
-abbrev pub ReadsVersion : ParserState → Result VersionValue Fault → ParserState → Type 0
+abbrev pub ReadsVersion : ParserState → Result VersionValue ErrorValue → ParserState → Type 0
 ReadsVersion s r t = Reads IsVersionShape SpellsCore s r t
 
 -- what reading a whole text makes of what reading a version answered and left
-abbrev pub whole_answer : {V : Type 0} → Result V Fault → List TokenValue → Option ℕ
-    → Result V Fault
+abbrev pub whole_answer : {V : Type 0} → Result V ErrorValue → List TokenValue → Option ℕ
+    → Result V ErrorValue
 whole_answer (Err e) left pending = Err e
 whole_answer (Ok v) [] pending = Ok v
-whole_answer (Ok v) (t ∷ ts) None = Err (fault.MoreInput (t ∷ ts))
-whole_answer (Ok v) (t ∷ ts) (Some c) = Err (fault.Lexer c)
+whole_answer (Ok v) (t ∷ ts) None = Err (spec.MoreInput (t ∷ ts))
+whole_answer (Ok v) (t ∷ ts) (Some c) = Err (spec.Lexer c)
 
 -- the outcome of a text
-pub record IsOutcomeOf (text : List ℕ) (r : Result VersionValue Fault) : Type 0 where
+pub record IsOutcomeOf (text : List ℕ) (r : Result VersionValue ErrorValue) : Type 0 where
   pub start : ParserState
-  pub answer : Result VersionValue Fault
+  pub answer : Result VersionValue ErrorValue
   pub end : ParserState
   pub state : IsStateOf text start
   pub reads : ReadsVersion start answer end
@@ -199,4 +200,4 @@ pub record TextMayRunOut (text : List ℕ) : Type 0 where
   pub state : IsStateOf text start
   pub longest : IsLongestFront IsVersionShape start.remaining front rest
   pub why : HoldsIdentifierRun front ⊎ ((left : List TokenValue)
-      × IsOutcomeOf text (Err (fault.MoreInput left)))
+      × IsOutcomeOf text (Err (spec.MoreInput left)))

@@ -13,7 +13,7 @@ ghost use Rattle.std.specs.Prelude.{string_bytes, IfErr, IsErr, ℕ, IsTrue, opt
 ghost use Rattle.std.specs.Prelude.{◌<◌, ◌≤◌, ◌++◌, ◌∷◌, vec_len, vec_capacity};
 ghost use Rattle.semver_tokens.specs.Tokens.{IsBadStart};
 ghost use Rattle.semver_tokens.specs.Tokens as spec_token;
-ghost use Rattle.semver_tokens.specs.ParserState as fault;
+ghost use Rattle.semver_tokens.specs.ParserState as state;
 ghost use Rattle.semver_tokens.specs.ParserState.{IsStateOf};
 ghost use Rattle.semver_tokens.specs.ParserSteps as spec;
 ghost use Rattle.semver_tokens.specs.Views.{token_value};
@@ -26,8 +26,8 @@ ghost use Rattle.semver_texts.specs.VersionViews.{identifier_value, version_valu
 ghost use Rattle.semver_tokens.specs.Steps.Taking.{TakesIdentifier, TakesPart};
 ghost use Rattle.semver_tokens.specs.Steps.Taking.{PartMayRunOut, expect_run, skip_whitespace};
 ghost use Rattle.semver_tokens.specs.Steps.Taking.{numbers};
-ghost use Rattle.semver_tokens.specs.ParserViews.{fault_of, fixed_text, step_of, UnlessOutOfMemory};
-ghost use Rattle.semver_tokens.specs.ParserViews.{IfOutOfMemory};
+ghost use Rattle.semver_tokens.specs.ParserViews.{error_value, fixed_text, step_of};
+ghost use Rattle.semver_tokens.specs.ParserViews.{IfOutOfMemory, UnlessOutOfMemory};
 
 use crate::lexer::{self, Lexer, Token, copy, count_tokens, rest};
 use semver_texts::bytes::part_len;
@@ -62,7 +62,7 @@ impl<'input> From<lexer::Error> for Error<'input> {
 
     ghost from_gives = { λ value e. e ≡ error.Lexer value };
 
-    /// The fault of the lexer, as `Lexer`.
+    /// The error of the lexer, as `Lexer`.
     #[inline(always)]
     fn from(value: lexer::Error) -> Self {
         Error::Lexer(value)
@@ -76,7 +76,7 @@ impl<'input> fmt::Display for Error<'input> {
     ghost output = { fixed_text };
 
     /// Writes a sentence for a person, as `expected more input`. It does not allocate, and its only
-    /// fault is the writer's.
+    /// error is the writer's.
     fn fmt<W: fmt::Write>(&self, f: &mut fmt::Formatter<W>) -> fmt::Result {
         match self {
             Error::UnexpectedEnd => f.write_str("expected more input"),
@@ -141,7 +141,7 @@ impl<'input> Parser<'input> {
     /// empty text are read.
     pub fn new(input: &'input str) -> Result<Parser<'input>, Error<'input>>
         ensures ok { IfOk result (λ p. IsStateOf input.now p) }
-        ensures lexer { IfErr result (λ e. (c : ℕ) × (fault_of e ≡ fault.Lexer c)
+        ensures lexer { IfErr result (λ e. (c : ℕ) × (error_value e ≡ state.Lexer c)
             × IsStateOf input.now (record { remaining = []; pending = Some c })) }
         ensures bad_start { IsErr result ↔ IsBadStart input.now }
     {
@@ -154,7 +154,7 @@ impl<'input> Parser<'input> {
         })
     }
 
-    /// Takes the first token. The one after it is read first, so a fault changes nothing.
+    /// Takes the first token. The one after it is read first, so an error changes nothing.
     #[inline(always)]
     fn pop(&mut self) -> Result<Token<'input>, Error<'input>>
         ensures { step_of token_value result self.new ≡ spec.pop self.old }

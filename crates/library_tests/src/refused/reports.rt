@@ -26,8 +26,8 @@ pub fn report(alloc: Global) -> Ending {
     }
 }
 
-/// Where each line has a fault without memory, none is asked for.
-pub fn report_of_faults(alloc: Global) -> Ending {
+/// Where each line has an error without memory, none is asked for.
+pub fn report_of_errors(alloc: Global) -> Ending {
     let mut out = Fixed::new();
     let ran = report::run(alloc, "/", &mut out);
     let whole = b"version: unexpected-char\ncargo: not-a-range\nnpm: not-a-range\n";

@@ -1,5 +1,5 @@
 use Rattle.std.proofs.Common.{rules, to_z, of_z, w32}
-use Rattle.semver_parser_c.specs.Steps.RangeFaults.{IsEitherRefused, TellsBoth}
+use Rattle.semver_parser_c.specs.Steps.TextErrors.{IsEitherRefused, TellsBoth}
 use Rattle.semver_parser_c.specs.Numbers.{new_range_out_of_memory}
 use Rattle.semver_parser_c.proofs.ComparedVersions.{meant, tells_which}
 use Rattle.semver_parser_c.proofs.semver_parser_proved_compare.Goals as goal

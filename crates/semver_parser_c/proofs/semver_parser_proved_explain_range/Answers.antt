@@ -1,5 +1,5 @@
 use Rattle.std.proofs.Common.{rules}
-use Rattle.semver_parser_c.specs.Steps.RangeFaults.{IsReadingOf}
+use Rattle.semver_parser_c.specs.Steps.TextErrors.{IsReadingOf}
 use Rattle.semver_parser_c.proofs.ExplainedRanges.{explains}
 use Rattle.semver_parser_c.proofs.OneAnswer.{IsItself}
 use Rattle.semver_parser_c.proofs.semver_parser_proved_explain_range.Goals as goal

@@ -2,7 +2,7 @@ use Rattle.std.proofs.Common.{◌≡◌, rules, to_z, of_z, w32}
 use Rattle.semver_parser.specs.ToolVersions.{IsVersionTextIn}
 use Rattle.semver_parser.specs.declared.version.Dialect.{Dialect}
 use Rattle.semver_parser_c.specs.Readings.{IsDialect}
-use Rattle.semver_parser_c.specs.Steps.RangeFaults.{IsUnjudged}
+use Rattle.semver_parser_c.specs.Steps.TextErrors.{IsUnjudged}
 use Rattle.semver_parser_c.proofs.semver_parser_proved_meets.Goals as goal
 
 -- the version is read

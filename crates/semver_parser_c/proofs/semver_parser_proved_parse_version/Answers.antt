@@ -1,7 +1,7 @@
 use Rattle.std.proofs.Common.{◌∙◌, ap, rules, w32, to_z, of_z, sym}
 use Rattle.semver_parser.specs.Outlines.{OutlineValue}
-use Rattle.semver_parser_c.specs.Faults.{RefusesVersion}
-use Rattle.semver_parser_c.specs.Steps.RangeFaults.{IsReadingOf}
+use Rattle.semver_parser_c.specs.Errors.{RefusesVersion}
+use Rattle.semver_parser_c.specs.Steps.TextErrors.{IsReadingOf}
 use Rattle.semver_parser_c.proofs.Dialects.{of_named, refused_outcome, spelled_outcome_in}
 use Rattle.semver_parser_c.proofs.semver_parser_proved_parse_version.Goals as goal
 

@@ -1,7 +1,7 @@
 use Rattle.std.proofs.Common.{◌≡◌, ◌∙◌, ap, rules, sym}
 use Rattle.semver_parser.specs.Precedence.{precedence}
 use Rattle.semver_parser_c.specs.Orders.{order_number}
-use Rattle.semver_parser_c.specs.Steps.RangeFaults.{IsReadingOf}
+use Rattle.semver_parser_c.specs.Steps.TextErrors.{IsReadingOf}
 use Rattle.semver_parser_c.proofs.Dialects.{of_named}
 use Rattle.semver_parser_c.proofs.semver_parser_proved_precedence.Goals as goal
 

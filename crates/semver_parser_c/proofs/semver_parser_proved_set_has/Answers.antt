@@ -1,6 +1,6 @@
 use Rattle.std.proofs.Common.{◌∙◌, rules, sym}
 use Rattle.version_sets.specs.VersionSets.{has}
-use Rattle.semver_parser_c.specs.Steps.RangeFaults.{IsReadingOf}
+use Rattle.semver_parser_c.specs.Steps.TextErrors.{IsReadingOf}
 use Rattle.semver_parser_c.proofs.Dialects.{of_named}
 use Rattle.semver_parser_c.proofs.semver_parser_proved_set_has.Goals as goal
 

@@ -10,8 +10,8 @@ use Rattle.tool_ranges.specs.Readings.{TreeOf, SpellsAs, dialect_of}
 use Rattle.tool_ranges.specs.Meanings.{reading_of, meant_as}
 use Rattle.semver_parser_c.specs.declared.meeting.Question.{Question}
 use Rattle.semver_parser_c.specs.declared.meeting.Question.TheVariants as question
-use Rattle.semver_parser_c.specs.Faults.{RefusesVersion}
-use Rattle.semver_parser_c.specs.Steps.RangeFaults.{IsReadable}
+use Rattle.semver_parser_c.specs.Errors.{RefusesVersion}
+use Rattle.semver_parser_c.specs.Steps.TextErrors.{IsReadable}
 
 -- what passes the filter is what the range text means, of versions in the dialect of its reading
 pub record IsFilterOf (filter : FilterValue) (m : Meaning) (range : Text) : Type 0 where

@@ -127,7 +127,7 @@ TakesEvent d lower begins_range t (Some e) behind =
     IsFirst d (events_left d lower begins_range t) e behind
     × (size_left behind < size_at begins_range t) × (length behind.rest.now + bytes_of e ≤ length t)
 
--- what `next` gives: the first of the events that are left; a fault where the text isn't in the
+-- what `next` gives: the first of the events that are left; an error where the text isn't in the
 -- grammar; None where no event is left
 abbrev pub Gives : Dialect → Option (List list.Event) → Option (Result Event RangeError) → Events
     → Type 0

@@ -7,7 +7,7 @@ use Rattle.std.specs.Prelude.{if◌then◌else◌}
 use Rattle.std.specs.List.{AllZip, join_with_byte}
 use Rattle.semver_tokens.specs.Tokens.{TokenValue, Hyphen, Dot, Plus, Whitespace, Numeric}
 use Rattle.semver_tokens.specs.Tokens.{AlphaNumeric, is_component}
-use Rattle.semver_tokens.specs.ParserState.{ParserState, Fault}
+use Rattle.semver_tokens.specs.ParserState.{ParserState, ErrorValue}
 use Rattle.semver_texts.specs.Texts.{Text}
 use Rattle.semver_texts.specs.Versions.{IdentifierValue}
 use Rattle.semver_tokens.specs.ParserSteps.{Step, pop, look, and_then, expect, number_of, numeric}
@@ -30,9 +30,9 @@ pub record IsTaken {S : Type 0} (step : S → TokenValue → Option S) (start : 
   -- the last token before a pending character wasn't taken
   pub known : (front ≡ []) ⊎ ((0 < length t.remaining) ⊎ (t.pending ≡ None))
 
--- what holds of a step: P of a value and the state after it, and F of a fault and the state after
+-- what holds of a step: P of a value and the state after it, and F of an error and the state after
 -- that
-abbrev pub Gives : {A : Type 0} → (Fault → ParserState → Type 0) → (A → ParserState → Type 0)
+abbrev pub Gives : {A : Type 0} → (ErrorValue → ParserState → Type 0) → (A → ParserState → Type 0)
     → Step A → Type 0
 Gives F P (Ok x, t) = P x t
 Gives F P (Err e, t) = F e t
@@ -56,11 +56,11 @@ lone_number (t ∷ []) = number_of t
 lone_number (t ∷ u ∷ ts) = None
 
 -- reading an identifier, whatever its value
-abbrev pub PassesIdentifier : ParserState → Result (Option ℕ) Fault → ParserState → Type 0
+abbrev pub PassesIdentifier : ParserState → Result (Option ℕ) ErrorValue → ParserState → Type 0
 PassesIdentifier s r t = Reads IsIdentifierShape (λ (n : Option ℕ) text. Unit {0}) s r t
 
 -- and the number where it is one alone
-pub record TakesIdentifier (s : ParserState) (r : Result (Option ℕ) Fault)
+pub record TakesIdentifier (s : ParserState) (r : Result (Option ℕ) ErrorValue)
     (t : ParserState) : Type 0 where
   pub passes : PassesIdentifier s r t
   pub number : IfOk r (λ n. n ≡ lone_number passes.front)

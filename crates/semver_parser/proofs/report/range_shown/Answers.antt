@@ -6,8 +6,8 @@ pub returns-in-Ok : goal.returns-in-Ok
 returns-in-Ok c =
     let found = c.in-Ok.ensures.refusals.accepted in
     shows_set c.args.compat c.args.text.now c.printed_set.result (set_of c.in-Ok.set) found.0 found.1 found.2
-    (c.in-Ok.ensures.as_rewritten found.0 found.1) c.printed_set.ensures.value c.printed_set.ensures.fault
+    (c.in-Ok.ensures.as_rewritten found.0 found.1) c.printed_set.ensures.value c.printed_set.ensures.error
 
 pub returns-in-Err : goal.returns-in-Err
 returns-in-Err c =
-    shows_refusal c.args.compat c.args.text.now c.in-Err.error c.in-Err.ensures.refusals _ c.range_fault_word.ensures
+    shows_refusal c.args.compat c.args.text.now c.in-Err.error c.in-Err.ensures.refusals _ c.range_error_word.ensures

@@ -2,7 +2,7 @@ use Rattle.std.proofs.Common.{◌≡◌, ℕ, refl, sym, ap, ◌∙◌, Result, 
 use Rattle.std.proofs.lemmas.Result.{err_from_is_err_and}
 use Rattle.semver_tokens.specs.ParserState.{ParserState}
 use Rattle.semver_tokens.specs.ParserSteps.{tail}
-use Rattle.semver_tokens.specs.ParserViews.{fault_of, UnlessOutOfMemory}
+use Rattle.semver_tokens.specs.ParserViews.{error_value, UnlessOutOfMemory}
 use Rattle.semver_texts.specs.VersionViews.{version_value}
 use Rattle.semver_texts.specs.declared.version.Version.{Version}
 use Rattle.semver_tokens.specs.declared.parser.Error.{Error}
@@ -29,7 +29,7 @@ returns-in_err-version c =
     let e : Error = c.in_err-version.field-0.0 in
     let state = c.in_ok-parser.ensures.ok in
     let outcome : UnlessOutOfMemory c.from_residual-in_err-version.result _ = rw (p.1, p.2)
-    (unless_err e (at_fault text c.in_ok-parser.parser c.version.new.self (fault_of e) state) c.in_err-version.ensures.answer) in
+    (unless_err e (at_fault text c.in_ok-parser.parser c.version.new.self (error_value e) state) c.in_err-version.ensures.answer) in
     record {
       outcome = outcome;
       out_of_memory = (rw (p.1, p.2)

@@ -3,11 +3,11 @@ use Rattle.tool_ranges.specs.Meanings.{meant_as, reading_of}
 use Rattle.tool_ranges.specs.Readings.{dialect_of}
 use Rattle.semver_parser.specs.Outlines.{version_of}
 use Rattle.semver_parser_c.specs.Numbers.{range_out_of_memory}
-use Rattle.semver_parser_c.specs.Steps.RangeFaults.{IsMeaningOf}
+use Rattle.semver_parser_c.specs.Steps.TextErrors.{IsMeaningOf}
 use Rattle.semver_parser_c.proofs.Dialects.{of_reading}
 use Rattle.semver_parser_c.proofs.VersionUtf8.{version_utf8}
 use Rattle.semver_parser_c.proofs.OneMeeting.{range_refused, version_refused}
-use Rattle.semver_parser_c.proofs.RangeFaults.{named_found, refused, stands}
+use Rattle.semver_parser_c.proofs.TextErrors.{named_found, refused, stands}
 use Rattle.semver_parser_c.proofs.asking.judge.Goals as goal
 
 pub returns-in-Err-clause-refused : goal.returns-in-Err-clause-refused
@@ -24,7 +24,7 @@ returns-in-Ok-check-clause-refused c =
     search (
       rules,
       version_refused c.in-Ok.meaning _ _ c.args.range.now c.args.version.now _ c.in-Ok.ensures.named c.in-Ok-check.ensures.accepted
-          (rw same at c.fault.ensures) (λ _. rw same at (c.in_default.ensures.none.0 refl)),
+          (rw same at c.error.ensures) (λ _. rw same at (c.in_default.ensures.none.0 refl)),
     )
 
 pub returns-in-Err-check-clause-refused : goal.returns-in-Err-check-clause-refused
@@ -33,7 +33,7 @@ returns-in-Err-check-clause-refused c =
     search (
       rules,
       range_refused _ _ _ c.args.version.now _
-          (refused _ _ _ _ _ c.in-Ok.ensures.named (c.number_of.ensures.told _ _ c.in-Err-check.ensures.fault)) found,
+          (refused _ _ _ _ _ c.in-Ok.ensures.named (c.number_of.ensures.told _ _ c.in-Err-check.ensures.error)) found,
     )
 
 pub returns-in-Ok-meets-clause-stands : goal.returns-in-Ok-meets-clause-stands
@@ -60,7 +60,7 @@ returns-in-Err-meets-clause-refused c =
     search (
       rules,
       range_refused _ _ _ c.args.version.now _
-          (refused _ _ _ _ _ c.in-Ok.ensures.named (c.number_of-in-Err-meets.ensures.told _ _ c.in-Err-meets.ensures.fault)) found,
+          (refused _ _ _ _ _ c.in-Ok.ensures.named (c.number_of-in-Err-meets.ensures.told _ _ c.in-Err-meets.ensures.error)) found,
     )
 
 pub returns-in-Ok-meets-clause-utf8 : goal.returns-in-Ok-meets-clause-utf8

@@ -9,8 +9,8 @@ use Rattle.semver_parser_c.proofs.laws.one_combination.Goals as goal
 abbrev exact : List ℤ
 exact = number.no_such_operation ∷ number.not_a_set ∷ []
 
-abbrev faults : List ℤ
-faults = number.no_such_operation ∷ number.not_a_set ∷ number.range_out_of_memory ∷ []
+abbrev errors : List ℤ
+errors = number.no_such_operation ∷ number.not_a_set ∷ number.range_out_of_memory ∷ []
 
 pub returns : goal.returns
 returns c =
@@ -20,15 +20,15 @@ returns c =
     let q = m.ensures in
     record {
       one = uncast n.result m.result (search rules) (search rules)
-          (put_are_one (number.ok ∷ number.no_room ∷ faults) faults exact number.range_out_of_memory refl refl refl refl
+          (put_are_one (number.ok ∷ number.no_room ∷ errors) errors exact number.range_out_of_memory refl refl refl refl
           (inl refl) p.numbers q.numbers
           (operation_once p.no_such_operation q.no_such_operation p.not_a_set q.both_sets q.numbers)
           (operation_once q.no_such_operation p.no_such_operation q.not_a_set p.both_sets p.numbers)
-          (λ no no' fault fault'.
+          (λ no no' error error'.
           let rooms = p.rooms_unchanged no in
           let rooms' = q.rooms_unchanged no' in
-          let told = p.numbers_unchanged fault in
-          let told' = q.numbers_unchanged fault' in (
+          let told = p.numbers_unchanged error in
+          let told' = q.numbers_unchanged error' in (
             rooms.0 ∙ c.requires.made ∙ sym rooms'.0,
             told.0 ∙ c.requires.count ∙ sym told'.0,
             rooms.1 ∙ c.requires.room ∙ sym rooms'.1,

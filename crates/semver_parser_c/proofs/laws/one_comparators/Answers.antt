@@ -3,7 +3,7 @@ use Rattle.semver_parser_c.specs.Comparators.{comparators_of, pre_releases, list
 use Rattle.semver_parser_c.specs.Numbers as number
 use Rattle.semver_parser_c.proofs.OneAnswer.{rewrite_exact, text_once, uncast}
 use Rattle.semver_parser_c.proofs.OnePutting.{both_once, put_are_one}
-use Rattle.semver_parser_c.proofs.OneRewriting.{rewrite_faults, same_set}
+use Rattle.semver_parser_c.proofs.OneRewriting.{rewrite_errors, same_set}
 use Rattle.semver_parser_c.proofs.laws.one_comparators.Goals as goal
 
 pub returns : goal.returns
@@ -14,14 +14,14 @@ returns c =
     let q = m.ensures in
     record {
       one = uncast n.result m.result (search rules) (search rules)
-          (put_are_one (number.ok ∷ number.no_room ∷ rewrite_faults) rewrite_faults rewrite_exact number.range_out_of_memory refl refl
+          (put_are_one (number.ok ∷ number.no_room ∷ rewrite_errors) rewrite_errors rewrite_exact number.range_out_of_memory refl refl
           refl refl
           (inl refl) p.numbers q.numbers (text_once p.refusals q.refusals) (text_once q.refusals p.refusals)
-          (λ no no' fault fault'.
+          (λ no no' error error'.
           let rooms = p.rooms_unchanged no in
           let rooms' = q.rooms_unchanged no' in
-          let told = p.numbers_unchanged fault in
-          let told' = q.numbers_unchanged fault' in (
+          let told = p.numbers_unchanged error in
+          let told' = q.numbers_unchanged error' in (
             rooms.0 ∙ c.requires.comparators ∙ sym rooms'.0,
             told.0 ∙ c.requires.count ∙ sym told'.0,
             rooms.1 ∙ c.requires.room ∙ sym rooms'.1,

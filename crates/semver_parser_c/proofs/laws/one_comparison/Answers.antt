@@ -2,21 +2,21 @@ use Rattle.std.proofs.Common.{◌≡◌, ◌≢◌, ◌∙◌, ◌++◌, ℤ, Li
 use Rattle.semver_parser.specs.Texts.{Text}
 use Rattle.tool_ranges.specs.Readings.{SpellsAs, TreeOf}
 use Rattle.semver_parser_c.specs.Numbers as number
-use Rattle.semver_parser_c.specs.Faults.{IsAccepted, IsOneOf, RefusesNewRange, RefusesRange, named_faults, new_range_faults}
-use Rattle.semver_parser_c.specs.Faults.{new_range_numbers}
-use Rattle.semver_parser_c.proofs.OneAnswer.{accepted_where, apart, known, new_once, range_exact, range_once, split, text_faults, uncast}
+use Rattle.semver_parser_c.specs.Errors.{IsAccepted, IsOneOf, RefusesNewRange, RefusesRange, named_errors, new_range_errors}
+use Rattle.semver_parser_c.specs.Errors.{new_range_numbers}
+use Rattle.semver_parser_c.proofs.OneAnswer.{accepted_where, apart, known, new_once, range_exact, range_once, split, text_errors, uncast}
 use Rattle.semver_parser_c.proofs.OnePutting.{put_are_one, put_once}
 use Rattle.semver_parser_c.proofs.OneRewriting.{one_reading}
 use Rattle.semver_parser_c.proofs.OneLeast.{one_compared}
 use Rattle.semver_parser_c.proofs.laws.one_comparison.Goals as goal
 
 abbrev exact : List ℤ
-exact = range_exact ++ text_faults new_range_numbers
+exact = range_exact ++ text_errors new_range_numbers
 
-abbrev faults : List ℤ
-faults = named_faults ++ new_range_faults
+abbrev errors : List ℤ
+errors = named_errors ++ new_range_errors
 
-sorted : (n : ℤ) → IsOneOf (number.ok ∷ number.no_room ∷ faults) n → n ≢ number.range_out_of_memory
+sorted : (n : ℤ) → IsOneOf (number.ok ∷ number.no_room ∷ errors) n → n ≢ number.range_out_of_memory
     → IsOneOf (number.ok ∷ number.no_room ∷ number.new_range_out_of_memory ∷ exact) n
 sorted n one found = grind arith
 
@@ -25,10 +25,10 @@ once : {reading rule : ℤ} {old new : Text} {n m : ℤ} → RefusesRange readin
     → IsOneOf exact n → n ≡ m
 once p q a b one = ⊎_elim (range_once p q)
     (λ one.
-    known (λ other. accepted_where p (apart (text_faults new_range_numbers) range_exact _ refl one) (λ accepted.
+    known (λ other. accepted_where p (apart (text_errors new_range_numbers) range_exact _ refl one) (λ accepted.
     let (meaning, named, _, _) = accepted in
     other (new_once accepted (a meaning named) (b meaning named) one))))
-    (split range_exact (text_faults new_range_numbers) _ one)
+    (split range_exact (text_errors new_range_numbers) _ one)
 
 pub returns : goal.returns
 returns c =
@@ -38,14 +38,14 @@ returns c =
     let q = m.ensures in
     record {
       one = uncast n.result m.result (search rules) (search rules)
-          (put_are_one (number.ok ∷ number.no_room ∷ number.new_range_out_of_memory ∷ exact) faults exact number.new_range_out_of_memory
+          (put_are_one (number.ok ∷ number.no_room ∷ number.new_range_out_of_memory ∷ exact) errors exact number.new_range_out_of_memory
           refl refl refl refl (inr (inr (inl refl))) (sorted _ p.numbers p.one_memory) (sorted _ q.numbers q.one_memory)
           (once p.refusals q.refusals p.new_refusals q.new_refusals)
           (once q.refusals p.refusals q.new_refusals p.new_refusals)
-          (λ no no' fault fault'. (
+          (λ no no' error error'. (
             p.room_unchanged no ∙ c.requires.room ∙ sym (q.room_unchanged no'),
-            p.length_unchanged fault ∙ c.requires.length ∙ sym (q.length_unchanged fault'),
-            p.comparison_unchanged fault ∙ c.requires.comparison ∙ sym (q.comparison_unchanged fault'),
+            p.length_unchanged error ∙ c.requires.length ∙ sym (q.length_unchanged error'),
+            p.comparison_unchanged error ∙ c.requires.comparison ∙ sym (q.comparison_unchanged error'),
           ))
           (λ put put'.
           let ((meaning, named, read), (_, named', read')) = p.read put in

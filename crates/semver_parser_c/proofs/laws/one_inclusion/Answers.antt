@@ -1,6 +1,6 @@
 use Rattle.std.proofs.Common.{◌≡◌, ◌∙◌, ◌∷◌, [], ℤ, arith, rules, refl, sym}
 use Rattle.semver_parser_c.specs.Numbers as number
-use Rattle.semver_parser_c.specs.Faults.{IsOneOf}
+use Rattle.semver_parser_c.specs.Errors.{IsOneOf}
 use Rattle.semver_parser_c.specs.OneAnswer.{IsMemory}
 use Rattle.semver_parser_c.proofs.OneAnswer.{are_one, by_ok, uncast}
 use Rattle.semver_parser_c.proofs.OneSet.{both_once_sets, within_once}

@@ -1,6 +1,6 @@
 use Rattle.std.proofs.Common.{◌∙◌, ◌∷◌, inl, rules, refl, sym}
 use Rattle.semver_parser_c.specs.Numbers as number
-use Rattle.semver_parser_c.specs.Faults.{named_faults}
+use Rattle.semver_parser_c.specs.Errors.{named_errors}
 use Rattle.semver_parser_c.proofs.OneAnswer.{range_exact, range_once, uncast}
 use Rattle.semver_parser_c.proofs.OnePutting.{put_are_one, put_once}
 use Rattle.semver_parser_c.proofs.OneLeast.{one_told}
@@ -14,11 +14,11 @@ returns c =
     let q = m.ensures in
     record {
       one = uncast n.result m.result (search rules) (search rules)
-          (put_are_one (number.ok ∷ number.no_room ∷ named_faults) named_faults range_exact number.range_out_of_memory refl refl refl refl
+          (put_are_one (number.ok ∷ number.no_room ∷ named_errors) named_errors range_exact number.range_out_of_memory refl refl refl refl
           (inl refl) p.numbers q.numbers (range_once p.refusals q.refusals) (range_once q.refusals p.refusals)
-          (λ no no' fault fault'. (
+          (λ no no' error error'. (
             p.room_unchanged no ∙ c.requires.room ∙ sym (q.room_unchanged no'),
-            p.length_unchanged fault ∙ c.requires.length ∙ sym (q.length_unchanged fault'),
+            p.length_unchanged error ∙ c.requires.length ∙ sym (q.length_unchanged error'),
           ))
           (λ put put'.
           let (meaning, named, read) = p.read put in

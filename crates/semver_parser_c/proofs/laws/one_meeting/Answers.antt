@@ -5,15 +5,15 @@ use Rattle.semver_parser.specs.declared.version.Dialect.{Dialect}
 use Rattle.tool_ranges.specs.Meanings.{reading_of}
 use Rattle.tool_ranges.specs.Readings.{dialect_of}
 use Rattle.semver_parser_c.specs.Readings.{IsDialect}
-use Rattle.semver_parser_c.specs.Faults.{IsOneOf, RangeIsRead, named_faults, version_faults}
+use Rattle.semver_parser_c.specs.Errors.{IsOneOf, RangeIsRead, named_errors, version_errors}
 use Rattle.semver_parser_c.specs.OneAnswer.{AreOne, text_errors}
-use Rattle.semver_parser_c.proofs.OneAnswer.{IsItself, accepted_where, apart, are_one, by_ok, known, of_fault, version_once}
+use Rattle.semver_parser_c.proofs.OneAnswer.{IsItself, accepted_where, apart, are_one, by_ok, known, of_error, version_once}
 use Rattle.semver_parser_c.proofs.OneAnswer.{range_exact, range_once}
-use Rattle.semver_parser_c.proofs.RangeFaults.{read_of}
+use Rattle.semver_parser_c.proofs.TextErrors.{read_of}
 use Rattle.semver_parser_c.proofs.laws.one_meeting.Goals as goal
 
 abbrev beside : List ℤ
-beside = number.ok ∷ number.range_out_of_memory ∷ version_faults
+beside = number.ok ∷ number.range_out_of_memory ∷ version_errors
 
 -- what is left where memory ran out at the version
 left : (n : ℤ) → IsOneOf beside n → n ≢ number.ok → n ≢ number.version_not_utf8 → n ≢ number.range_out_of_memory
@@ -33,7 +33,7 @@ returns c =
     let as_it_is : IsItself n.result = search rules in
     let as_it_is' : IsItself m.result = search rules in
     let one : AreOne beside n.result m.result (n.new.meets ≡ m.new.meets) =
-    are_one (number.ok ∷ named_faults ++ version_faults) range_exact refl refl p.numbers q.numbers (range_once p.refusals q.refusals)
+    are_one (number.ok ∷ named_errors ++ version_errors) range_exact refl refl p.numbers q.numbers (range_once p.refusals q.refusals)
     (range_once q.refusals p.refusals) (λ b b' some some'.
     known (λ other. accepted_where p.refusals (apart beside range_exact _ refl b) (λ accepted.
     let read = read_of _ _ _ n.result accepted (λ e. some (inl e)) in
@@ -41,7 +41,7 @@ returns c =
     let d = its_dialect read in
     other (version_once d.0 _ (p.version_not_utf8 read) (q.version_not_utf8 read')
     (λ utf8 is. p.accepted read d.0 d.1 is.0 utf8 is.1 ∙ sym (q.accepted read' d.0 d.1 is.0 utf8 is.1))
-    (of_fault d.0 _ (p.version_refused read d.0 d.1)) (of_fault d.0 _ (q.version_refused read' d.0 d.1)) some some'))))
+    (of_error d.0 _ (p.version_refused read d.0 d.1)) (of_error d.0 _ (q.version_refused read' d.0 d.1)) some some'))))
     (λ _. by_ok n.result m.result
     (λ ok ok'.
     let ((meaning, named, read), version) = p.both_read ok in

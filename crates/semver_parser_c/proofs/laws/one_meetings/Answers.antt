@@ -7,10 +7,10 @@ use Rattle.tool_ranges.specs.declared.meaning.Meaning.{Meaning}
 use Rattle.tool_ranges.specs.Readings.{TreeOf, SpellsAs, dialect_of}
 use Rattle.tool_ranges.specs.Meanings.{reading_of}
 use Rattle.semver_parser_c.specs.Numbers as number
-use Rattle.semver_parser_c.specs.Faults.{IsOneOf, named_faults, version_faults}
+use Rattle.semver_parser_c.specs.Errors.{IsOneOf, named_errors, version_errors}
 use Rattle.semver_parser_c.specs.Meetings.{IsAnswer, IsMeeting}
 use Rattle.semver_parser_c.specs.OneAnswer.{AreOne, IsMemory, text_errors}
-use Rattle.semver_parser_c.proofs.OneAnswer.{IsItself, are_one, carried, of_fault, range_exact, range_once, unless, version_once}
+use Rattle.semver_parser_c.proofs.OneAnswer.{IsItself, are_one, carried, of_error, range_exact, range_once, unless, version_once}
 use Rattle.semver_parser_c.proofs.laws.one_meetings.Goals as goal
 
 abbrev beside : List ℤ
@@ -25,7 +25,7 @@ answered n one some = grind arith
 abbrev exact : List ℤ
 exact = pos number.does_not_meet ∷ pos number.meets ∷ number.version_not_utf8 ∷ []
 
-sorted_byte : (b : ℕ) → IsMeeting b ⊎ IsOneOf version_faults (pos b) → IsOneOf (exact ++ text_errors) (pos b)
+sorted_byte : (b : ℕ) → IsMeeting b ⊎ IsOneOf version_errors (pos b) → IsOneOf (exact ++ text_errors) (pos b)
 sorted_byte b one = grind arith
 
 meeting_or : (b : ℕ) → IsOneOf exact (pos b) → IsMeeting b ⊎ (pos b ≡ number.version_not_utf8)
@@ -51,7 +51,7 @@ module _ {m : Meaning} {range version : Text} (tree : TreeOf (reading_of m)) (sp
       (λ _ _.
       version_once (dialect_of (reading_of m)) version p.not_utf8 q.not_utf8
       (λ utf8 is. byte_once p q (inl (p.accepted is.0 utf8 is.1)))
-      (of_fault _ version p.refused) (of_fault _ version q.refused))
+      (of_error _ version p.refused) (of_error _ version q.refused))
       (λ _ _. tt)
 
 -- what is so of a place of a list, twice
@@ -68,7 +68,7 @@ returns c =
     let as_it_is : IsItself n.result = search rules in
     let as_it_is' : IsItself m.result = search rules in
     rw (as_it_is, as_it_is') (record {
-      one = are_one (number.ok ∷ named_faults) range_exact refl refl p.numbers q.numbers (range_once p.refusals q.refusals)
+      one = are_one (number.ok ∷ named_errors) range_exact refl refl p.numbers q.numbers (range_once p.refusals q.refusals)
           (range_once q.refusals p.refusals)
           (λ b b' some some'. answered _ b some ∙ sym (answered _ b' some')) (λ _ _. p.behind ∙ ap (drop _) c.requires ∙ sym q.behind);
       each = λ ok ok' k within room.

@@ -8,9 +8,9 @@ use Rattle.version_sets.specs.VersionSets.{SetValue}
 use Rattle.version_sets.specs.declared.FlatSwitch.{FlatSwitch}
 use Rattle.semver_parser_c.specs.FlatSets.{IsNoSet}
 use Rattle.semver_parser_c.specs.Numbers as number
-use Rattle.semver_parser_c.specs.Faults.{IsOneOf, RefusesVersion, version_faults}
+use Rattle.semver_parser_c.specs.Errors.{IsOneOf, RefusesVersion, version_errors}
 use Rattle.semver_parser_c.specs.OneAnswer.{IsMemory, text_errors}
-use Rattle.semver_parser_c.proofs.OneAnswer.{are_one, by_dialect, by_ok, carried, of_fault, uncast, version_once}
+use Rattle.semver_parser_c.proofs.OneAnswer.{are_one, by_dialect, by_ok, carried, of_error, uncast, version_once}
 use Rattle.semver_parser_c.proofs.laws.one_membership.Goals as goal
 
 abbrev exact : List ℤ
@@ -25,7 +25,7 @@ beside_set n one = grind arith
 
 -- what the clauses say of an answer
 record Answers (d : Dialect) (switches : List FlatSwitch) (bytes version : Text) (n : ℤ) : Type 0 where
-  numbers : IsOneOf (number.ok ∷ number.no_such_reading ∷ number.not_a_set ∷ version_faults) n
+  numbers : IsOneOf (number.ok ∷ number.no_such_reading ∷ number.not_a_set ∷ version_errors) n
   named : n ≢ number.no_such_reading
   no_set : (n ≡ number.not_a_set) ↔ IsNoSet switches bytes
   read : n ≡ number.ok → IsUtf8 version × IsVersionTextIn d version × ((set : SetValue) × IsFlat switches bytes set)
@@ -53,7 +53,7 @@ module _ {d : Dialect} {switches : List FlatSwitch} {bytes version : Text} {n m 
       let r = p.refused wrong some in
       let r' = q.refused wrong' (same_data some) in
       version_once d version r.not_utf8 r'.not_utf8 (λ utf8 is. absurd (wrong (p.accepted some utf8 is)))
-      (of_fault d version (λ utf8 _. r.refused utf8)) (of_fault d version (λ utf8 _. r'.refused utf8)) found found'
+      (of_error d version (λ utf8 _. r.refused utf8)) (of_error d version (λ utf8 _. r'.refused utf8)) found found'
 
 pub returns : goal.returns
 returns c =
@@ -81,7 +81,7 @@ returns c =
             accepted = q.accepted d is;
             refused = q.refused d is;
           } in
-          are_one (number.ok ∷ number.no_such_reading ∷ number.not_a_set ∷ version_faults) exact refl refl p.numbers q.numbers
+          are_one (number.ok ∷ number.no_such_reading ∷ number.not_a_set ∷ version_errors) exact refl refl p.numbers q.numbers
           (once a b) (once b a)
           (λ one one' some some'. other a b (beside_ok _ one) (beside_ok _ one') (beside_set _ one) some some')
           (λ _. by_ok n.result m.result

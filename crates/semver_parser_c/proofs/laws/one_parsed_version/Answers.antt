@@ -7,7 +7,7 @@ use Rattle.semver_parser.specs.declared.version.Dialect.{Dialect}
 use Rattle.semver_parser.specs.Outlines.{OutlineValue, IsOutlineIn, outline_behind}
 use Rattle.semver_parser_c.specs.declared.ReadVersion.{ReadVersion}
 use Rattle.semver_parser_c.specs.Numbers as number
-use Rattle.semver_parser_c.specs.Faults.{IsOneOf, version_faults}
+use Rattle.semver_parser_c.specs.Errors.{IsOneOf, version_errors}
 use Rattle.semver_parser_c.specs.Places.{told}
 use Rattle.semver_parser_c.proofs.OneAnswer.{are_one, by_dialect, by_ok, carried, uncast, unless, version_once}
 use Rattle.semver_parser_c.proofs.laws.one_parsed_version.Goals as goal
@@ -45,7 +45,7 @@ returns c =
       one = uncast n.result m.result (search rules) (search rules)
           (by_dialect p.named q.no_such_reading p.no_such_reading (λ e e'. p.unchanged (λ ok. cc) ∙ c.requires
           ∙ sym (q.unchanged (λ ok. cc))) (λ d is.
-          are_one (number.ok ∷ number.no_such_reading ∷ version_faults) exact refl refl p.numbers q.numbers
+          are_one (number.ok ∷ number.no_such_reading ∷ version_errors) exact refl refl p.numbers q.numbers
           (once d (p.version d is) (p.not_utf8 d is) (q.not_utf8 d is) (q.accepted d is) (carried p.no_such_reading q.no_such_reading))
           (once d (q.version d is) (q.not_utf8 d is) (p.not_utf8 d is) (p.accepted d is) (carried q.no_such_reading p.no_such_reading))
           (λ _ _.

@@ -5,12 +5,12 @@ use Rattle.semver_parser.specs.Texts.{Text}
 use Rattle.semver_parser.specs.ToolVersions.{IsVersionTextIn}
 use Rattle.semver_parser.specs.declared.version.Dialect.{Dialect}
 use Rattle.semver_parser_c.specs.Numbers as number
-use Rattle.semver_parser_c.specs.Faults.{IsOneOf, RefusesVersion, version_faults}
+use Rattle.semver_parser_c.specs.Errors.{IsOneOf, RefusesVersion, version_errors}
 use Rattle.semver_parser_c.specs.Orders.{at_fault}
 use Rattle.semver_parser_c.specs.OneAnswer.{IsMemory}
 use Rattle.semver_parser_c.specs.Readings.{IsDialect}
 use Rattle.tool_ranges.specs.Readings.{dialect_of}
-use Rattle.semver_parser_c.proofs.OneAnswer.{IsItself, are_one, by_dialect, by_ok, known, of_fault, version_once}
+use Rattle.semver_parser_c.proofs.OneAnswer.{IsItself, are_one, by_dialect, by_ok, known, of_error, version_once}
 use Rattle.semver_parser_c.proofs.laws.one_precedence.Goals as goal
 
 abbrev exact : List ℤ
@@ -54,7 +54,7 @@ same_number {d = d} {n = n} {m = m} p q some some' =
     let r = p.refused wrong in
     let r' = moved p q wrong wrong' in
     other (version_once d _ r.not_utf8 r'.not_utf8 (λ utf8 is. absurd (some (inr (inl (r.accepted is.0 utf8 is.1)))))
-    (of_fault d _ (λ utf8 _. r.refused utf8)) (of_fault d _ (λ utf8 _. r'.refused utf8)) some some'))
+    (of_error d _ (λ utf8 _. r.refused utf8)) (of_error d _ (λ utf8 _. r'.refused utf8)) some some'))
 
 pub returns : goal.returns
 returns c =
@@ -88,7 +88,7 @@ returns c =
       one = by_dialect p.named q.no_such_reading p.no_such_reading
           (λ e e'. (p.order_unchanged (λ ok. cc) ∙ c.requires.order ∙ sym (q.order_unchanged (λ ok. cc)), unnamed e e'))
           (λ d is.
-          are_one (number.ok ∷ number.no_such_reading ∷ version_faults) exact refl refl p.numbers q.numbers (once (a d is) (b d is))
+          are_one (number.ok ∷ number.no_such_reading ∷ version_errors) exact refl refl p.numbers q.numbers (once (a d is) (b d is))
           (once (b d is) (a d is)) (λ _ _. same_number (a d is) (b d is))
           (λ _. by_ok n.result m.result
           (λ ok ok'.

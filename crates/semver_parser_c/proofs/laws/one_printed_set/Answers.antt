@@ -6,8 +6,8 @@ use Rattle.semver_parser_c.proofs.OnePutting.{put_are_one, put_once}
 use Rattle.semver_parser_c.proofs.OneSet.{set_once}
 use Rattle.semver_parser_c.proofs.laws.one_printed_set.Goals as goal
 
-abbrev faults : List ℤ
-faults = number.not_a_set ∷ number.range_out_of_memory ∷ []
+abbrev errors : List ℤ
+errors = number.not_a_set ∷ number.range_out_of_memory ∷ []
 
 pub returns : goal.returns
 returns c =
@@ -17,11 +17,11 @@ returns c =
     let q = m.ensures in
     record {
       one = uncast n.result m.result (search rules) (search rules)
-          (put_are_one (number.ok ∷ number.no_room ∷ faults) faults (number.not_a_set ∷ []) number.range_out_of_memory refl refl refl refl
+          (put_are_one (number.ok ∷ number.no_room ∷ errors) errors (number.not_a_set ∷ []) number.range_out_of_memory refl refl refl refl
           (inl refl) p.numbers q.numbers (set_once p.not_a_set q.not_a_set) (set_once q.not_a_set p.not_a_set)
-          (λ no no' fault fault'. (
+          (λ no no' error error'. (
             p.room_unchanged no ∙ c.requires.room ∙ sym (q.room_unchanged no'),
-            p.length_unchanged fault ∙ c.requires.length ∙ sym (q.length_unchanged fault'),
+            p.length_unchanged error ∙ c.requires.length ∙ sym (q.length_unchanged error'),
           ))
           (λ put put'.
           let (a, flat, puts) = p.printed put in

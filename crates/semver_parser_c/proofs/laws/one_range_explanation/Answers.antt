@@ -6,7 +6,7 @@ use Rattle.semver_texts.proofs.Lists.{by_test}
 use Rattle.semver_parser.specs.Texts.{Text}
 use Rattle.tool_ranges.specs.declared.reading.Reading.{Reading}
 use Rattle.semver_parser_c.specs.Numbers as number
-use Rattle.semver_parser_c.specs.Faults.{IsOneOf, range_faults}
+use Rattle.semver_parser_c.specs.Errors.{IsOneOf, range_errors}
 use Rattle.semver_parser_c.specs.OneAnswer.{AreOne, IsMemory}
 use Rattle.semver_parser_c.specs.RangeRefusals.{ExplainsBy, ExplainsRange, IsExplained}
 use Rattle.semver_parser_c.specs.Readings.{reading_number}
@@ -73,7 +73,7 @@ returns c =
     let named' : m.result ≢ number.no_such_reading = λ e. q.refusals.no_such_reading.0 e (is.0, is.1) in
     let a = p.refusals.range is.0 is.1 in
     let b = q.refusals.range is.0 is.1 in
-    are_one (number.ok ∷ number.no_such_reading ∷ range_faults) exact refl refl p.numbers q.numbers (once a b named) (once b a named')
+    are_one (number.ok ∷ number.no_such_reading ∷ range_errors) exact refl refl p.numbers q.numbers (once a b named) (once b a named')
     (refused a b) (λ _ _. tt)) in
     rw (as_it_is, as_it_is') (record {
       one = one;

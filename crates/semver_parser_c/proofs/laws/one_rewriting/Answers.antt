@@ -3,7 +3,7 @@ use Rattle.semver_parser.specs.PrintedRanges.{set_text}
 use Rattle.semver_parser_c.specs.Numbers as number
 use Rattle.semver_parser_c.proofs.OneAnswer.{rewrite_exact, text_once, uncast}
 use Rattle.semver_parser_c.proofs.OnePutting.{put_are_one, put_once}
-use Rattle.semver_parser_c.proofs.OneRewriting.{rewrite_faults, same_set}
+use Rattle.semver_parser_c.proofs.OneRewriting.{rewrite_errors, same_set}
 use Rattle.semver_parser_c.proofs.laws.one_rewriting.Goals as goal
 
 pub returns : goal.returns
@@ -14,12 +14,12 @@ returns c =
     let q = m.ensures in
     record {
       one = uncast n.result m.result (search rules) (search rules)
-          (put_are_one (number.ok ∷ number.no_room ∷ rewrite_faults) rewrite_faults rewrite_exact number.range_out_of_memory refl refl
+          (put_are_one (number.ok ∷ number.no_room ∷ rewrite_errors) rewrite_errors rewrite_exact number.range_out_of_memory refl refl
           refl refl
           (inl refl) p.numbers q.numbers (text_once p.refusals q.refusals) (text_once q.refusals p.refusals)
-          (λ no no' fault fault'. (
+          (λ no no' error error'. (
             p.room_unchanged no ∙ c.requires.room ∙ sym (q.room_unchanged no'),
-            p.length_unchanged fault ∙ c.requires.length ∙ sym (q.length_unchanged fault'),
+            p.length_unchanged error ∙ c.requires.length ∙ sym (q.length_unchanged error'),
           ))
           (λ put put'.
           let (r, is, tree, spells, fit, puts) = p.rewritten put in

@@ -1,7 +1,7 @@
 use Rattle.std.proofs.Common.{◌∙◌, ◌∷◌, ap, inl, rules, refl, sym}
 use Rattle.version_sets.specs.Flat.{flat_bytes, flat_switches}
 use Rattle.semver_parser_c.specs.Numbers as number
-use Rattle.semver_parser_c.specs.Faults.{named_faults}
+use Rattle.semver_parser_c.specs.Errors.{named_errors}
 use Rattle.semver_parser_c.proofs.OneAnswer.{range_exact, range_once, uncast}
 use Rattle.semver_parser_c.proofs.OnePutting.{both_once, put_are_one}
 use Rattle.semver_parser_c.proofs.OneSet.{of_range}
@@ -15,13 +15,13 @@ returns c =
     let q = m.ensures in
     record {
       one = uncast n.result m.result (search rules) (search rules)
-          (put_are_one (number.ok ∷ number.no_room ∷ named_faults) named_faults range_exact number.range_out_of_memory refl refl refl refl
+          (put_are_one (number.ok ∷ number.no_room ∷ named_errors) named_errors range_exact number.range_out_of_memory refl refl refl refl
           (inl refl) p.numbers q.numbers (range_once p.refusals q.refusals) (range_once q.refusals p.refusals)
-          (λ no no' fault fault'.
+          (λ no no' error error'.
           let rooms = p.rooms_unchanged no in
           let rooms' = q.rooms_unchanged no' in
-          let told = p.numbers_unchanged fault in
-          let told' = q.numbers_unchanged fault' in (
+          let told = p.numbers_unchanged error in
+          let told' = q.numbers_unchanged error' in (
             rooms.0 ∙ c.requires.made ∙ sym rooms'.0,
             told.0 ∙ c.requires.count ∙ sym told'.0,
             rooms.1 ∙ c.requires.room ∙ sym rooms'.1,

@@ -2,23 +2,23 @@ use Rattle.std.proofs.Common.{◌≢◌, Bool, true, false, Ok, Err, arith, pos,
 use Rattle.semver_parser.specs.Texts.{Text}
 use Rattle.tool_ranges.specs.declared.meaning.Meaning.{Meaning}
 use Rattle.semver_parser_c.specs.Numbers.{version_not_utf8, version_out_of_memory}
-use Rattle.semver_parser_c.specs.Faults.{IsOneOf, version_faults}
+use Rattle.semver_parser_c.specs.Errors.{IsOneOf, version_errors}
 use Rattle.semver_parser_c.specs.Meetings.{IsAnswer, IsMeeting, meeting_byte}
 use Rattle.semver_parser_c.specs.Steps.Questions.{IsVerdict}
 use Rattle.semver_parser_c.proofs.VersionUtf8.{version_utf8}
 use Rattle.semver_parser_c.proofs.meeting.byte_for.Goals as goal
 
--- the number of a fault says of no version whether it meets
-no_meeting : (byte : ℕ) → IsOneOf version_faults (pos byte) → IsMeeting byte → ⊥
+-- the number of an error says of no version whether it meets
+no_meeting : (byte : ℕ) → IsOneOf version_errors (pos byte) → IsMeeting byte → ⊥
 no_meeting byte one meeting = grind arith
 
 is_meeting : (met : Bool) → IsMeeting (meeting_byte met)
 is_meeting true = inr refl
 is_meeting false = inl refl
 
-no_fault : (met : Bool) → (pos (meeting_byte met) ≢ version_not_utf8) × (pos (meeting_byte met) ≢ version_out_of_memory)
-no_fault true = (grind arith, grind arith)
-no_fault false = (grind arith, grind arith)
+no_error : (met : Bool) → (pos (meeting_byte met) ≢ version_not_utf8) × (pos (meeting_byte met) ≢ version_out_of_memory)
+no_error true = (grind arith, grind arith)
+no_error false = (grind arith, grind arith)
 
 of_met : (m : Meaning) (range version : Text) (met : Bool) → IsVerdict m range version (Ok met)
     → IsAnswer m range version (meeting_byte met)
@@ -27,9 +27,9 @@ of_met m range version met (read, means) = record {
   meaning = λ _ tree v spells spelled. ap meeting_byte (means tree v spells spelled);
   read = λ _. read;
   accepted = λ _ _ _. is_meeting met;
-  not_utf8 = (λ e. absurd ((no_fault met).0 e), λ none. absurd (none (version_utf8 _ read.0 version read.1)));
+  not_utf8 = (λ e. absurd ((no_error met).0 e), λ none. absurd (none (version_utf8 _ read.0 version read.1)));
   refused = λ _ none. absurd (none read);
-  out_of_memory = λ e. absurd ((no_fault met).1 e);
+  out_of_memory = λ e. absurd ((no_error met).1 e);
 }
 
 pub returns-in-Ok-true : goal.returns-in-Ok-true

@@ -1,6 +1,6 @@
 use Rattle.std.proofs.Common.{◌≡◌, rules, refl}
-use Rattle.semver_parser_c.specs.Steps.RangeFaults.{IsMeaningOf}
-use Rattle.semver_parser_c.proofs.RangeFaults.{refused, stands}
+use Rattle.semver_parser_c.specs.Steps.TextErrors.{IsMeaningOf}
+use Rattle.semver_parser_c.proofs.TextErrors.{refused, stands}
 use Rattle.semver_parser_c.proofs.meeting.text_of.Goals as goal
 
 pub returns-in-Err-clause-refused : goal.returns-in-Err-clause-refused
@@ -17,4 +17,4 @@ returns-in-Ok-check-clause-stands c = stands c.in-Ok.meaning _ _ _ (search rules
 
 pub returns-in-Err-check-clause-refused : goal.returns-in-Err-check-clause-refused
 returns-in-Err-check-clause-refused c =
-    search (rules, refused _ _ _ _ _ c.in-Ok.ensures.named (c.number_of.ensures.told _ _ c.in-Err-check.ensures.fault))
+    search (rules, refused _ _ _ _ _ c.in-Ok.ensures.named (c.number_of.ensures.told _ _ c.in-Err-check.ensures.error))

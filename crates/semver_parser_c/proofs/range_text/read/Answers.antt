@@ -1,6 +1,6 @@
 use Rattle.std.proofs.Common.{rules}
-use Rattle.semver_parser_c.specs.Steps.RangeFaults.{IsReadingOf}
-use Rattle.semver_parser_c.proofs.RangeFaults.{stands_text, refused_text}
+use Rattle.semver_parser_c.specs.Steps.TextErrors.{IsReadingOf}
+use Rattle.semver_parser_c.proofs.TextErrors.{stands_text, refused_text}
 use Rattle.semver_parser_c.proofs.range_text.read.Goals as goal
 
 pub returns-in-Ok-clause-as_rewritten : goal.returns-in-Ok-clause-as_rewritten
@@ -13,4 +13,4 @@ returns-in-Ok-clause-stands c = stands_text c.in-Some.reading _ _ (search rules)
 
 pub returns-in-Err-clause-refused : goal.returns-in-Err-clause-refused
 returns-in-Err-clause-refused c =
-    search (rules, refused_text _ _ _ _ c.in-Some.ensures (c.number_of.ensures.told _ _ c.in-Err.ensures.fault))
+    search (rules, refused_text _ _ _ _ c.in-Some.ensures (c.number_of.ensures.told _ _ c.in-Err.ensures.error))

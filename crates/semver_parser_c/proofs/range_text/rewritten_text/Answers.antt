@@ -5,7 +5,7 @@ use Rattle.semver_parser.specs.declared.Compat.{Compat}
 use Rattle.tool_ranges.specs.declared.reading.Reading.{Reading}
 use Rattle.tool_ranges.specs.declared.reading.Reading.TheVariants.{Cargo, Npm, Crate}
 use Rattle.tool_ranges.specs.Readings.{TreeOf, rewritten_as}
-use Rattle.semver_parser_c.specs.Faults.{set_for}
+use Rattle.semver_parser_c.specs.Errors.{set_for}
 use Rattle.semver_parser_c.proofs.range_text.rewritten_text.Goals.{in_default-via-in-Crate+else-not-exact, in_default-via-in_default}
 use Rattle.semver_parser_c.proofs.range_text.rewritten_text.Goals as goal
 

@@ -1,6 +1,6 @@
 use Rattle.std.proofs.Common.{rules}
-use Rattle.semver_parser_c.specs.Steps.RangeFaults.{IsMeaningOf}
-use Rattle.semver_parser_c.proofs.RangeFaults.{stands, refused}
+use Rattle.semver_parser_c.specs.Steps.TextErrors.{IsMeaningOf}
+use Rattle.semver_parser_c.proofs.TextErrors.{stands, refused}
 use Rattle.semver_parser_c.proofs.sets.read.Goals as goal
 
 pub returns-in-Err-clause-refused : goal.returns-in-Err-clause-refused
@@ -16,4 +16,4 @@ returns-in-Ok-read_as-clause-stands c = stands c.in-Ok.meaning _ _ _ (search rul
 
 pub returns-in-Err-read_as-clause-refused : goal.returns-in-Err-read_as-clause-refused
 returns-in-Err-read_as-clause-refused c =
-    search (rules, refused _ _ _ _ _ c.in-Ok.ensures.named (c.number_of.ensures.told _ _ c.in-Err-read_as.ensures.fault))
+    search (rules, refused _ _ _ _ _ c.in-Ok.ensures.named (c.number_of.ensures.told _ _ c.in-Err-read_as.ensures.error))

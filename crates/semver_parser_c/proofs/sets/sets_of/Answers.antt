@@ -1,6 +1,6 @@
 use Rattle.std.proofs.Common.{rules}
-use Rattle.semver_parser_c.specs.Steps.RangeFaults.{IsMeaningOf}
-use Rattle.semver_parser_c.proofs.RangeFaults.{refused, named_found, not_asked, both_stand, neither_refused, new_refused}
+use Rattle.semver_parser_c.specs.Steps.TextErrors.{IsMeaningOf}
+use Rattle.semver_parser_c.proofs.TextErrors.{refused, named_found, not_asked, both_stand, neither_refused, new_refused}
 use Rattle.semver_parser_c.proofs.sets.sets_of.Goals as goal
 
 pub returns-in-Err-clause-refused : goal.returns-in-Err-clause-refused
@@ -23,7 +23,7 @@ returns-in-Err-read_as-clause-refused c =
     search (
       rules,
       new_refused _ _ _ c.args.old_range.now _ _ c.in-Ok.ensures.named c.in-Ok-unless_refused.ensures.accepted
-          c.new_number_of.ensures.one (c.new_number_of.ensures.told _ _ c.in-Err-read_as.ensures.fault),
+          c.new_number_of.ensures.one (c.new_number_of.ensures.told _ _ c.in-Err-read_as.ensures.error),
     )
 
 pub returns-in-Some-clause-meaning : goal.returns-in-Some-clause-meaning

@@ -2,7 +2,7 @@ use Rattle.std.proofs.Common.{map}
 use Rattle.std.proofs.lemmas.Result.{err_from_is_err_and}
 use Rattle.std.proofs.lemmas.List.{map_push}
 use Rattle.semver_texts.specs.VersionViews.{identifier_value}
-use Rattle.semver_tokens.specs.ParserViews.{fault_of}
+use Rattle.semver_tokens.specs.ParserViews.{error_value}
 use Rattle.semver_tokens.proofs.IdentifierTexts.{unless_out_of_memory, unless_err, if_err}
 use Rattle.semver_tokens.proofs.VersionTaking.{AreBehindMark, mark_popped, part_refused, part_runs_out}
 use Rattle.semver_tokens.proofs.VersionTaking.{part_runs_out_behind, part_before_dot, part_ends}
@@ -25,7 +25,7 @@ returns-in_err-identifier-clause-answer c =
     let p = err_from_is_err_and c.from_residual-in_err-identifier.result c.from_residual-in_err-identifier.ensures.1 in
     let k = behind_mark (goal.at.returns-in_err-identifier-clause-answer c).In_ok-pop in
     rw (p.1, p.2) (unless_err c.in_err-identifier.field-0.0
-    (part_refused c.args.self.now c.pop.new.self c.identifier.new.self _ k (fault_of c.in_err-identifier.field-0.0))
+    (part_refused c.args.self.now c.pop.new.self c.identifier.new.self _ k (error_value c.in_err-identifier.field-0.0))
     c.in_err-identifier.ensures.answer)
 
 pub returns-in_err-identifier-clause-out_of_memory : goal.returns-in_err-identifier-clause-out_of_memory

@@ -1,4 +1,4 @@
--- Which number stands for which fault and answer, and what is refused by which.
+-- Which number stands for which error and answer, and what is refused by which.
 use Rattle.std.specs.Prelude.{ℤ, Bool, false, ◌≡◌, ◌≢◌, ◌⊎◌, ◌↔◌, ◌<◌, ⊤, IsTrue, IsUtf8}
 use Rattle.std.specs.Prelude.{List, [], ◌∷◌, Result, Ok, Err, length}
 use Rattle.semver_parser.specs.Texts.{Text}
@@ -9,8 +9,8 @@ use Rattle.semver_parser.specs.declared.version.Dialect.TheVariants as dialect
 use Rattle.semver_parser.specs.VersionReading.{IsOutcomeOf, TextMayRunOut}
 use Rattle.semver_parser.specs.declared.RangeError.{RangeError}
 use Rattle.semver_parser.specs.declared.RangeError.TheVariants as range_error
-use Rattle.semver_parser.specs.ParserState as fault
-use Rattle.semver_parser.specs.ParserState.{Fault}
+use Rattle.semver_parser.specs.ParserState as spec
+use Rattle.semver_parser.specs.ParserState.{ErrorValue}
 use Rattle.semver_parser.specs.RewritingTable.{rewritten, PlainSet}
 use Rattle.tool_ranges.specs.declared.reading.Reading.{Reading}
 use Rattle.tool_ranges.specs.declared.reading.Reading.TheVariants.{Crate}
@@ -22,26 +22,26 @@ use Rattle.semver_parser_c.specs.Numbers as number
 use Rattle.semver_parser_c.specs.Numbers.{version_out_of_memory}
 use Rattle.semver_parser_c.specs.Readings.{IsReading, IsMeaning, IsNamed, reading_number}
 
--- the number of a fault of a version text
-abbrev pub fault_number : Fault → ℤ
-fault_number fault.UnexpectedEnd = number.unexpected_end
-fault_number (fault.UnexpectedToken t) = number.unexpected_token
-fault_number (fault.Lexer c) = number.unexpected_char
-fault_number (fault.MoreInput ts) = number.more_input
-fault_number fault.EmptyPredicate = number.empty_predicate
-fault_number fault.EmptyRange = number.empty_range
-fault_number fault.OutOfMemory = number.version_out_of_memory
+-- the number of an error of a version text
+abbrev pub error_number : ErrorValue → ℤ
+error_number spec.UnexpectedEnd = number.unexpected_end
+error_number (spec.UnexpectedToken t) = number.unexpected_token
+error_number (spec.Lexer c) = number.unexpected_char
+error_number (spec.MoreInput ts) = number.more_input
+error_number spec.EmptyPredicate = number.empty_predicate
+error_number spec.EmptyRange = number.empty_range
+error_number spec.OutOfMemory = number.version_out_of_memory
 
--- the number of a fault of a range text
-abbrev pub range_fault_number : RangeError → ℤ
-range_fault_number range_error.NotARange = number.not_a_range
-range_fault_number range_error.NumberTooLarge = number.number_too_large
-range_fault_number range_error.OutOfMemory = number.range_out_of_memory
+-- the number of an error of a range text
+abbrev pub range_error_number : RangeError → ℤ
+range_error_number range_error.NotARange = number.not_a_range
+range_error_number range_error.NumberTooLarge = number.number_too_large
+range_error_number range_error.OutOfMemory = number.range_out_of_memory
 
 -- the number of an outcome of a version text
-abbrev pub outcome_number : Result VersionValue Fault → ℤ
+abbrev pub outcome_number : Result VersionValue ErrorValue → ℤ
 outcome_number (Ok v) = number.ok
-outcome_number (Err e) = fault_number e
+outcome_number (Err e) = error_number e
 
 -- the number is one of these
 abbrev pub IsOneOf : List ℤ → ℤ → Type 0
@@ -49,13 +49,13 @@ IsOneOf [] n = ⊥
 IsOneOf (m ∷ ms) n = (n ≡ m) ⊎ IsOneOf ms n
 
 -- the numbers that reading a version text answers, but for `ok`
-abbrev pub version_faults : List ℤ
-version_faults =
+abbrev pub version_errors : List ℤ
+version_errors =
     number.version_not_utf8 ∷ number.unexpected_end ∷ number.unexpected_token
     ∷ number.unexpected_char ∷ number.more_input ∷ number.version_out_of_memory
     ∷ number.not_a_version ∷ []
 
--- the numbers of the faults of a range text
+-- the numbers of the errors of a range text
 pub record RangeNumbers : Type 0 where
   pub not_utf8 : ℤ
   pub not_a_range : ℤ
@@ -85,16 +85,16 @@ abbrev pub listed : RangeNumbers → List ℤ
 listed r = r.not_utf8 ∷ r.not_a_range ∷ r.too_large ∷ r.out_of_memory ∷ []
 
 -- the numbers that reading a range text answers, but for `ok`
-abbrev pub range_faults : List ℤ
-range_faults = listed range_numbers
+abbrev pub range_errors : List ℤ
+range_errors = listed range_numbers
 
 -- and of the new one, where two are compared
-abbrev pub new_range_faults : List ℤ
-new_range_faults = listed new_range_numbers
+abbrev pub new_range_errors : List ℤ
+new_range_errors = listed new_range_numbers
 
 -- those of a range that is read by the numbers of a reading and of a rule
-abbrev pub named_faults : List ℤ
-named_faults = number.no_such_reading ∷ number.no_such_rule ∷ range_faults
+abbrev pub named_errors : List ℤ
+named_errors = number.no_such_reading ∷ number.no_such_rule ∷ range_errors
 
 -- what a tree is rewritten to, with exact bounds or without: those of a tool are always exact
 abbrev pub set_for : Bool → (reading : Reading) → TreeOf reading → PlainSet
@@ -142,7 +142,7 @@ RefusesNewRange Asked reading rule text n = (m : Meaning) → IsNamed m reading 
 -- the number is the error of a text that spells no version: in the crate's dialect that of its
 -- outcome, in a tool's the one that there is
 abbrev pub RefusedIn : Dialect → Text → ℤ → Type 0
-RefusedIn dialect.Crate text n = (e : Fault) × IsOutcomeOf text (Err e) × (n ≡ fault_number e)
+RefusedIn dialect.Crate text n = (e : ErrorValue) × IsOutcomeOf text (Err e) × (n ≡ error_number e)
 RefusedIn dialect.Cargo text n = n ≡ number.not_a_version
 RefusedIn dialect.Npm text n = n ≡ number.not_a_version
 
@@ -158,7 +158,7 @@ HasPreRelease d text = (v : VersionValue) × SpellsIn d v text × (0 < length v.
 -- the number is that of the outcome of a text: it spells a version, or it has this error
 abbrev pub HasOutcomeIn : Dialect → Text → ℤ → Type 0
 HasOutcomeIn dialect.Crate text n =
-    (r : Result VersionValue Fault) × IsOutcomeOf text r × (n ≡ outcome_number r)
+    (r : Result VersionValue ErrorValue) × IsOutcomeOf text r × (n ≡ outcome_number r)
 HasOutcomeIn dialect.Cargo text n = HasToolOutcome dialect.Cargo text n
 HasOutcomeIn dialect.Npm text n = HasToolOutcome dialect.Npm text n
 
@@ -173,7 +173,7 @@ MayRunOutIn dialect.Npm text = HasPreRelease dialect.Npm text
 -- exactly; a text that spells no version by its error; and a version only if memory runs out.
 -- Memory runs out only where it may
 pub record RefusesVersion (dialect : Dialect) (text : Text) (n : ℤ) : Type 0 where
-  pub one : IsOneOf version_faults n
+  pub one : IsOneOf version_errors n
   pub not_utf8 : (n ≡ number.version_not_utf8) ↔ ¬ (IsUtf8 text)
   pub accepted : (v : VersionValue) → IsUtf8 text → SpellsIn dialect v text
       → n ≡ version_out_of_memory

@@ -4,10 +4,10 @@ use crate::forms::{fill, TAILS};
 use crate::source::Source;
 
 /// Spoils a version, which is given as its numbers and what stands behind them.
-pub type Fault = fn(&mut Source, &str, &str) -> String;
+pub type Error = fn(&mut Source, &str, &str) -> String;
 
-/// The faults that users hand in, and how many of a hundred refused texts have each.
-pub const FAULTS: [(usize, Fault); 12] = [
+/// The errors that users hand in, and how many of a hundred refused texts have each.
+pub const ERRORS: [(usize, Error); 12] = [
     (12, too_few_numbers),
     (12, leading_v),
     (8, four_numbers),
@@ -22,12 +22,12 @@ pub const FAULTS: [(usize, Fault); 12] = [
     (2, nothing),
 ];
 
-/// A version with a fault.
-pub fn spoilt(source: &mut Source, fault: Fault) -> String {
+/// A version with an error.
+pub fn spoilt(source: &mut Source, error: Error) -> String {
     let numbers = fill(source, "N.N.N");
     let form = source.choose(&TAILS);
     let tail = fill(source, form);
-    fault(source, &numbers, &tail)
+    error(source, &numbers, &tail)
 }
 
 fn too_few_numbers(source: &mut Source, numbers: &str, tail: &str) -> String {

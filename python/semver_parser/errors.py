@@ -1,4 +1,4 @@
-"""Why a text is refused: the faults of versions and of ranges, as exceptions."""
+"""Why a text is refused: the errors of versions and of ranges, as exceptions."""
 
 import ctypes
 from typing import ClassVar, Dict, Optional, Union
@@ -27,7 +27,7 @@ def encoded(text: Text) -> bytes:
 
 
 class _TextError(ValueError):
-    """A text that is refused, and the name of its fault."""
+    """A text that is refused, and the name of its error."""
 
     _NUMBERS: ClassVar[Dict[str, int]] = {}
 
@@ -42,7 +42,7 @@ class _TextError(ValueError):
 
     @property
     def sentence(self) -> str:
-        """What the fault says, in English, without the text."""
+        """What the error says, in English, without the text."""
         sentence: bytes = LIBRARY.semver_parser_fault_text(self._NUMBERS.get(self.name, -1))
         return sentence.decode("utf-8")
 
@@ -55,7 +55,7 @@ class _TextError(ValueError):
 
 class VersionError(_TextError):
     """A text that is no version. `text` is that text, `index` is its place where many versions were
-    given, counted from 0, and else None, and `name` is the name of its fault:
+    given, counted from 0, and else None, and `name` is the name of its error:
 
     - `not-utf8`: the bytes aren't UTF-8, or the `str` has a surrogate by itself.
     - `not-a-version`: by Cargo's own reading or npm's own, the text is no version, as `1.2.3-01`.
@@ -95,7 +95,7 @@ class VersionError(_TextError):
 
 class RangeError(_TextError):
     """A text that gives no range. `text` is that text, `which` is `old` or `new` where two ranges
-    were compared, and else None, and `name` is the name of its fault:
+    were compared, and else None, and `name` is the name of its error:
 
     - `not-utf8`: the bytes aren't UTF-8, or the `str` has a surrogate by itself.
     - `not-a-range`: the text isn't in the grammar of ranges, as `1.2.3 -4`.
@@ -130,8 +130,8 @@ class RangeError(_TextError):
         return error
 
 
-_VERSION_FAULTS = {number: name for name, number in VersionError._NUMBERS.items()}
-_RANGE_FAULTS = {number: name for name, number in RangeError._NUMBERS.items()}
+_VERSION_ERRORS = {number: name for name, number in VersionError._NUMBERS.items()}
+_RANGE_ERRORS = {number: name for name, number in RangeError._NUMBERS.items()}
 
 
 _REASONS = {
@@ -167,14 +167,14 @@ def _explained_range(error: RangeError, reading: int) -> RangeError:
     answer = LIBRARY.semver_parser_explain_range(text_bytes, len(text_bytes), reading, place, hint)
     if answer == RANGE_OUT_OF_MEMORY:
         raise MemoryError
-    if _RANGE_FAULTS.get(answer) == error.name != "not-utf8":
+    if _RANGE_ERRORS.get(answer) == error.name != "not-utf8":
         error.place = _index(error.text, place.value)
         if hint.value:
             error.hint = LIBRARY.semver_parser_fault_text(hint.value).decode("utf-8")
     return error
 
 
-def raise_fault(
+def raise_error(
     answer: int,
     range: Text = "",
     version: Text = "",
@@ -185,11 +185,11 @@ def raise_fault(
     among many, and the number of the reading is given where a text is read."""
     if answer == OK:
         return
-    if answer in _VERSION_FAULTS:
-        error = VersionError(_VERSION_FAULTS[answer], version, index)
+    if answer in _VERSION_ERRORS:
+        error = VersionError(_VERSION_ERRORS[answer], version, index)
         raise error if reading is None else _explained(error, reading)
-    if answer in _RANGE_FAULTS:
-        of_range = RangeError(_RANGE_FAULTS[answer], range)
+    if answer in _RANGE_ERRORS:
+        of_range = RangeError(_RANGE_ERRORS[answer], range)
         raise of_range if reading is None else _explained_range(of_range, reading)
     if answer in (VERSION_OUT_OF_MEMORY, RANGE_OUT_OF_MEMORY, NEW_RANGE_OUT_OF_MEMORY):
         raise MemoryError

@@ -8,23 +8,23 @@ use Rattle.tool_ranges.specs.declared.reading.Reading.{Reading}
 use Rattle.tool_ranges.specs.declared.meaning.Meaning.{Meaning}
 use Rattle.tool_ranges.specs.Meanings.{reading_of}
 use Rattle.tool_ranges.specs.Readings.{RefusesAs}
-use Rattle.semver_parser_c.specs.declared.range_text.RangeFault.{RangeFault}
+use Rattle.semver_parser_c.specs.declared.range_text.TextError.{TextError}
 use Rattle.semver_parser_c.specs.Numbers.{no_such_reading, no_such_rule, ok, no_room, range_out_of_memory, new_range_out_of_memory}
-use Rattle.semver_parser_c.specs.Faults.{IsAccepted, IsOneOf, RefusesBy, RefusesRange, RefusesText, range_numbers, new_range_numbers}
-use Rattle.semver_parser_c.specs.Faults.{RangeIsRead, named_faults, new_range_faults}
-use Rattle.semver_parser_c.specs.Steps.RangeFaults.{IsMeaningOf, IsReadingOf, IsReadable, IsTold, IsRefused, IsTextRefused, Stands}
-use Rattle.semver_parser_c.specs.Steps.RangeFaults.{HasFault, IsEitherRefused, TellsBoth, fault_of, other_numbers}
+use Rattle.semver_parser_c.specs.Errors.{IsAccepted, IsOneOf, RefusesBy, RefusesRange, RefusesText, range_numbers, new_range_numbers}
+use Rattle.semver_parser_c.specs.Errors.{RangeIsRead, named_errors, new_range_errors}
+use Rattle.semver_parser_c.specs.Steps.TextErrors.{IsMeaningOf, IsReadingOf, IsReadable, IsTold, IsRefused, IsTextRefused, Stands}
+use Rattle.semver_parser_c.specs.Steps.TextErrors.{HasError, IsEitherRefused, TellsBoth, text_error_of, other_numbers}
 
--- the fault that an error tells is one that the text has
+-- a text has the error that its refusal names
 has : {A : Type 0} (r : Reading) (text : Text) (error : RangeError) → IsUtf8 text → RefusesAs {A = A} r text (Err error)
-    → HasFault r text (fault_of error)
+    → HasError r text (text_error_of error)
 has r text NotARange utf8 refuses = search rules
 has r text NumberTooLarge utf8 refuses = search rules
 has r text OutOfMemory utf8 refuses = search rules
 
-pub has_fault : {A : Type 0} (r : Reading) (text read : Text) (error : RangeError) (fault : RangeFault) → fault ≡ fault_of error
-    → RefusesAs {A = A} r read (Err error) → read ≡ text → IsUtf8 text → HasFault r text fault
-has_fault r text read error fault is refuses same utf8 = rw is (has r text error utf8 (rw same at refuses))
+pub has_error : {A : Type 0} (r : Reading) (text read : Text) (error : RangeError) (named : TextError) → named ≡ text_error_of error
+    → RefusesAs {A = A} r read (Err error) → read ≡ text → IsUtf8 text → HasError r text named
+has_error r text read error named is refuses same utf8 = rw is (has r text error utf8 (rw same at refuses))
 
 -- where a range is read, it isn't refused by a number that is answered then
 stands_by : (r : Reading) (text : Text) → IsReadable r text → (n : ℤ) → IsOneOf other_numbers n → RefusesBy range_numbers ⊤ r text n
@@ -67,7 +67,7 @@ stands_text r reading text only read =
     let by = stands_by r text read n one in
     search rules)
 
--- a fault that the text has, by its number
+-- an error that the text has, by its number
 pub refused : (m : Meaning) (reading rule : ℤ) (text : Text) (n : ℤ) → IsMeaningOf m reading rule → IsTold (reading_of m) text n
     → IsRefused reading rule text n
 refused m reading rule text n only told = search rules
@@ -78,12 +78,12 @@ refused_text r reading text n only told = search rules
 
 -- ---- where two ranges are compared
 
--- no fault is answered where something is put into the room, or it is too small
-not_put : (n : ℤ) → IsOneOf (named_faults ++ new_range_faults) n → (n ≡ ok) ⊎ (n ≡ no_room) → ⊥
+-- no error is answered where something is put into the room, or it is too small
+not_put : (n : ℤ) → IsOneOf (named_errors ++ new_range_errors) n → (n ≡ ok) ⊎ (n ≡ no_room) → ⊥
 not_put n one put = grind arith
 
 -- nothing is refused of a new range that isn't asked for, and what is refused of one is so where it is
-unasked : (Asked : Type 0) (r : Reading) (text : Text) (n : ℤ) → (Asked → ⊥) → IsOneOf named_faults n
+unasked : (Asked : Type 0) (r : Reading) (text : Text) (n : ℤ) → (Asked → ⊥) → IsOneOf named_errors n
     → RefusesBy new_range_numbers Asked r text n
 unasked Asked r text n never one = grind arith
 
@@ -100,7 +100,7 @@ read_of reading rule text n accepted found = search rules
 pub not_asked : (reading rule : ℤ) (old new : Text) (n : ℤ) → IsRefused reading rule old n → n ≢ range_out_of_memory
     → IsEitherRefused reading rule old new n
 not_asked reading rule old new n refusal found =
-    let number : IsOneOf (named_faults ++ new_range_faults) n = grind arith in
+    let number : IsOneOf (named_errors ++ new_range_errors) n = grind arith in
     record {
       number = number;
       both = record {
@@ -113,10 +113,10 @@ not_asked reading rule old new n refusal found =
 
 -- where the new one is
 pub new_refused : (m : Meaning) (reading rule : ℤ) (old new : Text) (n : ℤ) → IsMeaningOf m reading rule
-    → IsReadable (reading_of m) old → IsOneOf new_range_faults n → RefusesBy new_range_numbers ⊤ (reading_of m) new n
+    → IsReadable (reading_of m) old → IsOneOf new_range_errors n → RefusesBy new_range_numbers ⊤ (reading_of m) new n
     → IsEitherRefused reading rule old new n
 new_refused m reading rule old new n only readable one told =
-    let number : IsOneOf (named_faults ++ new_range_faults) n = grind arith in
+    let number : IsOneOf (named_errors ++ new_range_errors) n = grind arith in
     record {
       number = number;
       both = record {

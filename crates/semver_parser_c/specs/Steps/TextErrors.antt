@@ -1,4 +1,4 @@
--- A means of proof, which no public clause cites: what a range text is to a reading, by the fault
+-- A means of proof, which no public clause cites: what a range text is to a reading, by the error
 -- that is told of it, and which numbers tell which.
 use Rattle.std.specs.Prelude.{ℤ, ◌≡◌, ◌≢◌, ◌⊎◌, ◌↔◌, ⊤, IsUtf8, List, ◌∷◌, ◌++◌}
 use Rattle.semver_parser.specs.Texts.{Text}
@@ -10,15 +10,15 @@ use Rattle.semver_parser.specs.declared.RangeError.TheVariants as range_error
 use Rattle.tool_ranges.specs.declared.reading.Reading.{Reading}
 use Rattle.tool_ranges.specs.declared.meaning.Meaning.{Meaning}
 use Rattle.tool_ranges.specs.Readings.{IsTextAs, HasSetAs, IsTooLargeAs}
-use Rattle.semver_parser_c.specs.declared.range_text.RangeFault.{RangeFault}
-use Rattle.semver_parser_c.specs.declared.range_text.RangeFault.TheVariants as range_fault
+use Rattle.semver_parser_c.specs.declared.range_text.TextError.{TextError}
+use Rattle.semver_parser_c.specs.declared.range_text.TextError.TheVariants as text_error
 use Rattle.semver_parser_c.specs.Numbers as number
 use Rattle.semver_parser_c.specs.Readings.{IsDialect, IsNamed, reading_number}
-use Rattle.semver_parser_c.specs.Faults.{IsAccepted, IsOneOf, IsReadBy, MayRunOutIn}
-use Rattle.semver_parser_c.specs.Faults.{NewRangeIsRead, RangeIsRead, RefusedIn}
-use Rattle.semver_parser_c.specs.Faults.{RefusesBy, RefusesNewRange, RefusesRange, RefusesText}
-use Rattle.semver_parser_c.specs.Faults.{named_faults, new_range_faults, range_faults}
-use Rattle.semver_parser_c.specs.Faults.{range_numbers, version_faults}
+use Rattle.semver_parser_c.specs.Errors.{IsAccepted, IsOneOf, IsReadBy, MayRunOutIn}
+use Rattle.semver_parser_c.specs.Errors.{NewRangeIsRead, RangeIsRead, RefusedIn}
+use Rattle.semver_parser_c.specs.Errors.{RefusesBy, RefusesNewRange, RefusesRange, RefusesText}
+use Rattle.semver_parser_c.specs.Errors.{named_errors, new_range_errors, range_errors}
+use Rattle.semver_parser_c.specs.Errors.{range_numbers, version_errors}
 
 -- the reading, and no other, has the number
 pub record IsReadingOf (reading : Reading) (n : ℤ) : Type 0 where
@@ -34,39 +34,39 @@ pub record IsMeaningOf (meaning : Meaning) (n rule : ℤ) : Type 0 where
 abbrev pub IsReadable : Reading → Text → Type 0
 IsReadable reading text = IsUtf8 text × HasSetAs reading text × (¬ (IsTooLargeAs reading text))
 
--- the text has the fault, or is read where memory may be wanting
-abbrev pub HasFault : Reading → Text → RangeFault → Type 0
-HasFault reading text range_fault.NotUtf8 = ¬ (IsUtf8 text)
-HasFault reading text range_fault.NotARange = IsUtf8 text × (¬ (IsTextAs reading text))
-HasFault reading text range_fault.TooLarge = IsUtf8 text × IsTooLargeAs reading text
-HasFault reading text range_fault.OutOfMemory = IsReadable reading text
+-- the text has the error, or it is read, and memory may run out
+abbrev pub HasError : Reading → Text → TextError → Type 0
+HasError reading text text_error.NotUtf8 = ¬ (IsUtf8 text)
+HasError reading text text_error.NotARange = IsUtf8 text × (¬ (IsTextAs reading text))
+HasError reading text text_error.TooLarge = IsUtf8 text × IsTooLargeAs reading text
+HasError reading text text_error.OutOfMemory = IsReadable reading text
 
--- the fault that an error tells of a text whose bytes are UTF-8
-abbrev pub fault_of : RangeError → RangeFault
-fault_of range_error.NotARange = range_fault.NotARange
-fault_of range_error.NumberTooLarge = range_fault.TooLarge
-fault_of range_error.OutOfMemory = range_fault.OutOfMemory
+-- the error of a text whose bytes are UTF-8, by that of its range
+abbrev pub text_error_of : RangeError → TextError
+text_error_of range_error.NotARange = text_error.NotARange
+text_error_of range_error.NumberTooLarge = text_error.TooLarge
+text_error_of range_error.OutOfMemory = text_error.OutOfMemory
 
--- the number is that of a fault that the text has, and nothing is read
+-- the number is that of an error that the text has, and nothing is read
 pub record IsTold (reading : Reading) (text : Text) (n : ℤ) : Type 0 where
-  pub number : IsOneOf range_faults n
+  pub number : IsOneOf range_errors n
   pub refusals : RefusesBy range_numbers ⊤ reading text n
   pub unread : ¬ (IsReadBy range_numbers reading text n)
 
 -- the numbers or the range are refused by the number, and nothing is read
 pub record IsRefused (reading rule : ℤ) (text : Text) (n : ℤ) : Type 0 where
-  pub number : IsOneOf named_faults n
+  pub number : IsOneOf named_errors n
   pub refusals : RefusesRange reading rule text n
   pub unread : ¬ (RangeIsRead reading rule text n)
 
 -- so of a call that rewrites
 pub record IsTextRefused (reading : ℤ) (text : Text) (n : ℤ) : Type 0 where
-  pub number : IsOneOf (number.no_such_reading ∷ range_faults) n
+  pub number : IsOneOf (number.no_such_reading ∷ range_errors) n
   pub refusals : RefusesText reading text n
 
 -- the numbers or the range are refused by the number, or where they aren't, the version is
 pub record IsUnjudged (reading rule : ℤ) (range version : Text) (n : ℤ) : Type 0 where
-  pub one : IsOneOf (named_faults ++ version_faults) n
+  pub one : IsOneOf (named_errors ++ version_errors) n
   pub found : n ≢ number.range_out_of_memory
   pub refusals : RefusesRange reading rule range n
   pub accepted : RangeIsRead reading rule range n → (d : Dialect) → IsDialect d reading
@@ -82,7 +82,7 @@ pub record IsUnjudged (reading rule : ℤ) (range version : Text) (n : ℤ) : Ty
 -- the result where a range is read
 abbrev pub other_numbers : List ℤ
 other_numbers =
-    number.ok ∷ number.no_room ∷ number.range_out_of_memory ∷ version_faults ++ new_range_faults
+    number.ok ∷ number.no_room ∷ number.range_out_of_memory ∷ version_errors ++ new_range_errors
 
 -- it is so of each of these
 pub record Stands (IsSo : ℤ → Type 0) : Type 0 where
@@ -101,5 +101,5 @@ pub record TellsBoth (reading rule : ℤ) (old new : Text) (n : ℤ) : Type 0 wh
 
 -- the numbers or one of the ranges are refused by the number
 pub record IsEitherRefused (reading rule : ℤ) (old new : Text) (n : ℤ) : Type 0 where
-  pub number : IsOneOf (named_faults ++ new_range_faults) n
+  pub number : IsOneOf (named_errors ++ new_range_errors) n
   pub both : TellsBoth reading rule old new n
